@@ -1,0 +1,9 @@
+pub mod Memory
+pub mod State
+pub mod Attempt
+pub mod Lines
+pub mod Start
+pub mod Image
+pub mod Ranges
+pub mod Sound
+pub mod Plain

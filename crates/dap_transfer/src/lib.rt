@@ -1,0 +1,6 @@
+//! Transfers on the wire.
+#![tactic(auto)]
+
+mod notes;
+
+pub use notes::Replied;
