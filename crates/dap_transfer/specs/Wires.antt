@@ -1,20 +1,10 @@
 -- The wire transfers of a command, by cases on neighbouring requests (CMSIS-DAP, DAP_Transfer).
 use Rattle.std.specs.Prelude.{ℕ, ◌+◌, Bool, true, false, not, ◌==◌, if◌then◌else◌, List, [], ◌∷◌, ◌++◌, length, fold, bit_and}
-use Rattle.target_machine.specs.Attempt.{has_bit}
+use Rattle.dap_messages.specs.Requests.{ends_in_write, has_bit, kind}
 use Rattle.target_machine.specs.declared.access.RegAccess.{RegAccess}
 use Rattle.dap_messages.specs.declared.request.Request.{Request}
 use Rattle.dap_messages.specs.declared.request.Kind.{Kind}
 use Rattle.dap_messages.specs.declared.request.Kind.TheVariants.{Posted, Read, Match, Mask, Write}
-
-abbrev pub kind_of : ℕ → Kind
-kind_of byte =
-    if byte == 0x20 then Mask else
-    if not (has_bit byte 2) then Write else
-    if has_bit byte 0x10 then Match else
-    if has_bit byte 1 then Posted else Read
-
-abbrev pub kind : Request → Kind
-kind r = kind_of r.byte
 
 abbrev pub access_of : Request → RegAccess
 access_of r = record { ap = has_bit r.byte 1; read = has_bit r.byte 2; addr = bit_and r.byte 0xC; value = r.word }
@@ -84,15 +74,6 @@ last_mask mask rs = fold mask_after mask rs
 abbrev pub wires_from : ℕ → ℕ → Bool → List Request → List Wire
 wires_from i mask after_read [] = fetch_if after_read i mask
 wires_from i mask after_read (r ∷ rs) = between (kind r) after_read i mask r ++ wires_from (i + 1) (mask_after mask r) (is_posted (kind r)) rs
-
-abbrev pub write_last : Kind → Bool → Bool
-write_last Mask last = last
-write_last Write last = true
-write_last _ last = false
-
--- whether the last request that is no mask is a write
-abbrev pub ends_in_write : List Request → Bool
-ends_in_write rs = fold (λ last r. write_last (kind r) last) false rs
 
 abbrev pub check_if : Bool → ℕ → ℕ → List Wire
 check_if unchecked i mask = if unchecked then item Checks rdbuff i mask ∷ [] else []
