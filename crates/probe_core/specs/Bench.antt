@@ -2,7 +2,7 @@
 use Rattle.std.specs.Prelude.{◌≡◌, ⊤, ℕ, ◌+◌, ◌-◌, ◌^◌, ◌<◌, ◌≤◌, ◌⊎◌, min, Bool, true, false, ◌==◌, ◌&&◌, if◌then◌else◌, List, [], ◌∷◌, ◌++◌, length, drop, slice_get, Option, Some, None}
 use Rattle.probe_core.specs.declared.job.BenchJob.{BenchJob}
 use Rattle.probe_core.specs.declared.job.Limits.{Limits}
-use Rattle.probe_core.specs.Log.{Log, Packet, Reply, empty_log, logged}
+use Rattle.probe_core.specs.Log.{Log, packet_entry, reply_entry, empty_log, logged}
 use Rattle.probe_core.specs.Packet.{accepted}
 use Rattle.probe_core.specs.Probe.{ProbeState, fresh_probe, is_queued}
 
@@ -22,14 +22,13 @@ pub record Told : Type 0 where
   pub last : Exchange
 
 -- What a bench tells besides, where it tells its state: the probe with its target, the numbers of packets received, of
--- those that did not begin with 7E, and of replies handed out, the log, and the probe that the last load made.
+-- those that did not begin with 7E, and of replies handed out, and the log.
 pub record BenchState : Type 0 where
   pub probe : ProbeState
   pub packets : ℕ
   pub starting : ℕ
   pub replies : ℕ
   pub log : Log
-  pub first : ProbeState
 
 -- a count that stops at its last value
 abbrev pub counted : ℕ → ℕ
@@ -42,7 +41,7 @@ pub record CanSend (told : Told) (packet : List ℕ) : Type 0 where
   pub none_waits : told.waiting ≡ 0
   pub room : is_queued packet ≡ true → told.held + 1 < told.limits.packet_count
 
--- DAP_Load of a job in the ranges: no packet is held, no reply waits
+-- behind a load: no packet is held, no reply waits, and the last exchange is empty
 abbrev pub loaded : Told → BenchJob → Told
 loaded told job = record told { limits = job.limits; held = 0; waiting = 0; last = record { packets = []; replies = [] } }
 
@@ -84,7 +83,6 @@ fresh job = record {
   starting = 0;
   replies = 0;
   log = empty_log log_room;
-  first = fresh_probe job;
 }
 
 -- behind a packet that was received: it is held, or all held packets run and then it
@@ -93,7 +91,7 @@ served m packet = record m {
   probe = accepted m.probe packet;
   packets = counted m.packets;
   starting = if is_queued packet then m.starting else counted m.starting;
-  log = logged m.log (Packet packet);
+  log = logged m.log (packet_entry packet);
 }
 
 -- behind a reply that was handed out: the oldest that waits
@@ -101,7 +99,7 @@ abbrev pub handed : BenchState → List ℕ → BenchState
 handed m reply = record m {
   probe = record m.probe { waiting = drop 1 m.probe.waiting };
   replies = counted m.replies;
-  log = logged m.log (Reply reply);
+  log = logged m.log (reply_entry reply);
 }
 
 -- the reply is the oldest that waits, and is handed out
