@@ -1,0 +1,41 @@
+-- Faults with their paths, and what a function that reads a value answers.
+use Rattle.std.specs.Prelude.{◌≡◌, Result, Ok, Err, ◌∷◌}
+use Rattle.json_form.specs.declared.fault.JobFault.{JobFault}
+use Rattle.json_form.specs.declared.fault.JobFault.TheVariants.{Missing, WrongKind, UnknownKey, Repeated, BadNumber, TooMany, OutOfMemory}
+use Rattle.json_form.specs.declared.path.PathStep.{PathStep}
+
+-- the fault, seen from one step further out
+abbrev pub fault_at : PathStep → JobFault → JobFault
+fault_at step (Missing path) = Missing (step ∷ path)
+fault_at step (WrongKind path) = WrongKind (step ∷ path)
+fault_at step (UnknownKey path) = UnknownKey (step ∷ path)
+fault_at step (Repeated path) = Repeated (step ∷ path)
+fault_at step (BadNumber path) = BadNumber (step ∷ path)
+fault_at step (TooMany path) = TooMany (step ∷ path)
+fault_at step OutOfMemory = OutOfMemory
+
+-- what is read inside a member or an item, seen from the value around it
+abbrev pub at : {A : Type 0} → PathStep → Result A JobFault → Result A JobFault
+at step (Ok x) = Ok x
+at step (Err fault) = Err (fault_at step fault)
+
+infixl 10 ◌>>=◌
+-- reads on where a value was read, and else keeps the first fault
+abbrev pub ◌>>=◌ : {A B : Type 0} → Result A JobFault → (A → Result B JobFault) → Result B JobFault
+(Ok x) >>= next = next x
+(Err fault) >>= next = Err fault
+
+-- the fault was found, unless memory ran out
+abbrev pub Fails : {A : Type 0} → JobFault → Result A JobFault → Type 0
+Fails (Missing path) read = read ≡ Err (Missing path)
+Fails (WrongKind path) read = read ≡ Err (WrongKind path)
+Fails (UnknownKey path) read = read ≡ Err (UnknownKey path)
+Fails (Repeated path) read = read ≡ Err (Repeated path)
+Fails (BadNumber path) read = read ≡ Err (BadNumber path)
+Fails (TooMany path) read = read ≡ Err (TooMany path)
+Fails OutOfMemory read = Unit {0}
+
+-- A function answered what reading gives: the value, the first fault with its path, or that memory ran out.
+abbrev pub Gives : {A : Type 0} → Result A JobFault → Result A JobFault → Type 0
+Gives (Ok x) read = read ≡ Ok x
+Gives (Err fault) read = Fails fault read
