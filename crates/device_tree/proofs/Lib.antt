@@ -1,0 +1,5 @@
+pub mod StepsLemmas
+pub mod StepsOpen
+pub mod KeyLemmas
+pub mod StepsLaws
+pub mod PackLaws

@@ -1,0 +1,82 @@
+-- Reading a pack: its levels and their sequences, by the names of the Open-CMSIS-Pack device description.
+use Rattle.std.specs.Prelude.{codes, false, [], map, None, Result, Ok}
+use Rattle.serde_json.specs.Data.{Data}
+use Rattle.json_form.specs.declared.fault.JobFault.{JobFault}
+use Rattle.json_form.specs.Faults.{◌>>=◌}
+use Rattle.json_form.specs.Reading.{text, flag, only_keys, required, optional, or_else, list_of, alone, never, repeats_by}
+use Rattle.device_tree.specs.declared.levels.TheConstants.{PACK_KEYS, LEVEL_KEYS, VARIANT_KEYS, DEVICE_KEYS, SUB_FAMILY_KEYS, FAMILY_KEYS}
+use Rattle.device_tree.specs.declared.sequences.TheConstants.{SEQUENCE_KEYS}
+use Rattle.device_tree.specs.StepsReading.{steps_in}
+use Rattle.device_tree.specs.Same.{same_sequence, same_variant}
+use Rattle.device_tree.specs.declared.pack.SeqText.{SeqText}
+use Rattle.device_tree.specs.declared.pack.Level.{Level}
+use Rattle.device_tree.specs.declared.pack.Variant.{Variant}
+use Rattle.device_tree.specs.declared.pack.Device.{Device}
+use Rattle.device_tree.specs.declared.pack.SubFamily.{SubFamily}
+use Rattle.device_tree.specs.declared.pack.Family.{Family}
+use Rattle.device_tree.specs.declared.pack.Pack.{Pack}
+
+-- ---- sequences
+
+unfoldable pub sequence_in : Data → Result SeqText JobFault
+sequence_in d = do
+  known ← only_keys (map (λ k. k.now) SEQUENCE_KEYS) d
+  name ← required (codes "name") text d
+  pname ← optional (codes "Pname") text d
+  disable ← or_else (codes "disable") flag false d
+  info ← optional (codes "info") text d
+  steps ← required (codes "steps") steps_in d
+  Ok (record { name = name; pname = pname; disable = disable; steps = steps })
+
+-- the keys of a level, in the object that holds it
+unfoldable pub level_in : Data → Result Level JobFault
+level_in d = do
+  debugvars ← optional (codes "debugvars") text d
+  sequences ← or_else (codes "sequences") (list_of None (alone sequence_in) (repeats_by same_sequence)) [] d
+  Ok (record { debugvars = debugvars; sequences = sequences })
+
+-- ---- levels
+
+unfoldable pub defaults_in : Data → Result Level JobFault
+defaults_in d = do
+  known ← only_keys (map (λ k. k.now) LEVEL_KEYS) d
+  level_in d
+
+unfoldable pub variant_in : Data → Result Variant JobFault
+variant_in d = do
+  known ← only_keys (map (λ k. k.now) VARIANT_KEYS) d
+  name ← required (codes "Dvariant") text d
+  own ← level_in d
+  Ok (record { name = name; level = own })
+
+unfoldable pub device_in : Data → Result Device JobFault
+device_in d = do
+  known ← only_keys (map (λ k. k.now) DEVICE_KEYS) d
+  name ← required (codes "Dname") text d
+  own ← level_in d
+  variants ← or_else (codes "variants") (list_of None (alone variant_in) (repeats_by same_variant)) [] d
+  Ok (record { name = name; level = own; variants = variants })
+
+unfoldable pub sub_family_in : Data → Result SubFamily JobFault
+sub_family_in d = do
+  known ← only_keys (map (λ k. k.now) SUB_FAMILY_KEYS) d
+  name ← required (codes "DsubFamily") text d
+  own ← level_in d
+  devices ← or_else (codes "devices") (list_of None (alone device_in) never) [] d
+  Ok (record { name = name; level = own; devices = devices })
+
+unfoldable pub family_in : Data → Result Family JobFault
+family_in d = do
+  known ← only_keys (map (λ k. k.now) FAMILY_KEYS) d
+  name ← required (codes "Dfamily") text d
+  own ← level_in d
+  subs ← or_else (codes "subFamilies") (list_of None (alone sub_family_in) never) [] d
+  devices ← or_else (codes "devices") (list_of None (alone device_in) never) [] d
+  Ok (record { name = name; level = own; sub_families = subs; devices = devices })
+
+unfoldable pub pack_in : Data → Result Pack JobFault
+pack_in d = do
+  known ← only_keys (map (λ k. k.now) PACK_KEYS) d
+  top ← optional (codes "defaults") defaults_in d
+  families ← required (codes "families") (list_of None (alone family_in) never) d
+  Ok (record { defaults = top; families = families })
