@@ -1,0 +1,4 @@
+pub mod Copies
+pub mod PlaceLemmas
+pub mod WinnerLemmas
+pub mod Greatest

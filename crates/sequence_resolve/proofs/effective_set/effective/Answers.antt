@@ -1,0 +1,29 @@
+use Rattle.std.proofs.Common.{[], sym, option_map}
+use Rattle.sequence_resolve.specs.Levels.{path_of}
+use Rattle.sequence_resolve.specs.Effective.{candidates}
+use Rattle.sequence_resolve.specs.Winners.{with_all}
+use Rattle.sequence_resolve.specs.Views.{place_view}
+use Rattle.sequence_resolve.proofs.Greatest.{effective-with_all, distinct_entries}
+use Rattle.sequence_resolve.proofs.effective_set.effective.Goals as goal
+
+pub returns-clause-set : goal.returns-clause-set
+returns-clause-set c =
+    let place = place_view c.in_ok-place.place in
+    let variant = option_map (λ v. v.now) c.in-Some.variant in
+    let found = candidates (option_map (λ w. w.now) c.args.pname) 0 (path_of c.args.pack.now place variant) in
+    record {
+      place = place;
+      only = c.in_ok-place.ensures;
+      variant = variant;
+      wanted = sym c.in-Some.ensures;
+      winners = with_all [] found;
+      greatest = effective-with_all found;
+      entries = c.in_ok-set_of.ensures.entries;
+      debugvars = c.in_ok-set_of.ensures.debugvars;
+    }
+
+pub returns-clause-distinct : goal.returns-clause-distinct
+returns-clause-distinct c =
+    let place = place_view c.in_ok-place.place in
+    let variant = option_map (λ v. v.now) c.in-Some.variant in
+    rw c.in_ok-set_of.ensures.entries (distinct_entries (candidates (option_map (λ w. w.now) c.args.pname) 0 (path_of c.args.pack.now place variant)))

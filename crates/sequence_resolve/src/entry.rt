@@ -1,0 +1,37 @@
+// The set of sequences that hold for a device.
+use dap_base::{ItemList, NameText};
+use device_tree::Steps;
+
+/// The level of a pack that a sequence comes from.
+#[derive(Clone, Copy, Debug, PartialEq, Eq)]
+pub enum LevelKind {
+    Defaults,
+    Family,
+    SubFamily,
+    Device,
+    Variant,
+}
+
+/// A sequence that holds.
+#[derive(Debug, Drop)]
+pub struct SeqEntry {
+    /// Its name, which no other entry of the set has.
+    pub name: NameText,
+    /// The level that it comes from.
+    pub from: LevelKind,
+    /// Whether it is disabled; then it has no steps.
+    pub disabled: bool,
+    /// Its steps.
+    pub steps: Steps,
+}
+
+/// The sequences of a set, in the order in which their names first appear along the levels.
+pub type SeqEntries = ItemList<SeqEntry>;
+
+/// The sequences that hold for a device, and the code of its debug variables.
+#[derive(Debug, Drop)]
+pub struct SeqSet {
+    pub entries: SeqEntries,
+    /// The `debugvars` of the deepest level that has that element, or an empty text.
+    pub debugvars: NameText,
+}

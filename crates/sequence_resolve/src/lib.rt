@@ -1,0 +1,17 @@
+//! The debug access sequences that hold for one device, variant and processor of a pack.
+#![tactic(auto)]
+
+mod copy;
+mod effective_set;
+mod entry;
+mod fault;
+mod levels;
+mod place;
+mod winners;
+
+pub use effective_set::effective;
+pub use entry::{LevelKind, SeqEntries, SeqEntry, SeqSet};
+pub use fault::ResolveFault;
+
+#[cfg(test)]
+mod tests;
