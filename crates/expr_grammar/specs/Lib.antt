@@ -1,0 +1,12 @@
+pub mod Tree
+pub mod Lexeme
+pub mod Spelling
+pub mod Lexing
+pub mod Front
+pub mod Grammar
+pub mod Reading
+pub mod Found
+pub mod Refusal
+pub mod Counting
+pub mod Alike
+pub mod Arithmetic

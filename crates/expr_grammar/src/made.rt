@@ -1,0 +1,93 @@
+//! Expressions made of their parts.
+
+ghost use Rattle.std.specs.Prelude.{◌≡◌, IfOk, OnOk, OnErr, ◌++◌, ◌∷◌, [], map};
+ghost use Rattle.expr_grammar.specs.Tree as trees;
+ghost use Rattle.expr_grammar.specs.Tree.{tree, arg_tree, arg_trees, stmt_tree};
+
+use crate::code::{Arg, Args, BinaryOp, Expr, Name, Stmt, TextArg, UnaryOp};
+use dap_base::{OutOfMemory, Place};
+use std::alloc::Global;
+
+fn boxed(alloc: Global, e: Expr) -> Result<Box<Expr>, OutOfMemory>
+    ensures { IfOk result (λ b. tree b.value ≡ tree e) }
+{
+    Box::new(alloc, e).map_err(|_| OutOfMemory)
+}
+
+pub fn number(n: u64) -> Expr
+    ensures { tree result ≡ trees.Number n }
+{
+    Expr::Number(n)
+}
+
+pub fn named(name: Name) -> Expr
+    ensures { tree result ≡ trees.Named name }
+{
+    Expr::Name(name)
+}
+
+pub fn group(alloc: Global, a: Expr) -> Result<Expr, OutOfMemory>
+    ensures { IfOk result (λ e. tree e ≡ trees.Group (tree a)) }
+{
+    Ok(Expr::Group(boxed(alloc, a)?))
+}
+
+pub fn unary(alloc: Global, op: UnaryOp, a: Expr) -> Result<Expr, OutOfMemory>
+    ensures { IfOk result (λ e. tree e ≡ trees.Unary op (tree a)) }
+{
+    Ok(Expr::Unary(op, boxed(alloc, a)?))
+}
+
+pub fn binary(alloc: Global, op: BinaryOp, a: Expr, b: Expr) -> Result<Expr, OutOfMemory>
+    ensures { IfOk result (λ e. tree e ≡ trees.Binary op (tree a) (tree b)) }
+{
+    Ok(Expr::Binary(op, boxed(alloc, a)?, boxed(alloc, b)?))
+}
+
+pub fn choice(alloc: Global, test: Expr, a: Expr, b: Expr) -> Result<Expr, OutOfMemory>
+    ensures { IfOk result (λ e. tree e ≡ trees.Cond (tree test) (tree a) (tree b)) }
+{
+    Ok(Expr::Cond(boxed(alloc, test)?, boxed(alloc, a)?, boxed(alloc, b)?))
+}
+
+pub fn assignment(alloc: Global, name: Name, a: Expr) -> Result<Expr, OutOfMemory>
+    ensures { IfOk result (λ e. tree e ≡ trees.Assign name (tree a)) }
+{
+    Ok(Expr::Assign(name, boxed(alloc, a)?))
+}
+
+pub fn call(name: Name, args: Args) -> Expr
+    ensures { tree result ≡ trees.Call name (arg_trees args) }
+{
+    Expr::Call(name, args)
+}
+
+pub fn expr_arg(at: Place, e: Expr) -> Arg
+    ensures { arg_tree result ≡ trees.ExprArg at (tree e) }
+{
+    Arg::Number(at, e)
+}
+
+pub fn text_arg(text: TextArg) -> Arg
+    ensures { arg_tree result ≡ trees.TextArg text }
+{
+    Arg::Text(text)
+}
+
+pub fn empty(at: Place) -> Stmt
+    ensures { stmt_tree result ≡ trees.Empty at }
+{
+    Stmt::Empty(at)
+}
+
+pub fn declaration(name: Name, value: Expr) -> Stmt
+    ensures { stmt_tree result ≡ trees.Declare name (tree value) }
+{
+    Stmt::Declare(name, value)
+}
+
+pub fn plain(at: Place, value: Expr) -> Stmt
+    ensures { stmt_tree result ≡ trees.Plain at (tree value) }
+{
+    Stmt::Plain(at, value)
+}

@@ -1,0 +1,124 @@
+//! What a token stands for: marks, operators and how tightly they bind, and strings.
+
+ghost use Rattle.std.specs.Prelude.{◌≡◌, ◌≤◌, MatchOption, None, Some, IfOk};
+ghost use Rattle.expr_grammar.specs.Grammar as spec;
+ghost use Rattle.expr_grammar.specs.Lexeme.{lexeme};
+ghost use Rattle.expr_grammar.specs.Reading as reading;
+
+use crate::code::{BinaryOp, Name, TextArg, UnaryOp};
+use crate::token::{Token, TokenKind};
+use dap_base::{NameText, OutOfMemory};
+use std::alloc::Global;
+
+/// Whether the token is this mark.
+pub fn is_mark(token: &Token<'_>, text: &str) -> bool
+    ensures { result ≡ reading.is_mark text.now (lexeme token.now) }
+{
+    match token.kind {
+        TokenKind::Mark => token.text == text,
+        _ => false,
+    }
+}
+
+/// The operator before an operand that is written so.
+pub fn unary_of(text: &str) -> Option<UnaryOp>
+    ensures { result ≡ reading.unary_of text.now }
+{
+    match text {
+        "!" => Some(UnaryOp::Not),
+        "~" => Some(UnaryOp::Flip),
+        "-" => Some(UnaryOp::Minus),
+        "+" => Some(UnaryOp::Plus),
+        _ => None,
+    }
+}
+
+fn operator_of(text: &str) -> Option<BinaryOp>
+    ensures { result ≡ reading.operator_of text.now }
+{
+    match text {
+        "*" => Some(BinaryOp::Mul),
+        "/" => Some(BinaryOp::Div),
+        "%" => Some(BinaryOp::Rem),
+        "+" => Some(BinaryOp::Add),
+        "-" => Some(BinaryOp::Sub),
+        "<<" => Some(BinaryOp::Shl),
+        ">>" => Some(BinaryOp::Shr),
+        "<" => Some(BinaryOp::Lt),
+        "<=" => Some(BinaryOp::Le),
+        ">" => Some(BinaryOp::Gt),
+        ">=" => Some(BinaryOp::Ge),
+        "==" => Some(BinaryOp::Eq),
+        "!=" => Some(BinaryOp::Ne),
+        "&" => Some(BinaryOp::BitAnd),
+        "^" => Some(BinaryOp::BitXor),
+        "|" => Some(BinaryOp::BitOr),
+        "&&" => Some(BinaryOp::And),
+        "||" => Some(BinaryOp::Or),
+        _ => None,
+    }
+}
+
+/// The operator between operands that the token is.
+#[tactic(auto, unfolding(crate::specs::Reading::binary_of))]
+pub fn binary_of(token: &Token<'_>) -> Option<BinaryOp>
+    ensures { result ≡ reading.binary_of (lexeme token.now) }
+{
+    match token.kind {
+        TokenKind::Mark => operator_of(token.text),
+        _ => None,
+    }
+}
+
+/// How tightly the operator binds.
+pub fn level(op: BinaryOp) -> u8
+    ensures value { result ≡ spec.level op }
+    ensures least { 2 ≤ result }
+    ensures most { result ≤ 11 }
+{
+    match op {
+        BinaryOp::Or => 2,
+        BinaryOp::And => 3,
+        BinaryOp::BitOr => 4,
+        BinaryOp::BitXor => 5,
+        BinaryOp::BitAnd => 6,
+        BinaryOp::Eq | BinaryOp::Ne => 7,
+        BinaryOp::Lt | BinaryOp::Le | BinaryOp::Gt | BinaryOp::Ge => 8,
+        BinaryOp::Shl | BinaryOp::Shr => 9,
+        BinaryOp::Add | BinaryOp::Sub => 10,
+        BinaryOp::Mul | BinaryOp::Div | BinaryOp::Rem => 11,
+    }
+}
+
+/// The name that the token writes.
+pub fn name_of(alloc: Global, token: &Token<'_>) -> Result<Name, OutOfMemory>
+    ensures { IfOk result (λ n. n ≡ reading.name_of (lexeme token.now)) }
+{
+    Ok(Name {
+        text: NameText::new(alloc, token.text)?,
+        at: token.at,
+    })
+}
+
+/// What stands between the quotes of a string.
+pub fn between_quotes(text: &str) -> Option<&str>
+    ensures { MatchOption result (reading.between_quotes text.now ≡ None) (λ t. reading.between_quotes text.now ≡ Some t.now) }
+{
+    match text.strip_prefix('"') {
+        Some(rest) => rest.strip_suffix('"'),
+        None => None,
+    }
+}
+
+/// The string that the token is, if it has both quotes.
+pub fn string_of(alloc: Global, token: &Token<'_>) -> Result<Option<TextArg>, OutOfMemory>
+    ensures { IfOk result (λ s. MatchOption s (reading.between_quotes token.now.text.now ≡ None) (λ t. (reading.between_quotes token.now.text.now ≡ Some t.text) × (t.at ≡ token.now.at))) }
+{
+    match between_quotes(token.text) {
+        Some(text) => Ok(Some(TextArg {
+            text: NameText::new(alloc, text)?,
+            at: token.at,
+        })),
+        None => Ok(None),
+    }
+}

@@ -1,0 +1,99 @@
+//! Statements.
+
+ghost use Rattle.std.specs.Prelude.{◌≡◌, ◌<◌, length, IfOk, IfErr, IfSome, Ok, [], List};
+ghost use Rattle.expr_grammar.specs.Tree.{tree, stmt_tree, code_trees};
+ghost use Rattle.expr_grammar.specs.Lexeme.{Lexeme, lexemes};
+ghost use Rattle.expr_grammar.specs.Reading as reading;
+ghost use Rattle.expr_grammar.specs.Reading.{Gives};
+ghost use Rattle.expr_grammar.specs.Found.{found_statements};
+
+use crate::code::{Code, Stmt};
+use crate::cursor::{expect, expect_name, next};
+use crate::fault::Fault;
+use crate::made;
+use crate::operators::is_mark;
+use crate::parser::whole;
+use crate::token::Token;
+use dap_base::Place;
+use std::alloc::Global;
+
+/// A declaration, behind `__var`.
+#[tactic(auto, unfolding(crate::specs::Reading::declared))]
+fn declaration<'t, 'a>(
+    alloc: Global,
+    tokens: &'t [Token<'a>],
+) -> Result<(Stmt, &'t [Token<'a>]), Fault>
+    ensures reads { Gives (λ x. (stmt_tree x.0, lexemes x.1.now)) result (reading.declared reading.read (lexemes tokens.now)) }
+    ensures shorter { IfOk result (λ x. length x.1.now < length tokens.now) }
+{
+    let (name, rest) = expect_name(alloc, tokens)?;
+    let rest = expect(rest, "=")?;
+    let (value, rest) = whole(alloc, rest)?;
+    let rest = expect(rest, ";")?;
+    Ok((made::declaration(name, value), rest))
+}
+
+/// An expression and its semicolon.
+#[tactic(auto, unfolding(crate::specs::Reading::plain))]
+fn plain<'t, 'a>(
+    alloc: Global,
+    at: Place,
+    tokens: &'t [Token<'a>],
+) -> Result<(Stmt, &'t [Token<'a>]), Fault>
+    ensures reads { Gives (λ x. (stmt_tree x.0, lexemes x.1.now)) result (reading.plain reading.read at (lexemes tokens.now)) }
+    ensures shorter { IfOk result (λ x. length x.1.now < length tokens.now) }
+{
+    let (value, rest) = whole(alloc, tokens)?;
+    let rest = expect(rest, ";")?;
+    Ok((made::plain(at, value), rest))
+}
+
+/// A statement, and the tokens after it.
+#[tactic(auto, unfolding(crate::specs::Reading::statement))]
+fn statement<'t, 'a>(
+    alloc: Global,
+    tokens: &'t [Token<'a>],
+) -> Result<(Stmt, &'t [Token<'a>]), Fault>
+    ensures reads { Gives (λ x. (stmt_tree x.0, lexemes x.1.now)) result (reading.statement reading.read (lexemes tokens.now)) }
+    ensures shorter { IfOk result (λ x. length x.1.now < length tokens.now) }
+{
+    let Some((token, rest)) = next(tokens) else {
+        return Err(Fault::Unexpected(0));
+    };
+    if is_mark(&token, ";") {
+        Ok((made::empty(token.at), rest))
+    } else if is_mark(&token, "__var") {
+        declaration(alloc, rest)
+    } else {
+        plain(alloc, token.at, tokens)
+    }
+}
+
+/// A statement and the tokens after it, or nothing where no token is left.
+#[tactic(auto, unfolding(crate::specs::Reading::statements))]
+fn next_statement<'t, 'a>(
+    alloc: Global,
+    tokens: &'t [Token<'a>],
+) -> Result<Option<(Stmt, &'t [Token<'a>])>, Fault>
+    ensures reads { IfOk result (λ found. reading.statements reading.read (lexemes tokens.now) ≡ found_statements found) }
+    ensures fails { IfErr result (λ f. reading.Fails f (reading.statements reading.read (lexemes tokens.now))) }
+    ensures shorter { IfOk result (λ found. IfSome found (λ x. length x.1.now < length tokens.now)) }
+{
+    if tokens.is_empty() {
+        return Ok(None);
+    }
+    Ok(Some(statement(alloc, tokens)?))
+}
+
+/// All of the tokens as statements.
+pub fn statements(alloc: Global, tokens: &[Token<'_>]) -> Result<Code, Fault>
+    ensures { Gives (λ code. let none : List Lexeme = [] in (code_trees code, none)) result (reading.statements reading.read (lexemes tokens.now)) }
+{
+    let mut code = Code::new(alloc);
+    let mut found = next_statement(alloc, tokens)?;
+    while let Some((statement, rest)) = found {
+        code.push(statement)?;
+        found = next_statement(alloc, rest)?;
+    }
+    Ok(code)
+}
