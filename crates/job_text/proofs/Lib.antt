@@ -1,0 +1,9 @@
+pub mod Defaults
+pub mod KeyLemmas
+pub mod WatchLemmas
+pub mod RunLaws
+pub mod TargetLaws
+pub mod JobLaws
+pub mod RangeLaws
+pub mod SettingLaws
+pub mod AnswerLaws

@@ -1,0 +1,25 @@
+-- Which JSON value stands for which job, said apart from any order of reading.
+use Rattle.std.specs.Prelude.{codes, List, [], ◌∷◌, Some}
+use Rattle.serde_json.specs.Data.{Data}
+use Rattle.json_form.specs.Reading.{never}
+use Rattle.json_form.specs.Form.{IsNumber, Such, HasOnly, Has, HasOr, IsListOf, Alone}
+use Rattle.device_tree.specs.PackForm.{IsPack}
+use Rattle.target_machine.specs.declared.job.RegionJob.{RegionJob}
+use Rattle.job_text.specs.declared.job.Job.{Job}
+use Rattle.job_text.specs.declared.job.WatchItem.{WatchItem}
+use Rattle.job_text.specs.Tests.{is_aligned, are_words_in}
+use Rattle.job_text.specs.RunReading.{default_settings}
+use Rattle.job_text.specs.RunForm.{IsRun}
+use Rattle.job_text.specs.TargetForm.{IsAddress, IsBench}
+
+pub record IsWatchItem (regions : List RegionJob) (d : Data) (x : WatchItem) : Type 0 where
+  pub known : HasOnly (codes "address" ∷ codes "words" ∷ []) d
+  pub address : Has (codes "address") (Such is_aligned IsAddress) d x.address
+  pub words : Has (codes "words") (Such (are_words_in regions x.address) (IsNumber 1 65536)) d x.words
+
+pub record IsJob (d : Data) (job : Job) : Type 0 where
+  pub known : HasOnly (codes "pack" ∷ codes "run" ∷ codes "bench" ∷ codes "watch" ∷ []) d
+  pub pack : Has (codes "pack") IsPack d job.pack
+  pub settings : HasOr (codes "run") IsRun default_settings d job.settings
+  pub bench : Has (codes "bench") IsBench d job.bench
+  pub watch : HasOr (codes "watch") (IsListOf (Some 1024) (Alone (IsWatchItem job.bench.target.memory)) never) [] d job.watch

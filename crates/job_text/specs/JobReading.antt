@@ -1,0 +1,34 @@
+-- Reading a job.
+use Rattle.std.specs.Prelude.{codes, List, [], map, Some, Result, Ok}
+use Rattle.serde_json.specs.Data.{Data}
+use Rattle.json_form.specs.declared.fault.JobFault.{JobFault}
+use Rattle.json_form.specs.Faults.{◌>>=◌}
+use Rattle.json_form.specs.Reading.{number, such, only_keys, required, or_else, list_of, alone, never}
+use Rattle.device_tree.specs.PackReading.{pack_in}
+use Rattle.target_machine.specs.declared.job.RegionJob.{RegionJob}
+use Rattle.job_text.specs.declared.job.Job.{Job}
+use Rattle.job_text.specs.declared.job.WatchItem.{WatchItem}
+use Rattle.job_text.specs.declared.watch.TheConstants.{WATCH_KEYS}
+use Rattle.job_text.specs.declared.reading.TheConstants.{JOB_KEYS}
+use Rattle.job_text.specs.Tests.{is_aligned, are_words_in}
+use Rattle.job_text.specs.RunReading.{run_in, default_settings}
+use Rattle.job_text.specs.TargetReading.{address_number, bench_in}
+
+unfoldable pub watch_item_in : List RegionJob → Data → Result WatchItem JobFault
+watch_item_in regions d = do
+  known ← only_keys (map (λ k. k.now) WATCH_KEYS) d
+  address ← required (codes "address") (such is_aligned address_number) d
+  words ← required (codes "words") (such (are_words_in regions address) (number 1 65536)) d
+  Ok (record { address = address; words = words })
+
+unfoldable pub watch_in : List RegionJob → Data → Result (List WatchItem) JobFault
+watch_in regions d = or_else (codes "watch") (list_of (Some 1024) (alone (watch_item_in regions)) never) [] d
+
+unfoldable pub job_in : Data → Result Job JobFault
+job_in d = do
+  known ← only_keys (map (λ k. k.now) JOB_KEYS) d
+  pack ← required (codes "pack") pack_in d
+  settings ← or_else (codes "run") run_in default_settings d
+  bench ← required (codes "bench") bench_in d
+  watch ← watch_in bench.target.memory d
+  Ok (record { pack = pack; settings = settings; bench = bench; watch = watch })

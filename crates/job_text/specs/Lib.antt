@@ -1,0 +1,10 @@
+pub mod RunReading
+pub mod RunForm
+pub mod Tests
+pub mod TargetReading
+pub mod TargetForm
+pub mod JobReading
+pub mod JobForm
+pub mod Answers
+pub mod PathText
+pub mod Ranges

@@ -1,0 +1,25 @@
+-- What holds of the settings and the watched words of every job that is read.
+use Rattle.std.specs.Prelude.{◌≡◌, ℕ, ◌%◌, ◌≤◌, true, List, map, length}
+use Rattle.std.specs.List.{All}
+use Rattle.target_machine.specs.declared.job.RegionJob.{RegionJob}
+use Rattle.target_machine.specs.declared.unit.Settings.{Settings}
+use Rattle.job_text.specs.declared.job.WatchItem.{WatchItem}
+use Rattle.job_text.specs.RunForm.{variable_names}
+use Rattle.job_text.specs.Tests.{are_words_in}
+
+-- 1 to 60,000,000 microseconds a turn, and a value for each predefined variable, in their order
+pub record AreSettings (settings : Settings) : Type 0 where
+  pub some : 1 ≤ settings.turn_us
+  pub few : settings.turn_us ≤ 60000000
+  pub names : map (λ variable. variable.name) settings.start ≡ variable_names
+
+-- 1 to 65,536 words, each in one of the regions
+pub record IsWatched (regions : List RegionJob) (item : WatchItem) : Type 0 where
+  pub aligned : item.address % 4 ≡ 0
+  pub some : 1 ≤ item.words
+  pub few : item.words ≤ 65536
+  pub inside : are_words_in regions item.address item.words ≡ true
+
+pub record AreWatched (regions : List RegionJob) (watch : List WatchItem) : Type 0 where
+  pub few : length watch ≤ 1024
+  pub each : All (IsWatched regions) watch

@@ -1,0 +1,37 @@
+// A job, and why a text is none.
+use dap_base::ItemList;
+use device_tree::{JobFault, Pack};
+use probe_core::BenchJob;
+use target_machine::Settings;
+
+/// Words of memory whose values are printed at the end.
+#[derive(Clone, Copy, Debug, PartialEq, Eq)]
+pub struct WatchItem {
+    /// The address of the first word, a multiple of 4.
+    pub address: u64,
+    /// The number of words, 1 to 65,536, each of which lies in a region.
+    pub words: u32,
+}
+
+/// What is printed at the end, in order, at most 1,024 items.
+pub type Watch = ItemList<WatchItem>;
+
+/// A job: the device pack, how its sequences are run, and the simulated probe and target.
+#[derive(Debug, Drop)]
+pub struct Job {
+    pub pack: Pack,
+    pub settings: Settings,
+    pub bench: BenchJob,
+    pub watch: Watch,
+}
+
+/// Why bytes are no job.
+#[derive(Debug, Drop)]
+pub enum JobRefusal {
+    /// The bytes are no JSON text.
+    BadJson,
+    /// The JSON value stands for no job; this is its first fault, which is never `OutOfMemory`.
+    Fault(JobFault),
+    /// Memory was refused.
+    OutOfMemory,
+}

@@ -1,0 +1,95 @@
+// The whole job.
+ghost use Rattle.std.specs.Prelude.{IfOk, IfErr};
+ghost use Rattle.serde_json.specs.View.{view};
+ghost use Rattle.json_form.specs.Faults.{Gives};
+ghost use Rattle.probe_core.specs.Ranges.{IsBenchJob};
+ghost use Rattle.job_text.specs.JobReading.{watch_in, job_in};
+ghost use Rattle.job_text.specs.Answers.{Answers, Describes, IsRefused, IsAnswer};
+ghost use Rattle.job_text.specs.Ranges.{AreSettings, AreWatched};
+ghost use Rattle.job_text.specs.declared.job.Job.{Job};
+
+use crate::bench::BenchReader;
+use crate::job::{Job, JobRefusal, Watch};
+use crate::run::settings_of;
+use crate::watch::WatchReader;
+use dap_base::ItemList;
+use device_tree::{JobFault, PackReader};
+use json_form::{Each, ListOf, member_or, only_keys_of, required_of};
+use serde_json::Value;
+use std::alloc::Global;
+use target_machine::RegionJobs;
+
+const WATCH_LIMIT: usize = 1024;
+
+#[tactic(auto, unfolding(crate::specs::JobReading::watch_in))]
+fn watch_of(alloc: Global, job: &Value, regions: &RegionJobs) -> Result<Watch, JobFault>
+    ensures { Gives result (watch_in regions.now (view job.now)) }
+{
+    let list = ListOf {
+        limit: Some(WATCH_LIMIT),
+        item: Each {
+            item: WatchReader {
+                regions: regions.as_slice(),
+            },
+        },
+    };
+    member_or(alloc, job, "watch", &list, ItemList::new(alloc))
+}
+
+const JOB_KEYS: [&str; 4] = ["pack", "run", "bench", "watch"];
+
+#[tactic(auto, unfolding(crate::specs::JobReading::job_in))]
+fn job_in_value(alloc: Global, value: &Value) -> Result<Job, JobFault>
+    ensures { Gives result (job_in (view value.now)) }
+{
+    only_keys_of(alloc, value, &JOB_KEYS)?;
+    let pack = required_of(alloc, value, "pack", &PackReader)?;
+    let settings = settings_of(alloc, value)?;
+    let bench = required_of(alloc, value, "bench", &BenchReader)?;
+    let watch = watch_of(alloc, value, &bench.target.memory)?;
+    Ok(Job {
+        pack,
+        settings,
+        bench,
+        watch,
+    })
+}
+
+fn answer_of(alloc: Global, bytes: &[u8]) -> Result<Job, JobRefusal>
+    ensures { Answers bytes.now result }
+{
+    let value = match Value::from_slice(alloc, bytes) {
+        Ok(value) => value,
+        Err(error) => {
+            if error.is_memory() {
+                return Err(JobRefusal::OutOfMemory);
+            }
+            return Err(JobRefusal::BadJson);
+        }
+    };
+    match job_in_value(alloc, &value) {
+        Ok(job) => Ok(job),
+        Err(JobFault::OutOfMemory) => Err(JobRefusal::OutOfMemory),
+        Err(fault) => Err(JobRefusal::Fault(fault)),
+    }
+}
+
+/// The job that `bytes` describe, or why they describe none: `BadJson` exactly where `serde_json`
+/// reads no value from them, at most 127 arrays and objects within one another; `Fault` with the
+/// first fault of the value, by the rules and the order of docs/JOB.md; `OutOfMemory` where memory
+/// is refused. The bytes are read once, in near-linear time. The limit on their number is the
+/// caller's.
+pub fn job_of(alloc: Global, bytes: &[u8]) -> Result<Job, JobRefusal>
+    // The job is one that the bytes describe.
+    ensures found { IfOk result (Describes bytes.now) }
+    // A job that the bytes describe is read, unless memory is refused.
+    ensures only { (job : Job) → Describes bytes.now job → IsAnswer job result }
+    // Which refusal it is, and the first fault.
+    ensures refused { IfErr result (IsRefused bytes.now) }
+    // The settings, the bench and the watched words are in their ranges; the bench can be loaded.
+    ensures settings { IfOk result (λ job. AreSettings job.settings) }
+    ensures watch { IfOk result (λ job. AreWatched job.bench.target.memory job.watch) }
+    ensures ranges { IfOk result (λ job. IsBenchJob job.bench) }
+{
+    answer_of(alloc, bytes)
+}

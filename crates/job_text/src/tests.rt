@@ -1,0 +1,155 @@
+// What is said of jobs: their first faults, and what a job has where it is silent.
+mod bench_tests;
+mod pack_tests;
+mod run_tests;
+
+use crate::{Job, JobRefusal, job_of, path_text};
+use dap_base::OutOfMemory;
+use device_tree::{JobFault, Path, PathStep};
+use std::alloc::{AllocError, Global};
+use std::process::Abort;
+use std::test::Fail;
+use target_machine::ApJob;
+
+fn shown(alloc: Global, kind: &str, path: &Path) -> Result<Vec<u8>, AllocError> {
+    let mut text = Vec::from_slice(alloc, kind.as_bytes())?;
+    text.push(b' ')?;
+    match path_text(alloc, path) {
+        Ok(path) => text.extend_from_slice(&path)?,
+        Err(OutOfMemory) => return Err(AllocError),
+    }
+    Ok(text)
+}
+
+// What is said of the bytes: `ok`, `BadJson`, or the kind of the fault and its path.
+fn said(alloc: Global, bytes: &[u8]) -> Result<Vec<u8>, AllocError> {
+    match job_of(alloc, bytes) {
+        Ok(_) => Vec::from_slice(alloc, b"ok"),
+        Err(JobRefusal::BadJson) => Vec::from_slice(alloc, b"BadJson"),
+        Err(JobRefusal::OutOfMemory) => Err(AllocError),
+        Err(JobRefusal::Fault(fault)) => match fault {
+            JobFault::Missing(path) => shown(alloc, "Missing", &path),
+            JobFault::WrongKind(path) => shown(alloc, "WrongKind", &path),
+            JobFault::UnknownKey(path) => shown(alloc, "UnknownKey", &path),
+            JobFault::Repeated(path) => shown(alloc, "Repeated", &path),
+            JobFault::BadNumber(path) => shown(alloc, "BadNumber", &path),
+            JobFault::TooMany(path) => shown(alloc, "TooMany", &path),
+            JobFault::OutOfMemory => Err(AllocError),
+        },
+    }
+}
+
+// Each case stands between the two texts, with what is said of the whole.
+pub fn check(
+    rt: &impl Abort,
+    alloc: Global,
+    before: &str,
+    cases: &[(&str, &str)],
+    after: &str,
+) -> Result<(), AllocError> {
+    for (case, expected) in cases {
+        let mut text = String::from_str(alloc, before)?;
+        text.push_str(case)?;
+        text.push_str(after)?;
+        let answer = said(alloc, text.as_bytes())?;
+        assert_eq!(rt; answer.as_slice(), expected.as_bytes(), "{case}");
+    }
+    Ok(())
+}
+
+const BYTES: [(&[u8], &str); 12] = [
+    (b"", "BadJson"),
+    (b"{", "BadJson"),
+    (b"{} x", "BadJson"),
+    (b"\xEF\xBB\xBF{}", "BadJson"),
+    (b"{\"\xFF\":1}", "BadJson"),
+    (b"\"\\ud800\"", "BadJson"),
+    (b"1e999", "BadJson"),
+    (b"[]", "WrongKind #"),
+    (b" 3 ", "WrongKind #"),
+    (b"null", "WrongKind #"),
+    (b"{}", "Missing #/pack"),
+    (b"{\"pack\":{\"families\":[]}}", "Missing #/bench"),
+];
+
+#[test]
+fn bytes(rt: HostRuntime) -> Result<(), Fail> {
+    for (bytes, expected) in &BYTES {
+        let answer = said(rt.alloc(), bytes)?;
+        assert_eq!(rt; answer.as_slice(), expected.as_bytes());
+    }
+    Ok(())
+}
+
+// 127 arrays within one another are read, and 128 are not.
+#[test]
+fn nesting(rt: HostRuntime) -> Result<(), Fail> {
+    let alloc = rt.alloc();
+    let mut text = vec![in alloc; b'['; 127]?;
+    for _ in 0..127 {
+        text.push(b']')?;
+    }
+    assert_eq!(rt; said(alloc, &text)?.as_slice(), b"WrongKind #".as_slice());
+    text.insert(0, b'[')?;
+    text.push(b']')?;
+    assert_eq!(rt; said(alloc, &text)?.as_slice(), b"BadJson".as_slice());
+    Ok(())
+}
+
+const DEFAULTS: &str =
+    r#"{"pack":{"families":[]},"bench":{"packet_size":64,"packet_count":4,"target":{"aps":[{"ap":3}],"memory":[{"address":4,"length":8}]}}}"#;
+
+fn defaults(alloc: Global) -> Option<Job> {
+    job_of(alloc, DEFAULTS.as_bytes()).ok()
+}
+
+#[test]
+fn default_settings(rt: HostRuntime) -> Result<(), Fail> {
+    let job = defaults(rt.alloc()).ok_or("refused")?;
+    assert_eq!(rt; job.settings.turn_us, 10);
+    assert_eq!(rt; job.settings.retry, 100);
+    assert_eq!(rt; job.settings.idle, 0);
+    assert_eq!(rt; job.settings.start.len(), 7);
+    assert_eq!(rt; job.watch.len(), 0);
+    Ok(())
+}
+
+#[test]
+fn default_target(rt: HostRuntime) -> Result<(), Fail> {
+    let job = defaults(rt.alloc()).ok_or("refused")?;
+    let target = &job.bench.target;
+    assert_eq!(rt; target.dpidr, 0x2BA0_1477);
+    assert_eq!(rt; target.powered, false);
+    assert_eq!(rt; target.power_reads, 0);
+    assert_eq!(rt; target.pins, 0xA0);
+    assert_eq!(rt; target.carry, false);
+    Ok(())
+}
+
+#[test]
+fn default_access_port(rt: HostRuntime) -> Result<(), Fail> {
+    let job = defaults(rt.alloc()).ok_or("refused")?;
+    let port = job.bench.target.aps.get(0).ok_or("no AP")?;
+    let wanted = ApJob {
+        ap: 3,
+        idr: 0x2477_0011,
+        base: 0xE00F_F003,
+        csw: 0,
+        la: false,
+    };
+    assert_eq!(rt; *port, wanted);
+    Ok(())
+}
+
+#[test]
+fn paths(rt: HostRuntime) -> Result<(), Fail> {
+    let alloc = rt.alloc();
+    let mut path = Path::new(alloc);
+    let pushed = path.push(PathStep::Index(10)).is_ok();
+    assert!(rt; pushed);
+    match path_text(alloc, &path) {
+        Ok(text) => assert_eq!(rt; text.as_slice(), b"#/10".as_slice()),
+        Err(OutOfMemory) => return Err(Fail::from("no memory")),
+    }
+    Ok(())
+}
