@@ -1,0 +1,55 @@
+-- From a run that is done to its report.
+use Rattle.std.proofs.Common.{◌≡◌, ℕ, inr, List, length, Option, None, Some, Result, Ok, Err, sym, ap, subst, ◌∙◌, arith}
+use Rattle.std.proofs.Math.Seq.{take-length}
+use Rattle.std.specs.Io.KnownBytes.{Appends}
+use Rattle.std.specs.Prelude.{IfSome}
+use Rattle.dap_base.specs.Streams.{AppendsPrefix, PutAppends}
+use Rattle.target_machine.specs.State.{TargetState}
+use Rattle.probe_core.specs.Bench.{BenchState, Steps}
+use Rattle.probe_core.specs.Probe.{target_of}
+use Rattle.dapseq_tool.specs.Blocks.{IsPartDone, IsRunDone}
+use Rattle.dapseq_tool.specs.Meaning.{outcome, target_after}
+use Rattle.dapseq_tool.specs.Report.{done_text, report}
+use Rattle.dapseq_tool.specs.declared.job.RunJob.{RunJob}
+
+report_is : (job : RunJob) (values : List ℕ) (t : TargetState) → values ≡ (outcome job).values → t ≡ (outcome job).target → done_text job values t ≡ report job
+unfolding report
+report_is job values t same there = ap (λ (v : List ℕ). done_text job v t) same ∙ ap (done_text job (outcome job).values) there
+
+-- what was put of the lines of a run that is done was put of its report
+pub put_run : {E : Type 0} (job : RunJob) (lent values : List ℕ) (old new : Option (List ℕ)) (result : Result (Unit {0}) E) (a b : Option BenchState)
+    → Steps (λ m n. IsRunDone job n) a b → IfSome a (λ m. values ≡ (outcome job).values) → lent ≡ values
+    → IfSome b (λ n. PutAppends old new result (done_text job lent (target_of n.probe))) → IfSome a (λ m. PutAppends old new result (report job))
+put_run job lent values old new result None b done same is_lent put = tt
+put_run job lent values old new result (Some m) None done same is_lent put = absurd done
+put_run job lent values old new result (Some m) (Some n) done same is_lent put =
+    subst (PutAppends old new result) (report_is job lent (target_of n.probe) (is_lent ∙ same) done.target) put
+
+-- a run that is done is a part of itself
+pub done_is_part : (job : RunJob) (a b c : Option BenchState) → Steps (λ m n. IsRunDone job n) a b → c ≡ b → Steps (IsPartDone job) a c
+done_is_part job None b c done same = tt
+done_is_part job (Some m) None c done same = absurd done
+done_is_part job (Some m) (Some n) c done same =
+    subst (Steps (IsPartDone job) (Some m)) (sym same) (inr (record {
+      most = omega (arith, done.work);
+      target = done.accesses ∙ ap (target_after job) (sym done.work);
+    }))
+
+-- a run that is done stays so where the state stays
+pub done_stays : (job : RunJob) (a b c : Option BenchState) → Steps (λ m n. IsRunDone job n) a b → c ≡ b → Steps (λ m n. IsRunDone job n) a c
+done_stays job a b c done same = subst (Steps (λ m n. IsRunDone job n) a) (sym same) done
+
+-- a whole piece is a part of it from the front
+pub put_prefix : {E : Type 0} (old new : Option (List ℕ)) (result : Result (Unit {0}) E) (piece : List ℕ) → PutAppends old new result piece → AppendsPrefix old new piece
+put_prefix old new (Ok u) piece put = (length piece, subst (Appends old new) (sym (take-length piece)) put)
+put_prefix old new (Err e) piece put = put
+
+-- the same as a part of the report
+pub lines_run : {E : Type 0} (job : RunJob) (lent values : List ℕ) (old new : Option (List ℕ)) (result : Result (Unit {0}) E) (a b : Option BenchState)
+    → Steps (λ m n. IsRunDone job n) a b → IfSome a (λ m. values ≡ (outcome job).values) → lent ≡ values
+    → IfSome b (λ n. PutAppends old new result (done_text job lent (target_of n.probe))) → IfSome a (λ m. AppendsPrefix old new (report job))
+lines_run job lent values old new result a b done same is_lent put = prefixed a (put_run job lent values old new result a b done same is_lent put)
+  where
+    prefixed : (a : Option BenchState) → IfSome a (λ m. PutAppends old new result (report job)) → IfSome a (λ m. AppendsPrefix old new (report job))
+    prefixed None put = tt
+    prefixed (Some m) put = put_prefix old new result (report job) put

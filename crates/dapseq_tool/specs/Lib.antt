@@ -1,0 +1,17 @@
+pub mod Pieces
+pub mod Form
+pub mod Code
+pub mod Named
+pub mod Job
+pub mod Sound
+pub mod Asked
+pub mod Lines
+pub mod Meaning
+pub mod Report
+pub mod Ends
+pub mod Exchange
+pub mod Progress
+pub mod Ready
+pub mod Units
+pub mod Blocks
+pub mod Headline

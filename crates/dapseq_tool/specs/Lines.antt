@@ -1,0 +1,63 @@
+-- The lines of a report. Each ends with a line feed.
+use Rattle.std.specs.Prelude.{ℕ, ◌^◌, nat_le, Bool, true, false, List, [], ◌++◌, codes, decimal, Option, Some, None, if◌then◌else◌}
+use Rattle.std.specs.Fmt.{digits}
+use Rattle.byteorder.specs.Endian.{big_bytes}
+use Rattle.hex.specs.Hex.{encode_lower}
+use Rattle.target_machine.specs.declared.image.ApImage.{ApImage}
+use Rattle.target_machine.specs.declared.image.DpImage.{DpImage}
+use Rattle.target_machine.specs.declared.image.LinesImage.{LinesImage}
+use Rattle.target_machine.specs.declared.image.WordImage.{WordImage}
+
+-- `0x` and so many lower-case hexadecimal digits, two for each byte
+abbrev pub hex8 : ℕ → List ℕ
+hex8 n = codes "0x" ++ encode_lower (big_bytes 4 n)
+
+abbrev pub hex16 : ℕ → List ℕ
+hex16 n = codes "0x" ++ encode_lower (big_bytes 8 n)
+
+abbrev pub hex2 : ℕ → List ℕ
+hex2 n = codes "0x" ++ encode_lower (big_bytes 1 n)
+
+-- `0x` and lower-case hexadecimal digits without leading zeros
+abbrev pub hex : ℕ → List ℕ
+hex n = codes "0x" ++ digits 16 false n
+
+-- an address: eight digits, and sixteen from 2^32 on
+abbrev pub hex_address : ℕ → List ℕ
+hex_address address = if nat_le (2 ^ 32) address then hex16 address else hex8 address
+
+abbrev pub bit_of : Bool → List ℕ
+bit_of true = codes "1"
+bit_of false = codes "0"
+
+abbrev pub units_line : ℕ → List ℕ
+units_line units = codes "units " ++ decimal units ++ codes "\n"
+
+abbrev pub variable_line : List ℕ → ℕ → List ℕ
+variable_line name value = codes "var " ++ name ++ codes " " ++ hex value ++ codes "\n"
+
+-- the debug port: SELECT, CTRL/STAT, STICKYERR, and the reads of CTRL/STAT
+abbrev pub dp_line : DpImage → List ℕ
+dp_line image =
+    codes "dp select " ++ hex8 image.select ++ codes " ctrl " ++ hex8 image.ctrl ++ codes " sticky " ++ bit_of image.sticky ++ codes " reads " ++ decimal image.reads ++ codes "\n"
+
+abbrev pub high_part : Option ℕ → List ℕ
+high_part None = []
+high_part (Some high) = codes " high " ++ hex8 high
+
+-- an access port: CSW, TAR, and TAR's upper word where it has large physical addresses
+abbrev pub ap_line : ℕ → ApImage → List ℕ
+ap_line ap image = codes "ap " ++ decimal ap ++ codes " csw " ++ hex8 image.csw ++ codes " tar " ++ hex8 image.tar ++ high_part image.high ++ codes "\n"
+
+-- the lines of the probe
+abbrev pub lines_line : LinesImage → List ℕ
+lines_line image =
+    codes "lines pins " ++ hex2 image.pins ++ codes " bits " ++ decimal image.bits ++ codes " last " ++ hex16 image.last ++ codes " clock " ++ decimal image.clock ++ codes " delay " ++ decimal image.delay ++ codes "\n"
+
+abbrev pub place_part : Option ℕ → List ℕ
+place_part None = []
+place_part (Some place) = codes " at " ++ decimal place
+
+-- a word of memory
+abbrev pub word_line : ℕ → WordImage → List ℕ
+word_line address image = codes "mem " ++ hex_address address ++ codes " " ++ hex8 image.value ++ place_part image.place ++ codes "\n"
