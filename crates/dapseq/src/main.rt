@@ -1,0 +1,36 @@
+//! The program: it makes the real source, sink and bench, and calls `dapseq`.
+#![tactic(auto)]
+
+use dap_base::{NameText, OutOfMemory, ReadSource, Words, WriteSink};
+use dapseq_tool::{Status, dapseq};
+use probe_core::MemoryBench;
+use std::alloc::Global;
+use std::process::ExitCode;
+use std::{env, io};
+
+// The words after the program's name. No words where they cannot be read as text, so that they are
+// no command.
+fn read_words(rt: &HostRuntime, alloc: Global) -> Result<Words, OutOfMemory> {
+    let mut words = Words::new(alloc);
+    let Ok(arguments) = env::args(rt) else {
+        return Ok(words);
+    };
+    for argument in arguments.skip(1) {
+        words.push(NameText::new(alloc, argument.as_str())?)?;
+    }
+    Ok(words)
+}
+
+fn main(rt: HostRuntime) -> ExitCode {
+    let alloc = rt.alloc();
+    let status = match read_words(&rt, alloc) {
+        Ok(words) => {
+            let mut source = ReadSource::new(rt.reader());
+            let mut sink = WriteSink::new(io::writer(&rt));
+            let mut bench = MemoryBench::new(alloc);
+            dapseq(alloc, &words, &mut source, &mut sink, &mut bench)
+        }
+        Err(OutOfMemory) => Status::OutOfMemory,
+    };
+    ExitCode::from(status.code())
+}
