@@ -1,8 +1,5 @@
-mod fixed_reply;
-
 use crate::{Status, dapseq};
 use dap_base::{MemorySink, MemorySource, NameText, OutOfMemory, Words};
-use fixed_reply::FixedReply;
 use probe_core::{Bench, FaultyBench, MemoryBench};
 use std::alloc::Global;
 use std::process::Abort;
@@ -196,15 +193,5 @@ fn each_call_of_a_sink_may_fail(rt: HostRuntime) -> Result<(), Fail> {
         assert_eq!(rt; status, wanted);
         assert_eq!(rt; lines_of_report(sink.bytes()), Some(number as usize - 1));
     }
-    Ok(())
-}
-
-#[test]
-fn a_reply_without_meaning_ends_a_run(rt: HostRuntime) -> Result<(), Fail> {
-    let mut bench = FixedReply::new(rt.alloc());
-    let (status, sink) = call(rt.alloc(), &RUN, JOB.as_bytes(), &[], &[], &mut bench)?;
-    assert_eq!(rt; status, Status::ReplyBad);
-    assert_eq!(rt; sink.bytes(), b"".as_slice());
-    assert_eq!(rt; bench.packets(), 1);
     Ok(())
 }
