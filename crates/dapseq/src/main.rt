@@ -5,6 +5,7 @@ use dap_base::{NameText, OutOfMemory, ReadSource, Words, WriteSink};
 use dapseq_tool::{Status, dapseq};
 use probe_core::MemoryBench;
 use std::alloc::Global;
+use std::io::ErrorKind;
 use std::process::ExitCode;
 use std::{env, io};
 
@@ -12,8 +13,10 @@ use std::{env, io};
 // no command.
 fn read_words(rt: &HostRuntime, alloc: Global) -> Result<Words, OutOfMemory> {
     let mut words = Words::new(alloc);
-    let Ok(arguments) = env::args(rt) else {
-        return Ok(words);
+    let arguments = match env::args(rt) {
+        Ok(arguments) => arguments,
+        Err(error) if error.kind() == ErrorKind::OutOfMemory => return Err(OutOfMemory),
+        Err(_) => return Ok(words),
     };
     for argument in arguments.skip(1) {
         words.push(NameText::new(alloc, argument.as_str())?)?;
