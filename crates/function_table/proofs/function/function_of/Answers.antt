@@ -1,0 +1,5 @@
+use Rattle.function_table.proofs.Lookup.{exactly}
+use Rattle.function_table.proofs.function.function_of.Goals as goal
+
+pub returns : goal.returns
+returns c = exactly c.args.name.now c.named.result c.named.ensures
