@@ -1,27 +1,29 @@
 //! The program: it makes the real source, sink and bench, and calls `dapseq`.
 #![tactic(auto)]
 
-use dap_base::{NameText, OutOfMemory, ReadSource, Words, WriteSink};
+mod words;
+
+use dap_base::{OutOfMemory, ReadSource, Words, WriteSink};
 use dapseq_tool::{Status, dapseq};
 use probe_core::MemoryBench;
 use std::alloc::Global;
 use std::io::ErrorKind;
 use std::process::ExitCode;
 use std::{env, io};
+use words::words_of;
 
 // The words after the program's name. No words where they cannot be read as text, so that they are
 // no command.
 fn read_words(rt: &HostRuntime, alloc: Global) -> Result<Words, OutOfMemory> {
-    let mut words = Words::new(alloc);
     let arguments = match env::args(rt) {
         Ok(arguments) => arguments,
         Err(error) if error.kind() == ErrorKind::OutOfMemory => return Err(OutOfMemory),
-        Err(_) => return Ok(words),
+        Err(_) => return Ok(Words::new(alloc)),
     };
-    for argument in arguments.skip(1) {
-        words.push(NameText::new(alloc, argument.as_str())?)?;
-    }
-    Ok(words)
+    let Ok(arguments) = arguments.collect::<Vec<String>>(alloc) else {
+        return Err(OutOfMemory);
+    };
+    words_of(alloc, &arguments)
 }
 
 fn main(rt: HostRuntime) -> ExitCode {
