@@ -10,7 +10,7 @@ use Rattle.probe_core.specs.Probe.{target_of}
 use Rattle.dapseq_tool.specs.Blocks.{IsPartDone, IsRunDone}
 use Rattle.dapseq_tool.specs.Meaning.{outcome, target_after}
 use Rattle.dapseq_tool.specs.Report.{done_text, report}
-use Rattle.dapseq_tool.specs.declared.job.RunJob.{RunJob}
+use Rattle.word_job.specs.declared.job.RunJob.{RunJob}
 
 report_is : (job : RunJob) (values : List ℕ) (t : TargetState) → values ≡ (outcome job).values → t ≡ (outcome job).target → done_text job values t ≡ report job
 unfolding report

@@ -14,13 +14,13 @@ use Rattle.dap_messages.specs.Requests.{has_bit}
 use Rattle.dap_transfer.specs.Laws.{value_now}
 use Rattle.dap_transfer.specs.Transfer.{value_of as value_of_outcome}
 use Rattle.dap_transfer.specs.Wires.{access_of}
-use Rattle.dapseq_tool.specs.Code.{lies_in}
+use Rattle.word_job.specs.Region.{lies_in}
 use Rattle.dapseq_tool.specs.Meaning.{statement_done, value_of, stored}
 use Rattle.dapseq_tool.specs.Progress.{after_actions, actions_of, IsClear}
 use Rattle.dapseq_tool.specs.Ready.{IsPort, IsReady}
 use Rattle.dapseq_tool.specs.Units.{address_of, select_request, csw_request, size_request, tar_request, drw_request, requests_of, IsPlaced}
-use Rattle.dapseq_tool.specs.declared.statement.Statement.{Statement}
-use Rattle.dapseq_tool.specs.declared.statement.Statement.TheVariants.{Write, Read}
+use Rattle.word_job.specs.declared.statement.Statement.{Statement}
+use Rattle.word_job.specs.declared.statement.Statement.TheVariants.{Write, Read}
 use Rattle.dapseq_tool.proofs.UnitLemmas.{Five, Has, at_select, read_at, write_at, size_word, five_actions, after_five, five_by, csw_of, pointed, moved, at_tar, behind_read, behind_write, read_last, write_last, last_selects, next_selects, read_done, write_done}
 
 some_of : {A : Type 0} {P : A → Type 0} → (o : Option A) → IsSomeAnd o P → (a : A) × (o ≡ Some a) × P a

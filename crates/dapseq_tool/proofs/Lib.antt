@@ -1,8 +1,3 @@
-pub mod PieceLemmas
-pub mod NamedLemmas
-pub mod BlockLemmas
-pub mod FormLemmas
-pub mod SoundLemmas
 pub mod TextLemmas
 pub mod PutLemmas
 pub mod RowLemmas
@@ -21,3 +16,4 @@ pub mod RunLemmas
 pub mod StartLemmas
 pub mod RunJobLemmas
 pub mod CallLemmas
+pub mod AskedLemmas

@@ -11,7 +11,7 @@ use Rattle.probe_core.specs.Probe.{target_of, work_of}
 use Rattle.dapseq_tool.specs.Meaning.{statement_done}
 use Rattle.dapseq_tool.specs.Progress.{after_actions, actions_of, IsClear, IsBehind, IsAmid, CanDo, AreAccessed, CannotFail}
 use Rattle.dapseq_tool.specs.Units.{address_of, select_request, csw_request, size_request, tar_request, drw_request, front, back, requests_of, IsPlaced, CanRun, IsStatementDone}
-use Rattle.dapseq_tool.specs.declared.statement.Statement.{Statement}
+use Rattle.word_job.specs.declared.statement.Statement.{Statement}
 use Rattle.dapseq_tool.proofs.ChainLemmas.{steps_then, steps_map}
 use Rattle.dapseq_tool.proofs.FactsLemmas.{UnitFacts, unit_facts}
 

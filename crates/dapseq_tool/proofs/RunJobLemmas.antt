@@ -9,9 +9,9 @@ use Rattle.dapseq_tool.specs.Blocks.{AreDone, HaveRun, IsAmidBlock, IsPartDone, 
 use Rattle.dapseq_tool.specs.Meaning.{ran, outcome, first_values}
 use Rattle.dapseq_tool.specs.Progress.{after_actions, IsAmid}
 use Rattle.dapseq_tool.specs.Ready.{IsReady}
-use Rattle.dapseq_tool.specs.Sound.{IsSoundRun}
+use Rattle.word_job.specs.Sound.{IsSoundRun}
 use Rattle.dapseq_tool.specs.Units.{CanRun}
-use Rattle.dapseq_tool.specs.declared.job.RunJob.{RunJob}
+use Rattle.word_job.specs.declared.job.RunJob.{RunJob}
 use Rattle.dapseq_tool.proofs.ChainLemmas.{steps_then}
 use Rattle.dapseq_tool.proofs.StartLemmas.{start_ready}
 

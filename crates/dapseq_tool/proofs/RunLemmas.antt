@@ -11,14 +11,14 @@ use Rattle.dapseq_tool.specs.Meaning.{Now, behind, now_of, ran, statement_done, 
 use Rattle.dapseq_tool.specs.Progress.{after_actions, IsAmid}
 use Rattle.dapseq_tool.specs.Ready.{IsReady}
 use Rattle.std.specs.List.{All}
-use Rattle.dapseq_tool.specs.Code.{lies_in}
-use Rattle.dapseq_tool.specs.Sound.{IsLowRegion, IsStatementOf, IsSoundRun}
+use Rattle.word_job.specs.Region.{lies_in}
+use Rattle.word_job.specs.Sound.{IsLowRegion, IsStatementOf, IsSoundRun}
 use Rattle.dapseq_tool.specs.Units.{address_of, IsPlaced, CanRun, IsStatementDone}
-use Rattle.dapseq_tool.specs.declared.job.RunJob.{RunJob}
-use Rattle.dapseq_tool.specs.declared.statement.Statement.TheVariants.{Write, Read}
+use Rattle.word_job.specs.declared.job.RunJob.{RunJob}
+use Rattle.word_job.specs.declared.statement.Statement.TheVariants.{Write, Read}
 use Rattle.dapseq_tool.proofs.RowLemmas.{take-at, slice_get-in}
 use Rattle.dapseq_tool.specs.Blocks.{AreDone, HaveRun, IsAmidBlock}
-use Rattle.dapseq_tool.specs.declared.statement.Statement.{Statement}
+use Rattle.word_job.specs.declared.statement.Statement.{Statement}
 use Rattle.dapseq_tool.proofs.ChainLemmas.{steps_then}
 use Rattle.dapseq_tool.proofs.FactsLemmas.{UnitFacts, unit_facts}
 

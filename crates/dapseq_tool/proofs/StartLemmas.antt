@@ -9,10 +9,10 @@ use Rattle.target_machine.specs.declared.job.RegionJob.{RegionJob}
 use Rattle.target_machine.specs.declared.job.WordJob.{WordJob}
 use Rattle.target_machine.proofs.Maps.{found, got, got_inserted}
 use Rattle.target_machine.proofs.Finding.{found_inside}
-use Rattle.dapseq_tool.specs.Code.{lies_in}
-use Rattle.dapseq_tool.specs.Job.{bench_of}
+use Rattle.word_job.specs.Region.{lies_in}
+use Rattle.word_job.specs.Job.{bench_of}
 use Rattle.dapseq_tool.specs.Ready.{IsPort, IsReady}
-use Rattle.dapseq_tool.specs.Sound.{IsLowRegion}
+use Rattle.word_job.specs.Sound.{IsLowRegion}
 
 -- a word that can be written
 abbrev Can : Option Cell → Type 0

@@ -8,8 +8,8 @@ use Rattle.dapseq_tool.specs.Meaning.{ran, outcome, target_after}
 use Rattle.dapseq_tool.specs.Progress.{after_actions, IsAmid}
 use Rattle.dapseq_tool.specs.Ready.{IsReady}
 use Rattle.dapseq_tool.specs.Units.{CanRun}
-use Rattle.dapseq_tool.specs.declared.job.RunJob.{RunJob}
-use Rattle.dapseq_tool.specs.declared.statement.Statement.{Statement}
+use Rattle.word_job.specs.declared.job.RunJob.{RunJob}
+use Rattle.word_job.specs.declared.statement.Statement.{Statement}
 
 -- statements that are done, from these values of the variables on to those
 pub record AreDone (region : RegionJob) (statements : List Statement) (before after : List ℕ) (m n : BenchState) : Type 0 where

@@ -4,13 +4,13 @@ use Rattle.std.specs.Io.KnownBytes.{Appends}
 use Rattle.dap_base.specs.Causes.{IsQuiet, Rose}
 use Rattle.dap_base.specs.Streams.{AppendsPrefix}
 use Rattle.probe_core.specs.Bench.{Told, BenchState, Steps}
-use Rattle.dapseq_tool.specs.Asked.{asked_for, IfRun, UnlessRun}
+use Rattle.dapseq_tool.specs.Asked.{Asks, IfRun, UnlessRun}
 use Rattle.dapseq_tool.specs.Blocks.{IsPartDone, IsRunDone}
 use Rattle.dapseq_tool.specs.Exchange.{IsBadExchange}
 use Rattle.dapseq_tool.specs.Report.{report, answer_text, answer_status}
 use Rattle.dapseq_tool.specs.declared.asking.Asked.{Asked}
 use Rattle.dapseq_tool.specs.declared.asking.Asked.TheVariants as asked
-use Rattle.dapseq_tool.specs.declared.job.RunJob.{RunJob}
+use Rattle.word_job.specs.declared.job.RunJob.{RunJob}
 use Rattle.dapseq_tool.specs.declared.status.Status.{Status}
 use Rattle.dapseq_tool.specs.declared.status.Status.TheVariants as status
 
@@ -50,16 +50,16 @@ pub record Succeeds (old new : Moment) (end : Status) (job : RunJob) : Type 0 wh
 -- where all tell, a run was asked for and nothing outside failed, the run was done
 abbrev pub Success : List (List ℕ) → Moment → Moment → Status → Type 0
 Success words old new end =
-    IsQuietCall old new end → IsSome old.state → IfSome old.left (λ bytes. IfRun (asked_for words bytes) (Succeeds old new end))
+    IsQuietCall old new end → IsSome old.state → IfSome old.left (λ bytes. IfRun words bytes (Succeeds old new end))
 
 -- whatever failed outside, the bench is as it was or behind the first accesses of the run, as many as its probe's work
 abbrev pub Outside : List (List ℕ) → Moment → Moment → Type 0
-Outside words old new = IfSome old.left (λ bytes. IfRun (asked_for words bytes) (λ job. Steps (IsPartDone job) old.state new.state))
+Outside words old new = IfSome old.left (λ bytes. IfRun words bytes (λ job. Steps (IsPartDone job) old.state new.state))
 
 -- unless the source failed, what is written of a run is a part of its report from the front
 abbrev pub Lines : List (List ℕ) → Moment → Moment → Type 0
 Lines words old new =
-    IsQuiet old.source_faults new.source_faults → IfSome old.left (λ bytes. IfRun (asked_for words bytes) (λ job. IfSome old.state (λ m. AppendsPrefix old.written new.written (report job))))
+    IsQuiet old.source_faults new.source_faults → IfSome old.left (λ bytes. IfRun words bytes (λ job. IfSome old.state (λ m. AppendsPrefix old.written new.written (report job))))
 
 -- the text and the status where no job runs
 pub record Answers (old new : Moment) (end : Status) (what : Asked) : Type 0 where
@@ -69,11 +69,11 @@ pub record Answers (old new : Moment) (end : Status) (what : Asked) : Type 0 whe
 -- where no run is asked for: the answer, unless the source failed
 abbrev pub Answer : List (List ℕ) → Moment → Moment → Status → Type 0
 Answer words old new end =
-    end ≢ status.ReadFault → IsQuiet old.sink_faults new.sink_faults → end ≢ status.OutOfMemory → IfSome old.left (λ bytes. UnlessRun (asked_for words bytes) (Answers old new end (asked_for words bytes)))
+    end ≢ status.ReadFault → IsQuiet old.sink_faults new.sink_faults → end ≢ status.OutOfMemory → IfSome old.left (λ bytes. UnlessRun words bytes (Answers old new end))
 
--- a refusal, by what was asked for
+-- a refusal is the one that was asked for
 abbrev pub Refusal : List (List ℕ) → Moment → Type 0
-Refusal words old = IfSome old.left (λ bytes. (asked_for words bytes ≡ asked.TooLong) ⊎ (asked_for words bytes ≡ asked.BadJson) ⊎ (asked_for words bytes ≡ asked.NotBuilt))
+Refusal words old = IfSome old.left (λ bytes. Asks words bytes asked.TooLong ⊎ Asks words bytes asked.BadJson ⊎ Asks words bytes asked.NotBuilt)
 
 -- the bench began an exchange since, and the last one is one packet and one reply, which does not say that it was executed
 pub record HasBadReply (old new : Moment) : Type 0 where

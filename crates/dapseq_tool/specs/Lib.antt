@@ -1,9 +1,3 @@
-pub mod Pieces
-pub mod Form
-pub mod Code
-pub mod Named
-pub mod Job
-pub mod Sound
 pub mod Asked
 pub mod Lines
 pub mod Meaning

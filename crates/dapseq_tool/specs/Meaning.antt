@@ -7,9 +7,9 @@ use Rattle.target_machine.specs.declared.unit.Call.{Call}
 use Rattle.target_machine.specs.declared.unit.Call.TheVariants.{Access}
 use Rattle.target_machine.specs.declared.unit.Unit.TheVariants as unit
 use Rattle.dapseq_tool.specs.Progress.{after_actions}
-use Rattle.dapseq_tool.specs.declared.job.RunJob.{RunJob}
-use Rattle.dapseq_tool.specs.declared.statement.Statement.{Statement}
-use Rattle.dapseq_tool.specs.declared.statement.Statement.TheVariants.{Write, Read}
+use Rattle.word_job.specs.declared.job.RunJob.{RunJob}
+use Rattle.word_job.specs.declared.statement.Statement.{Statement}
+use Rattle.word_job.specs.declared.statement.Statement.TheVariants.{Write, Read}
 
 -- the access that a statement makes: a word, through AP 0
 abbrev pub access_of : Statement → Call

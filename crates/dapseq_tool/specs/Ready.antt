@@ -5,7 +5,7 @@ use Rattle.target_machine.specs.Attempt.{acknowledges}
 use Rattle.target_machine.specs.State.{TargetState}
 use Rattle.target_machine.specs.declared.ap.ApState.{ApState}
 use Rattle.target_machine.specs.declared.job.RegionJob.{RegionJob}
-use Rattle.dapseq_tool.specs.Code.{lies_in}
+use Rattle.word_job.specs.Region.{lies_in}
 
 -- an access port of 32-bit addresses
 pub record IsPort (ap : ApState) : Type 0 where

@@ -10,8 +10,8 @@ use Rattle.target_machine.specs.declared.image.ImagePart.TheVariants as part
 use Rattle.target_machine.specs.declared.unit.Variable.{Variable}
 use Rattle.dapseq_tool.specs.declared.asking.Asked.{Asked}
 use Rattle.dapseq_tool.specs.declared.asking.Asked.TheVariants as asked
-use Rattle.dapseq_tool.specs.declared.job.RunJob.{RunJob}
-use Rattle.dapseq_tool.specs.declared.job.WatchItem.{WatchItem}
+use Rattle.word_job.specs.declared.job.RunJob.{RunJob}
+use Rattle.word_job.specs.declared.job.WatchItem.{WatchItem}
 use Rattle.dapseq_tool.specs.declared.status.Status.{Status}
 use Rattle.dapseq_tool.specs.declared.status.Status.TheVariants as status
 use Rattle.dapseq_tool.specs.Lines.{units_line, variable_line, dp_line, ap_line, lines_line, word_line}

@@ -4,13 +4,13 @@ use Rattle.target_machine.specs.declared.job.RegionJob.{RegionJob}
 use Rattle.dap_messages.specs.declared.request.Request.{Request}
 use Rattle.probe_core.specs.Bench.{BenchState}
 use Rattle.probe_core.specs.Probe.{target_of, work_of}
-use Rattle.dapseq_tool.specs.Code.{lies_in}
+use Rattle.word_job.specs.Region.{lies_in}
 use Rattle.dapseq_tool.specs.Exchange.{IsIdle}
 use Rattle.dapseq_tool.specs.Meaning.{statement_done, value_of, stored}
 use Rattle.dapseq_tool.specs.Progress.{CanDo}
 use Rattle.dapseq_tool.specs.Ready.{IsReady}
-use Rattle.dapseq_tool.specs.declared.statement.Statement.{Statement}
-use Rattle.dapseq_tool.specs.declared.statement.Statement.TheVariants.{Write, Read}
+use Rattle.word_job.specs.declared.statement.Statement.{Statement}
+use Rattle.word_job.specs.declared.statement.Statement.TheVariants.{Write, Read}
 
 abbrev pub address_of : Statement → ℕ
 address_of (Write address value) = address

@@ -2,16 +2,15 @@
 ghost use Rattle.std.specs.Prelude.{◌≡◌, ◌⊎◌, ◌≤◌, ◌↔◌, IsUtf8, None, Some, length, IfOk, OnOk, OnErr, IfErr, IfSome, IsErrOf, IsSome, option_map};
 ghost use Rattle.dap_base.specs.Causes.{Rose};
 ghost use Rattle.serde_json.specs.View.{view};
-ghost use Rattle.dapseq_tool.specs.Asked.{limit, names_in, text_value, asked_by_value, asked_by, asked_for, IfRun};
-ghost use Rattle.dapseq_tool.specs.Sound.{IsSoundRun};
+ghost use Rattle.dapseq_tool.specs.Asked.{limit, names_in, text_value, AsksOfValue, AsksOfText, AsksBy, Asks, OnRun};
+ghost use Rattle.word_job.specs.Sound.{IsSoundRun};
 
-use crate::fit::Unfit;
-use crate::job::{RunJob, job_of};
 use crate::reading::{Unread, read_all};
 use crate::words::{Names, names_of};
 use dap_base::{OutOfMemory, Source, Words};
 use serde_json::Value;
 use std::alloc::Global;
+use word_job::{RunJob, Unfit, job_of};
 
 /// What a call is asked for.
 #[derive(Drop)]
@@ -55,8 +54,8 @@ fn value_of(alloc: Global, bytes: &[u8]) -> Result<Option<Value>, OutOfMemory>
 
 // What a value asks for.
 fn asked_of(alloc: Global, names: &Names<'_>, value: &Value) -> Result<Asked, OutOfMemory>
-    ensures asked { IfOk result (λ what. what ≡ asked_by_value (record { device = names.now.device.now; sequence = names.now.sequence.now }) (Some (view value.now))) }
-    ensures sound { IfOk result (λ what. IfRun what IsSoundRun) }
+    ensures asked { IfOk result (λ what. AsksOfValue (record { device = names.now.device.now; sequence = names.now.sequence.now }) (view value.now) what) }
+    ensures sound { IfOk result (λ what. OnRun what IsSoundRun) }
 {
     match job_of(alloc, names.device, names.sequence, value) {
         Ok(job) => Ok(Asked::Run(job)),
@@ -67,8 +66,8 @@ fn asked_of(alloc: Global, names: &Names<'_>, value: &Value) -> Result<Asked, Ou
 
 // What the bytes of a job ask for.
 fn asked_of_bytes(alloc: Global, names: &Names<'_>, bytes: &[u8]) -> Result<Asked, OutOfMemory>
-    ensures asked { IfOk result (λ what. what ≡ asked_by_value (record { device = names.now.device.now; sequence = names.now.sequence.now }) (text_value bytes.now)) }
-    ensures sound { IfOk result (λ what. IfRun what IsSoundRun) }
+    ensures asked { IfOk result (λ what. AsksOfText (record { device = names.now.device.now; sequence = names.now.sequence.now }) (text_value bytes.now) what) }
+    ensures sound { IfOk result (λ what. OnRun what IsSoundRun) }
 {
     match value_of(alloc, bytes)? {
         Some(value) => asked_of(alloc, names, &value),
@@ -82,8 +81,8 @@ fn asked_of_source<S: Source>(
     names: &Names<'_>,
     source: &mut S,
 ) -> Result<Asked, Unasked>
-    ensures asked { IfOk result (λ what. IfSome (S.left source.old) (λ bytes. what ≡ asked_by (Some (record { device = names.now.device.now; sequence = names.now.sequence.now })) bytes)) }
-    ensures sound { IfOk result (λ what. IfRun what IsSoundRun) }
+    ensures asked { IfOk result (λ what. IfSome (S.left source.old) (λ bytes. AsksBy (Some (record { device = names.now.device.now; sequence = names.now.sequence.now })) bytes what)) }
+    ensures sound { IfOk result (λ what. OnRun what IsSoundRun) }
     ensures used { IfOk result (λ what. what ≡ Asked.Usage → ⊥) }
     ensures failed { IsErrOf result Unasked.ReadFault → Rose (S.faults source.old) (S.faults source.new) }
     ensures quiet { IfErr result (λ e. (e ≡ Unasked.ReadFault) ⊎ (S.faults source.new ≡ S.faults source.old)) }
@@ -103,8 +102,8 @@ fn asked_of_source<S: Source>(
 
 /// What the words and the source ask for. Where the words are no command, the source is not read.
 pub fn ask<S: Source>(alloc: Global, words: &Words, source: &mut S) -> Result<Asked, Unasked>
-    ensures asked { IfOk result (λ what. IfSome (S.left source.old) (λ bytes. what ≡ asked_for words.now bytes)) }
-    ensures sound { IfOk result (λ what. IfRun what IsSoundRun) }
+    ensures asked { IfOk result (λ what. IfSome (S.left source.old) (λ bytes. Asks words.now bytes what)) }
+    ensures sound { IfOk result (λ what. OnRun what IsSoundRun) }
     ensures usage { IfOk result (λ what. (what ≡ Asked.Usage) ↔ (names_in words.now ≡ None)) }
     ensures words { OnErr result (IsSome (names_in words.now)) }
     ensures failed { IsErrOf result Unasked.ReadFault → Rose (S.faults source.old) (S.faults source.new) }

@@ -2,10 +2,10 @@
 ghost use Rattle.std.specs.Prelude.{◌≡◌, ◌≢◌, ◌⊎◌, None, IfSome, IsSome};
 ghost use Rattle.std.specs.Io.KnownBytes.{Appends};
 ghost use Rattle.dap_base.specs.Causes.{Rose};
-ghost use Rattle.dapseq_tool.specs.Asked.{asked_for, names_in, IfRun, UnlessRun};
+ghost use Rattle.dapseq_tool.specs.Asked.{names_in, UnlessRun};
 ghost use Rattle.dapseq_tool.specs.Headline.{moment, Success, Outside, Lines, Answer, Refusal, HasBadReply};
 ghost use Rattle.dapseq_tool.specs.Report.{report, answer_text, fault_text};
-ghost use Rattle.dapseq_tool.specs.Sound.{IsSoundRun};
+ghost use Rattle.word_job.specs.Sound.{IsSoundRun};
 ghost use Rattle.dap_base.specs.Streams.{AppendsPrefix};
 ghost use Rattle.probe_core.specs.Bench.{Steps};
 ghost use Rattle.dapseq_tool.specs.Blocks.{IsPartDone, IsRunDone};
@@ -13,13 +13,13 @@ ghost use Rattle.dapseq_tool.specs.Exchange.{IsBadExchange};
 
 use crate::access::RunEnd;
 use crate::asking::{Asked, Unasked, ask};
-use crate::job::RunJob;
 use crate::reporting::{TextEnd, write_report};
 use crate::run::run_job;
 use crate::status::Status;
 use dap_base::{Sink, Source, Words};
 use probe_core::Bench;
 use std::alloc::Global;
+use word_job::RunJob;
 
 // What is written where no job runs.
 fn text_of(what: &Asked) -> &'static [u8]
@@ -103,7 +103,7 @@ pub fn dapseq<S: Source, K: Sink, B: Bench>(
         Lines words.now (at source.old sink.old bench.old) (at source.new sink.new bench.new) }
 
     // Where no run is asked for, the bench is left as it was, and the answer is the stated one.
-    ensures unchanged { IfSome (S.left source.old) (λ bytes. UnlessRun (asked_for words.now bytes) (bench.new ≡ bench.old)) }
+    ensures unchanged { IfSome (S.left source.old) (λ bytes. UnlessRun words.now bytes (λ what. bench.new ≡ bench.old)) }
     ensures answer { let at = moment S.left S.faults K.written K.faults B.told B.state in
         Answer words.now (at source.old sink.old bench.old) (at source.new sink.new bench.new) result }
     ensures unread { result ≡ Status.ReadFault → bench.new ≡ bench.old }

@@ -3,27 +3,17 @@
 
 mod access;
 mod asking;
-mod bench;
-mod block;
 mod call;
 mod chain;
-mod declarations;
 mod exchange;
-mod fit;
-mod form;
-mod job;
+pub mod laws;
 mod line;
 mod lines;
-mod named;
-mod pack;
-mod pieces;
 mod reading;
 mod reporting;
 mod run;
-mod statement;
 mod status;
 mod unit;
-mod watch;
 mod words;
 
 pub use call::dapseq;

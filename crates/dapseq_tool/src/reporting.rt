@@ -5,17 +5,16 @@ ghost use Rattle.dap_base.specs.Streams.{PutAppends};
 ghost use Rattle.probe_core.specs.Bench.{IsAsBefore, seen};
 ghost use Rattle.probe_core.specs.Probe.{target_of};
 ghost use Rattle.dapseq_tool.specs.Ends.{NamesFault};
-ghost use Rattle.dapseq_tool.specs.Sound.{IsLowItem};
+ghost use Rattle.word_job.specs.Sound.{IsLowItem};
 ghost use Rattle.dapseq_tool.specs.Report.{part_line, part_of, variable_lines, word_lines, watch_lines, lines_on, ports_on, target_lines, values_on, units_on, done_text};
 
-use crate::job::{RunJob, WatchItem};
 use crate::line::Line;
 use crate::lines::{ap_text, dp_text, lines_text, units_text, variable_text, word_text};
-use crate::named::Named;
 use dap_base::{OutOfMemory, Sink};
 use probe_core::Bench;
 use std::alloc::Global;
 use target_machine::{ImageAsk, ImagePart};
+use word_job::{Named, RunJob, WatchItem};
 
 /// Why a text was not written whole.
 #[derive(Clone, Copy, Debug, PartialEq, Eq)]

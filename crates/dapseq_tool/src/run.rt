@@ -6,17 +6,15 @@ ghost use Rattle.dapseq_tool.specs.Blocks.{HaveRun, IsAmidBlock, IsPartDone, IsR
 ghost use Rattle.dapseq_tool.specs.Ends.{NamesFault};
 ghost use Rattle.dapseq_tool.specs.Exchange.{IsOpen, IsBadExchange};
 ghost use Rattle.dapseq_tool.specs.Meaning.{outcome, first_values, stored};
-ghost use Rattle.dapseq_tool.specs.Sound.{IsSoundRun};
+ghost use Rattle.word_job.specs.Sound.{IsSoundRun};
 ghost use Rattle.dapseq_tool.specs.Units.{CanRun};
 
 use crate::access::RunEnd;
-use crate::job::RunJob;
-use crate::named::Named;
-use crate::statement::Statement;
 use crate::unit::perform;
 use dap_base::OutOfMemory;
 use probe_core::{Bench, LoadError};
 use std::alloc::Global;
+use word_job::{Named, RunJob, Statement};
 
 // The values with which variables begin.
 #[tactic(auto, using(crate::proofs::RunLemmas::value_more))]

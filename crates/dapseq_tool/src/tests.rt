@@ -9,6 +9,10 @@ use std::test::Fail;
 const JOB: &str =
     r#"{"pack":{"families":[{"Dfamily":"F","devices":[{"Dname":"D1","sequences":[{"name":"Main","steps":[{"block":"Write32(0x20000000, 0x2A);"}]}]}]}]},"bench":{"packet_size":64,"packet_count":1,"target":{"powered":true,"aps":[{"ap":0}],"memory":[{"address":"0x20000000","length":4096}]}},"watch":[{"address":"0x20000000","words":1}]}"#;
 
+// The same with blanks, a comment and an empty statement.
+const SPACED: &str =
+    r#"{"pack":{"families":[{"Dfamily":"F","devices":[{"Dname":"D1","sequences":[{"name":"Main","steps":[{"block":"/* one word */\tWrite32(0x20000000,\n 0x2A) ;; // end"}]}]}]}]},"bench":{"packet_size":64,"packet_count":1,"target":{"powered":true,"aps":[{"ap":0}],"memory":[{"address":"0x20000000","length":4096}]}},"watch":[{"address":"0x20000000","words":1}]}"#;
+
 const REPORT: &str = "end done
 units 1
 var __protocol 0x0
@@ -101,7 +105,7 @@ fn lines_of_report(written: &[u8]) -> Option<usize> {
 
 #[test]
 fn runs_are_reported(rt: HostRuntime) -> Result<(), Fail> {
-    for (job, report) in [(JOB, REPORT), (READING, READING_REPORT)] {
+    for (job, report) in [(JOB, REPORT), (SPACED, REPORT), (READING, READING_REPORT)] {
         ends(
             &rt,
             rt.alloc(),
@@ -118,8 +122,13 @@ fn other_words_and_jobs_are_answered(rt: HostRuntime) -> Result<(), Fail> {
     let cut = JOB.as_bytes().split_last().ok_or("empty")?.1;
     let usage = (Status::Usage, USAGE);
     let not_built = (Status::Refused, "refused NotBuilt\n");
-    let table: [(&[&str], &[u8], (Status, &str)); 6] = [
+    let table: [(&[&str], &[u8], (Status, &str)); 7] = [
         (&["walk"], JOB.as_bytes(), usage),
+        (
+            &["walk", "--device", "D1", "--sequence", "Main"],
+            JOB.as_bytes(),
+            usage,
+        ),
         (&[], JOB.as_bytes(), usage),
         (&["run", "--sequence", "Main", "--device", "D1"], b"", usage),
         (&RUN, cut, (Status::Refused, "refused BadJson\n")),
@@ -132,6 +141,24 @@ fn other_words_and_jobs_are_answered(rt: HostRuntime) -> Result<(), Fail> {
     ];
     for (words, job, ending) in table {
         ends(&rt, rt.alloc(), words, job, ending)?;
+    }
+    Ok(())
+}
+
+// The debugvars and the block of jobs that are not built.
+#[test]
+fn other_code_is_answered(rt: HostRuntime) -> Result<(), Fail> {
+    let not_built = (Status::Refused, "refused NotBuilt\n");
+    for (debugvars, block) in [
+        ("", "Write32((0x20000000), 1);"),
+        ("", "Write32(0x20000000, 1)"),
+        ("", "/* x"),
+        (";", "Write32(0x20000000, 1);"),
+    ] {
+        let job = format!(in rt.alloc();
+            r#"{{"pack":{{"families":[{{"Dfamily":"F","devices":[{{"Dname":"D1","debugvars":"{debugvars}","sequences":[{{"name":"Main","steps":[{{"block":"{block}"}}]}}]}}]}}]}},"bench":{{"packet_size":64,"packet_count":1,"target":{{"powered":true,"aps":[{{"ap":0}}],"memory":[{{"address":"0x20000000","length":4096}}]}}}}}}"#
+        )?;
+        ends(&rt, rt.alloc(), &RUN, job.as_bytes(), not_built)?;
     }
     Ok(())
 }

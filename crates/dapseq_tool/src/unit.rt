@@ -12,9 +12,9 @@ ghost use Rattle.dapseq_tool.specs.Units.{address_of, select_request, csw_reques
 
 use crate::access::RunEnd;
 use crate::chain::{three, two};
-use crate::statement::Statement;
 use dap_messages::Request;
 use probe_core::Bench;
+use word_job::Statement;
 
 // SELECT, written with 0.
 fn select() -> Request

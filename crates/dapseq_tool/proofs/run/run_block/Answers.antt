@@ -1,6 +1,6 @@
 use Rattle.std.proofs.Common.{◌≡◌, ◌∙◌, ◌+◌, List, Some, get_or, slice_get, length, take, sym, subst}
-use Rattle.dapseq_tool.specs.declared.statement.Statement.{Statement}
-use Rattle.dapseq_tool.specs.declared.statement.Statement.TheVariants.{Write}
+use Rattle.word_job.specs.declared.statement.Statement.{Statement}
+use Rattle.word_job.specs.declared.statement.Statement.TheVariants.{Write}
 use Rattle.probe_core.specs.Bench.{Steps}
 use Rattle.dapseq_tool.specs.Blocks.{HaveRun}
 use Rattle.dapseq_tool.proofs.RowLemmas.{slice_get-in}
