@@ -77,7 +77,7 @@ impl Named {
 
     /// The place of the variable of a name.
     #[tactic(auto, using(crate::proofs::NamedLemmas::naming))]
-    pub fn place_of(&self, name: &str) -> Option<usize>
+    pub(crate) fn place_of(&self, name: &str) -> Option<usize>
         ensures place { result ≡ position (is_named name.now) self.now }
         ensures within { IfSome result (λ place. place < length self.now) }
         ensures found { is_some result ≡ list_any (is_named name.now) self.now }
@@ -101,7 +101,12 @@ impl Named {
     /// Declares a variable behind the others. Answers false, and changes nothing, where its name is
     /// taken.
     #[tactic(auto, using(crate::proofs::NamedLemmas::naming))]
-    pub fn declare(&mut self, alloc: Global, name: &str, value: u64) -> Result<bool, OutOfMemory>
+    pub(crate) fn declare(
+        &mut self,
+        alloc: Global,
+        name: &str,
+        value: u64,
+    ) -> Result<bool, OutOfMemory>
         ensures new { IfOk result (λ new. new ≡ not (list_any (is_named name.now) self.old)) }
         ensures variables { IfOk result (λ new. self.new ≡ (if new then self.old ++ record { name = name.now; value = value } ∷ [] else self.old)) }
         ensures err { OnErr result (self.new ≡ self.old) }
@@ -117,7 +122,7 @@ impl Named {
     }
 
     /// The predefined variables at 0.
-    pub fn predefined(alloc: Global) -> Result<Named, OutOfMemory>
+    pub(crate) fn predefined(alloc: Global) -> Result<Named, OutOfMemory>
         ensures { IfOk result (λ n. n ≡ predefined) }
     {
         let mut named = Named::empty(alloc);
