@@ -6,7 +6,7 @@ use Rattle.word_job.specs.declared.job.RunJob.{RunJob}
 use Rattle.word_job.proofs.CodeLemmas.{one_job}
 use Rattle.dapseq_tool.specs.declared.asking.Asked.{Asked}
 use Rattle.dapseq_tool.specs.declared.asking.Asked.TheVariants as asked
-use Rattle.dapseq_tool.specs.Asked.{Names, names_in, limit, text_value, AsksOfValue, AsksOfText, AsksBy, Asks, IfRun, UnlessRun, OnRun, IsNoRun}
+use Rattle.dapseq_tool.specs.Asked.{Names, names_in, limit, text_value, AsksOfValue, AsksOfText, AsksBy, Asks, IfRun, UnlessRun, IsNoRun}
 
 of_value : (names : Names) (d : Data) (x y : Asked) → AsksOfValue names d x → AsksOfValue names d y → x ≡ y
 of_value names d (asked.Run a) (asked.Run b) p q = ap asked.Run (one_job names.device names.sequence d a b p q)
@@ -42,21 +42,13 @@ same_run : (x y : RunJob) → asked.Run x ≡ asked.Run y → x ≡ y
 same_run x y e = cc
 
 -- what holds of the run that is asked for
-pub run_only : (words : List (List ℕ)) (left : Option (List ℕ)) (here : RunJob) (P : RunJob → Type 0) → IfSome left (λ bytes. Asks words bytes (asked.Run here)) → P here → IfSome left (λ bytes. IfRun words bytes P)
-run_only words None here P asks holds = tt
-run_only words (Some bytes) here P asks holds = λ job is. subst P (same_run here job (one_answer words bytes (asked.Run here) (asked.Run job) asks is)) holds
-
--- where an answer is asked for that is no run, no run is
-pub no_run : (words : List (List ℕ)) (left : Option (List ℕ)) (here : Asked) (P : RunJob → Type 0) → IsNoRun here → IfSome left (λ bytes. Asks words bytes here) → IfSome left (λ bytes. IfRun words bytes P)
-no_run words None here P none asks = tt
-no_run words (Some bytes) here P none asks = λ job is. absurd (subst IsNoRun (one_answer words bytes here (asked.Run job) asks is) none)
-
--- what holds of the answer that is asked for
-pub answer_only : (words : List (List ℕ)) (left : Option (List ℕ)) (here : Asked) (P : Asked → Type 0) → IfSome left (λ bytes. Asks words bytes here) → P here → IfSome left (λ bytes. UnlessRun words bytes P)
-answer_only words None here P asks holds = tt
-answer_only words (Some bytes) here P asks holds = λ what is none. subst P (one_answer words bytes here what asks is) holds
+pub run_only : (words : List (List ℕ)) (left : Option (List ℕ)) (what : Asked) (here : RunJob) (P : RunJob → Type 0) → what ≡ asked.Run here → IfSome left (λ bytes. Asks words bytes what) → P here → IfSome left (λ bytes. IfRun words bytes P)
+run_only words None what here P is asks holds = tt
+run_only words (Some bytes) what here P is asks holds =
+    λ job other. subst P (same_run here job (sym is ∙ one_answer words bytes what (asked.Run job) asks other)) holds
 
 -- where a run is asked for, no other answer is
-pub no_answer : (words : List (List ℕ)) (left : Option (List ℕ)) (here : RunJob) (P : Asked → Type 0) → IfSome left (λ bytes. Asks words bytes (asked.Run here)) → IfSome left (λ bytes. UnlessRun words bytes P)
-no_answer words None here P asks = tt
-no_answer words (Some bytes) here P asks = λ what is none. absurd (subst IsNoRun (sym (one_answer words bytes (asked.Run here) what asks is)) none)
+pub no_answer : (words : List (List ℕ)) (left : Option (List ℕ)) (what : Asked) (here : RunJob) (P : Asked → Type 0) → what ≡ asked.Run here → IfSome left (λ bytes. Asks words bytes what) → IfSome left (λ bytes. UnlessRun words bytes P)
+no_answer words None what here P is asks = tt
+no_answer words (Some bytes) what here P is asks =
+    λ other other_asks none. absurd (subst IsNoRun (sym (sym is ∙ one_answer words bytes what other asks other_asks)) none)

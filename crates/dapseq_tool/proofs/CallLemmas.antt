@@ -1,15 +1,19 @@
 -- From a run that is done to its report.
-use Rattle.std.proofs.Common.{◌≡◌, ℕ, inr, List, length, Option, None, Some, Result, Ok, Err, sym, ap, subst, ◌∙◌, arith}
+use Rattle.std.proofs.Common.{◌≡◌, ℕ, ◌⊎◌, inl, inr, List, length, Option, None, Some, Result, Ok, Err, sym, ap, subst, ◌∙◌, arith}
 use Rattle.std.proofs.Math.Seq.{take-length}
 use Rattle.std.specs.Io.KnownBytes.{Appends}
-use Rattle.std.specs.Prelude.{IfSome}
+use Rattle.std.specs.Prelude.{IfSome, IsSome}
+use Rattle.dap_base.specs.Causes.{IsQuiet, Rose}
 use Rattle.dap_base.specs.Streams.{AppendsPrefix, PutAppends}
 use Rattle.target_machine.specs.State.{TargetState}
 use Rattle.probe_core.specs.Bench.{BenchState, Steps}
 use Rattle.probe_core.specs.Probe.{target_of}
 use Rattle.dapseq_tool.specs.Blocks.{IsPartDone, IsRunDone}
+use Rattle.dapseq_tool.specs.Headline.{Moment, IsQuietCall, Succeeds}
 use Rattle.dapseq_tool.specs.Meaning.{outcome, target_after}
 use Rattle.dapseq_tool.specs.Report.{done_text, report}
+use Rattle.dapseq_tool.specs.declared.status.Status.{Status}
+use Rattle.dapseq_tool.specs.declared.status.Status.TheVariants as status
 use Rattle.word_job.specs.declared.job.RunJob.{RunJob}
 
 report_is : (job : RunJob) (values : List ℕ) (t : TargetState) → values ≡ (outcome job).values → t ≡ (outcome job).target → done_text job values t ≡ report job
@@ -53,3 +57,36 @@ lines_run job lent values old new result a b done same is_lent put = prefixed a 
     prefixed : (a : Option BenchState) → IfSome a (λ m. PutAppends old new result (report job)) → IfSome a (λ m. AppendsPrefix old new (report job))
     prefixed None put = tt
     prefixed (Some m) put = put_prefix old new result (report job) put
+
+some_holds : {A : Type 0} (P : Type 0) (o : Option A) → IsSome o → IfSome o (λ x. P) → P
+some_holds P None some holds = cc
+some_holds P (Some x) some holds = holds
+
+no_some : {A : Type 0} (o : Option A) → o ≡ None → IsSome o → ⊥
+no_some None none some = cc
+no_some (Some x) none some = cc
+
+no_rise : (before now : ℕ) → IsQuiet before now → Rose before now → ⊥
+no_rise before now quiet rose = let same = quiet.same in let below = quiet.below in omega (arith, same, below, rose)
+
+-- a run that nothing outside disturbs comes to its end
+pub success_run : (old new : Moment) (end : Status) (job : RunJob)
+    → (end ≡ status.Done → Steps (λ m n. IsRunDone job n) old.state new.state)
+    → (end ≡ status.Done → IfSome old.state (λ m. Appends old.written new.written (report job)))
+    → (end ≡ status.WriteFault → Rose old.sink_faults new.sink_faults)
+    → (end ≡ status.BenchFault → Rose old.told.faults new.told.faults)
+    → (end ≡ status.ReplyBad → old.state ≡ None)
+    → ((end ≡ status.Done) ⊎ (end ≡ status.WriteFault) ⊎ (end ≡ status.BenchFault) ⊎ (end ≡ status.ReplyBad) ⊎ (end ≡ status.OutOfMemory))
+    → IsQuietCall old new end → IsSome old.state → Succeeds old new end job
+success_run old new end job done text write bench bad ends quiet told = record {
+  state = done (is_done ends);
+  text = some_holds _ old.state told (text (is_done ends));
+  status = is_done ends;
+}
+  where
+    is_done : (end ≡ status.Done) ⊎ (end ≡ status.WriteFault) ⊎ (end ≡ status.BenchFault) ⊎ (end ≡ status.ReplyBad) ⊎ (end ≡ status.OutOfMemory) → end ≡ status.Done
+    is_done (inl e) = e
+    is_done (inr (inl e)) = absurd (no_rise old.sink_faults new.sink_faults quiet.sink (write e))
+    is_done (inr (inr (inl e))) = absurd (no_rise old.told.faults new.told.faults quiet.bench (bench e))
+    is_done (inr (inr (inr (inl e)))) = absurd (no_some old.state (bad e) told)
+    is_done (inr (inr (inr (inr e)))) = absurd (quiet.memory e)
