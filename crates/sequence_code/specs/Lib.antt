@@ -1,0 +1,4 @@
+pub mod Trees
+pub mod Texts
+pub mod Order
+pub mod Reading

@@ -1,0 +1,51 @@
+-- The steps of sequences as plain values: what `CheckedStep` says, without where it lies in memory.
+use Rattle.std.specs.Prelude.{ℕ, List, [], ◌∷◌, map, Option, None, Some, option_map, if◌then◌else◌}
+use Rattle.std.specs.Str.{bytes_eq}
+use Rattle.expr_grammar.specs.Tree.{Tree, tree, StmtTree, code_trees}
+use Rattle.sequence_code.specs.declared.steps.CheckedStep.{CheckedStep}
+use Rattle.sequence_code.specs.declared.steps.CheckedStep.TheOpen.{CheckedStep-F}
+use Rattle.sequence_code.specs.declared.steps.CheckedStep.TheFolds.{fold-CheckedStep}
+
+-- a step, and the steps of a sequence or of a control
+mutual
+  pub data StepTree : Type 0 where
+    Block : List StmtTree → StepTree
+    Control : Option Tree → Option Tree → Option ℕ → StepTrees → StepTree
+
+  pub data StepTrees : Type 0 where
+    NoSteps : StepTrees
+    MoreSteps : StepTree → StepTrees → StepTrees
+
+-- the steps that a list holds
+abbrev pub steps_of : List StepTree → StepTrees
+steps_of [] = NoSteps
+steps_of (s ∷ more) = MoreSteps s (steps_of more)
+
+abbrev pub checked_step : CheckedStep-F StepTree → StepTree
+checked_step (CheckedStep-F.Block code) = Block (code_trees code)
+checked_step (CheckedStep-F.Control cond repeat timeout steps) = Control (option_map tree cond) (option_map tree repeat) timeout (steps_of steps)
+
+-- the tree of a step
+abbrev pub step_tree : CheckedStep → StepTree
+step_tree = fold-CheckedStep StepTree checked_step
+
+-- the trees of steps
+abbrev pub steps_tree : List CheckedStep → StepTrees
+steps_tree steps = steps_of (map step_tree steps)
+
+-- ---- a whole set
+
+-- a sequence
+pub record SequenceTrees : Type 0 where
+  pub name : List ℕ
+  pub steps : StepTrees
+
+-- a set: its debug variables, and its sequences in the set's order
+pub record SetTrees : Type 0 where
+  pub debugvars : List StmtTree
+  pub sequences : List SequenceTrees
+
+-- the steps of the first sequence with the name
+abbrev pub steps_named : List ℕ → List SequenceTrees → Option StepTrees
+steps_named name [] = None
+steps_named name (s ∷ more) = if bytes_eq name s.name then Some s.steps else steps_named name more
