@@ -2,3 +2,6 @@ pub mod Trees
 pub mod Texts
 pub mod Order
 pub mod Reading
+pub mod Answers
+pub mod Outcomes
+pub mod SetView

@@ -9,7 +9,7 @@ use Rattle.sequence_resolve.specs.declared.entry.SeqSet.{SeqSet}
 use Rattle.expr_grammar.specs.Tree.{Tree, StmtTree}
 use Rattle.sequence_code.specs.Texts.{IsCodeOf, IsConditionOf, IsFaultyCode, IsFaultyCondition}
 use Rattle.sequence_code.specs.declared.spot.Part.{Part}
-use Rattle.sequence_code.specs.declared.spot.Part.TheVariants as parts
+use Rattle.sequence_code.specs.declared.spot.Part.TheVariants as kinds
 use Rattle.sequence_code.specs.declared.spot.Spot.{Spot}
 
 -- a text that is to be read: the step that has it, which part of the step it is, and its bytes
@@ -26,18 +26,18 @@ moved f t = record { step = f t.step; part = t.part; text = t.text }
 
 -- The debug variables and blocks are code, the `if` and the `while` of a control are conditions.
 abbrev pub IsFine : Part → List ℕ → Type 0
-IsFine parts.Debugvars text = (code : List StmtTree) × IsCodeOf text code
-IsFine parts.Block text = (code : List StmtTree) × IsCodeOf text code
-IsFine parts.If text = (e : Tree) × IsConditionOf text e
-IsFine parts.While text = (e : Tree) × IsConditionOf text e
-IsFine parts.Control text = ⊥
+IsFine kinds.Debugvars text = (code : List StmtTree) × IsCodeOf text code
+IsFine kinds.Block text = (code : List StmtTree) × IsCodeOf text code
+IsFine kinds.If text = (e : Tree) × IsConditionOf text e
+IsFine kinds.While text = (e : Tree) × IsConditionOf text e
+IsFine kinds.Control text = ⊥
 
 abbrev pub IsFaulty : Part → List ℕ → Place → Type 0
-IsFaulty parts.Debugvars text at = IsFaultyCode text at
-IsFaulty parts.Block text at = IsFaultyCode text at
-IsFaulty parts.If text at = IsFaultyCondition text at
-IsFaulty parts.While text at = IsFaultyCondition text at
-IsFaulty parts.Control text at = ⊥
+IsFaulty kinds.Debugvars text at = IsFaultyCode text at
+IsFaulty kinds.Block text at = IsFaultyCode text at
+IsFaulty kinds.If text at = IsFaultyCondition text at
+IsFaulty kinds.While text at = IsFaultyCondition text at
+IsFaulty kinds.Control text at = ⊥
 
 -- The first of the texts that is faulty is this part of this step, with its first fault at this place.
 pub record IsFirstFaulty {W : Type 0} (texts : List (TextAt W)) (step : W) (part : Part) (at : Place) : Type 0 where
@@ -62,11 +62,11 @@ perhaps part text = option_map_or (λ t. own part t ∷ []) text []
 
 -- a block has its code
 abbrev pub block_texts : List ℕ → List StepText
-block_texts code = own parts.Block code ∷ []
+block_texts code = own kinds.Block code ∷ []
 
 -- a control has its `if`, its `while`, and then the texts of the steps inside
 abbrev pub control_texts : Option (List ℕ) → Option (List ℕ) → List StepText → List StepText
-control_texts cond repeat inner = (perhaps parts.If cond ++ perhaps parts.While repeat) ++ inner
+control_texts cond repeat inner = (perhaps kinds.If cond ++ perhaps kinds.While repeat) ++ inner
 
 -- the texts of a step, seen from the list in which it has the number n
 abbrev pub under : ℕ → List StepText → List StepText
@@ -96,10 +96,16 @@ abbrev pub entries_texts : List SeqEntry → List (TextAt SetStep)
 entries_texts [] = []
 entries_texts (e ∷ es) = entry_texts e ++ entries_texts es
 
+abbrev pub debugvars_texts : List ℕ → List (TextAt SetStep)
+debugvars_texts text = record { step = record { sequence = None; path = [] }; part = kinds.Debugvars; text = text } ∷ []
+
 -- the debug variables, and then the sequences in the set's order
 abbrev pub set_texts : SeqSet → List (TextAt SetStep)
-set_texts set = record { step = record { sequence = None; path = [] }; part = parts.Debugvars; text = set.debugvars } ∷ entries_texts set.entries
+set_texts set = debugvars_texts set.debugvars ++ entries_texts set.entries
+
+abbrev pub step_of : Spot → SetStep
+step_of spot = record { sequence = spot.sequence; path = spot.path }
 
 -- the first text of the set that is faulty has its first fault here
 abbrev pub IsFirstFault : SeqSet → Spot → Type 0
-IsFirstFault set spot = IsFirstFaulty (set_texts set) (record { sequence = spot.sequence; path = spot.path }) spot.part spot.place
+IsFirstFault set spot = IsFirstFaulty (set_texts set) (step_of spot) spot.part spot.place

@@ -13,14 +13,36 @@ abbrev pub MayBeCondition : Option (List ℕ) → Option Tree → Type 0
 MayBeCondition None condition = condition ≡ None
 MayBeCondition (Some text) condition = (e : Tree) × (condition ≡ Some e) × IsConditionOf text e
 
--- the steps are these, one for one, with the same timeouts
+-- a block with this code
+pub record ReadsBlock (text : List ℕ) (step : StepTree) : Type 0 where
+  pub code : List StmtTree
+  pub is : step ≡ Block code
+  pub reads : IsCodeOf text code
+
+-- a control with these conditions and the same timeout, whose steps meet `Inner`
+pub record ReadsControl (cond_text repeat_text : Option (List ℕ)) (timeout : Option ℕ) (Inner : StepTrees → Type 0) (step : StepTree) : Type 0 where
+  pub cond : Option Tree
+  pub repeat : Option Tree
+  pub inner : StepTrees
+  pub is : step ≡ Control cond repeat timeout inner
+  pub reads_cond : MayBeCondition cond_text cond
+  pub reads_repeat : MayBeCondition repeat_text repeat
+  pub reads_inner : Inner inner
+
+-- the first step meets `First`, and those behind it meet `More`
+pub record Begins (First : StepTree → Type 0) (More : StepTrees → Type 0) (steps : StepTrees) : Type 0 where
+  pub first : StepTree
+  pub more : StepTrees
+  pub parts : steps ≡ MoreSteps first more
+  pub reads_first : First first
+  pub reads_more : More more
+
+-- the steps are these, one for one
 abbrev pub ReadsSteps : device.StepTree → StepTrees → Type 0
 ReadsSteps device.no_steps steps = steps ≡ NoSteps
-ReadsSteps (device.block text atomic rest) steps = (code : List StmtTree) × (more : StepTrees)
-    × (steps ≡ MoreSteps (Block code) more) × IsCodeOf text code × ReadsSteps rest more
-ReadsSteps (device.control cond_text repeat_text timeout inner_steps rest) steps = (cond repeat : Option Tree) × (inner more : StepTrees)
-    × (steps ≡ MoreSteps (Control cond repeat timeout inner) more)
-    × MayBeCondition cond_text cond × MayBeCondition repeat_text repeat × ReadsSteps inner_steps inner × ReadsSteps rest more
+ReadsSteps (device.block text atomic rest) steps = Begins (ReadsBlock text) (λ more. ReadsSteps rest more) steps
+ReadsSteps (device.control cond repeat timeout inner rest) steps =
+    Begins (ReadsControl cond repeat timeout (λ own. ReadsSteps inner own)) (λ more. ReadsSteps rest more) steps
 
 -- the sequence has its name, and its steps unless it is disabled
 pub record ReadsEntry (e : SeqEntry) (s : SequenceTrees) : Type 0 where

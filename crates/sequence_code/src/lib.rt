@@ -1,8 +1,19 @@
 //! The texts of a set of debug access sequences, read as trees of code.
 #![tactic(auto)]
 
+mod made;
+mod set;
+mod set_reader;
 mod spot;
+mod step_reader;
 mod steps;
+mod text;
 
+pub use set::ReadSet;
+pub use set_reader::{SetFault, read_set};
 pub use spot::{Part, Spot, StepPath};
 pub use steps::{CheckedStep, CheckedSteps};
+pub use text::{TextFault, read_code, read_condition};
+
+#[cfg(test)]
+mod tests;

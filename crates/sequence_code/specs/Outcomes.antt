@@ -1,0 +1,58 @@
+-- What the readers of steps answer: what private contracts cite.
+use Rattle.std.specs.Prelude.{◌≡◌, ℕ, List, [], ◌∷◌, ◌++◌, reverse, Option, None, Some, Result, Ok, Err}
+use Rattle.device_tree.specs.declared.steps.Step as device
+use Rattle.sequence_code.specs.declared.spot.Part.{Part}
+use Rattle.sequence_code.specs.declared.spot.Spot.{Spot}
+use Rattle.sequence_code.specs.declared.text.TextFault.{TextFault}
+use Rattle.sequence_code.specs.declared.text.TextFault.TheVariants as texts
+use Rattle.sequence_code.specs.declared.step_reader.FaultyText.{FaultyText}
+use Rattle.sequence_code.specs.declared.step_reader.StepFault.{StepFault}
+use Rattle.sequence_code.specs.declared.step_reader.StepFault.TheVariants as steps
+use Rattle.sequence_code.specs.declared.set_reader.SetFault.{SetFault}
+use Rattle.sequence_code.specs.declared.set_reader.SetFault.TheVariants as sets
+use Rattle.sequence_code.specs.Trees.{StepTree}
+use Rattle.sequence_code.specs.Order.{StepText, TextAt, SetStep, step_of, block_texts, control_texts, steps_texts, IsFirstFaulty}
+use Rattle.sequence_code.specs.Reading.{ReadsBlock, ReadsControl, ReadsSteps}
+
+-- the fault is the first of these texts that is faulty
+abbrev pub IsFaultOf : List StepText → StepFault → Type 0
+IsFaultOf all (steps.Syntax f) = IsFirstFaulty all (reverse f.outward) f.part f.place
+IsFaultOf all steps.OutOfMemory = Unit {0}
+
+abbrev pub IsSetFaultOf : List (TextAt SetStep) → SetFault → Type 0
+IsSetFaultOf all (sets.Syntax spot) = IsFirstFaulty all (step_of spot) spot.part spot.place
+IsSetFaultOf all sets.OutOfMemory = Unit {0}
+
+-- a value that is `Given`, or the first of the texts that is faulty
+module _ {V : Type 0} (Given : V → Type 0) where
+  abbrev pub Outcome : List StepText → Result V StepFault → Type 0
+  Outcome all (Ok v) = Given v
+  Outcome all (Err fault) = IsFaultOf all fault
+
+  abbrev pub SetOutcome : List (TextAt SetStep) → Result V SetFault → Type 0
+  SetOutcome all (Ok v) = Given v
+  SetOutcome all (Err fault) = IsSetFaultOf all fault
+
+-- one step
+abbrev pub ReadsStep : device.Step → StepTree → Type 0
+ReadsStep (device.TheVariants.Block code atomic) = ReadsBlock code
+ReadsStep (device.TheVariants.Control cond repeat timeout inner) = ReadsControl cond repeat timeout (λ own. ReadsSteps inner own)
+
+abbrev pub step_texts : device.Step → List StepText
+step_texts (device.TheVariants.Block code atomic) = block_texts code
+step_texts (device.TheVariants.Control cond repeat timeout inner) = control_texts cond repeat (steps_texts 0 inner)
+
+-- the fault of a text that the step has itself
+abbrev pub at_part : Part → TextFault → StepFault
+at_part part (texts.Syntax at) = steps.Syntax (record { outward = []; part = part; place = at })
+at_part part texts.OutOfMemory = steps.OutOfMemory
+
+-- the fault in the step of this number, unless memory ran out
+abbrev pub IsUnder : ℕ → StepFault → StepFault → Type 0
+IsUnder number inner steps.OutOfMemory = Unit {0}
+IsUnder number inner (steps.Syntax told) = (f : FaultyText) × (inner ≡ steps.Syntax f)
+    × (told ≡ record { outward = f.outward ++ number ∷ []; part = f.part; place = f.place })
+
+-- the fault, in the sequence of this name
+abbrev pub spot_in : List ℕ → FaultyText → Spot
+spot_in name f = record { sequence = Some name; path = reverse f.outward; part = f.part; place = f.place }
