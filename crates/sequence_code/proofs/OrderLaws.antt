@@ -92,9 +92,9 @@ first_single step part text at f = record { before = []; text = text; behind = [
 
 -- what two first faulty texts have in common
 pub record Same {W : Type 0} (step other : W) (part other_part : Part) (at there : Place) : Type 0 where
-  pub step : step ≡ other
-  pub part : part ≡ other_part
-  pub place : at ≡ there
+  pub same_step : step ≡ other
+  pub same_part : part ≡ other_part
+  pub same_place : at ≡ there
 
 one_split : {W : Type 0} (xs ys : List (TextAt W)) (step other : W) (part other_part : Part) (text other_text : List ℕ) (behind rest : List (TextAt W)) (at there : Place)
     → xs ++ text_at step part text ∷ behind ≡ ys ++ text_at other other_part other_text ∷ rest → AreFine xs → AreFine ys
@@ -104,7 +104,7 @@ one_split [] [] step other part other_part text other_text behind rest at there 
     let same_part : part ≡ other_part = ap (λ t. t.part) same in
     let same_text : text ≡ other_text = ap (λ t. t.text) same in
     let moved_place : IsFaulty part text there = subst (λ (p : Part). IsFaulty p text there) (sym same_part) (subst (λ (t : List ℕ). IsFaulty other_part t there) (sym same_text) g) in
-    record { step = ap (λ t. t.step) same; part = same_part; place = one_place part text at there f moved_place }
+    record { same_step = ap (λ t. t.step) same; same_part = same_part; same_place = one_place part text at there f moved_place }
 one_split {W} [] (y ∷ ys) step other part other_part text other_text behind rest at there e a b f g =
     let same : y ≡ text_at step part text = cc in
     absurd (not_both part text at (subst (λ (t : TextAt W). IsFine t.part t.text) same b.0) f)

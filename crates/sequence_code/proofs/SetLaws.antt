@@ -6,12 +6,14 @@ use Rattle.expr_grammar.specs.Tree.{StmtTree}
 use Rattle.sequence_resolve.specs.declared.entry.SeqEntry.{SeqEntry}
 use Rattle.sequence_resolve.specs.declared.entry.SeqSet.{SeqSet}
 use Rattle.sequence_code.specs.declared.spot.Spot.{Spot}
+use Rattle.sequence_code.specs.declared.set.ReadSet.{ReadSet}
 use Rattle.sequence_code.specs.declared.set_reader.SetFault.{SetFault}
 use Rattle.sequence_code.specs.declared.set_reader.SetFault.TheVariants as sets
 use Rattle.sequence_code.specs.Trees.{StepTrees, SequenceTrees, SetTrees}
 use Rattle.sequence_code.specs.Order.{TextAt, SetStep, moved, enabled_steps, steps_texts, entry_texts, entries_texts, debugvars_texts, set_texts, step_of, IsFirstFault, IsFirstFaulty}
 use Rattle.sequence_code.specs.Reading.{ReadsSteps, ReadsEntry, ReadsEntries, ReadsSet}
 use Rattle.sequence_code.specs.Texts.{IsCodeOf}
+use Rattle.sequence_code.specs.SetView.{set_trees}
 use Rattle.sequence_code.specs.Answers.{AnswersSet, GivesSet, TellsSpot}
 use Rattle.sequence_code.proofs.TextLaws.{one_value, exact_code}
 use Rattle.sequence_code.proofs.OrderLaws.{AreFine, fine_both, fine_moved, fine_not_faulty, Same, one_first}
@@ -59,24 +61,24 @@ not_both set trees spot is f = fine_not_faulty (set_texts set) (step_of spot) sp
 
 same_spot : (s t : Spot) → Same (step_of s) (step_of t) s.part t.part s.place t.place → s ≡ t
 same_spot s t same =
-    let sequence : s.sequence ≡ t.sequence = ap (λ x. x.sequence) same.step in
-    let path : s.path ≡ t.path = ap (λ x. x.path) same.step in
+    let sequence : s.sequence ≡ t.sequence = ap (λ x. x.sequence) same.same_step in
+    let path : s.path ≡ t.path = ap (λ x. x.path) same.same_step in
     ap (λ x. record { sequence = x; path = s.path; part = s.part; place = s.place }) sequence
     ∙ ap (λ x. record { sequence = t.sequence; path = x; part = s.part; place = s.place }) path
-    ∙ ap (λ x. record { sequence = t.sequence; path = t.path; part = x; place = s.place }) same.part
-    ∙ ap (λ x. record { sequence = t.sequence; path = t.path; part = t.part; place = x }) same.place
+    ∙ ap (λ x. record { sequence = t.sequence; path = t.path; part = x; place = s.place }) same.same_part
+    ∙ ap (λ x. record { sequence = t.sequence; path = t.path; part = t.part; place = x }) same.same_place
 
 one_fault : (set : SeqSet) (s t : Spot) → IsFirstFault set s → IsFirstFault set t → s ≡ t
 one_fault set s t f g = same_spot s t (one_first (set_texts set) (step_of s) (step_of t) s.part t.part s.place t.place f g)
 
 -- ---- what the reader answers
 
-pub only_read : (set : SeqSet) (r : Result SetTrees SetFault) → AnswersSet set r → (trees : SetTrees) → ReadsSet set trees → GivesSet trees r
-only_read set (Ok given) a trees is = one_set set given trees a is
+pub only_read : (set : SeqSet) (r : Result ReadSet SetFault) → AnswersSet set r → (trees : SetTrees) → ReadsSet set trees → GivesSet trees r
+only_read set (Ok read) a trees is = one_set set (set_trees read) trees a is
 only_read set (Err (sets.Syntax spot)) a trees is = not_both set trees spot is a
 only_read set (Err sets.OutOfMemory) a trees is = tt
 
-pub only_fault : (set : SeqSet) (r : Result SetTrees SetFault) → AnswersSet set r → (spot : Spot) → IsFirstFault set spot → TellsSpot spot r
-only_fault set (Ok given) a spot f = not_both set given spot a f
+pub only_fault : (set : SeqSet) (r : Result ReadSet SetFault) → AnswersSet set r → (spot : Spot) → IsFirstFault set spot → TellsSpot spot r
+only_fault set (Ok read) a spot f = not_both set (set_trees read) spot a f
 only_fault set (Err (sets.Syntax told)) a spot f = one_fault set told spot a f
 only_fault set (Err sets.OutOfMemory) a spot f = tt

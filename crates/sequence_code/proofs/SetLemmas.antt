@@ -3,6 +3,7 @@ use Rattle.std.proofs.Common.{◌≡◌, ◌∙◌, sym, subst, ap, refl, ℕ, z
 use Rattle.std.proofs.lemmas.List.{map-append, take_more}
 use Rattle.std.proofs.lemmas.Slice.Eq.{bytes_eq-Decides}
 use Rattle.std.specs.List.{IsDistinct, AllByRecursion}
+use Rattle.std.proofs.lemmas.Map.Keys.{IsDistinct-head, IsDistinct-tail}
 use Rattle.std.specs.Map.{lookup}
 use Rattle.std.specs.String.{string_eq}
 use Rattle.std.specs.declared.hash.FoldHasher.{FoldHasher}
@@ -62,8 +63,8 @@ same_text : (xs ys : List ℕ) → bytes_eq xs ys ≡ true → xs ≡ ys
 same_text xs ys e = (bytes_eq-Decides xs ys).0 e
 
 flipped : (x y : List ℕ) (b : Bool) → bytes_eq y x ≡ b → bytes_eq x y ≡ false → b ≡ false
-flipped x y false is no = refl
-flipped x y true is no = let same : y ≡ x = same_text y x is in absurd (true≢false (sym ((bytes_eq-Decides x y).1 (sym same)) ∙ no))
+flipped x y false is differs = refl
+flipped x y true is differs = let same : y ≡ x = same_text y x is in absurd (true≢false (sym ((bytes_eq-Decides x y).1 (sym same)) ∙ differs))
 
 apart_at : (name : List ℕ) (es : List SeqEntry) (i : ℕ) (e : SeqEntry) → i < length es → AllByRecursion (λ y. bytes_eq name y ≡ false) (map (λ x. x.name) es) → bytes_eq name (get_or es i e).name ≡ false
 apart_at name [] i e lt all = absurd (omega arith)
@@ -71,7 +72,7 @@ apart_at name (x ∷ es) zero e lt all = all.0
 apart_at name (x ∷ es) (suc i) e lt all = apart_at name es i e (omega arith) all.1
 
 skipped : (name : List ℕ) (s : SequenceTrees) (more : List SequenceTrees) (b : Bool) → bytes_eq name s.name ≡ b → b ≡ false → steps_named name (s ∷ more) ≡ steps_named name more
-skipped name s more b is no = rw (is, no) refl
+skipped name s more b is differs = rw (is, differs) refl
 
 -- a name of the set is none of the names before it
 pub new_name : (es : List SeqEntry) (i : ℕ) (e : SeqEntry) (ss : List SequenceTrees) → IsDistinct bytes_eq (map (λ x. x.name) es) → i < length es → ReadsEntries (take i es) ss
@@ -81,10 +82,10 @@ new_name (x ∷ es) zero e ss distinct lt is = ap (steps_named x.name) is
 new_name (x ∷ es) (suc i) e ss distinct lt is =
     let name = (get_or es i e).name in
     let less : i < length es = omega arith in
-    let no : bytes_eq x.name name ≡ false = apart_at x.name es i e less distinct.0 in
-    let other : bytes_eq name x.name ≡ false = flipped x.name name (bytes_eq name x.name) refl no in
+    let differs : bytes_eq x.name name ≡ false = apart_at x.name es i e less (IsDistinct-head bytes_eq x.name (map (λ y. y.name) es) distinct) in
+    let other : bytes_eq name x.name ≡ false = flipped x.name name (bytes_eq name x.name) refl differs in
     let named : bytes_eq name is.0.name ≡ false = subst (λ (n : List ℕ). bytes_eq name n ≡ false) (sym is.3.name) other in
-    ap (steps_named name) is.2 ∙ skipped name is.0 is.1 false named refl ∙ new_name es i e is.1 distinct.1 less is.4
+    ap (steps_named name) is.2 ∙ skipped name is.0 is.1 false named refl ∙ new_name es i e is.1 (IsDistinct-tail bytes_eq x.name (map (λ y. y.name) es) distinct) less is.4
 
 -- ---- one sequence more
 

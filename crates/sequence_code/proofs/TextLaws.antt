@@ -59,9 +59,6 @@ module _ {X : Type 0} (R : List Lexeme → X → Type 0) (span : Span) (exact : 
       let same : ts ≡ a.tokens = one_list text ts a.tokens cut a.cut in
       exact.too_deep a.tokens (Ok x) a.accepted i (subst (λ (l : List Lexeme). IsDeepFirst R span l i) same d)
 
-  bad_first : (at there : Place) (n : ℕ) → IsFaultyText R span text there → (told : Place) → told ≡ at → ⊥ → at ≡ there
-  bad_first at there n f told is no = absurd no
-
   pub one_fault : (at there : Place) → IsFaultyText R span text at → IsFaultyText R span text there → at ≡ there
   one_fault at there (bad_token n bad is) (bad_token m other was) = gives_bad text (Err (BadToken at)) (n, bad, is) m other ∙ sym was
   one_fault at there (bad_token n bad is) (unexpected ts cut i u was) = absurd (gives_tokens text (Err (BadToken at)) (n, bad, is) ts cut)

@@ -14,6 +14,7 @@ use Rattle.expr_grammar.specs.Lexeme.{Lexeme}
 use Rattle.expr_grammar.specs.Grammar.{ReadsCode, ReadsExpr}
 use Rattle.expr_grammar.specs.Tree.{Tree, tree, StmtTree, code_trees}
 use Rattle.sequence_code.specs.declared.spot.Spot.{Spot}
+use Rattle.sequence_code.specs.declared.set.ReadSet.{ReadSet}
 use Rattle.sequence_code.specs.declared.text.TextFault.{TextFault}
 use Rattle.sequence_code.specs.declared.text.TextFault.TheVariants as texts
 use Rattle.sequence_code.specs.declared.set_reader.SetFault.{SetFault}
@@ -22,6 +23,7 @@ use Rattle.sequence_code.specs.Texts.{IsTextOf, IsFaultyText}
 use Rattle.sequence_code.specs.Trees.{SetTrees}
 use Rattle.sequence_code.specs.Order.{IsFirstFault}
 use Rattle.sequence_code.specs.Reading.{ReadsSet}
+use Rattle.sequence_code.specs.SetView.{set_trees}
 
 -- ---- of a text
 
@@ -64,19 +66,19 @@ TellsPlace at (Err texts.OutOfMemory) = Unit {0}
 -- ---- of a set
 
 -- the trees of the set, or its first fault
-abbrev pub AnswersSet : SeqSet → Result SetTrees SetFault → Type 0
-AnswersSet set (Ok trees) = ReadsSet set trees
+abbrev pub AnswersSet : SeqSet → Result ReadSet SetFault → Type 0
+AnswersSet set (Ok read) = ReadsSet set (set_trees read)
 AnswersSet set (Err (sets.Syntax spot)) = IsFirstFault set spot
 AnswersSet set (Err sets.OutOfMemory) = Unit {0}
 
 -- these trees, unless memory ran out
-abbrev pub GivesSet : SetTrees → Result SetTrees SetFault → Type 0
-GivesSet trees (Ok given) = given ≡ trees
+abbrev pub GivesSet : SetTrees → Result ReadSet SetFault → Type 0
+GivesSet trees (Ok read) = set_trees read ≡ trees
 GivesSet trees (Err (sets.Syntax spot)) = ⊥
 GivesSet trees (Err sets.OutOfMemory) = Unit {0}
 
 -- this fault, unless memory ran out
-abbrev pub TellsSpot : Spot → Result SetTrees SetFault → Type 0
+abbrev pub TellsSpot : Spot → Result ReadSet SetFault → Type 0
 TellsSpot spot (Ok given) = ⊥
 TellsSpot spot (Err (sets.Syntax told)) = told ≡ spot
 TellsSpot spot (Err sets.OutOfMemory) = Unit {0}

@@ -1,14 +1,15 @@
 //! The texts of a set, read in order up to the first that is faulty.
 
-ghost use Rattle.std.specs.Prelude.{◌≡◌, ◌++◌, ◌∷◌, [], IfOk, OnOk, None, map, reverse};
+ghost use Rattle.std.specs.Prelude.{◌≡◌, IfOk, OnOk, None, map, reverse};
 ghost use Rattle.std.specs.List.{IsDistinct};
 ghost use Rattle.std.specs.Str.{bytes_eq};
 ghost use Rattle.expr_grammar.specs.Tree.{code_trees};
 ghost use Rattle.sequence_code.specs.declared.spot.Spot.{Spot};
-ghost use Rattle.sequence_code.specs.Trees.{SetTrees, steps_tree, steps_named};
+ghost use Rattle.sequence_code.specs.Trees.{SetTrees, steps_tree, steps_named, with_sequence};
 ghost use Rattle.sequence_code.specs.Order.{IsFirstFault, enabled_steps, entry_texts, debugvars_texts};
 ghost use Rattle.sequence_code.specs.Texts.{IsCodeOf};
 ghost use Rattle.sequence_code.specs.Reading.{ReadsSet, ReadsSteps};
+ghost use Rattle.sequence_code.specs.SetView.{set_trees};
 ghost use Rattle.sequence_code.specs.Answers.{AnswersSet, GivesSet, TellsSpot};
 ghost use Rattle.sequence_code.specs.Outcomes.{SetOutcome, spot_in};
 
@@ -101,8 +102,8 @@ fn add_sequence(
     name: &NameText,
     steps: CheckedSteps,
 ) -> Result<(), OutOfMemory>
-    requires { steps_named name.now read.old.sequences ≡ None }
-    ensures { OnOk result (read.new ≡ record read.old { sequences = read.old.sequences ++ record { name = name.now; steps = steps_tree steps } ∷ [] }) }
+    requires { steps_named name.now (set_trees read.old).sequences ≡ None }
+    ensures { OnOk result (set_trees read.new ≡ with_sequence name.now (steps_tree steps) (set_trees read.old)) }
 {
     let Ok(key) = String::from_str(alloc, name.as_str()) else {
         return Err(OutOfMemory);
