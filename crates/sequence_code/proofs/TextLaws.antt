@@ -3,11 +3,12 @@ use Rattle.std.proofs.Common.{◌≡◌, ◌∙◌, sym, subst, ap, ℕ, List, R
 use Rattle.dap_base.specs.declared.text.Place.{Place}
 use Rattle.expr_grammar.specs.declared.limit.Span.{Span}
 use Rattle.expr_grammar.specs.declared.limit.Span.TheVariants as spans
-use Rattle.expr_grammar.specs.declared.token_list.TokenError.TheVariants.{BadToken}
+use Rattle.expr_grammar.specs.declared.token_list.TokenError.{TokenError}
+use Rattle.expr_grammar.specs.declared.token_list.TokenError.TheVariants.{BadToken, OutOfMemory as NoMemory}
 use Rattle.expr_grammar.specs.declared.parse.ParseError.{ParseError}
 use Rattle.expr_grammar.specs.declared.parse.ParseError.TheVariants.{Unexpected, TooDeep, OutOfMemory}
 use Rattle.expr_grammar.specs.Lexeme.{Lexeme}
-use Rattle.expr_grammar.specs.Lexing.{AreTokensOf}
+use Rattle.expr_grammar.specs.Lexing.{AreTokensOf, Lexes}
 use Rattle.expr_grammar.specs.Grammar.{ReadsCode, ReadsExpr}
 use Rattle.expr_grammar.specs.Reading.{read, statements, whole}
 use Rattle.expr_grammar.specs.Refusal.{Answers, IsAccepted, IsUnexpectedFirst, IsDeepFirst, Accepts, Refuses, place_of}
@@ -20,7 +21,7 @@ use Rattle.expr_grammar.proofs.Whole as parser
 use Rattle.sequence_code.specs.declared.text.TextFault.{TextFault}
 use Rattle.sequence_code.specs.declared.text.TextFault.TheVariants as texts
 use Rattle.sequence_code.specs.Texts.{IsTextOf, IsFaultyText, bad_token, unexpected, too_deep, IsCodeOf, IsConditionOf, IsFaultyCode, IsFaultyCondition}
-use Rattle.sequence_code.specs.Answers.{AnswersText, GivesValue, TellsPlace, parse_fault}
+use Rattle.sequence_code.specs.Answers.{AnswersText, GivesValue, TellsPlace, token_fault, parse_fault}
 
 -- no other answer of a parser is one
 pub record IsExact {X : Type 0} (R : List Lexeme → X → Type 0) (span : Span) : Type 0 where
@@ -97,9 +98,9 @@ module _ {X : Type 0} (R : List Lexeme → X → Type 0) (span : Span) (exact : 
     only_fault (Err (texts.Syntax told)) a at f = one_fault told at a f
     only_fault (Err texts.OutOfMemory) a at f = tt
 
-    pub parsed : (ts : List Lexeme) → AreTokensOf text ts → (r : Result V ParseError) → Answers view R span ts r → (v : V) → r ≡ Ok v → IsTextOf R span text (view v)
-    parsed ts cut (Ok w) a v is = let same : w ≡ v = cc in record { tokens = ts; cut = cut; accepted = subst (λ (u : V). IsAccepted R span ts (view u)) same a }
-    parsed ts cut (Err e) a v is = absurd cc
+    pub uncut : (e : TokenError) → Lexes text (Err e) → AnswersText view R span text (Err (token_fault e))
+    uncut (BadToken at) a = bad_token a.0 a.1 a.2
+    uncut NoMemory a = tt
 
     pub refused : (ts : List Lexeme) → AreTokensOf text ts → (e : ParseError) → Answers view R span ts (Err e) → AnswersText view R span text (Err (parse_fault e))
     refused ts cut (Unexpected at) a = unexpected ts cut a.0 a.1 a.2

@@ -63,8 +63,8 @@ fn path_of(alloc: Global, outward: &[u64]) -> Result<StepPath, OutOfMemory>
     ensures { IfOk result (λ path. path ≡ reverse outward.now) }
 {
     let mut path = ItemList::new(alloc);
-    for number in outward.iter().rev() {
-        path.push(*number)?;
+    for number in outward.iter().rev().copied() {
+        path.push(number)?;
     }
     Ok(path)
 }

@@ -1,5 +1,11 @@
+use Rattle.std.proofs.Common.{List, ℕ, subst}
+use Rattle.sequence_code.specs.declared.spot.Part.TheVariants as kinds
+use Rattle.sequence_code.specs.Order.{block_texts}
+use Rattle.sequence_code.specs.Outcomes.{IsFaultOf, at_part}
 use Rattle.sequence_code.proofs.StepLemmas.{fault_block}
 use Rattle.sequence_code.proofs.step_reader.block_of.Goals as goal
 
 pub returns-in-Err : goal.returns-in-Err
-returns-in-Err c = ?
+returns-in-Err c =
+    let told : IsFaultOf (block_texts c.as_str.result.now) (at_part kinds.Block c.in-Err.fault) = fault_block c.as_str.result.now c.in-Err.fault c.in-Err.ensures.answer in
+    rw c.own_fault.ensures (subst (λ (text : List ℕ). IsFaultOf (block_texts text) (at_part kinds.Block c.in-Err.fault)) c.as_str.ensures told)
