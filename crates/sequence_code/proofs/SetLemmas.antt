@@ -1,10 +1,11 @@
 -- Sequences read one after another, and looked up by their names.
-use Rattle.std.proofs.Common.{◌≡◌, ◌∙◌, sym, subst, ap, refl, ℕ, zero, suc, ◌+◌, ◌<◌, Bool, true, false, cond, List, [], ◌∷◌, ◌++◌, map, take, length, get_or, reverse, Option, None, Some, is_some, option_map, slice_get, String, Global, bytes_eq, string_bytes, arith, true≢false}
+use Rattle.std.proofs.Common.{◌≡◌, ◌∙◌, sym, subst, ap, refl, ℕ, zero, suc, ◌+◌, ◌<◌, Bool, true, false, cond, List, [], ◌∷◌, ◌++◌, map, take, length, get_or, reverse, Option, None, Some, is_some, option_map, Result, Err, Bor, String, Global, bytes_eq, string_bytes, arith, true≢false}
 use Rattle.std.proofs.lemmas.List.{map-append, take_more}
 use Rattle.std.proofs.lemmas.Slice.Eq.{bytes_eq-Decides}
 use Rattle.std.specs.List.{IsDistinct, AllByRecursion}
 use Rattle.std.proofs.lemmas.Map.Keys.{IsDistinct-head, IsDistinct-tail}
 use Rattle.std.specs.Map.{lookup}
+use Rattle.std.specs.Option.{option_copied}
 use Rattle.std.specs.String.{string_eq}
 use Rattle.std.specs.declared.hash.FoldHasher.{FoldHasher}
 use Rattle.std.specs.declared.hash.BuildHasherDefault.{BuildHasherDefault}
@@ -26,6 +27,7 @@ use Rattle.sequence_code.specs.SetView.{entry_view}
 use Rattle.sequence_code.specs.Texts.{IsCodeOf, IsFaultyCode}
 use Rattle.sequence_code.specs.Order.{TextAt, SetStep, enabled_steps, steps_texts, entry_texts, entries_texts, debugvars_texts, set_texts, step_of, IsFirstFaulty}
 use Rattle.sequence_code.specs.Reading.{ReadsSteps, ReadsEntry, ReadsEntries}
+use Rattle.sequence_code.specs.Answers.{AnswersSet}
 use Rattle.sequence_code.specs.Outcomes.{IsFaultOf, IsSetFaultOf, spot_in}
 use Rattle.sequence_code.proofs.OrderLaws.{AreFine, fine_both, first_before, first_behind, first_moved, first_single}
 use Rattle.sequence_code.proofs.SetLaws.{entry_fine, debugvars_fine}
@@ -42,6 +44,18 @@ lookup_named name [] = refl
 lookup_named name (e ∷ es) =
     found_steps (bytes_eq name (string_bytes e.0)) e.1 (lookup (λ k. bytes_eq name (string_bytes k)) es)
     ∙ ap (λ o. cond (bytes_eq name (string_bytes e.0)) (Some (steps_tree e.1)) o) (lookup_named name es)
+
+named_or_not : (o : Option (List CheckedStep)) → is_some o ≡ is_some (option_map steps_tree o)
+named_or_not None = refl
+named_or_not (Some x) = refl
+
+-- a name is in the table exactly where a sequence has it
+pub found_named : (name : List ℕ) (es : List (String Global × List CheckedStep)) → is_some (lookup (λ k. bytes_eq name (string_bytes k)) es) ≡ is_some (steps_named name (map entry_view es))
+found_named name es = named_or_not (lookup (λ k. bytes_eq name (string_bytes k)) es) ∙ ap is_some (lookup_named name es)
+
+pub option_map-copied : {A B : Type 0} (f : A → B) (o : Option (Bor A)) → option_map (λ x. f x.now) o ≡ option_map f (option_copied o)
+option_map-copied f None = refl
+option_map-copied f (Some x) = refl
 
 none_from : (o : Option (List CheckedStep)) → option_map steps_tree o ≡ None → o ≡ None
 none_from None e = refl
@@ -87,6 +101,10 @@ new_name (x ∷ es) (suc i) e ss distinct lt is =
     let named : bytes_eq name is.0.name ≡ false = subst (λ (n : List ℕ). bytes_eq name n ≡ false) (sym is.3.name) other in
     ap (steps_named name) is.2 ∙ skipped name is.0 is.1 false named refl ∙ new_name es i e is.1 (IsDistinct-tail bytes_eq x.name (map (λ y. y.name) es) distinct) less is.4
 
+pub fresh : (es : List SeqEntry) (i : ℕ) (e : SeqEntry) (ss : List SequenceTrees) → IsDistinct bytes_eq (map (λ x. x.name) es) → i < length es → e ≡ get_or es i e → ReadsEntries (take i es) ss
+    → steps_named e.name ss ≡ None
+fresh es i e ss distinct lt at is = subst (λ (x : SeqEntry). steps_named x.name ss ≡ None) (sym at) (new_name es i e ss distinct lt is)
+
 -- ---- one sequence more
 
 entries_more : (es : List SeqEntry) (ss : List SequenceTrees) (e : SeqEntry) (s : SequenceTrees) → ReadsEntries es ss → ReadsEntry e s → ReadsEntries (es ++ e ∷ []) (ss ++ s ∷ [])
@@ -126,3 +144,7 @@ fault_at set code i e ss faults.OutOfMemory lt at is before f = tt
 fault_at set code i e ss (faults.Syntax spot) lt at is before f =
     first_behind (debugvars_texts set.debugvars) (entries_texts set.entries) (step_of spot) spot.part spot.place (debugvars_fine set.debugvars code is)
     (fault_among set.entries i e ss (step_of spot) spot.part spot.place lt before (subst (λ (x : SeqEntry). IsFirstFaulty (entry_texts x) (step_of spot) spot.part spot.place) at f))
+
+pub told : (set : SeqSet) (fault : SetFault) → IsSetFaultOf (set_texts set) fault → AnswersSet set (Err fault)
+told set faults.OutOfMemory f = tt
+told set (faults.Syntax spot) f = f
