@@ -1,62 +1,38 @@
-ghost use Rattle.std.specs.Prelude.{◌≡◌, IfOk, map};
+ghost use Rattle.std.specs.Prelude.{IfOk, map};
 ghost use Rattle.std.specs.List.{IsDistinct};
 ghost use Rattle.std.specs.Str.{bytes_eq};
 
 use crate::{CheckedStep, Part, ReadSet, SetFault, TextFault, read_code, read_condition, read_set};
-use dap_base::{ItemList, NameText, Place};
-use device_tree::{Step, Steps};
-use sequence_resolve::{LevelKind, SeqEntry, SeqSet};
+use dap_base::Place;
+use device_tree::pack_of;
+use sequence_resolve::{SeqSet, effective};
+use serde_json::Value;
 use std::alloc::Global;
 use std::test::Fail;
 
-fn block(alloc: Global, code: &str) -> Result<Step, Fail> {
-    let code = NameText::new(alloc, code)?;
-    Ok(Step::Block {
-        code,
-        atomic: false,
-    })
-}
-
-fn sequence(alloc: Global, name: &str, disabled: bool, steps: Steps) -> Result<SeqEntry, Fail>
-    ensures { IfOk result (λ e. e.name ≡ name.now) }
-{
-    let name = NameText::new(alloc, name)?;
-    Ok(SeqEntry {
-        name,
-        from: LevelKind::Device,
-        disabled,
-        steps,
-    })
-}
-
-// The steps of a control with an `if`, a `while` and a block inside, and a block behind it.
-fn steps(alloc: Global, texts: [&str; 5]) -> Result<Steps, Fail> {
-    let [_, cond, repeat, inside, behind] = texts;
-    let mut inner = Steps::new(alloc);
-    inner.push(block(alloc, inside)?)?;
-    let mut steps = Steps::new(alloc);
-    steps.push(Step::Control {
-        cond: Some(NameText::new(alloc, cond)?),
-        repeat: Some(NameText::new(alloc, repeat)?),
-        timeout: Some(5),
-        steps: inner,
-    })?;
-    steps.push(block(alloc, behind)?)?;
-    Ok(steps)
-}
-
-// The first text is that of the debug variables. A disabled sequence, of which no text is read, comes
-// before the sequence with the other texts.
+// A set of the debug variables, a disabled sequence, of which no text is read, and a sequence of a
+// control with an `if`, a `while` and a block inside, and of a block behind it.
 fn set(alloc: Global, texts: [&str; 5]) -> Result<SeqSet, Fail>
     ensures { IfOk result (λ s. IsDistinct bytes_eq (map (λ e. e.name) s.entries)) }
 {
-    let mut off = Steps::new(alloc);
-    off.push(block(alloc, "(")?)?;
-    let mut entries = ItemList::new(alloc);
-    entries.push(sequence(alloc, "Off", true, off)?)?;
-    entries.push(sequence(alloc, "Main", false, steps(alloc, texts)?)?)?;
-    let debugvars = NameText::new(alloc, texts[0])?;
-    Ok(SeqSet { entries, debugvars })
+    let [debugvars, cond, repeat, inside, behind] = texts;
+    let text = format!(in alloc;
+        r#"{{"families":[{{"Dfamily":"F","devices":[{{"Dname":"D","debugvars":"{debugvars}","sequences":[
+        {{"name":"Off","disable":true,"steps":[{{"block":"("}}]}},
+        {{"name":"Main","steps":[
+            {{"if":"{cond}","while":"{repeat}","timeout":5,"control":[{{"block":"{inside}"}}]}},
+            {{"block":"{behind}"}}]}}]}}]}}]}}"#
+    )?;
+    let Ok(value) = Value::from_str(alloc, &text) else {
+        return Err(Fail::from("no JSON"));
+    };
+    let Ok(pack) = pack_of(alloc, &value) else {
+        return Err(Fail::from("no pack"));
+    };
+    match effective(alloc, &pack, "D", None, None) {
+        Ok(set) => Ok(set),
+        Err(_) => Err(Fail::from("no set")),
+    }
 }
 
 // The part, the first two numbers of the path, the line and the column of the fault.
@@ -91,7 +67,7 @@ fn the_first_faulty_text_is_told(rt: HostRuntime) -> Result<(), Fail> {
             (Part::Block, Some(0), Some(0), 1, 2),
         ),
         (
-            ["", "1", "1", "1;", "1;\n 08;"],
+            ["", "1", "1", "1;", "1;\\n 08;"],
             (Part::Block, Some(1), None, 2, 2),
         ),
     ];
