@@ -1,14 +1,12 @@
 -- Steps that are read have fine texts, and stand for one tree.
-use Rattle.std.proofs.Common.{◌≡◌, ◌∙◌, sym, subst, ap, refl, ℕ, zero, suc, List, [], ◌∷◌, ◌++◌, map, Option, None, Some, true, false, Bool, cond}
+use Rattle.std.proofs.Common.{◌≡◌, ◌∙◌, sym, ap, ℕ, suc, List, ◌∷◌, ◌++◌, Option, None, Some, cond}
 use Rattle.expr_grammar.specs.declared.limit.Span.TheVariants as spans
 use Rattle.expr_grammar.specs.Grammar.{ReadsCode, ReadsExpr}
-use Rattle.expr_grammar.specs.Tree.{Tree, StmtTree}
+use Rattle.expr_grammar.specs.Tree.{Tree}
 use Rattle.device_tree.specs.StepTree as device
-use Rattle.sequence_code.specs.declared.spot.Part.{Part}
 use Rattle.sequence_code.specs.declared.spot.Part.TheVariants as kinds
 use Rattle.sequence_code.specs.Trees.{StepTree, Block, Control, StepTrees, MoreSteps}
-use Rattle.sequence_code.specs.Texts.{IsConditionOf}
-use Rattle.sequence_code.specs.Order.{StepText, moved, IsFine, perhaps, block_texts, control_texts, under, steps_texts}
+use Rattle.sequence_code.specs.Order.{StepText, perhaps, block_texts, control_texts, under, steps_texts}
 use Rattle.sequence_code.specs.Reading.{MayBeCondition, ReadsBlock, ReadsControl, Begins, ReadsSteps}
 use Rattle.sequence_code.proofs.TextLaws.{one_value, exact_code, exact_condition}
 use Rattle.sequence_code.proofs.OrderLaws.{AreFine, fine_both, fine_moved}

@@ -1,5 +1,5 @@
 -- A set is read as one set of trees, or has one first fault, and never both.
-use Rattle.std.proofs.Common.{◌≡◌, ◌∙◌, sym, subst, ap, refl, ℕ, Bool, true, false, List, [], ◌∷◌, ◌++◌, map, Option, Some, None, Result, Ok, Err}
+use Rattle.std.proofs.Common.{◌≡◌, ◌∙◌, sym, ap, ℕ, List, [], ◌∷◌, Some, Result, Ok, Err}
 use Rattle.expr_grammar.specs.declared.limit.Span.TheVariants as spans
 use Rattle.expr_grammar.specs.Grammar.{ReadsCode}
 use Rattle.expr_grammar.specs.Tree.{StmtTree}
@@ -10,7 +10,7 @@ use Rattle.sequence_code.specs.declared.set.ReadSet.{ReadSet}
 use Rattle.sequence_code.specs.declared.set_reader.SetFault.{SetFault}
 use Rattle.sequence_code.specs.declared.set_reader.SetFault.TheVariants as sets
 use Rattle.sequence_code.specs.Trees.{StepTrees, SequenceTrees, SetTrees}
-use Rattle.sequence_code.specs.Order.{TextAt, SetStep, moved, enabled_steps, steps_texts, entry_texts, entries_texts, debugvars_texts, set_texts, step_of, IsFirstFault, IsFirstFaulty}
+use Rattle.sequence_code.specs.Order.{enabled_steps, steps_texts, entry_texts, entries_texts, debugvars_texts, set_texts, step_of, IsFirstFault}
 use Rattle.sequence_code.specs.Reading.{ReadsSteps, ReadsEntry, ReadsEntries, ReadsSet}
 use Rattle.sequence_code.specs.Texts.{IsCodeOf}
 use Rattle.sequence_code.specs.SetView.{set_trees}

@@ -1,5 +1,5 @@
 -- Sequences read one after another, and looked up by their names.
-use Rattle.std.proofs.Common.{◌≡◌, ◌∙◌, sym, subst, ap, refl, ℕ, zero, suc, ◌+◌, ◌<◌, Bool, true, false, cond, List, [], ◌∷◌, ◌++◌, map, take, length, get_or, reverse, Option, None, Some, is_some, option_map, Result, Err, Bor, String, Global, bytes_eq, string_bytes, arith, true≢false}
+use Rattle.std.proofs.Common.{◌≡◌, ◌∙◌, sym, subst, ap, refl, ℕ, zero, suc, ◌+◌, ◌<◌, Bool, true, false, cond, List, [], ◌∷◌, ◌++◌, map, take, length, get_or, reverse, Option, None, Some, is_some, option_map, Err, Bor, String, Global, bytes_eq, string_bytes, arith, true≢false}
 use Rattle.std.proofs.lemmas.List.{map-append, take_more}
 use Rattle.std.proofs.lemmas.Slice.Eq.{bytes_eq-Decides}
 use Rattle.std.specs.List.{IsDistinct, AllByRecursion}
@@ -25,11 +25,11 @@ use Rattle.sequence_code.specs.declared.set_reader.SetFault.TheVariants as fault
 use Rattle.sequence_code.specs.Trees.{StepTrees, SequenceTrees, steps_tree, steps_named}
 use Rattle.sequence_code.specs.SetView.{entry_view}
 use Rattle.sequence_code.specs.Texts.{IsCodeOf, IsFaultyCode}
-use Rattle.sequence_code.specs.Order.{TextAt, SetStep, enabled_steps, steps_texts, entry_texts, entries_texts, debugvars_texts, set_texts, step_of, IsFirstFaulty}
+use Rattle.sequence_code.specs.Order.{SetStep, enabled_steps, steps_texts, entry_texts, entries_texts, debugvars_texts, set_texts, step_of, IsFirstFaulty}
 use Rattle.sequence_code.specs.Reading.{ReadsSteps, ReadsEntry, ReadsEntries}
 use Rattle.sequence_code.specs.Answers.{AnswersSet}
 use Rattle.sequence_code.specs.Outcomes.{IsFaultOf, IsSetFaultOf, spot_in}
-use Rattle.sequence_code.proofs.OrderLaws.{AreFine, fine_both, first_before, first_behind, first_moved, first_single}
+use Rattle.sequence_code.proofs.OrderLaws.{first_before, first_behind, first_moved, first_single}
 use Rattle.sequence_code.proofs.SetLaws.{entry_fine, debugvars_fine}
 
 -- ---- the table

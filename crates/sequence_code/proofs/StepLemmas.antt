@@ -1,11 +1,10 @@
 -- Steps read one after another.
-use Rattle.std.proofs.Common.{◌≡◌, ◌∙◌, sym, subst, ap, refl, ℕ, zero, suc, ◌+◌, ◌*◌, ◌<◌, ◌≤◌, List, [], ◌∷◌, ◌++◌, map, take, length, get_or, reverse, Option, None, Some, Result, Err, ◌⊎◌, inl, inr, arith}
+use Rattle.std.proofs.Common.{◌≡◌, ◌∙◌, sym, subst, ap, refl, ℕ, zero, suc, ◌+◌, ◌*◌, ◌<◌, ◌≤◌, List, [], ◌∷◌, ◌++◌, map, take, length, get_or, reverse, Option, Some, Err, ◌⊎◌, inl, inr, arith}
 use Rattle.std.proofs.lemmas.List.{map-append, take_more, reverse-append}
 use Rattle.dap_base.specs.declared.text.Place.{Place}
 use Rattle.expr_grammar.specs.Tree.{Tree}
-use Rattle.device_tree.specs.StepTree as device
 use Rattle.device_tree.specs.StepTree.{tree_size}
-use Rattle.device_tree.specs.StepsView.{steps_view, cons_step}
+use Rattle.device_tree.specs.StepsView.{steps_view}
 use Rattle.device_tree.specs.declared.steps.Step.{Step}
 use Rattle.device_tree.specs.declared.steps.Step.TheVariants as d
 use Rattle.sequence_code.specs.declared.spot.Part.{Part}
@@ -13,7 +12,7 @@ use Rattle.sequence_code.specs.declared.spot.Part.TheVariants as kinds
 use Rattle.sequence_code.specs.declared.steps.CheckedStep.{CheckedStep}
 use Rattle.sequence_code.specs.Trees.{StepTree, StepTrees, NoSteps, MoreSteps, steps_of, step_tree, steps_tree}
 use Rattle.sequence_code.specs.Order.{StepText, IsFaulty, IsFirstFaulty, perhaps, block_texts, control_texts, under, steps_texts}
-use Rattle.sequence_code.specs.Reading.{MayBeCondition, ReadsBlock, ReadsControl, Begins, ReadsSteps}
+use Rattle.sequence_code.specs.Reading.{MayBeCondition, Begins, ReadsSteps}
 use Rattle.sequence_code.specs.declared.text.TextFault.{TextFault}
 use Rattle.sequence_code.specs.declared.text.TextFault.TheVariants as texts
 use Rattle.sequence_code.specs.declared.step_reader.FaultyText.{FaultyText}

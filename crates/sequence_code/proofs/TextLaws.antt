@@ -12,7 +12,6 @@ use Rattle.expr_grammar.specs.Lexing.{AreTokensOf, Lexes}
 use Rattle.expr_grammar.specs.Grammar.{ReadsCode, ReadsExpr}
 use Rattle.expr_grammar.specs.Reading.{read, statements, whole}
 use Rattle.expr_grammar.specs.Refusal.{Answers, IsAccepted, IsUnexpectedFirst, IsDeepFirst, Accepts, Refuses, place_of}
-use Rattle.expr_grammar.specs.Tree.{Tree, StmtTree}
 use Rattle.expr_grammar.proofs.CompleteArgs.{reads_whole}
 use Rattle.expr_grammar.proofs.CompleteCode.{code_complete}
 use Rattle.expr_grammar.proofs.Sound.{whole_outcome, statements_outcome}
@@ -20,7 +19,7 @@ use Rattle.expr_grammar.proofs.OneDivision.{one_list, gives_tokens, gives_bad}
 use Rattle.expr_grammar.proofs.Whole as parser
 use Rattle.sequence_code.specs.declared.text.TextFault.{TextFault}
 use Rattle.sequence_code.specs.declared.text.TextFault.TheVariants as texts
-use Rattle.sequence_code.specs.Texts.{IsTextOf, IsFaultyText, bad_token, unexpected, too_deep, IsCodeOf, IsConditionOf, IsFaultyCode, IsFaultyCondition}
+use Rattle.sequence_code.specs.Texts.{IsTextOf, IsFaultyText, bad_token, unexpected, too_deep}
 use Rattle.sequence_code.specs.Answers.{AnswersText, GivesValue, TellsPlace, token_fault, parse_fault}
 
 -- no other answer of a parser is one

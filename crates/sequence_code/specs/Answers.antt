@@ -12,7 +12,7 @@ use Rattle.expr_grammar.specs.declared.parse.ParseError.{ParseError}
 use Rattle.expr_grammar.specs.declared.parse.ParseError.TheVariants as parses
 use Rattle.expr_grammar.specs.Lexeme.{Lexeme}
 use Rattle.expr_grammar.specs.Grammar.{ReadsCode, ReadsExpr}
-use Rattle.expr_grammar.specs.Tree.{Tree, tree, StmtTree, code_trees}
+use Rattle.expr_grammar.specs.Tree.{tree, code_trees}
 use Rattle.sequence_code.specs.declared.spot.Spot.{Spot}
 use Rattle.sequence_code.specs.declared.set.ReadSet.{ReadSet}
 use Rattle.sequence_code.specs.declared.text.TextFault.{TextFault}

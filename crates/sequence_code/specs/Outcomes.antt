@@ -1,5 +1,5 @@
 -- What the readers of steps answer: what private contracts cite.
-use Rattle.std.specs.Prelude.{◌≡◌, ℕ, List, [], ◌∷◌, ◌++◌, reverse, Option, None, Some, Result, Ok, Err}
+use Rattle.std.specs.Prelude.{◌≡◌, ℕ, List, [], ◌∷◌, ◌++◌, reverse, Some, Result, Ok, Err}
 use Rattle.device_tree.specs.declared.steps.Step as device
 use Rattle.sequence_code.specs.declared.spot.Part.{Part}
 use Rattle.sequence_code.specs.declared.spot.Spot.{Spot}

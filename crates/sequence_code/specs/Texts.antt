@@ -1,5 +1,5 @@
 -- Which code or which condition a text is, and where a text that is none has its first fault.
-use Rattle.std.specs.Prelude.{◌≡◌, ℕ, List, Result, Ok, Err}
+use Rattle.std.specs.Prelude.{◌≡◌, ℕ, List}
 use Rattle.dap_base.specs.declared.text.Place.{Place}
 use Rattle.expr_grammar.specs.declared.limit.Span.{Span}
 use Rattle.expr_grammar.specs.declared.limit.Span.TheVariants as spans

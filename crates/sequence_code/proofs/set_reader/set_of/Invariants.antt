@@ -1,4 +1,4 @@
-use Rattle.std.proofs.Common.{◌≡◌, take}
+use Rattle.std.proofs.Common.{take}
 use Rattle.sequence_code.specs.Texts.{IsCodeOf}
 use Rattle.sequence_code.specs.Reading.{ReadsEntries}
 use Rattle.sequence_code.specs.SetView.{set_trees}

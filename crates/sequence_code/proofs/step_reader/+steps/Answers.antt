@@ -1,12 +1,9 @@
-use Rattle.std.proofs.Common.{◌≡◌, ◌+◌, ◌*◌, ◌≤◌, List, ◌++◌, ◌∷◌, [], option_map, take, subst, sym, arith}
+use Rattle.std.proofs.Common.{◌*◌, ◌≤◌, option_map, arith}
 use Rattle.std.proofs.lemmas.Result.{err_from_is_err_and}
 use Rattle.device_tree.specs.StepTree.{tree_size}
 use Rattle.device_tree.specs.StepsView.{steps_view}
 use Rattle.expr_grammar.specs.Tree.{tree}
-use Rattle.sequence_code.specs.declared.steps.CheckedStep.{CheckedStep}
-use Rattle.sequence_code.specs.Trees.{steps_tree}
 use Rattle.sequence_code.specs.Order.{steps_texts}
-use Rattle.sequence_code.specs.Reading.{ReadsSteps}
 use Rattle.sequence_code.specs.Outcomes.{step_texts}
 use Rattle.sequence_code.proofs.StepLemmas.{step_weight, weight_below, one_more, fault_at, fault_under, fault_repeat, fault_inner}
 use Rattle.sequence_code.proofs.step_reader.+steps.Goals as goal

@@ -1,4 +1,4 @@
-use Rattle.std.proofs.Common.{◌≡◌, ◌+◌, ◌*◌, take}
+use Rattle.std.proofs.Common.{◌+◌, ◌*◌, take}
 use Rattle.device_tree.specs.StepsView.{steps_view}
 use Rattle.device_tree.specs.StepTree.{tree_size}
 use Rattle.sequence_code.specs.Trees.{steps_tree}
