@@ -1,0 +1,6 @@
+pub mod Names
+pub mod Order
+pub mod First
+pub mod ExprFaults
+pub mod BlockFaults
+pub mod Views
