@@ -1,0 +1,18 @@
+-- What the code's faults stand for.
+use Rattle.std.specs.Prelude.{[], reverse}
+use Rattle.seq_check.specs.declared.faulty.PartFault.{PartFault}
+use Rattle.seq_check.specs.declared.faulty.FaultyStep.{FaultyStep}
+use Rattle.seq_check.specs.declared.faulty.HeldFault.{HeldFault}
+use Rattle.seq_check.specs.StepFaults.{StepFault, under}
+
+-- a fault of a step itself
+abbrev pub own_view : PartFault → StepFault
+own_view f = record { path = []; part = f.part; fault = f.fault }
+
+-- a fault of a step, or of one inside it
+abbrev pub faulty_view : FaultyStep → StepFault
+faulty_view f = record { path = reverse f.outward; part = f.own.part; fault = f.own.fault }
+
+-- a fault of a set
+abbrev pub held_view : HeldFault → StepFault
+held_view f = under f.holder (faulty_view f.faulty)

@@ -1,0 +1,63 @@
+// Faults of steps.
+ghost use Rattle.std.specs.Prelude.{◌≡◌, IfOk, option_map};
+ghost use Rattle.seq_check.specs.StepFaults.{under};
+ghost use Rattle.seq_check.specs.Views.{own_view, faulty_view};
+
+use code_check::CodeFault;
+use dap_base::{ItemList, OutOfMemory};
+use sequence_code::Part;
+use std::alloc::Global;
+
+/// A fault, and the part of a step that has it.
+#[derive(Clone, Copy, Debug, PartialEq, Eq)]
+pub struct PartFault {
+    pub part: Part,
+    pub fault: CodeFault,
+}
+
+/// A fault of a step, and the way out to the list of steps that was looked through.
+#[derive(Debug, Drop)]
+pub struct FaultyStep {
+    /// The numbers of the steps that lead to that step, the innermost first.
+    pub outward: ItemList<u64>,
+    /// The fault of the step itself.
+    pub own: PartFault,
+}
+
+/// A fault of a set.
+#[derive(Debug, Drop)]
+pub struct HeldFault {
+    /// What has it: 0 for the debug variables, and for a sequence its number, counted from 1.
+    pub holder: u64,
+    /// The fault, seen from the steps of the holder.
+    pub faulty: FaultyStep,
+}
+
+/// The fault of a step itself, seen from that step.
+pub fn own(alloc: Global, fault: PartFault) -> FaultyStep
+    ensures { faulty_view result ≡ own_view fault }
+{
+    FaultyStep {
+        outward: ItemList::new(alloc),
+        own: fault,
+    }
+}
+
+/// The same fault, seen from the list in which the step has this number.
+#[tactic(auto, using(crate::proofs::PathLemmas::outwards))]
+pub fn within(mut faulty: FaultyStep, number: u64) -> Result<FaultyStep, OutOfMemory>
+    ensures { IfOk result (λ f. faulty_view f ≡ under number (faulty_view faulty)) }
+{
+    faulty.outward.push(number)?;
+    Ok(faulty)
+}
+
+/// The fault as one of this part.
+pub fn in_part(part: Part, fault: Option<CodeFault>) -> Option<PartFault>
+    ensures { result ≡ option_map (λ f. record { part = part; fault = f }) fault }
+{
+    match fault {
+        Some(fault) => Some(PartFault { part, fault }),
+        None => None,
+    }
+}

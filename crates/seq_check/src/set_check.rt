@@ -1,0 +1,130 @@
+// The check of a whole set.
+ghost use Rattle.std.specs.Prelude.{◌≡◌, ℕ, IfOk, map, reverse, MatchOption};
+ghost use Rattle.std.specs.List.{IsDistinct};
+ghost use Rattle.std.specs.Str.{bytes_eq};
+ghost use Rattle.sequence_code.specs.Trees.{SetTrees};
+ghost use Rattle.sequence_code.specs.Reading.{ReadsSet};
+ghost use Rattle.sequence_code.specs.SetView.{set_trees};
+ghost use Rattle.seq_check.specs.SetFaults.{names_of};
+ghost use Rattle.seq_check.specs.Views.{held_view};
+ghost use Rattle.seq_check.specs.Valid.{CallsAreSound, IsFirstCallFault, holder_name, spot_of, IsSound, IsFirstOf};
+ghost use Rattle.seq_check.specs.Answers.{AnswersCheck, GivesTrees};
+
+use crate::checked::{CheckFault, Checked};
+use crate::faulty::HeldFault;
+use crate::set_calls::{call_spot, graph_of, set_calls};
+use crate::sets::{sequence_names, set_fault};
+use call_graph::{first_cycle, first_deep};
+use code_check::{FaultKind, Names};
+use dap_base::{ItemList, NameText, OutOfMemory};
+use sequence_code::{ReadSet, SetFault, Spot, StepPath, read_set};
+use sequence_resolve::SeqSet;
+use std::alloc::Global;
+
+/// What is wrong, and where.
+#[derive(Debug, Drop)]
+pub struct FirstFault {
+    pub kind: FaultKind,
+    pub spot: Spot,
+}
+
+fn told(kind: FaultKind, spot: Spot) -> FirstFault
+    ensures kind { result.kind ≡ kind }
+    ensures spot { result.spot ≡ spot }
+{
+    FirstFault { kind, spot }
+}
+
+fn holder_name(alloc: Global, set: &ReadSet, holder: u64) -> Result<Option<NameText>, OutOfMemory>
+    ensures { IfOk result (λ name. name ≡ holder_name (set_trees set.now) holder) }
+{
+    if holder == 0 {
+        return Ok(None);
+    }
+    match set.name_at((holder - 1) as usize) {
+        Some(name) => Ok(Some(NameText::new(alloc, name)?)),
+        None => Ok(None),
+    }
+}
+
+fn path_of(alloc: Global, outward: &[u64]) -> Result<StepPath, OutOfMemory>
+    ensures { IfOk result (λ path. path ≡ reverse outward.now) }
+{
+    let mut path = ItemList::new(alloc);
+    for number in outward.iter().rev().copied() {
+        path.push(number)?;
+    }
+    Ok(path)
+}
+
+fn fault_told(alloc: Global, set: &ReadSet, held: &HeldFault) -> Result<FirstFault, OutOfMemory>
+    ensures kind { IfOk result (λ t. t.kind ≡ (held_view held.now).fault.kind) }
+    ensures spot { IfOk result (λ t. let f = held_view held.now in t.spot ≡ spot_of (set_trees set.now) f.path f.part f.fault.place) }
+{
+    let own = held.faulty.own;
+    let spot = Spot {
+        sequence: holder_name(alloc, set, held.holder)?,
+        path: path_of(alloc, held.faulty.outward.as_slice())?,
+        part: own.part,
+        place: own.fault.place,
+    };
+    Ok(told(own.fault.kind, spot))
+}
+
+fn call_fault(
+    alloc: Global,
+    set: &ReadSet,
+    sequences: &Names,
+) -> Result<Option<FirstFault>, OutOfMemory>
+    requires { sequences.now ≡ names_of (set_trees set.now) }
+    ensures { IfOk result (λ r. MatchOption r (CallsAreSound (set_trees set.now)) (λ t. IsFirstCallFault (set_trees set.now) t.kind t.spot)) }
+{
+    let calls = set_calls(alloc, set, sequences)?;
+    let graph = graph_of(alloc, calls.as_slice())?;
+    if let Some(at) = first_cycle(alloc, &graph)? {
+        let spot = call_spot(alloc, set, calls.as_slice(), at)?;
+        return Ok(Some(told(FaultKind::CallCycle, spot)));
+    }
+    if let Some(at) = first_deep(alloc, &graph)? {
+        let spot = call_spot(alloc, set, calls.as_slice(), at)?;
+        return Ok(Some(told(FaultKind::CallsTooDeep, spot)));
+    }
+    Ok(None)
+}
+
+/// The first fault of a set that was read.
+fn read_fault(alloc: Global, set: &ReadSet) -> Result<Option<FirstFault>, OutOfMemory>
+    requires { IsDistinct bytes_eq (names_of (set_trees set.now)) }
+    ensures { IfOk result (λ r. MatchOption r (IsSound (set_trees set.now)) (λ t. IsFirstOf (set_trees set.now) t.kind t.spot)) }
+{
+    let sequences = sequence_names(alloc, set)?;
+    if let Some(held) = set_fault(alloc, set, &sequences)? {
+        return Ok(Some(fault_told(alloc, set, &held)?));
+    }
+    call_fault(alloc, set, &sequences)
+}
+
+/// The set with its texts read, where it is valid. Its names must be distinct, as those that
+/// `effective` answers are.
+///
+/// `Fault` exactly where it is not valid, with the first fault: first of texts that are no code or
+/// no expression; where there is none, of all others but the last two kinds; then of calls that lead
+/// back to the sequence that they stand in; then of those that begin a chain of 33 sequences. Among
+/// these the debug variables come first, then the sequences in the set's order, each by step, a
+/// control before the steps inside; then by part; then by place; and at one place in the order of
+/// the kinds. A disabled sequence has no faults and no calls. `OutOfMemory` where memory is refused.
+pub fn check(alloc: Global, set: &SeqSet) -> Result<Checked, CheckFault>
+    requires { IsDistinct bytes_eq (map (λ e. e.name) set.now.entries) }
+    ensures answer { AnswersCheck set.now result }
+    ensures only_valid { (trees : SetTrees) → ReadsSet set.now trees → IsSound trees → GivesTrees trees result }
+{
+    let read = match read_set(alloc, set) {
+        Ok(read) => read,
+        Err(SetFault::Syntax(spot)) => return Err(CheckFault::Fault(FaultKind::Syntax, spot)),
+        Err(SetFault::OutOfMemory) => return Err(CheckFault::OutOfMemory),
+    };
+    match read_fault(alloc, &read)? {
+        Some(told) => Err(CheckFault::Fault(told.kind, told.spot)),
+        None => Ok(Checked::new(read)),
+    }
+}

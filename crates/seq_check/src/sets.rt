@@ -1,0 +1,113 @@
+// The first fault of a whole set, calls that lead back or too deep aside.
+ghost use Rattle.std.specs.Prelude.{◌≡◌, ◌<◌, Some, true, false, IfOk, OnOk, IfNone, map, length, option_map, slice_get};
+ghost use Rattle.std.specs.List.{IsDistinct};
+ghost use Rattle.std.specs.Str.{bytes_eq};
+ghost use Rattle.expr_grammar.specs.Tree.{code_trees};
+ghost use Rattle.code_check.specs.First.{IsFirst};
+ghost use Rattle.code_check.specs.BlockFaults.{names_behind_all, BlockFault};
+ghost use Rattle.sequence_code.specs.declared.spot.Part.TheVariants as parts;
+ghost use Rattle.sequence_code.specs.Trees.{steps_tree};
+ghost use Rattle.sequence_code.specs.SetView.{set_trees};
+ghost use Rattle.seq_check.specs.StepFaults.{is_step_before, At, Under};
+ghost use Rattle.seq_check.specs.SetFaults.{names_of, FaultInSequences, FaultInSet};
+ghost use Rattle.seq_check.specs.Views.{held_view};
+
+use crate::faulty::{HeldFault, in_part, own};
+use crate::steps::inner_fault;
+use code_check::{Names, block_fault};
+use dap_base::OutOfMemory;
+use expr_grammar::Stmt;
+use sequence_code::{CheckedSteps, Part, ReadSet};
+use std::alloc::Global;
+
+pub fn name_of(set: &ReadSet, index: usize) -> &str
+    requires { index < length (set_trees set.now).sequences }
+    ensures { slice_get (names_of (set_trees set.now)) index ≡ Some result.now }
+{
+    match set.name_at(index) {
+        Some(name) => name,
+        None => unreachable!(),
+    }
+}
+
+pub fn steps_of(set: &ReadSet, index: usize) -> &CheckedSteps
+    requires { index < length (set_trees set.now).sequences }
+    ensures { slice_get (map (λ s. s.steps) (set_trees set.now).sequences) index ≡ Some (steps_tree result.now) }
+{
+    match set.steps_at(index) {
+        Some(steps) => steps,
+        None => unreachable!(),
+    }
+}
+
+/// The names of the sequences, in order.
+pub fn sequence_names(alloc: Global, set: &ReadSet) -> Result<Names, OutOfMemory>
+    requires { IsDistinct bytes_eq (names_of (set_trees set.now)) }
+    ensures { IfOk result (λ names. names ≡ names_of (set_trees set.now)) }
+{
+    let mut names = Names::new(alloc);
+    for index in 0..set.len() {
+        names.add(alloc, name_of(set, index))?;
+    }
+    Ok(names)
+}
+
+fn debugvars_fault(
+    alloc: Global,
+    names: &mut Names,
+    sequences: &Names,
+    code: &[Stmt],
+) -> Result<Option<HeldFault>, OutOfMemory>
+    ensures first { IfOk result (λ r. IsFirst is_step_before (Under 0 (At parts.Debugvars (BlockFault (record { visible = names.old; sequences = sequences.now; in_debugvars = true }) (code_trees code.now)))) (option_map held_view r)) }
+    ensures names { OnOk result (names.new ≡ names_behind_all names.old (code_trees code.now)) }
+{
+    let fault = block_fault(alloc, names, sequences, true, code)?;
+    match in_part(Part::Debugvars, fault) {
+        Some(fault) => Ok(Some(HeldFault {
+            holder: 0,
+            faulty: own(alloc, fault),
+        })),
+        None => Ok(None),
+    }
+}
+
+fn sequences_fault(
+    alloc: Global,
+    names: &mut Names,
+    sequences: &Names,
+    set: &ReadSet,
+) -> Result<Option<HeldFault>, OutOfMemory>
+    ensures { IfOk result (λ r. IsFirst is_step_before (FaultInSequences (record { visible = names.old; sequences = sequences.now; in_debugvars = false }) 1 (map (λ s. s.steps) (set_trees set.now).sequences)) (option_map held_view r)) }
+{
+    for index in 0..set.len() {
+        let steps = steps_of(set, index);
+        if let Some(faulty) = inner_fault(alloc, names, sequences, 0, steps.as_slice())? {
+            return Ok(Some(HeldFault {
+                holder: index as u64 + 1,
+                faulty,
+            }));
+        }
+    }
+    Ok(None)
+}
+
+/// The first fault of a set, calls that lead back or too deep aside.
+pub fn set_fault(
+    alloc: Global,
+    set: &ReadSet,
+    sequences: &Names,
+) -> Result<Option<HeldFault>, OutOfMemory>
+    requires { sequences.now ≡ names_of (set_trees set.now) }
+    ensures { IfOk result (λ r. IsFirst is_step_before (FaultInSet (set_trees set.now)) (option_map held_view r)) }
+{
+    let mut names = Names::predefined(alloc)?;
+    if let Some(faulty) = debugvars_fault(
+        alloc,
+        &mut names,
+        sequences,
+        set.debugvars().as_slice(),
+    )? {
+        return Ok(Some(faulty));
+    }
+    sequences_fault(alloc, &mut names, sequences, set)
+}

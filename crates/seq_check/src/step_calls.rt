@@ -1,0 +1,140 @@
+// The calls of sequences in steps.
+ghost use Rattle.std.specs.Prelude.{◌≡◌, ◌++◌, ◌∷◌, [], IfOk, OnOk, option_map};
+ghost use Rattle.expr_grammar.specs.Tree.{tree, code_trees};
+ghost use Rattle.sequence_code.specs.declared.spot.Part.TheVariants as parts;
+ghost use Rattle.sequence_code.specs.Trees.{step_tree, steps_tree};
+ghost use Rattle.seq_check.specs.Calls.{block_calls, condition_calls, calls_at, step_calls, steps_calls};
+
+use crate::calls::{TextCall, push_block, push_condition};
+use code_check::Names;
+use dap_base::{ItemList, OutOfMemory, Place};
+use expr_grammar::{Expr, Stmt};
+use sequence_code::{CheckedStep, Part, StepPath};
+use std::alloc::Global;
+
+/// A call of a sequence, and where it stands in the sequence that calls.
+#[derive(Debug, Drop)]
+pub struct StepCall {
+    /// The numbers of the steps that lead to its step, the outermost first.
+    pub path: StepPath,
+    /// The part of that step.
+    pub part: Part,
+    /// The place of the called name.
+    pub place: Place,
+    /// The number of the sequence that is called, counted from 0.
+    pub callee: usize,
+}
+
+/// A copy of a path.
+pub fn copy_path(alloc: Global, path: &[u64]) -> Result<StepPath, OutOfMemory>
+    ensures { IfOk result (λ copy. copy ≡ path.now) }
+{
+    let mut copy = ItemList::new(alloc);
+    for number in path {
+        copy.push(*number)?;
+    }
+    Ok(copy)
+}
+
+/// The path of a step inside the one at the path.
+fn inner_path(alloc: Global, path: &[u64], number: u64) -> Result<StepPath, OutOfMemory>
+    ensures { IfOk result (λ inner. inner ≡ path.now ++ number ∷ []) }
+{
+    let mut inner = copy_path(alloc, path)?;
+    inner.push(number)?;
+    Ok(inner)
+}
+
+/// Appends the calls of a text as those of a part of the step at the path.
+fn push_calls(
+    alloc: Global,
+    path: &[u64],
+    part: Part,
+    texts: &[TextCall],
+    calls: &mut ItemList<StepCall>,
+) -> Result<(), OutOfMemory>
+    ensures { OnOk result (calls.new ≡ calls.old ++ calls_at path.now part texts.now) }
+{
+    for text in texts {
+        let path = copy_path(alloc, path)?;
+        calls.push(StepCall {
+            path,
+            part,
+            place: text.place,
+            callee: text.callee,
+        })?;
+    }
+    Ok(())
+}
+
+fn push_block_step(
+    alloc: Global,
+    names: &Names,
+    path: &[u64],
+    code: &[Stmt],
+    calls: &mut ItemList<StepCall>,
+) -> Result<(), OutOfMemory>
+    ensures { OnOk result (calls.new ≡ calls.old ++ calls_at path.now parts.Block (block_calls names.now (code_trees code.now))) }
+{
+    let mut texts = ItemList::new(alloc);
+    push_block(names, code, &mut texts)?;
+    push_calls(alloc, path, Part::Block, texts.as_slice(), calls)
+}
+
+fn push_part(
+    alloc: Global,
+    names: &Names,
+    path: &[u64],
+    part: Part,
+    condition: &Option<Expr>,
+    calls: &mut ItemList<StepCall>,
+) -> Result<(), OutOfMemory>
+    ensures { OnOk result (calls.new ≡ calls.old ++ calls_at path.now part (condition_calls names.now (option_map tree condition.now))) }
+{
+    let mut texts = ItemList::new(alloc);
+    push_condition(names, condition, &mut texts)?;
+    push_calls(alloc, path, part, texts.as_slice(), calls)
+}
+
+#[cycle(step_calls)]
+fn push_step(
+    alloc: Global,
+    names: &Names,
+    path: &[u64],
+    step: &CheckedStep,
+    calls: &mut ItemList<StepCall>,
+) -> Result<(), OutOfMemory>
+    ensures { OnOk result (calls.new ≡ calls.old ++ step_calls names.now path.now (step_tree step.now)) }
+{
+    match step {
+        CheckedStep::Block(code) => push_block_step(alloc, names, path, code.as_slice(), calls),
+        CheckedStep::Control {
+            cond,
+            repeat,
+            timeout: _,
+            steps,
+        } => {
+            push_part(alloc, names, path, Part::If, cond, calls)?;
+            push_part(alloc, names, path, Part::While, repeat, calls)?;
+            push_steps(alloc, names, path, steps.as_slice(), calls)
+        }
+    }
+}
+
+/// Appends the calls of the steps inside the one at the path, in the order of the text.
+#[cycle(step_calls)]
+pub fn push_steps(
+    alloc: Global,
+    names: &Names,
+    path: &[u64],
+    steps: &[CheckedStep],
+    calls: &mut ItemList<StepCall>,
+) -> Result<(), OutOfMemory>
+    ensures { OnOk result (calls.new ≡ calls.old ++ steps_calls names.now path.now 0 (steps_tree steps.now)) }
+{
+    for (number, step) in steps.iter().enumerate() {
+        let inner = inner_path(alloc, path, number as u64)?;
+        push_step(alloc, names, inner.as_slice(), step, calls)?;
+    }
+    Ok(())
+}
