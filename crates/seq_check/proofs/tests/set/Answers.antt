@@ -1,0 +1,10 @@
+use Rattle.std.proofs.Common.{rules, ◌≡◌, map, [], ◌∷◌, codes, refl}
+use Rattle.std.specs.List.{IsDistinct}
+use Rattle.seq_check.proofs.tests.set.Goals as goal
+
+-- src/tests.rt:34:1
+pub returns : goal.returns
+unfolding IsDistinct
+returns c =
+    let names : map (λ e. e.name) c.push-5.new.self ≡ codes "Off" ∷ codes "Main" ∷ [] = search rules in
+    rw (names) ((refl, tt), (tt, tt))
