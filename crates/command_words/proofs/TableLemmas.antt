@@ -1,0 +1,96 @@
+-- What is no row of the table, and the one command of a row and of words.
+use Rattle.std.proofs.Common.{◌≡◌, ◌∙◌, ap, ap₂, refl, sym, subst, ℕ, false, true≢false, eq-eqb, nat_eq, List, [], Option, Some, None, codes, slice_index}
+use Rattle.std.specs.Prelude.{MatchOption, if◌then◌else◌, ◌==◌, unwrap_or}
+use Rattle.std.specs.Str.Parse.{digits_value}
+use Rattle.command_words.specs.declared.answer.Command.{Command}
+use Rattle.command_words.specs.declared.answer.Command.TheVariants.{Check, Run, Trace, Gen}
+use Rattle.command_words.specs.declared.answer.Selection.{Selection}
+use Rattle.command_words.specs.declared.mode.Mode.{Mode}
+use Rattle.command_words.specs.declared.mode.Mode.TheVariants as mode
+use Rattle.command_words.specs.declared.options.Options.{Options}
+use Rattle.clap.specs.Words.{first_value}
+use Rattle.clap.specs.declared.parser.matches.Found.{Found}
+use Rattle.std.proofs.Math.Path.{fun_ext}
+use Rattle.command_words.specs.Line.{Finds, IsTaken, given}
+use Rattle.command_words.specs.Table.{IsCommand, IsRow, for_device, mode_text, options_by}
+
+-- two names of modes differ at their first bytes
+differ : (a b : List ℕ) → nat_eq (slice_index a 0) (slice_index b 0) ≡ false → a ≡ b → ⊥
+differ a b not_same e = true≢false (sym (eq-eqb (slice_index a 0) (slice_index b 0) (ap (λ (t : List ℕ). slice_index t 0) e)) ∙ not_same)
+
+pub no_check : (options : Options) → ((s : Selection) → options ≡ for_device s None → ⊥) → (c : Command) → IsRow (codes "check") options c → ⊥
+no_check options never (Check s) row = never s row.1
+no_check options never (Run s name) row = differ (codes "check") (codes "run") refl row.0
+no_check options never (Trace s name) row = differ (codes "check") (codes "trace") refl row.0
+no_check options never (Gen n) row = differ (codes "check") (codes "gen") refl row.0
+
+pub no_run : (options : Options) → ((s : Selection) (name : List ℕ) → options ≡ for_device s (Some name) → ⊥) → (c : Command) → IsRow (codes "run") options c → ⊥
+no_run options never (Check s) row = differ (codes "run") (codes "check") refl row.0
+no_run options never (Run s name) row = never s name row.1
+no_run options never (Trace s name) row = differ (codes "run") (codes "trace") refl row.0
+no_run options never (Gen n) row = differ (codes "run") (codes "gen") refl row.0
+
+pub no_trace : (options : Options) → ((s : Selection) (name : List ℕ) → options ≡ for_device s (Some name) → ⊥) → (c : Command) → IsRow (codes "trace") options c → ⊥
+no_trace options never (Check s) row = differ (codes "trace") (codes "check") refl row.0
+no_trace options never (Run s name) row = differ (codes "trace") (codes "run") refl row.0
+no_trace options never (Trace s name) row = never s name row.1
+no_trace options never (Gen n) row = differ (codes "trace") (codes "gen") refl row.0
+
+pub none_of : (m : Mode) (text : List ℕ) (options : Options) (r : Option Command) → r ≡ None → mode_text m ≡ text → ((c : Command) → IsRow text options c → ⊥)
+    → MatchOption r ((c : Command) → IsRow (mode_text m) options c → ⊥) (λ c. IsRow (mode_text m) options c)
+none_of m text options r none is never = rw none (λ c row. never c (subst (λ (t : List ℕ). IsRow t options c) is row))
+
+-- a row has one of the modes
+pub mode_of_row : (text : List ℕ) (options : Options) (c : Command) → IsRow text options c → (m : Mode) × (text ≡ mode_text m)
+mode_of_row text options (Check s) row = (mode.Check, row.0)
+mode_of_row text options (Run s name) row = (mode.Run, row.0)
+mode_of_row text options (Trace s name) row = (mode.Trace, row.0)
+mode_of_row text options (Gen n) row = (mode.Gen, row.0)
+
+-- ---- the one command
+
+abbrev selection_of : Options → Selection
+selection_of o = record { device = unwrap_or o.device []; variant = o.variant; pname = o.pname }
+
+-- by the first byte of the mode
+abbrev command_from : List ℕ → Options → Command
+command_from m o =
+    if slice_index m 0 == 99 then Check (selection_of o)
+    else (if slice_index m 0 == 114 then Run (selection_of o) (unwrap_or o.sequence [])
+    else (if slice_index m 0 == 116 then Trace (selection_of o) (unwrap_or o.sequence [])
+    else Gen (digits_value 10 (unwrap_or o.number []))))
+
+of_row : (m : List ℕ) (o : Options) (c : Command) → IsRow m o c → command_from m o ≡ c
+of_row m o (Check s) row = ap₂ command_from row.0 row.1
+of_row m o (Run s name) row = ap₂ command_from row.0 row.1
+of_row m o (Trace s name) row = ap₂ command_from row.0 row.1
+of_row m o (Gen n) row = ap₂ command_from row.0 row.3 ∙ ap Gen row.2.value
+
+of_words : (words : List (List ℕ)) (c : Command) → IsCommand words c → command_from (unwrap_or (given words (codes "mode")) []) (options_by (given words)) ≡ c
+of_words words c is = ap (λ (v : Option (List ℕ)). command_from (unwrap_or v []) (options_by (given words))) is.found ∙ of_row is.mode (options_by (given words)) c is.row
+
+pub one_command : (words : List (List ℕ)) (a b : Command) → IsCommand words a → IsCommand words b → a ≡ b
+one_command words a b is_a is_b = sym (of_words words a is_a) ∙ of_words words b is_b
+
+-- ---- what the words are, by what was found in them
+
+module _ (words texts : List (List ℕ)) (f : Found) (same : texts ≡ words) (found : Finds texts f) where
+  value : (name : List ℕ) → first_value f name ≡ given words name
+  value name = found name ∙ ap (λ (ws : List (List ℕ)). given ws name) same
+
+  options_same : options_by (first_value f) ≡ options_by (given words)
+  options_same = ap options_by (fun_ext value)
+
+  pub is_command : (m : Mode) (options : Options) (c : Command) → IsTaken texts → first_value f (codes "mode") ≡ Some (mode_text m) → options ≡ options_by (first_value f)
+      → IsRow (mode_text m) options c → IsCommand words c
+  is_command m options c taken at_mode is row = record {
+    taken = subst (λ (ws : List (List ℕ)). IsTaken ws) same taken;
+    mode = mode_text m;
+    found = sym (value (codes "mode")) ∙ at_mode;
+    row = subst (λ (o : Options). IsRow (mode_text m) o c) (is ∙ options_same) row;
+  }
+
+  pub no_mode : ((m : Mode) → first_value f (codes "mode") ≡ Some (mode_text m) → ⊥) → (c : Command) → IsCommand words c → ⊥
+  no_mode never c is =
+      let m = mode_of_row is.mode (options_by (given words)) c is.row in
+      never m.0 (value (codes "mode") ∙ is.found ∙ ap Some m.1)

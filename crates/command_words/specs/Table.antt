@@ -1,0 +1,56 @@
+-- The modes with their options, and which command the words are.
+use Rattle.std.specs.Prelude.{◌≡◌, ℕ, ◌^◌, ◌<◌, ◌≤◌, List, length, Option, Some, None, codes}
+use Rattle.std.specs.Str.Parse.{IsNumeral, digits_value}
+use Rattle.command_words.specs.declared.answer.Command.{Command}
+use Rattle.command_words.specs.declared.answer.Command.TheVariants.{Check, Run, Trace, Gen}
+use Rattle.command_words.specs.declared.answer.Selection.{Selection}
+use Rattle.command_words.specs.declared.mode.Mode.{Mode}
+use Rattle.command_words.specs.declared.mode.Mode.TheVariants as mode
+use Rattle.command_words.specs.declared.options.Options.{Options}
+use Rattle.command_words.specs.Line.{IsTaken, given}
+
+-- one to five decimal digits, which write n, of at most 65,535
+pub record IsShortNumber (text : List ℕ) (n : ℕ) : Type 0 where
+  pub digits : IsNumeral 10 text
+  pub five : length text ≤ 5
+  pub value : digits_value 10 text ≡ n
+  pub bits : n < 2 ^ 16
+
+-- the name of a mode
+abbrev pub mode_text : Mode → List ℕ
+mode_text mode.Check = codes "check"
+mode_text mode.Run = codes "run"
+mode_text mode.Trace = codes "trace"
+mode_text mode.Gen = codes "gen"
+
+-- a device, its variant and its processor where they are given, and a sequence or none
+abbrev pub for_device : Selection → Option (List ℕ) → Options
+for_device s sequence = record { device = Some s.device; variant = s.variant; pname = s.pname; sequence = sequence; number = None }
+
+-- a number alone
+abbrev pub for_number : List ℕ → Options
+for_number text = record { device = None; variant = None; pname = None; sequence = None; number = Some text }
+
+-- the table: the command that a mode makes with these options
+abbrev pub IsRow : List ℕ → Options → Command → Type 0
+IsRow m options (Check s) = (m ≡ codes "check") × (options ≡ for_device s None)
+IsRow m options (Run s sequence) = (m ≡ codes "run") × (options ≡ for_device s (Some sequence))
+IsRow m options (Trace s sequence) = (m ≡ codes "trace") × (options ≡ for_device s (Some sequence))
+IsRow m options (Gen n) = (m ≡ codes "gen") × (text : List ℕ) × IsShortNumber text n × (options ≡ for_number text)
+
+-- the options, by the value of each name
+abbrev pub options_by : (List ℕ → Option (List ℕ)) → Options
+options_by value = record {
+  device = value (codes "device");
+  variant = value (codes "variant");
+  pname = value (codes "pname");
+  sequence = value (codes "sequence");
+  number = value (codes "number");
+}
+
+-- clap takes the words, and the mode and the options that it finds are a row of the table
+pub record IsCommand (words : List (List ℕ)) (c : Command) : Type 0 where
+  pub taken : IsTaken words
+  pub mode : List ℕ
+  pub found : given words (codes "mode") ≡ Some mode
+  pub row : IsRow mode (options_by (given words)) c

@@ -1,0 +1,61 @@
+// What the words ask for, and why they ask for nothing.
+use dap_base::{NameText, OutOfMemory};
+use std::alloc::AllocError;
+
+/// Which device of the pack is meant, and which of its variants and processors, where one is.
+#[derive(Debug, Drop)]
+pub struct Selection {
+    pub device: NameText,
+    pub variant: Option<NameText>,
+    pub pname: Option<NameText>,
+}
+
+/// What the words ask for. A program that has not built one of these yet matches on it.
+#[derive(Debug, Drop)]
+pub enum Command {
+    /// `check`: the sequences of the device are checked.
+    Check(Selection),
+    /// `run`: the sequence is run.
+    Run {
+        selection: Selection,
+        sequence: NameText,
+    },
+    /// `trace`: the sequence is run, and the exchanges are shown.
+    Trace {
+        selection: Selection,
+        sequence: NameText,
+    },
+    /// `gen`: the job of this number is made and run.
+    Gen(u16),
+}
+
+/// Why there is no command.
+#[derive(Clone, Copy, Debug, PartialEq, Eq)]
+pub enum WordsError {
+    /// The words are no command.
+    Usage,
+    /// Memory was refused.
+    OutOfMemory,
+}
+
+impl From<OutOfMemory> for WordsError {
+    ghost use Rattle.std.specs.Prelude.{◌≡◌};
+    ghost use Rattle.command_words.specs.declared.answer.WordsError.TheVariants as errors;
+
+    ghost from_gives = { λ _ e. e ≡ errors.OutOfMemory };
+
+    fn from(_refused: OutOfMemory) -> WordsError {
+        WordsError::OutOfMemory
+    }
+}
+
+impl From<AllocError> for WordsError {
+    ghost use Rattle.std.specs.Prelude.{◌≡◌};
+    ghost use Rattle.command_words.specs.declared.answer.WordsError.TheVariants as errors;
+
+    ghost from_gives = { λ _ e. e ≡ errors.OutOfMemory };
+
+    fn from(_refused: AllocError) -> WordsError {
+        WordsError::OutOfMemory
+    }
+}

@@ -1,0 +1,16 @@
+//! The words of the command line, as a command.
+#![tactic(auto)]
+
+mod answer;
+mod line;
+mod mode;
+mod numeral;
+mod options;
+mod table;
+mod top;
+
+pub use answer::{Command, Selection, WordsError};
+pub use top::command_of;
+
+#[cfg(test)]
+mod tests;

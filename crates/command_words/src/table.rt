@@ -1,0 +1,37 @@
+// The modes with their options.
+ghost use Rattle.std.specs.Prelude.{MatchOption};
+ghost use Rattle.command_words.specs.Table.{IsRow, mode_text};
+
+use crate::answer::Command;
+use crate::mode::Mode;
+use crate::options::{Options, device_alone, device_and_sequence, number_alone};
+
+/// The command that the mode makes with these options. `None` where they are not the mode's.
+pub fn command_in(mode: Mode, options: Options) -> Option<Command>
+    ensures { MatchOption result ((c : _) → IsRow (mode_text mode) options c → ⊥) (λ c. IsRow (mode_text mode) options c) }
+{
+    match mode {
+        Mode::Check => {
+            let selection = device_alone(options)?;
+            Some(Command::Check(selection))
+        }
+        Mode::Run => {
+            let (selection, sequence) = device_and_sequence(options)?;
+            Some(Command::Run {
+                selection,
+                sequence,
+            })
+        }
+        Mode::Trace => {
+            let (selection, sequence) = device_and_sequence(options)?;
+            Some(Command::Trace {
+                selection,
+                sequence,
+            })
+        }
+        Mode::Gen => {
+            let number = number_alone(&options)?;
+            Some(Command::Gen(number))
+        }
+    }
+}

@@ -1,0 +1,91 @@
+// From the words to a command.
+ghost use Rattle.std.specs.Prelude.{◌≡◌, ◌≢◌, IfOk, IfErr, MatchOption, MatchResult, Some, codes, map};
+ghost use Rattle.clap.specs.Words.{first_value, found_of};
+ghost use Rattle.command_words.specs.Table.{IsCommand, mode_text, options_by};
+ghost use Rattle.command_words.specs.declared.answer.WordsError.TheVariants as errors;
+
+use crate::answer::{Command, WordsError};
+use crate::line::{DEVICE, MODE, NUMBER, PNAME, SEQUENCE, VARIANT, matches_in};
+use crate::mode::{Mode, mode_of};
+use crate::options::Options;
+use crate::table::command_in;
+use clap::ArgMatches;
+use dap_base::{NameText, OutOfMemory, Words};
+use std::alloc::{AllocError, Global};
+
+fn texts_of<'a>(alloc: Global, words: &'a Words) -> Result<Vec<&'a str>, AllocError>
+    ensures { IfOk result (λ texts. map (λ t. t.now) texts.items ≡ words.now) }
+{
+    let mut texts = Vec::new(alloc);
+    for word in words.as_slice() {
+        texts.push(word.as_str())?;
+    }
+    Ok(texts)
+}
+
+fn found_mode(matches: &ArgMatches<'_>) -> Option<Mode>
+    ensures { let value = first_value (found_of matches.now) (codes "mode") in
+        MatchOption result ((m : _) → value ≢ Some (mode_text m)) (λ m. value ≡ Some (mode_text m)) }
+{
+    match matches.get_str(MODE) {
+        Some(text) => mode_of(text),
+        None => None,
+    }
+}
+
+// The value of an option, which then outlives the list of texts that clap lends it from.
+fn value_of(
+    alloc: Global,
+    matches: &ArgMatches<'_>,
+    name: &str,
+) -> Result<Option<NameText>, OutOfMemory>
+    ensures { IfOk result (λ v. v ≡ first_value (found_of matches.now) name.now) }
+{
+    match matches.get_str(name) {
+        Some(text) => {
+            let value = NameText::new(alloc, text)?;
+            Ok(Some(value))
+        }
+        None => Ok(None),
+    }
+}
+
+fn options_of(alloc: Global, matches: &ArgMatches<'_>) -> Result<Options, OutOfMemory>
+    ensures { IfOk result (λ o. o ≡ options_by (first_value (found_of matches.now))) }
+{
+    Ok(Options {
+        device: value_of(alloc, matches, DEVICE)?,
+        variant: value_of(alloc, matches, VARIANT)?,
+        pname: value_of(alloc, matches, PNAME)?,
+        sequence: value_of(alloc, matches, SEQUENCE)?,
+        number: value_of(alloc, matches, NUMBER)?,
+    })
+}
+
+/// The command that the words after the program's name ask for.
+///
+/// `clap` reads them as one required positional, the mode, and the options `--device`, `--variant`,
+/// `--pname`, `--sequence` and `--number`, each with one value and at most once. The mode `check`
+/// needs a device, `run` and `trace` need a device and a sequence, and each of the three takes a
+/// variant and a processor name too. The mode `gen` needs a number and takes nothing else: one to
+/// five decimal digits of a value of at most 65,535. The values of the command are copies.
+///
+/// `Usage` exactly where `clap` refuses the words for another cause than memory, which its answers
+/// to `--help` and `-h` are, or where the mode or the options are none of these. `OutOfMemory` where
+/// memory is refused.
+pub fn command_of(alloc: Global, words: &Words) -> Result<Command, WordsError>
+    ensures answer { IfOk result (IsCommand words.now) }
+    ensures only { (c : _) → IsCommand words.now c → MatchResult result (λ r. r ≡ c) (λ e. e ≡ errors.OutOfMemory) }
+    ensures usage { IfErr result (λ e. e ≡ errors.Usage → (c : _) → IsCommand words.now c → ⊥) }
+{
+    let texts = texts_of(alloc, words)?;
+    let matches = matches_in(alloc, texts.as_slice())?;
+    let Some(mode) = found_mode(&matches) else {
+        return Err(WordsError::Usage);
+    };
+    let options = options_of(alloc, &matches)?;
+    match command_in(mode, options) {
+        Some(command) => Ok(command),
+        None => Err(WordsError::Usage),
+    }
+}
