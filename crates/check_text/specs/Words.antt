@@ -1,0 +1,43 @@
+-- The words of the texts.
+use Rattle.std.specs.Prelude.{ℕ, Bool, true, false, List, [], codes}
+use Rattle.code_check.specs.declared.fault.FaultKind.{FaultKind}
+use Rattle.code_check.specs.declared.fault.FaultKind.TheVariants as kinds
+use Rattle.sequence_code.specs.declared.spot.Part.{Part}
+use Rattle.sequence_code.specs.declared.spot.Part.TheVariants as parts
+use Rattle.sequence_resolve.specs.declared.entry.LevelKind.{LevelKind}
+use Rattle.sequence_resolve.specs.declared.entry.LevelKind.TheVariants as levels
+
+abbrev pub level_word : LevelKind → List ℕ
+level_word levels.Defaults = codes "defaults"
+level_word levels.Family = codes "family"
+level_word levels.SubFamily = codes "subFamily"
+level_word levels.Device = codes "device"
+level_word levels.Variant = codes "variant"
+
+abbrev pub part_word : Part → List ℕ
+part_word parts.Debugvars = codes "debugvars"
+part_word parts.Control = codes "control"
+part_word parts.Block = codes "block"
+part_word parts.If = codes "if"
+part_word parts.While = codes "while"
+
+abbrev pub kind_word : FaultKind → List ℕ
+kind_word kinds.Syntax = codes "Syntax"
+kind_word kinds.UndefinedName = codes "UndefinedName"
+kind_word kinds.Redeclared = codes "Redeclared"
+kind_word kinds.UndefinedSequence = codes "UndefinedSequence"
+kind_word kinds.UndefinedFunction = codes "UndefinedFunction"
+kind_word kinds.ArgumentCount = codes "ArgumentCount"
+kind_word kinds.TextExpected = codes "TextExpected"
+kind_word kinds.NumberExpected = codes "NumberExpected"
+kind_word kinds.FormatMismatch = codes "FormatMismatch"
+kind_word kinds.BadDebugvars = codes "BadDebugvars"
+kind_word kinds.UnboundedLoop = codes "UnboundedLoop"
+kind_word kinds.TimeoutTooLong = codes "TimeoutTooLong"
+kind_word kinds.NestedTooDeep = codes "NestedTooDeep"
+kind_word kinds.CallCycle = codes "CallCycle"
+kind_word kinds.CallsTooDeep = codes "CallsTooDeep"
+
+abbrev pub disabled_word : Bool → List ℕ
+disabled_word true = codes " disabled"
+disabled_word false = []
