@@ -1,13 +1,13 @@
 -- Candidates put one after another leave the greatest of each name.
-use Rattle.std.proofs.Common.{◌≡◌, ℕ, ◌<◌, ◌≤◌, inl, inr, Bool, true, false, cond, nat_le, List, [], ◌∷◌, ◌++◌, map, bytes_eq, refl, ap, sym, subst, ◌∙◌, arith, append_assoc, true≢false, ◌||◌}
+use Rattle.std.proofs.Common.{◌≡◌, ℕ, ◌<◌, ◌≤◌, Bool, true, false, cond, nat_le, List, [], ◌∷◌, ◌++◌, map, bytes_eq, refl, ap, sym, subst, ◌∙◌, arith, append_assoc, true≢false, ◌||◌}
 use Rattle.std.proofs.lemmas.Bool.{leb-true, leb-false}
 use Rattle.std.proofs.lemmas.Slice.Eq.{bytes_eq-Decides}
 use Rattle.std.proofs.lemmas.List.{append-nil}
 use Rattle.std.specs.List.{AllByRecursion, list_any, IsDistinct}
-use Rattle.sequence_resolve.specs.Effective.{Candidate, name_added, names_after, StandsAbove, IsAmong, Wins, AreWinners, entry_of}
+use Rattle.sequence_resolve.specs.Effective.{Candidate, name_added, names_after, NoneAbove, AllBelow, Wins, AreWinners, entry_of}
 use Rattle.sequence_resolve.specs.Winners.{with_candidate, with_all}
 
-abbrev names_of : List Candidate → List (List ℕ)
+abbrev pub names_of : List Candidate → List (List ℕ)
 names_of ws = map (λ w. w.sequence.name) ws
 
 -- ---- the names
@@ -37,21 +37,33 @@ names-with_all ws (c ∷ cs) = names-with_all (with_candidate ws c) cs ∙ ap (�
 
 -- ---- what stays true with one more candidate
 
-StandsStandsAbove-append : (cs : List Candidate) (c w : Candidate) → StandsAbove cs w → (bytes_eq c.sequence.name w.sequence.name ≡ true → c.rank ≤ w.rank) → StandsAbove (cs ++ c ∷ []) w
-StandsStandsAbove-append [] c w h last = (last, tt)
-StandsStandsAbove-append (x ∷ cs) c w h last = (h.0, StandsStandsAbove-append cs c w h.1 last)
+NoneAbove-append : (xs ys : List Candidate) (w : Candidate) → NoneAbove xs w → NoneAbove ys w → NoneAbove (xs ++ ys) w
+NoneAbove-append [] ys w h k = k
+NoneAbove-append (x ∷ xs) ys w h k = (h.0, NoneAbove-append xs ys w h.1 k)
 
-IsIsAmong-append : (cs : List Candidate) (c w : Candidate) → IsAmong cs w → IsAmong (cs ++ c ∷ []) w
-IsIsAmong-append [] c w h = absurd h
-IsIsAmong-append (x ∷ cs) c w (inl e) = inl e
-IsIsAmong-append (x ∷ cs) c w (inr h) = inr (IsIsAmong-append cs c w h)
+AllBelow-append : (cs : List Candidate) (c w : Candidate) → AllBelow cs w → (bytes_eq c.sequence.name w.sequence.name ≡ true → c.rank < w.rank) → AllBelow (cs ++ c ∷ []) w
+AllBelow-append [] c w h last = (last, tt)
+AllBelow-append (x ∷ cs) c w h last = (h.0, AllBelow-append cs c w h.1 last)
 
-IsIsAmong-last : (cs : List Candidate) (c : Candidate) → IsAmong (cs ++ c ∷ []) c
-IsIsAmong-last [] c = inl refl
-IsIsAmong-last (x ∷ cs) c = inr (IsIsAmong-last cs c)
+-- what stands below it does not stand above it
+below_not_above : (cs : List Candidate) (w : Candidate) → AllBelow cs w → NoneAbove cs w
+below_not_above [] w h = tt
+below_not_above (c ∷ cs) w h = (λ is. (let lt : c.rank < w.rank = h.0 is in omega arith), below_not_above cs w h.1)
 
-stays : (cs : List Candidate) (c w : Candidate) → Wins cs w → (bytes_eq c.sequence.name w.sequence.name ≡ true → c.rank ≤ w.rank) → Wins (cs ++ c ∷ []) w
-stays cs c w h last = record { candidate = IsIsAmong-append cs c w h.candidate; greatest = StandsStandsAbove-append cs c w h.greatest last }
+-- none of all the candidates stands above a winner
+greatest_of : (cs : List Candidate) (w : Candidate) → Wins cs w → NoneAbove cs w
+greatest_of cs w h =
+    subst (λ xs. NoneAbove xs w) (sym h.candidate) (NoneAbove-append h.before (w ∷ h.after) w h.greatest ((λ is. omega arith), below_not_above h.after w h.last))
+
+-- one that stands below the winner, or has another name
+stays : (cs : List Candidate) (c w : Candidate) → Wins cs w → (bytes_eq c.sequence.name w.sequence.name ≡ true → c.rank < w.rank) → Wins (cs ++ c ∷ []) w
+stays cs c w h below = record {
+  before = h.before;
+  after = h.after ++ c ∷ [];
+  candidate = ap (λ xs. xs ++ c ∷ []) h.candidate ∙ append_assoc h.before (w ∷ h.after) (c ∷ []);
+  greatest = h.greatest;
+  last = AllBelow-append h.after c w h.last below;
+}
 
 or_false : (a b : Bool) → a || b ≡ false → (a ≡ false) × (b ≡ false)
 or_false true b e = absurd cc
@@ -64,20 +76,20 @@ all_stay cs c (w ∷ ws) h other =
     let apart = or_false (bytes_eq c.sequence.name w.sequence.name) (list_any (bytes_eq c.sequence.name) (names_of ws)) other in
     (stays cs c w h.0 (λ e. absurd (true≢false (sym e ∙ apart.0))), all_stay cs c ws h.1 apart.1)
 
--- a candidate that stands above a winner of its name stands above all that the winner stood above
-StandsStandsAbove-over : (cs : List Candidate) (c w : Candidate) → c.sequence.name ≡ w.sequence.name → w.rank ≤ c.rank → StandsAbove cs w → StandsAbove cs c
-StandsStandsAbove-over [] c w e le h = tt
-StandsStandsAbove-over (x ∷ cs) c w e le h =
+-- none stands above a candidate that no winner of its name stands above
+NoneAbove-over : (cs : List Candidate) (c w : Candidate) → c.sequence.name ≡ w.sequence.name → w.rank ≤ c.rank → NoneAbove cs w → NoneAbove cs c
+NoneAbove-over [] c w e le h = tt
+NoneAbove-over (x ∷ cs) c w e le h =
     let first : bytes_eq x.sequence.name c.sequence.name ≡ true → x.rank ≤ c.rank = λ is. (let at_w : x.rank ≤ w.rank = h.0 (subst (λ n. bytes_eq x.sequence.name n ≡ true) e is) in omega (arith, at_w, le)) in
-    (first, StandsStandsAbove-over cs c w e le h.1)
+    (first, NoneAbove-over cs c w e le h.1)
 
-wins_last : (cs : List Candidate) (c : Candidate) → StandsAbove cs c → Wins (cs ++ c ∷ []) c
-wins_last cs c h = record { candidate = IsIsAmong-last cs c; greatest = StandsStandsAbove-append cs c c h (λ e. omega arith) }
+wins_last : (cs : List Candidate) (c : Candidate) → NoneAbove cs c → Wins (cs ++ c ∷ []) c
+wins_last cs c h = record { before = cs; after = []; candidate = refl; greatest = h; last = tt }
 
--- of two of one name, the one that stands above
+-- of two of one name, the later one unless the other stands above it
 wins_of_two : (b : Bool) (cs : List Candidate) (c w : Candidate) → nat_le w.rank c.rank ≡ b → c.sequence.name ≡ w.sequence.name → Wins cs w → Wins (cs ++ c ∷ []) (cond b c w)
-wins_of_two true cs c w is e h = wins_last cs c (StandsStandsAbove-over cs c w e (leb-true w.rank c.rank is) h.greatest)
-wins_of_two false cs c w is e h = stays cs c w h (λ same. (let lt : c.rank < w.rank = leb-false w.rank c.rank is in omega (arith, lt)))
+wins_of_two true cs c w is e h = wins_last cs c (NoneAbove-over cs c w e (leb-true w.rank c.rank is) (greatest_of cs w h))
+wins_of_two false cs c w is e h = stays cs c w h (λ same. leb-false w.rank c.rank is)
 
 -- ---- names are distinct, and each candidate has one of them
 
@@ -89,11 +101,11 @@ abbrev Covers : List (List ℕ) → List Candidate → Type 0
 Covers names [] = Unit {0}
 Covers names (c ∷ cs) = (list_any (bytes_eq c.sequence.name) names ≡ true) × Covers names cs
 
-StandsStandsAbove-absent : (names : List (List ℕ)) (cs : List Candidate) (c : Candidate) → Covers names cs → list_any (bytes_eq c.sequence.name) names ≡ false → StandsAbove cs c
-StandsStandsAbove-absent names [] c h absent = tt
-StandsStandsAbove-absent names (x ∷ cs) c h absent =
+NoneAbove-absent : (names : List (List ℕ)) (cs : List Candidate) (c : Candidate) → Covers names cs → list_any (bytes_eq c.sequence.name) names ≡ false → NoneAbove cs c
+NoneAbove-absent names [] c h absent = tt
+NoneAbove-absent names (x ∷ cs) c h absent =
     let first : bytes_eq x.sequence.name c.sequence.name ≡ true → x.rank ≤ c.rank = λ is. absurd (true≢false (sym (subst (λ n. list_any (bytes_eq n) names ≡ true) (same_name _ _ is) h.0) ∙ absent)) in
-    (first, StandsStandsAbove-absent names cs c h.1 absent)
+    (first, NoneAbove-absent names cs c h.1 absent)
 
 -- ---- one more candidate
 
@@ -107,7 +119,7 @@ one_more_at true cs c w ws rest is h each apart later =
     (wins_of_two (nat_le w.rank c.rank) cs c w refl e h, all_stay cs c ws each (subst (λ n. list_any (bytes_eq n) (names_of ws) ≡ false) (sym e) apart))
 one_more_at false cs c w ws rest is h each apart later = (stays cs c w h (λ e. absurd (true≢false (sym e ∙ is))), later refl)
 
-one_more : (cs ws : List Candidate) (c : Candidate) → Every cs ws → Distinct (names_of ws) → (list_any (bytes_eq c.sequence.name) (names_of ws) ≡ false → StandsAbove cs c) → Every (cs ++ c ∷ []) (with_candidate ws c)
+one_more : (cs ws : List Candidate) (c : Candidate) → Every cs ws → Distinct (names_of ws) → (list_any (bytes_eq c.sequence.name) (names_of ws) ≡ false → NoneAbove cs c) → Every (cs ++ c ∷ []) (with_candidate ws c)
 one_more cs [] c each apart absent = (wins_last cs c (absent refl), tt)
 one_more cs (w ∷ ws) c each apart absent =
     one_more_at (bytes_eq c.sequence.name w.sequence.name) cs c w ws (with_candidate ws c) refl each.0 each.1 apart.0
@@ -170,7 +182,7 @@ pub record Stands (cs ws : List Candidate) : Type 0 where
 
 stands_then : (cs ws : List Candidate) (c : Candidate) → Stands cs ws → Stands (cs ++ c ∷ []) (with_candidate ws c)
 stands_then cs ws c h = record {
-  each = one_more cs ws c h.each h.distinct (StandsStandsAbove-absent (names_of ws) cs c h.covers);
+  each = one_more cs ws c h.each h.distinct (NoneAbove-absent (names_of ws) cs c h.covers);
   distinct = rw (names-with_candidate ws c) (distinct_added (names_of ws) c.sequence.name h.distinct);
   covers = rw (names-with_candidate ws c) (covers_added (names_of ws) cs c h.covers);
 }

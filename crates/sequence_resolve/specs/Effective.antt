@@ -1,5 +1,5 @@
--- The sequences that hold for a device: of each name the greatest candidate.
-use Rattle.std.specs.Prelude.{◌≡◌, ℕ, ◌+◌, ◌*◌, ◌≤◌, ◌⊎◌, Bool, true, false, List, [], ◌∷◌, ◌++◌, map, Option, Some, None, is_some, if◌then◌else◌}
+-- The sequences that hold for a device: of each name the greatest candidate, and of equals the last.
+use Rattle.std.specs.Prelude.{◌≡◌, ℕ, ◌+◌, ◌*◌, ◌<◌, ◌≤◌, Bool, true, false, List, [], ◌∷◌, ◌++◌, map, Option, Some, None, is_some, if◌then◌else◌}
 use Rattle.std.specs.List.{AllByRecursion}
 use Rattle.std.specs.Str.{bytes_eq}
 use Rattle.device_tree.specs.StepTree.{no_steps}
@@ -49,20 +49,23 @@ abbrev pub names_after : List (List ℕ) → List Candidate → List (List ℕ)
 names_after seen [] = seen
 names_after seen (c ∷ cs) = names_after (name_added seen c.sequence.name) cs
 
--- none of the candidates of its name stands above it
-abbrev pub StandsAbove : List Candidate → Candidate → Type 0
-StandsAbove [] w = Unit {0}
-StandsAbove (c ∷ cs) w = (bytes_eq c.sequence.name w.sequence.name ≡ true → c.rank ≤ w.rank) × StandsAbove cs w
+-- none of its name stands above it
+abbrev pub NoneAbove : List Candidate → Candidate → Type 0
+NoneAbove [] w = Unit {0}
+NoneAbove (c ∷ cs) w = (bytes_eq c.sequence.name w.sequence.name ≡ true → c.rank ≤ w.rank) × NoneAbove cs w
 
--- it is one of the candidates
-abbrev pub IsAmong : List Candidate → Candidate → Type 0
-IsAmong [] w = ⊥
-IsAmong (c ∷ cs) w = (c ≡ w) ⊎ IsAmong cs w
+-- all of its name stand below it
+abbrev pub AllBelow : List Candidate → Candidate → Type 0
+AllBelow [] w = Unit {0}
+AllBelow (c ∷ cs) w = (bytes_eq c.sequence.name w.sequence.name ≡ true → c.rank < w.rank) × AllBelow cs w
 
--- one of the candidates, and the greatest of its name
+-- the last of the greatest of its name: none of them before it stands above it, and all of them behind it stand below it
 pub record Wins (cs : List Candidate) (w : Candidate) : Type 0 where
-  pub candidate : IsAmong cs w
-  pub greatest : StandsAbove cs w
+  pub before : List Candidate
+  pub after : List Candidate
+  pub candidate : cs ≡ before ++ w ∷ after
+  pub greatest : NoneAbove before w
+  pub last : AllBelow after w
 
 -- a winner for each name, in the order of the first candidates
 pub record AreWinners (cs winners : List Candidate) : Type 0 where
