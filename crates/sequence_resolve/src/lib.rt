@@ -5,6 +5,7 @@ mod copy;
 mod effective_set;
 mod entry;
 mod fault;
+pub mod laws;
 mod levels;
 mod place;
 mod winners;
