@@ -1,8 +1,11 @@
 // The set of a device, variant and processor.
-ghost use Rattle.std.specs.Prelude.{◌≡◌, [], IfOk, IfErr, map, option_map};
+ghost use Rattle.std.specs.Prelude.{◌≡◌, ◌≢◌, ◌⊎◌, [], IfOk, IfErr, MatchResult, IsErrAnd, map, option_map};
 ghost use Rattle.std.specs.List.{IsDistinct};
 ghost use Rattle.std.specs.Str.{bytes_eq};
 ghost use Rattle.std.specs.Option.{option_copied};
+ghost use Rattle.sequence_resolve.specs.declared.entry.SeqSet.{SeqSet};
+ghost use Rattle.sequence_resolve.specs.declared.fault.ResolveFault.{ResolveFault};
+ghost use Rattle.sequence_resolve.specs.declared.fault.ResolveFault.TheVariants as faults;
 ghost use Rattle.sequence_resolve.specs.Places.{wanted_variant};
 ghost use Rattle.sequence_resolve.specs.Levels.{path_of, deepest};
 ghost use Rattle.sequence_resolve.specs.Effective.{candidates, entry_of};
@@ -91,7 +94,8 @@ fn set_of(
 /// `NoDevice` comes exactly where no device of the pack has the name, `AmbiguousDevice` exactly
 /// where two or more have it, `NoVariant` exactly where the one device has no variant of the name,
 /// `OutOfMemory` where memory is refused. Where a level has two sequences of one name and one
-/// `Pname`, which a pack that was read has not, the later one holds.
+/// `Pname`, which a pack that was read has not, the later one holds. So what is wanted of a pack
+/// has one set at most, and that set is the answer, want of memory aside.
 pub fn effective(
     alloc: Global,
     pack: &Pack,
@@ -101,6 +105,12 @@ pub fn effective(
 ) -> Result<SeqSet, ResolveFault>
     ensures set { IfOk result (IsEffectiveSet pack.now device.now (option_map (λ w. w.now) variant.entry) (option_map (λ w. w.now) pname.entry)) }
     ensures none { IfErr result (HasNone pack.now device.now (option_map (λ w. w.now) variant.entry)) }
+    ensures only { (set : SeqSet)
+        → IsEffectiveSet pack.now device.now (option_map (λ w. w.now) variant.entry) (option_map (λ w. w.now) pname.entry) set
+        → MatchResult result (λ s. s ≡ set) (λ e. e ≡ faults.OutOfMemory) }
+    ensures only_none { (fault : ResolveFault)
+        → HasNone pack.now device.now (option_map (λ w. w.now) variant.entry) fault → fault ≢ faults.OutOfMemory
+        → IsErrAnd result (λ e. (e ≡ fault) ⊎ (e ≡ faults.OutOfMemory)) }
     ensures distinct { IfOk result (λ set. IsDistinct bytes_eq (map (λ e. e.name) set.entries)) }
 {
     let place = place_of_device(alloc, pack, device)?;

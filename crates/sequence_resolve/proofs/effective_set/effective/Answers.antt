@@ -4,6 +4,7 @@ use Rattle.sequence_resolve.specs.Effective.{candidates}
 use Rattle.sequence_resolve.specs.Winners.{with_all}
 use Rattle.sequence_resolve.specs.Views.{place_view}
 use Rattle.sequence_resolve.proofs.Greatest.{effective-with_all, distinct_entries}
+use Rattle.sequence_resolve.proofs.OneSet.{one_set}
 use Rattle.sequence_resolve.proofs.effective_set.effective.Goals as goal
 
 pub returns-clause-set : goal.returns-clause-set
@@ -21,6 +22,11 @@ returns-clause-set c =
       entries = c.in_ok-set_of.ensures.entries;
       debugvars = c.in_ok-set_of.ensures.debugvars;
     }
+
+pub returns-clause-only : goal.returns-clause-only
+returns-clause-only c = λ set is.
+    one_set c.args.pack.now c.args.device.now (option_map (λ w. w.now) c.args.variant) (option_map (λ w. w.now) c.args.pname) c.in_ok-set_of.field-0 set
+    (returns-clause-set c) is
 
 pub returns-clause-distinct : goal.returns-clause-distinct
 returns-clause-distinct c =
