@@ -10,7 +10,7 @@ use Rattle.code_check.specs.First.{IsFirst, Nowhere, InEither, here, there, Faul
 -- ---- the order
 
 -- numbers by threes, in the order of lexicons
-abbrev lexical : ℕ → ℕ → ℕ → ℕ → ℕ → ℕ → Bool
+abbrev pub lexical : ℕ → ℕ → ℕ → ℕ → ℕ → ℕ → Bool
 lexical a b c x y z = nat_lt a x || a == x && (nat_lt b y || b == y && nat_lt c z)
 
 lexical-irrefl : (a b c : ℕ) → lexical a b c a b c ≡ false
