@@ -50,13 +50,13 @@ one_entries [] ss ts a b = a ∙ sym b
 one_entries (e ∷ es) ss ts a b =
     a.2 ∙ same_entries a.0 b.0 a.1 b.1 (one_entry e a.0 b.0 a.3 b.3) (one_entries es a.1 b.1 a.4 b.4) ∙ sym b.2
 
-one_set : (set : SeqSet) (x y : SetTrees) → ReadsSet set x → ReadsSet set y → x ≡ y
+pub one_set : (set : SeqSet) (x y : SetTrees) → ReadsSet set x → ReadsSet set y → x ≡ y
 one_set set x y a b =
     let code : x.debugvars ≡ y.debugvars = one_value ReadsCode spans.Statement exact_code set.debugvars x.debugvars y.debugvars a.debugvars b.debugvars in
     let sequences : x.sequences ≡ y.sequences = one_entries set.entries x.sequences y.sequences a.sequences b.sequences in
     ap (λ c. record { debugvars = c; sequences = x.sequences }) code ∙ ap (λ s. record { debugvars = y.debugvars; sequences = s }) sequences
 
-not_both : (set : SeqSet) (trees : SetTrees) (spot : Spot) → ReadsSet set trees → IsFirstFault set spot → ⊥
+pub not_both : (set : SeqSet) (trees : SetTrees) (spot : Spot) → ReadsSet set trees → IsFirstFault set spot → ⊥
 not_both set trees spot is f = fine_not_faulty (set_texts set) (step_of spot) spot.part spot.place (set_fine set trees is) f
 
 same_spot : (s t : Spot) → Same (step_of s) (step_of t) s.part t.part s.place t.place → s ≡ t
@@ -68,7 +68,7 @@ same_spot s t same =
     ∙ ap (λ x. record { sequence = t.sequence; path = t.path; part = x; place = s.place }) same.same_part
     ∙ ap (λ x. record { sequence = t.sequence; path = t.path; part = t.part; place = x }) same.same_place
 
-one_fault : (set : SeqSet) (s t : Spot) → IsFirstFault set s → IsFirstFault set t → s ≡ t
+pub one_fault : (set : SeqSet) (s t : Spot) → IsFirstFault set s → IsFirstFault set t → s ≡ t
 one_fault set s t f g = same_spot s t (one_first (set_texts set) (step_of s) (step_of t) s.part t.part s.place t.place f g)
 
 -- ---- what the reader answers

@@ -1,6 +1,7 @@
 //! The texts of a set of debug access sequences, read as trees of code.
 #![tactic(auto)]
 
+pub mod laws;
 mod made;
 mod set;
 mod set_reader;
