@@ -10,6 +10,7 @@ use Rattle.code_check.specs.declared.fault.FaultKind.TheVariants as k
 use Rattle.code_check.specs.declared.fault.CodeFault.{CodeFault}
 use Rattle.code_check.specs.First.{IsFirst, Nowhere, InEither, here, there, FaultWhere}
 use Rattle.code_check.specs.ExprFaults.{Scope}
+use Rattle.code_check.proofs.OrderLemmas.{is_before-irrefl}
 use Rattle.seq_check.specs.declared.faulty.PartFault.{PartFault}
 use Rattle.seq_check.specs.StepFaults.{StepFault, no_place, path_before, part_rank, control_rank, fault_before, is_step_before, At, ConditionFault, TimeoutFault, LoopFault, ControlFault, OwnFault}
 use Rattle.seq_check.specs.Views.{own_view}
@@ -20,10 +21,16 @@ use Rattle.seq_check.proofs.FirstLemmas.{first_of_none, first_or, first_mapped}
 below_itself : (n : ℕ) → nat_lt n n ≡ false
 below_itself n = grind (arith, nat_tests)
 
+same_rank : (n : ℕ) → (n == n) ≡ true
+same_rank n = grind (arith, nat_tests)
+
+not_before_itself : (f : CodeFault) → fault_before parts.Control f f ≡ false
+not_before_itself f = rw (below_itself (control_rank f.kind), same_rank (control_rank f.kind)) (is_before-irrefl f)
+
 pub form_where : (Cause : Type 0) (kind : FaultKind) → Cause → IsFirst (fault_before parts.Control) (FaultWhere Cause no_place kind) (Some (record { place = no_place; kind = kind }))
 form_where Cause kind c = record {
   stands = record { cause = c; is = refl };
-  none_before = λ g s. subst (λ x. fault_before parts.Control x (record { place = no_place; kind = kind }) ≡ false) (sym s.is) (below_itself (control_rank kind));
+  none_before = λ g s. subst (λ x. fault_before parts.Control x (record { place = no_place; kind = kind }) ≡ false) (sym s.is) (not_before_itself (record { place = no_place; kind = kind }));
 }
 
 pub form_where_not : (Cause : Type 0) (kind : FaultKind) → (Cause → ⊥) → IsFirst (fault_before parts.Control) (FaultWhere Cause no_place kind) None
@@ -48,18 +55,19 @@ kind_of_loop None timeout f h = elim h [ ]
 kind_of_loop (Some e) None f h = kind_of_where (Unit {0}) k.UnboundedLoop f h
 kind_of_loop (Some e) (Some t) f h = kind_of_where (t ≡ 0) k.UnboundedLoop f h
 
-kind_order : (x y a b : FaultKind) → x ≡ a → y ≡ b → nat_lt (control_rank a) (control_rank b) ≡ false → nat_lt (control_rank x) (control_rank y) ≡ false
-kind_order x y a b p q h = rw (p, q) h
+-- a fault of a kind that comes later is not before one of an earlier kind
+kind_order : (f g : CodeFault) (a b : FaultKind) → f.kind ≡ a → g.kind ≡ b → nat_lt (control_rank a) (control_rank b) ≡ false → (control_rank a == control_rank b) ≡ false → fault_before parts.Control f g ≡ false
+kind_order f g a b p q lt eq = rw (p, q, lt, eq) refl
 
 timeout_order : (repeat : Option Tree) (timeout : Option ℕ) (p q : CodeFault) → TimeoutFault timeout p → LoopFault repeat timeout q → fault_before parts.Control q p ≡ false
-timeout_order repeat timeout p q h j = kind_order q.kind p.kind k.UnboundedLoop k.TimeoutTooLong (kind_of_loop repeat timeout q j) (kind_of_timeout timeout p h) refl
+timeout_order repeat timeout p q h j = kind_order q p k.UnboundedLoop k.TimeoutTooLong (kind_of_loop repeat timeout q j) (kind_of_timeout timeout p h) refl refl
 
 nested_order : (around : ℕ) (repeat : Option Tree) (timeout : Option ℕ) (p q : CodeFault) → FaultWhere (32 ≤ around) no_place k.NestedTooDeep p → InEither (TimeoutFault timeout) (LoopFault repeat timeout) q → fault_before parts.Control q p ≡ false
 nested_order around repeat timeout p q h j =
     let nested = kind_of_where (32 ≤ around) k.NestedTooDeep p h in
     elim j [
-      | here u ↦ kind_order q.kind p.kind k.TimeoutTooLong k.NestedTooDeep (kind_of_timeout timeout q u) nested refl
-      | there v ↦ kind_order q.kind p.kind k.UnboundedLoop k.NestedTooDeep (kind_of_loop repeat timeout q v) nested refl
+      | here u ↦ kind_order q p k.TimeoutTooLong k.NestedTooDeep (kind_of_timeout timeout q u) nested refl refl
+      | there v ↦ kind_order q p k.UnboundedLoop k.NestedTooDeep (kind_of_loop repeat timeout q v) nested refl refl
     ]
 
 pub control_first : (around : ℕ) (repeat : Option Tree) (timeout : Option ℕ) (a b c x r : Option CodeFault) → x ≡ option_or b c → r ≡ option_or a x
@@ -79,9 +87,6 @@ own_order a b x y u v f g p q r s h = rw (p, q, r, s) h
 
 parts_order : (x y : Part) (P Q : CodeFault → Type 0) (p q : StepFault) → nat_lt (part_rank y) (part_rank x) ≡ false → (part_rank y == part_rank x) ≡ false → At x P p → At y Q q → is_step_before q p ≡ false
 parts_order x y P Q p q lt eq h j = own_order q.path p.path q.part p.part y x q.fault p.fault j.own h.own j.part_is h.part_is (rw (lt, eq) refl)
-
-same_rank : (n : ℕ) → (n == n) ≡ true
-same_rank n = grind (arith, nat_tests)
 
 abbrev view_at : Part → CodeFault → StepFault
 view_at part f = record { path = []; part = part; fault = f }

@@ -6,3 +6,5 @@ pub mod StepLemmas
 pub mod SetLemmas
 pub mod CallLemmas
 pub mod CheckLemmas
+pub mod OrderLaws
+pub mod Laws

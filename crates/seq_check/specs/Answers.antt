@@ -1,9 +1,11 @@
 -- What `check` answers.
 use Rattle.std.specs.Prelude.{◌≡◌, Result, Ok, Err}
 use Rattle.sequence_resolve.specs.declared.entry.SeqSet.{SeqSet}
+use Rattle.sequence_code.specs.declared.spot.Spot.{Spot}
 use Rattle.sequence_code.specs.Trees.{SetTrees}
 use Rattle.sequence_code.specs.Reading.{ReadsSet}
 use Rattle.sequence_code.specs.SetView.{set_trees}
+use Rattle.code_check.specs.declared.fault.FaultKind.{FaultKind}
 use Rattle.seq_check.specs.declared.checked.Checked.{Checked}
 use Rattle.seq_check.specs.declared.checked.CheckFault.{CheckFault}
 use Rattle.seq_check.specs.declared.checked.CheckFault.TheVariants as faults
@@ -24,3 +26,9 @@ abbrev pub GivesTrees : SetTrees → Result Checked CheckFault → Type 0
 GivesTrees trees (Ok checked) = checked_trees checked ≡ trees
 GivesTrees trees (Err (faults.Fault kind spot)) = ⊥
 GivesTrees trees (Err faults.OutOfMemory) = Unit {0}
+
+-- this fault, unless memory ran out
+abbrev pub TellsFault : FaultKind → Spot → Result Checked CheckFault → Type 0
+TellsFault kind spot (Ok checked) = ⊥
+TellsFault kind spot (Err (faults.Fault told_kind told)) = (told_kind ≡ kind) × (told ≡ spot)
+TellsFault kind spot (Err faults.OutOfMemory) = Unit {0}

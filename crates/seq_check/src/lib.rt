@@ -7,6 +7,7 @@ mod controls;
 mod faulty;
 mod set_calls;
 mod set_check;
+pub mod set_laws;
 mod sets;
 mod step_calls;
 mod steps;

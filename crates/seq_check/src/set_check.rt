@@ -2,13 +2,15 @@
 ghost use Rattle.std.specs.Prelude.{◌≡◌, ℕ, IfOk, map, reverse, MatchOption};
 ghost use Rattle.std.specs.List.{IsDistinct};
 ghost use Rattle.std.specs.Str.{bytes_eq};
+ghost use Rattle.sequence_code.specs.declared.spot.Spot.{Spot};
 ghost use Rattle.sequence_code.specs.Trees.{SetTrees};
 ghost use Rattle.sequence_code.specs.Reading.{ReadsSet};
 ghost use Rattle.sequence_code.specs.SetView.{set_trees};
+ghost use Rattle.code_check.specs.declared.fault.FaultKind.{FaultKind};
 ghost use Rattle.seq_check.specs.SetFaults.{names_of};
 ghost use Rattle.seq_check.specs.Views.{held_view};
-ghost use Rattle.seq_check.specs.Valid.{CallsAreSound, IsFirstCallFault, holder_name, spot_of, IsSound, IsFirstOf};
-ghost use Rattle.seq_check.specs.Answers.{AnswersCheck, GivesTrees};
+ghost use Rattle.seq_check.specs.Valid.{CallsAreSound, IsFirstCallFault, holder_name, spot_of, IsSound, IsFirstOf, IsFirstFaultOf};
+ghost use Rattle.seq_check.specs.Answers.{AnswersCheck, GivesTrees, TellsFault};
 
 use crate::checked::{CheckFault, Checked};
 use crate::faulty::HeldFault;
@@ -107,16 +109,20 @@ fn read_fault(alloc: Global, set: &ReadSet) -> Result<Option<FirstFault>, OutOfM
 /// The set with its texts read, where it is valid. Its names must be distinct, as those that
 /// `effective` answers are.
 ///
-/// `Fault` exactly where it is not valid, with the first fault: first of texts that are no code or
-/// no expression; where there is none, of all others but the last two kinds; then of calls that lead
-/// back to the sequence that they stand in; then of those that begin a chain of 33 sequences. Among
-/// these the debug variables come first, then the sequences in the set's order, each by step, a
-/// control before the steps inside; then by part; then by place; and at one place in the order of
-/// the kinds. A disabled sequence has no faults and no calls. `OutOfMemory` where memory is refused.
+/// `Fault` exactly where it is not valid, with the first fault, of which there is one: first of texts
+/// that are no code or no expression; where there is none, of all others but the last two kinds; then
+/// of calls that lead back to the sequence that they stand in; then of those that begin a chain of 33
+/// sequences. Among these the debug variables come first, then the sequences in the set's order, each
+/// by step, a control before the steps inside. A control itself comes before its `if`, and that before
+/// its `while`; of its own faults `NestedTooDeep` comes first, then `TimeoutTooLong`, then
+/// `UnboundedLoop`. In a text the order is by line, by column, and at one place that of the kinds.
+///
+/// A disabled sequence has no faults and no calls. `OutOfMemory` where memory is refused.
 pub fn check(alloc: Global, set: &SeqSet) -> Result<Checked, CheckFault>
     requires { IsDistinct bytes_eq (map (λ e. e.name) set.now.entries) }
     ensures answer { AnswersCheck set.now result }
     ensures only_valid { (trees : SetTrees) → ReadsSet set.now trees → IsSound trees → GivesTrees trees result }
+    ensures only_fault { (kind : FaultKind) (spot : Spot) → IsFirstFaultOf set.now kind spot → TellsFault kind spot result }
 {
     let read = match read_set(alloc, set) {
         Ok(read) => read,
