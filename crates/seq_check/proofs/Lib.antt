@@ -7,4 +7,4 @@ pub mod SetLemmas
 pub mod CallLemmas
 pub mod CheckLemmas
 pub mod OrderLaws
-pub mod Laws
+pub mod OneFault

@@ -4,7 +4,7 @@ use Rattle.code_check.specs.declared.fault.FaultKind.TheVariants as k
 use Rattle.seq_check.specs.Valid as valid
 use Rattle.seq_check.specs.Valid.{IsSound}
 use Rattle.seq_check.proofs.CheckLemmas.{distinct_names, not_sound}
-use Rattle.seq_check.proofs.Laws.{one_first_fault, valid_or_faulty}
+use Rattle.seq_check.proofs.OneFault.{one_first_fault, valid_or_faulty}
 use Rattle.seq_check.proofs.set_check.check.Goals as goal
 
 pub read_fault-requires : goal.read_fault-requires
