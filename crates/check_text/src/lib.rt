@@ -10,7 +10,7 @@ mod words;
 mod writing;
 
 pub use line::Line;
-pub use writing::{TextError, write_check, write_check_fault};
+pub use writing::{TextError, put_line, put_text, write_check, write_check_fault};
 
 #[cfg(test)]
 mod tests;

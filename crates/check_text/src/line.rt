@@ -43,12 +43,12 @@ impl Line {
         }
     }
 
-    /// A text byte by byte: 0x20 to 0x7E as itself, but a backslash as two; any other byte as `\x`
-    /// and two lower-case hexadecimal digits.
-    pub fn shown(mut self, text: &str) -> Result<Line, OutOfMemory>
-        ensures { IfOk result (λ line. line ≡ self ++ shown text.now) }
+    /// Bytes as they are shown: 0x20 to 0x7E as itself, but a backslash as two; any other byte as
+    /// `\x` and two lower-case hexadecimal digits.
+    pub fn shown(mut self, bytes: &[u8]) -> Result<Line, OutOfMemory>
+        ensures { IfOk result (λ line. line ≡ self ++ shown bytes.now) }
     {
-        match push_shown(&mut self.bytes, text.as_bytes()) {
+        match push_shown(&mut self.bytes, bytes) {
             Ok(()) => Ok(self),
             Err(_) => Err(OutOfMemory),
         }

@@ -26,7 +26,7 @@ pub fn head_text(alloc: Global, sequences: u64) -> Result<Line, OutOfMemory>
 fn begin_sequence(alloc: Global, entry: &SeqEntry) -> Result<Line, OutOfMemory>
     ensures { IfOk result (λ line. line ≡ codes "sequence " ++ shown entry.now.name ++ codes " from " ++ level_word entry.now.from) }
 {
-    let line = Line::begin(alloc, "sequence ")?.shown(entry.name.as_str())?;
+    let line = Line::begin(alloc, "sequence ")?.shown(entry.name.as_str().as_bytes())?;
     line.text(" from ")?.text(level_text(entry.from))
 }
 
@@ -51,7 +51,7 @@ pub fn sequence_text(alloc: Global, entry: &SeqEntry) -> Result<Line, OutOfMemor
 fn with_step(line: Line, name: &str, spot: &Spot) -> Result<Line, OutOfMemory>
     ensures { IfOk result (λ l. l ≡ line ++ step_words name.now spot.now.path spot.now.part) }
 {
-    let line = line.text(" ")?.shown(name)?;
+    let line = line.text(" ")?.shown(name.as_bytes())?;
     let line = line.text(" ")?.dotted(spot.path.as_slice())?;
     line.text(" ")?.text(part_text(spot.part))
 }

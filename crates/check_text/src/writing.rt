@@ -22,8 +22,8 @@ pub enum TextError {
     OutOfMemory,
 }
 
-// Puts a text.
-fn put<K: Sink>(text: &[u8], sink: &mut K) -> Result<(), TextError>
+/// Puts a text by one `put`. `Failed` where the sink failed; a prefix of the text was then appended.
+pub fn put_text<K: Sink>(text: &[u8], sink: &mut K) -> Result<(), TextError>
     ensures text { PutAppends (K.written sink.old) (K.written sink.new) result text.now }
     ensures sink { NamesFault TextError.Failed (K.faults sink.old) (K.faults sink.new) result }
 {
@@ -33,14 +33,15 @@ fn put<K: Sink>(text: &[u8], sink: &mut K) -> Result<(), TextError>
     }
 }
 
-// Puts a line, if there was memory for it.
+/// Puts a line by one `put`, if there was memory for it. `Failed` where the sink failed, `OutOfMemory`
+/// where the line is want of memory; a prefix of the line was then appended.
 #[tactic(auto, using(crate::proofs::PutLemmas::no_part))]
-fn put_line<K: Sink>(line: Result<Line, OutOfMemory>, sink: &mut K) -> Result<(), TextError>
+pub fn put_line<K: Sink>(line: Result<Line, OutOfMemory>, sink: &mut K) -> Result<(), TextError>
     ensures text { (text : List ℕ) → IfOk line (λ l. l ≡ text) → PutAppends (K.written sink.old) (K.written sink.new) result text }
     ensures sink { NamesFault TextError.Failed (K.faults sink.old) (K.faults sink.new) result }
 {
     match line {
-        Ok(line) => put(line.as_bytes(), sink),
+        Ok(line) => put_text(line.as_bytes(), sink),
         Err(_) => Err(TextError::OutOfMemory),
     }
 }
