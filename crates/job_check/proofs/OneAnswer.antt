@@ -1,0 +1,172 @@
+-- The bytes of a job and a selection have one answer at most.
+use Rattle.std.proofs.Common.{◌≡◌, ◌∙◌, ℕ, List, Some, Result, Ok, Err, ap, ap₂, sym, subst, refl}
+use Rattle.serde_json.specs.Data.{Data}
+use Rattle.json_form.specs.declared.fault.JobFault.{JobFault}
+use Rattle.device_tree.specs.declared.pack.Pack.{Pack}
+use Rattle.command_words.specs.declared.answer.Selection.{Selection}
+use Rattle.sequence_resolve.specs.declared.entry.SeqSet.{SeqSet}
+use Rattle.sequence_resolve.specs.declared.fault.ResolveFault.{ResolveFault}
+use Rattle.sequence_resolve.specs.declared.fault.ResolveFault.TheVariants as resolving
+use Rattle.sequence_resolve.specs.Resolving.{IsEffectiveSet, HasNone}
+use Rattle.sequence_resolve.proofs.OneSet.{one_set, set_or_refusal, one_refusal}
+use Rattle.seq_check.specs.Valid.{IsValid, IsFirstFaultOf}
+use Rattle.seq_check.proofs.OneFault.{one_first_fault, valid_or_faulty}
+use Rattle.job_text.specs.declared.job.Job.{Job}
+use Rattle.job_text.specs.JobReading.{job_in}
+use Rattle.job_text.specs.Answers.{IsTextOf, Describes}
+use Rattle.job_text.proofs.JobLaws.{job_reads}
+use Rattle.job_check.specs.declared.answer.Refusal.{Refusal}
+use Rattle.job_check.specs.declared.answer.Refusal.TheVariants as refusals
+use Rattle.job_check.specs.declared.answer.Unchecked.{Unchecked}
+use Rattle.job_check.specs.declared.answer.Unchecked.TheVariants as ends
+use Rattle.job_check.specs.Answers.{NoJob, NoSet, NoValid, AnswersSet, valid, not_valid, AnswersPack, resolved, not_resolved, IsAnswer, described, not_described, AnswersJob, Gives}
+
+abbrev Answer : Type 0
+Answer = Result SeqSet Refusal
+
+-- ---- the set
+
+valid_and_not : (s : SeqSet) (r : Refusal) → IsValid s → NoValid s r → ⊥
+valid_and_not s (refusals.Check kind spot) is none = valid_or_faulty s kind spot is none
+valid_and_not s refusals.BadJson is none = none
+valid_and_not s (refusals.Job fault) is none = none
+valid_and_not s refusals.NoDevice is none = none
+valid_and_not s refusals.AmbiguousDevice is none = none
+valid_and_not s refusals.NoVariant is none = none
+
+one_not_valid : (s : SeqSet) (a b : Refusal) → NoValid s a → NoValid s b → a ≡ b
+one_not_valid s (refusals.Check kind spot) (refusals.Check other there) p q =
+    let same = one_first_fault s kind other spot there p q in
+    ap₂ refusals.Check same.0 same.1
+one_not_valid s (refusals.Check kind spot) refusals.BadJson p q = absurd q
+one_not_valid s (refusals.Check kind spot) (refusals.Job fault) p q = absurd q
+one_not_valid s (refusals.Check kind spot) refusals.NoDevice p q = absurd q
+one_not_valid s (refusals.Check kind spot) refusals.AmbiguousDevice p q = absurd q
+one_not_valid s (refusals.Check kind spot) refusals.NoVariant p q = absurd q
+one_not_valid s refusals.BadJson b p q = absurd p
+one_not_valid s (refusals.Job fault) b p q = absurd p
+one_not_valid s refusals.NoDevice b p q = absurd p
+one_not_valid s refusals.AmbiguousDevice b p q = absurd p
+one_not_valid s refusals.NoVariant b p q = absurd p
+
+of_set : (s : SeqSet) (x y : Answer) → AnswersSet s x → AnswersSet s y → x ≡ y
+of_set s x y p q = elim p [
+  | valid is x_is ↦ elim q [ valid too y_is ↦ x_is ∙ sym y_is | not_valid r none y_is ↦ absurd (valid_and_not s r is none) ]
+  | not_valid r none x_is ↦ elim q [ valid is y_is ↦ absurd (valid_and_not s r is none) | not_valid other too y_is ↦ x_is ∙ ap Err (one_not_valid s r other none too) ∙ sym y_is ]
+]
+
+-- ---- the pack
+
+set_and_none : (pack : Pack) (s : Selection) (found : SeqSet) (r : Refusal) → IsEffectiveSet pack s.device s.variant s.pname found → NoSet pack s r → ⊥
+set_and_none pack s found refusals.NoDevice is none = (let e = set_or_refusal pack s.device s.variant s.pname found resolving.NoDevice is none in cc)
+set_and_none pack s found refusals.AmbiguousDevice is none = (let e = set_or_refusal pack s.device s.variant s.pname found resolving.AmbiguousDevice is none in cc)
+set_and_none pack s found refusals.NoVariant is none = (let e = set_or_refusal pack s.device s.variant s.pname found resolving.NoVariant is none in cc)
+set_and_none pack s found refusals.BadJson is none = none
+set_and_none pack s found (refusals.Job fault) is none = none
+set_and_none pack s found (refusals.Check kind spot) is none = none
+
+-- two causes are one
+same_cause : (pack : Pack) (s : Selection) (a b : ResolveFault) → HasNone pack s.device s.variant a → HasNone pack s.device s.variant b → (a ≡ resolving.OutOfMemory → ⊥) → (b ≡ resolving.OutOfMemory → ⊥) → a ≡ b
+same_cause pack s a b p q x y = one_refusal pack s.device s.variant a b p q x y
+
+no_device : resolving.NoDevice ≡ resolving.OutOfMemory → ⊥
+no_device e = cc
+
+several : resolving.AmbiguousDevice ≡ resolving.OutOfMemory → ⊥
+several e = cc
+
+no_variant : resolving.NoVariant ≡ resolving.OutOfMemory → ⊥
+no_variant e = cc
+
+one_none : (pack : Pack) (s : Selection) (a b : Refusal) → NoSet pack s a → NoSet pack s b → a ≡ b
+one_none pack s refusals.NoDevice refusals.NoDevice p q = refl
+one_none pack s refusals.NoDevice refusals.AmbiguousDevice p q = (let e = same_cause pack s resolving.NoDevice resolving.AmbiguousDevice p q no_device several in cc)
+one_none pack s refusals.NoDevice refusals.NoVariant p q = (let e = same_cause pack s resolving.NoDevice resolving.NoVariant p q no_device no_variant in cc)
+one_none pack s refusals.AmbiguousDevice refusals.NoDevice p q = (let e = same_cause pack s resolving.AmbiguousDevice resolving.NoDevice p q several no_device in cc)
+one_none pack s refusals.AmbiguousDevice refusals.AmbiguousDevice p q = refl
+one_none pack s refusals.AmbiguousDevice refusals.NoVariant p q = (let e = same_cause pack s resolving.AmbiguousDevice resolving.NoVariant p q several no_variant in cc)
+one_none pack s refusals.NoVariant refusals.NoDevice p q = (let e = same_cause pack s resolving.NoVariant resolving.NoDevice p q no_variant no_device in cc)
+one_none pack s refusals.NoVariant refusals.AmbiguousDevice p q = (let e = same_cause pack s resolving.NoVariant resolving.AmbiguousDevice p q no_variant several in cc)
+one_none pack s refusals.NoVariant refusals.NoVariant p q = refl
+one_none pack s a refusals.BadJson p q = absurd q
+one_none pack s a (refusals.Job fault) p q = absurd q
+one_none pack s a (refusals.Check kind spot) p q = absurd q
+one_none pack s refusals.BadJson b p q = absurd p
+one_none pack s (refusals.Job fault) b p q = absurd p
+one_none pack s (refusals.Check kind spot) b p q = absurd p
+
+of_sets : (pack : Pack) (s : Selection) (x y : Answer) (a b : SeqSet) → IsEffectiveSet pack s.device s.variant s.pname a → IsEffectiveSet pack s.device s.variant s.pname b → AnswersSet a x → AnswersSet b y → x ≡ y
+of_sets pack s x y a b is_a is_b p q = of_set a x y p (subst (λ (c : SeqSet). AnswersSet c y) (one_set pack s.device s.variant s.pname b a is_b is_a) q)
+
+of_pack : (pack : Pack) (s : Selection) (x y : Answer) → AnswersPack pack s x → AnswersPack pack s y → x ≡ y
+of_pack pack s x y p q = elim p [
+  | resolved a is x_of ↦ elim q [ resolved b too y_of ↦ of_sets pack s x y a b is too x_of y_of | not_resolved r none y_is ↦ absurd (set_and_none pack s a r is none) ]
+  | not_resolved r none x_is ↦ elim q [ resolved b is y_of ↦ absurd (set_and_none pack s b r is none) | not_resolved other too y_is ↦ x_is ∙ ap Err (one_none pack s r other none too) ∙ sym y_is ]
+]
+
+-- ---- the job
+
+one_value : (bytes : List ℕ) (d e : Data) → IsTextOf bytes d → IsTextOf bytes e → d ≡ e
+one_value bytes d e here there = (let same : Some d ≡ Some e = sym here.1 ∙ there.1 in cc)
+
+abbrev found : Job → Result Job JobFault
+found j = Ok j
+
+abbrev faulty : JobFault → Result Job JobFault
+faulty f = Err f
+
+same_job : (a b : Job) → found a ≡ found b → a ≡ b
+same_job a b e = cc
+
+same_fault : (a b : JobFault) → faulty a ≡ faulty b → a ≡ b
+same_fault a b e = cc
+
+no_fault : (j : Job) (f : JobFault) → found j ≡ faulty f → ⊥
+no_fault j f e = cc
+
+-- a job that the bytes describe is what their value is read as
+reads_as : (bytes : List ℕ) (j : Job) (d : Data) → Describes bytes j → IsTextOf bytes d → job_in d ≡ found j
+reads_as bytes j d p text = ap job_in (one_value bytes d p.0 text p.1) ∙ job_reads.complete p.0 j p.2
+
+one_job : (bytes : List ℕ) (a b : Job) → Describes bytes a → Describes bytes b → a ≡ b
+one_job bytes a b p q = same_job a b (sym (reads_as bytes a p.0 p p.1) ∙ reads_as bytes b p.0 q p.1)
+
+job_and_none : (bytes : List ℕ) (j : Job) (r : Refusal) → Describes bytes j → NoJob bytes r → ⊥
+job_and_none bytes j refusals.BadJson is none = none is.0 is.1
+job_and_none bytes j (refusals.Job fault) is none = no_fault j fault (sym (reads_as bytes j none.0 is none.1) ∙ none.2)
+job_and_none bytes j refusals.NoDevice is none = none
+job_and_none bytes j refusals.AmbiguousDevice is none = none
+job_and_none bytes j refusals.NoVariant is none = none
+job_and_none bytes j (refusals.Check kind spot) is none = none
+
+one_no_job : (bytes : List ℕ) (a b : Refusal) → NoJob bytes a → NoJob bytes b → a ≡ b
+one_no_job bytes refusals.BadJson refusals.BadJson p q = refl
+one_no_job bytes refusals.BadJson (refusals.Job fault) p q = absurd (p q.0 q.1)
+one_no_job bytes (refusals.Job fault) refusals.BadJson p q = absurd (q p.0 p.1)
+one_no_job bytes (refusals.Job fault) (refusals.Job other) p q =
+    ap refusals.Job (same_fault fault other (sym p.2 ∙ ap job_in (one_value bytes p.0 q.0 p.1 q.1) ∙ q.2))
+one_no_job bytes a refusals.NoDevice p q = absurd q
+one_no_job bytes a refusals.AmbiguousDevice p q = absurd q
+one_no_job bytes a refusals.NoVariant p q = absurd q
+one_no_job bytes a (refusals.Check kind spot) p q = absurd q
+one_no_job bytes refusals.NoDevice b p q = absurd p
+one_no_job bytes refusals.AmbiguousDevice b p q = absurd p
+one_no_job bytes refusals.NoVariant b p q = absurd p
+one_no_job bytes (refusals.Check kind spot) b p q = absurd p
+
+of_jobs : (bytes : List ℕ) (s : Selection) (x y : Answer) (a b : Job) → Describes bytes a → Describes bytes b → AnswersPack a.pack s x → AnswersPack b.pack s y → x ≡ y
+of_jobs bytes s x y a b is_a is_b p q = of_pack a.pack s x y p (subst (λ (j : Job). AnswersPack j.pack s y) (one_job bytes b a is_b is_a) q)
+
+pub one_answer : (bytes : List ℕ) (s : Selection) (x y : Answer) → IsAnswer bytes s x → IsAnswer bytes s y → x ≡ y
+one_answer bytes s x y p q = elim p [
+  | described a is x_of ↦ elim q [ described b too y_of ↦ of_jobs bytes s x y a b is too x_of y_of | not_described r none y_is ↦ absurd (job_and_none bytes a r is none) ]
+  | not_described r none x_is ↦ elim q [ described b is y_of ↦ absurd (job_and_none bytes b r is none) | not_described other too y_is ↦ x_is ∙ ap Err (one_no_job bytes r other none too) ∙ sym y_is ]
+]
+
+-- ---- what a call answers
+
+-- the answer is what is answered, unless memory is refused
+pub only : (bytes : List ℕ) (s : Selection) (r : Result SeqSet Unchecked) → AnswersJob bytes s r → (answer : Answer) → IsAnswer bytes s answer → Gives answer r
+only bytes s (Ok found) given answer is = one_answer bytes s answer (Ok found) is given
+only bytes s (Err (ends.Refused r)) given answer is = one_answer bytes s answer (Err r) is given
+only bytes s (Err ends.OutOfMemory) given answer is = tt
