@@ -1,45 +1,72 @@
 -- Words and bytes ask for one thing at most.
-use Rattle.std.proofs.Common.{◌≡◌, ◌∙◌, ℕ, Bool, true, false, List, Option, None, Some, length, nat_le, sym, ap, subst, refl}
-use Rattle.std.specs.Prelude.{IfSome, MatchBool}
+use Rattle.std.proofs.Common.{◌≡◌, ◌∙◌, ℕ, Bool, true, false, List, Option, None, Some, Result, Ok, Err, length, nat_le, inl, inr, ◌⊎◌, sym, ap, subst, refl}
+use Rattle.std.specs.Prelude.{IfSome, IfOk, MatchBool}
 use Rattle.serde_json.specs.Data.{Data}
+use Rattle.command_words.specs.declared.answer.Command.{Command}
+use Rattle.command_words.specs.declared.answer.Command.TheVariants as commands
+use Rattle.command_words.specs.declared.answer.Selection.{Selection}
+use Rattle.command_words.specs.Table.{IsCommand}
+use Rattle.command_words.proofs.TableLemmas.{one_command}
+use Rattle.sequence_resolve.specs.declared.entry.SeqSet.{SeqSet}
+use Rattle.job_check.specs.declared.answer.Refusal.{Refusal}
+use Rattle.job_check.specs.Answers.{IsAnswer}
+use Rattle.job_check.proofs.OneAnswer as check
 use Rattle.word_job.specs.declared.job.RunJob.{RunJob}
+use Rattle.word_job.specs.Job.{IsJob}
 use Rattle.word_job.proofs.CodeLemmas.{one_job}
+use Rattle.dapseq_tool.specs.declared.asking.Answer.{Answer}
+use Rattle.dapseq_tool.specs.declared.asking.Answer.TheVariants as answers
 use Rattle.dapseq_tool.specs.declared.asking.Asked.{Asked}
 use Rattle.dapseq_tool.specs.declared.asking.Asked.TheVariants as asked
-use Rattle.dapseq_tool.specs.Asked.{Names, names_in, limit, text_value, AsksOfValue, AsksOfText, AsksBy, Asks, IfRun, UnlessRun, IsNoRun}
+use Rattle.dapseq_tool.specs.Asked.{IsBuilt, IsUsage, of_check, AsksOfCheck, IsRunOf, AsksOfRun, text_value, limit, AsksOfBytes, AsksOfCommand, Asks, usage, command, IfRun, UnlessRun}
 
-of_value : (names : Names) (d : Data) (x y : Asked) → AsksOfValue names d x → AsksOfValue names d y → x ≡ y
-of_value names d (asked.Run a) (asked.Run b) p q = ap asked.Run (one_job names.device names.sequence d a b p q)
-of_value names d (asked.Run a) asked.NotBuilt p q = absurd (q a p)
-of_value names d asked.NotBuilt (asked.Run b) p q = absurd (p b q)
-of_value names d asked.NotBuilt asked.NotBuilt p q = refl
-of_value names d (asked.Run a) asked.BadJson p q = absurd q
-of_value names d (asked.Run a) asked.TooLong p q = absurd q
-of_value names d (asked.Run a) asked.Usage p q = absurd q
-of_value names d asked.NotBuilt asked.BadJson p q = absurd q
-of_value names d asked.NotBuilt asked.TooLong p q = absurd q
-of_value names d asked.NotBuilt asked.Usage p q = absurd q
-of_value names d asked.BadJson y p q = absurd p
-of_value names d asked.TooLong y p q = absurd p
-of_value names d asked.Usage y p q = absurd p
+-- ---- one thing
 
-of_text : (names : Names) (o : Option Data) (x y : Asked) → AsksOfText names o x → AsksOfText names o y → x ≡ y
-of_text names None x y p q = p ∙ sym q
-of_text names (Some d) x y p q = of_value names d x y p q
+of_a_check : (s : Selection) (bytes : List ℕ) (x y : Asked) → AsksOfCheck s bytes x → AsksOfCheck s bytes y → x ≡ y
+of_a_check s bytes x y p q = p.2 ∙ ap of_check (check.one_answer bytes s p.0 q.0 p.1 q.1) ∙ sym q.2
 
-by_names : (names : Option Names) (bytes : List ℕ) (x y : Asked) → AsksBy names bytes x → AsksBy names bytes y → x ≡ y
-by_names None bytes x y p q = p ∙ sym q
-by_names (Some names) bytes x y p q = by_length (nat_le (length bytes) limit) p q
+of_a_value : (s : Selection) (sequence : List ℕ) (d : Data) (x y : Asked) → AsksOfRun s sequence (Some d) x → AsksOfRun s sequence (Some d) y → x ≡ y
+of_a_value s sequence d (asked.Run a) (asked.Run b) p q = ap asked.Run (one_job s.device sequence d a b p.stands q.stands)
+of_a_value s sequence d (asked.Run a) (asked.Answer b) p q = absurd (q.1 a p)
+of_a_value s sequence d (asked.Answer a) (asked.Run b) p q = absurd (p.1 b q)
+of_a_value s sequence d (asked.Answer a) (asked.Answer b) p q = ap asked.Answer (p.0 ∙ sym q.0)
+
+of_a_run : (s : Selection) (sequence : List ℕ) (o : Option Data) (x y : Asked) → AsksOfRun s sequence o x → AsksOfRun s sequence o y → x ≡ y
+of_a_run s sequence None x y p q = p ∙ sym q
+of_a_run s sequence (Some d) x y p q = of_a_value s sequence d x y p q
+
+of_bytes : (c : Command) (bytes : List ℕ) (x y : Asked) → AsksOfBytes c bytes x → AsksOfBytes c bytes y → x ≡ y
+of_bytes (commands.Check s) bytes x y p q = of_a_check s bytes x y p q
+of_bytes (commands.Run s sequence) bytes x y p q = of_a_run s sequence (text_value bytes) x y p q
+of_bytes (commands.Trace s sequence) bytes x y p q = absurd p
+of_bytes (commands.Gen number) bytes x y p q = absurd p
+
+of_command : (c : Command) (bytes : List ℕ) (x y : Asked) → AsksOfCommand c bytes x → AsksOfCommand c bytes y → x ≡ y
+of_command c bytes x y p q = by_length (nat_le (length bytes) limit) p q
   where
-    by_length : (b : Bool) → MatchBool b (AsksOfText names (text_value bytes) x) (x ≡ asked.TooLong) → MatchBool b (AsksOfText names (text_value bytes) y) (y ≡ asked.TooLong) → x ≡ y
-    by_length true p q = of_text names (text_value bytes) x y p q
+    by_length : (b : Bool) → MatchBool b (AsksOfBytes c bytes x) (x ≡ asked.Answer answers.TooLong) → MatchBool b (AsksOfBytes c bytes y) (y ≡ asked.Answer answers.TooLong) → x ≡ y
+    by_length true p q = of_bytes c bytes x y p q
     by_length false p q = p ∙ sym q
 
+of_commands : (words bytes : _) (x y : Asked) (a b : Command) → IsCommand words a → IsCommand words b → AsksOfCommand a bytes x → AsksOfCommand b bytes y → x ≡ y
+of_commands words bytes x y a b is_a is_b p q = of_command a bytes x y p (subst (λ (c : Command). AsksOfCommand c bytes y) (one_command words b a is_b is_a) q)
+
 pub one_answer : (words : List (List ℕ)) (bytes : List ℕ) (x y : Asked) → Asks words bytes x → Asks words bytes y → x ≡ y
-one_answer words bytes x y p q = by_names (names_in words) bytes x y p q
+one_answer words bytes x y p q = elim p [
+  | usage none is ↦ elim q [ usage none_too is_too ↦ is ∙ sym is_too | command c is_c built of ↦ absurd (none c is_c built) ]
+  | command a is_a built of ↦ elim q [ usage none is ↦ absurd (none a is_a built) | command b is_b built_too of_too ↦ of_commands words bytes x y a b is_a is_b of of_too ]
+]
+
+-- ---- the run that is asked for
 
 same_run : (x y : RunJob) → asked.Run x ≡ asked.Run y → x ≡ y
 same_run x y e = cc
+
+same_answer : (x y : Answer) → asked.Answer x ≡ asked.Answer y → x ≡ y
+same_answer x y e = cc
+
+not_both : (answer : Answer) (job : RunJob) → asked.Answer answer ≡ asked.Run job → ⊥
+not_both answer job e = cc
 
 -- what holds of the run that is asked for
 pub run_only : (words : List (List ℕ)) (left : Option (List ℕ)) (what : Asked) (here : RunJob) (P : RunJob → Type 0) → what ≡ asked.Run here → IfSome left (λ bytes. Asks words bytes what) → P here → IfSome left (λ bytes. IfRun words bytes P)
@@ -47,8 +74,44 @@ run_only words None what here P is asks holds = tt
 run_only words (Some bytes) what here P is asks holds =
     λ job other. subst P (same_run here job (sym is ∙ one_answer words bytes what (asked.Run job) asks other)) holds
 
--- where a run is asked for, no other answer is
-pub no_answer : (words : List (List ℕ)) (left : Option (List ℕ)) (what : Asked) (here : RunJob) (P : Asked → Type 0) → what ≡ asked.Run here → IfSome left (λ bytes. Asks words bytes what) → IfSome left (λ bytes. UnlessRun words bytes P)
+-- where a run is asked for, no answer is
+pub no_answer : (words : List (List ℕ)) (left : Option (List ℕ)) (what : Asked) (here : RunJob) (P : Answer → Type 0) → what ≡ asked.Run here → IfSome left (λ bytes. Asks words bytes what) → IfSome left (λ bytes. UnlessRun words bytes P)
 no_answer words None what here P is asks = tt
 no_answer words (Some bytes) what here P is asks =
-    λ other other_asks none. absurd (subst IsNoRun (sym (sym is ∙ one_answer words bytes what other asks other_asks)) none)
+    λ answer other. absurd (not_both answer here (one_answer words bytes (asked.Answer answer) what other asks ∙ is))
+
+-- ---- the answer that is asked for
+
+-- what holds of the answer that is asked for
+pub answer_only : (words : List (List ℕ)) (left : Option (List ℕ)) (what : Asked) (here : Answer) (P : Answer → Type 0) → what ≡ asked.Answer here → IfSome left (λ bytes. Asks words bytes what) → P here → IfSome left (λ bytes. UnlessRun words bytes P)
+answer_only words None what here P is asks holds = tt
+answer_only words (Some bytes) what here P is asks holds =
+    λ answer other. subst P (same_answer here answer (sym is ∙ one_answer words bytes what (asked.Answer answer) asks other)) holds
+
+-- where an answer is asked for, no run is
+pub no_run : (words : List (List ℕ)) (left : Option (List ℕ)) (what : Asked) (here : Answer) (P : RunJob → Type 0) → what ≡ asked.Answer here → IfSome left (λ bytes. Asks words bytes what) → IfSome left (λ bytes. IfRun words bytes P)
+no_run words None what here P is asks = tt
+no_run words (Some bytes) what here P is asks =
+    λ job other. absurd (not_both here job (sym is ∙ one_answer words bytes what (asked.Run job) asks other))
+
+-- ---- what each step asks for
+
+-- no run of a device that has no job
+pub not_built : (s : Selection) (sequence device name : List ℕ) (d : Data) → device ≡ s.device → name ≡ sequence → ((job : RunJob) → IsJob device name d job → ⊥)
+    → (job : RunJob) → IsRunOf s sequence d job → ⊥
+not_built s sequence device name d e f none job is = none job (rw (e, f) is.stands)
+
+-- words that are no command ask for the usage
+pub usage_asked : (words : List (List ℕ)) (left : Option (List ℕ)) → IsUsage words → IfSome left (λ bytes. Asks words bytes (asked.Answer answers.Usage))
+usage_asked words None none = tt
+usage_asked words (Some bytes) none = usage none refl
+
+command_asked_of : (words : List (List ℕ)) (left : Option (List ℕ)) (c : Command) (what : Asked) → IsCommand words c → IsBuilt c → IfSome left (λ bytes. AsksOfCommand c bytes what) → IfSome left (λ bytes. Asks words bytes what)
+command_asked_of words None c what is built h = tt
+command_asked_of words (Some bytes) c what is built h = command c is built h
+
+-- what a command asks for, the words do
+pub command_asked : {E : Type 0} (words : List (List ℕ)) (left : Option (List ℕ)) (c : Command) (r : Result Asked E) → IsCommand words c → IsBuilt c
+    → IfOk r (λ what. IfSome left (λ bytes. AsksOfCommand c bytes what)) → IfOk r (λ what. IfSome left (λ bytes. Asks words bytes what))
+command_asked words left c (Ok what) is built h = command_asked_of words left c what is built h
+command_asked words left c (Err e) is built h = tt

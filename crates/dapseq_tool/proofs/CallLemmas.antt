@@ -2,16 +2,17 @@
 use Rattle.std.proofs.Common.{◌≡◌, ℕ, ◌⊎◌, inl, inr, List, length, Option, None, Some, Result, Ok, Err, sym, ap, subst, ◌∙◌, arith}
 use Rattle.std.proofs.Math.Seq.{take-length}
 use Rattle.std.specs.Io.KnownBytes.{Appends}
-use Rattle.std.specs.Prelude.{IfSome, IsSome}
+use Rattle.std.specs.Prelude.{◌≢◌, IfSome, IsSome}
 use Rattle.dap_base.specs.Causes.{IsQuiet, Rose}
 use Rattle.dap_base.specs.Streams.{AppendsPrefix, PutAppends}
 use Rattle.target_machine.specs.State.{TargetState}
 use Rattle.probe_core.specs.Bench.{BenchState, Steps}
 use Rattle.probe_core.specs.Probe.{target_of}
 use Rattle.dapseq_tool.specs.Blocks.{IsPartDone, IsRunDone}
-use Rattle.dapseq_tool.specs.Headline.{Moment, IsQuietCall, Succeeds}
+use Rattle.dapseq_tool.specs.Headline.{Moment, IsQuietCall, Succeeds, Answers}
 use Rattle.dapseq_tool.specs.Meaning.{outcome, target_after}
-use Rattle.dapseq_tool.specs.Report.{done_text, report}
+use Rattle.dapseq_tool.specs.Report.{done_text, report, answer_text, answer_status}
+use Rattle.dapseq_tool.specs.declared.asking.Answer.{Answer}
 use Rattle.dapseq_tool.specs.declared.status.Status.{Status}
 use Rattle.dapseq_tool.specs.declared.status.Status.TheVariants as status
 use Rattle.word_job.specs.declared.job.RunJob.{RunJob}
@@ -66,6 +67,7 @@ no_some : {A : Type 0} (o : Option A) → o ≡ None → IsSome o → ⊥
 no_some None none some = cc
 no_some (Some x) none some = cc
 
+-- a count that is quiet has not risen
 no_rise : (before now : ℕ) → IsQuiet before now → Rose before now → ⊥
 no_rise before now quiet rose = let same = quiet.same in let below = quiet.below in omega (arith, same, below, rose)
 
@@ -90,3 +92,13 @@ success_run old new end job done text write bench bad ends quiet told = record {
     is_done (inr (inr (inl e))) = absurd (no_rise old.told.faults new.told.faults quiet.bench (bench e))
     is_done (inr (inr (inr (inl e)))) = absurd (no_some old.state (bad e) told)
     is_done (inr (inr (inr (inr e)))) = absurd (quiet.memory e)
+
+-- the text and the status of an answer that was written whole
+pub answers_of : (old new : Moment) (end : Status) (here : Answer) → (end ≡ answer_status here → Appends old.written new.written (answer_text here))
+    → (end ≡ status.WriteFault → Rose old.sink_faults new.sink_faults) → ((end ≡ answer_status here) ⊎ (end ≡ status.WriteFault) ⊎ (end ≡ status.OutOfMemory)) → IsQuiet old.sink_faults new.sink_faults → end ≢ status.OutOfMemory → Answers old new end here
+answers_of old new end here text write ends quiet memory = record { text = text (is_whole ends); status = is_whole ends }
+  where
+    is_whole : ((end ≡ answer_status here) ⊎ (end ≡ status.WriteFault) ⊎ (end ≡ status.OutOfMemory)) → end ≡ answer_status here
+    is_whole (inl e) = e
+    is_whole (inr (inl e)) = absurd (no_rise old.sink_faults new.sink_faults quiet (write e))
+    is_whole (inr (inr e)) = absurd (memory e)

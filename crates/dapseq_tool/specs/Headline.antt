@@ -8,7 +8,9 @@ use Rattle.dapseq_tool.specs.Asked.{Asks, IfRun, UnlessRun}
 use Rattle.dapseq_tool.specs.Blocks.{IsPartDone, IsRunDone}
 use Rattle.dapseq_tool.specs.Exchange.{IsBadExchange}
 use Rattle.dapseq_tool.specs.Report.{report, answer_text, answer_status}
-use Rattle.dapseq_tool.specs.declared.asking.Asked.{Asked}
+use Rattle.sequence_resolve.specs.declared.entry.SeqSet.{SeqSet}
+use Rattle.dapseq_tool.specs.declared.asking.Answer.{Answer}
+use Rattle.dapseq_tool.specs.declared.asking.Answer.TheVariants as answers
 use Rattle.dapseq_tool.specs.declared.asking.Asked.TheVariants as asked
 use Rattle.word_job.specs.declared.job.RunJob.{RunJob}
 use Rattle.dapseq_tool.specs.declared.status.Status.{Status}
@@ -61,19 +63,24 @@ abbrev pub Lines : List (List ℕ) → Moment → Moment → Type 0
 Lines words old new =
     IsQuiet old.source_faults new.source_faults → IfSome old.left (λ bytes. IfRun words bytes (λ job. IfSome old.state (λ m. AppendsPrefix old.written new.written (report job))))
 
--- the text and the status where no job runs
-pub record Answers (old new : Moment) (end : Status) (what : Asked) : Type 0 where
-  pub text : Appends old.written new.written (answer_text what)
-  pub status : end ≡ answer_status what
+-- the text and the status are those of the answer
+pub record Answers (old new : Moment) (end : Status) (answer : Answer) : Type 0 where
+  pub text : Appends old.written new.written (answer_text answer)
+  pub status : end ≡ answer_status answer
 
--- where no run is asked for: the answer, unless the source failed
-abbrev pub Answer : List (List ℕ) → Moment → Moment → Status → Type 0
-Answer words old new end =
+-- where no run is asked for: the answer that is, unless the source failed
+abbrev pub Answered : List (List ℕ) → Moment → Moment → Status → Type 0
+Answered words old new end =
     end ≢ status.ReadFault → IsQuiet old.sink_faults new.sink_faults → end ≢ status.OutOfMemory → IfSome old.left (λ bytes. UnlessRun words bytes (Answers old new end))
 
--- a refusal is the one that was asked for
-abbrev pub Refusal : List (List ℕ) → Moment → Type 0
-Refusal words old = IfSome old.left (λ bytes. Asks words bytes asked.TooLong ⊎ Asks words bytes asked.BadJson ⊎ Asks words bytes asked.NotBuilt)
+-- what is done was asked for: the check of a valid set, or a run
+abbrev pub DoneAsked : List (List ℕ) → Moment → Type 0
+DoneAsked words old = IfSome old.left (λ bytes.
+    ((set : SeqSet) × Asks words bytes (asked.Answer (answers.CheckOk set))) ⊎ ((job : RunJob) × Asks words bytes (asked.Run job)))
+
+-- a refusal is one that was asked for
+abbrev pub RefusalAsked : List (List ℕ) → Moment → Type 0
+RefusalAsked words old = IfSome old.left (λ bytes. (answer : Answer) × Asks words bytes (asked.Answer answer) × (answer_status answer ≡ status.Refused))
 
 -- the bench began an exchange since, and the last one is one packet and one reply, which does not say that it was executed
 pub record HasBadReply (old new : Moment) : Type 0 where

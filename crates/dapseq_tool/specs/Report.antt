@@ -8,8 +8,10 @@ use Rattle.target_machine.specs.declared.image.ImageAsk.TheVariants as ask
 use Rattle.target_machine.specs.declared.image.ImagePart.{ImagePart}
 use Rattle.target_machine.specs.declared.image.ImagePart.TheVariants as part
 use Rattle.target_machine.specs.declared.unit.Variable.{Variable}
-use Rattle.dapseq_tool.specs.declared.asking.Asked.{Asked}
-use Rattle.dapseq_tool.specs.declared.asking.Asked.TheVariants as asked
+use Rattle.check_text.specs.Lines.{check_text}
+use Rattle.job_check.specs.Lines.{refusal_line}
+use Rattle.dapseq_tool.specs.declared.asking.Answer.{Answer}
+use Rattle.dapseq_tool.specs.declared.asking.Answer.TheVariants as answers
 use Rattle.word_job.specs.declared.job.RunJob.{RunJob}
 use Rattle.word_job.specs.declared.job.WatchItem.{WatchItem}
 use Rattle.dapseq_tool.specs.declared.status.Status.{Status}
@@ -80,20 +82,20 @@ unfoldable pub report : RunJob → List ℕ
 report job = done_text job (outcome job).values (outcome job).target
 
 -- what is written where no job runs
-abbrev pub answer_text : Asked → List ℕ
-answer_text asked.Usage = codes "usage dapseq MODE [--device NAME] [--variant NAME] [--pname NAME] [--sequence NAME] [--number N]\n"
-answer_text asked.TooLong = codes "refused TooLong\n"
-answer_text asked.BadJson = codes "refused BadJson\n"
-answer_text asked.NotBuilt = codes "refused NotBuilt\n"
-answer_text (asked.Run job) = []
+abbrev pub answer_text : Answer → List ℕ
+answer_text answers.Usage = codes "usage dapseq MODE [--device NAME] [--variant NAME] [--pname NAME] [--sequence NAME] [--number N]\n"
+answer_text answers.TooLong = codes "refused TooLong\n"
+answer_text answers.NotBuilt = codes "refused NotBuilt\n"
+answer_text (answers.Refused refusal) = refusal_line refusal
+answer_text (answers.CheckOk set) = check_text set
 
 -- the status where no job runs
-abbrev pub answer_status : Asked → Status
-answer_status asked.Usage = status.Usage
-answer_status asked.TooLong = status.Refused
-answer_status asked.BadJson = status.Refused
-answer_status asked.NotBuilt = status.Refused
-answer_status (asked.Run job) = status.Done
+abbrev pub answer_status : Answer → Status
+answer_status answers.Usage = status.Usage
+answer_status answers.TooLong = status.Refused
+answer_status answers.NotBuilt = status.Refused
+answer_status (answers.Refused refusal) = status.Refused
+answer_status (answers.CheckOk set) = status.Done
 
 -- what is written where the source failed
 abbrev pub fault_text : List ℕ

@@ -2,9 +2,9 @@
 ghost use Rattle.std.specs.Prelude.{◌≡◌, ◌≢◌, ◌⊎◌, None, IfSome, IsSome};
 ghost use Rattle.std.specs.Io.KnownBytes.{Appends};
 ghost use Rattle.dap_base.specs.Causes.{Rose};
-ghost use Rattle.dapseq_tool.specs.Asked.{names_in, UnlessRun};
-ghost use Rattle.dapseq_tool.specs.Headline.{moment, Success, Outside, Lines, Answer, Refusal, HasBadReply};
-ghost use Rattle.dapseq_tool.specs.Report.{report, answer_text, fault_text};
+ghost use Rattle.dapseq_tool.specs.Asked.{IsUsage, UnlessRun};
+ghost use Rattle.dapseq_tool.specs.Headline.{moment, Success, Outside, Lines, Answered, DoneAsked, RefusalAsked, HasBadReply};
+ghost use Rattle.dapseq_tool.specs.Report.{report, answer_text, answer_status, fault_text};
 ghost use Rattle.word_job.specs.Sound.{IsSoundRun};
 ghost use Rattle.dap_base.specs.Streams.{AppendsPrefix};
 ghost use Rattle.probe_core.specs.Bench.{Steps};
@@ -12,27 +12,29 @@ ghost use Rattle.dapseq_tool.specs.Blocks.{IsPartDone, IsRunDone};
 ghost use Rattle.dapseq_tool.specs.Exchange.{IsBadExchange};
 
 use crate::access::RunEnd;
-use crate::asking::{Asked, Unasked, ask};
+use crate::answering::{status_of, write_answer};
+use crate::asking::{Answer, Asked, Unasked, ask};
 use crate::reporting::{TextEnd, write_report};
 use crate::run::run_job;
 use crate::status::Status;
+use check_text::TextError;
 use dap_base::{Sink, Source, Words};
 use probe_core::Bench;
 use std::alloc::Global;
 use word_job::RunJob;
 
-// What is written where no job runs.
-fn text_of(what: &Asked) -> &'static [u8]
-    ensures { result.now ≡ answer_text what.now }
+// Writes an answer.
+fn answer<K: Sink>(alloc: Global, answer: &Answer, sink: &mut K) -> Status
+    ensures text { result ≡ answer_status answer.now → Appends (K.written sink.old) (K.written sink.new) (answer_text answer.now) }
+    ensures write { result ≡ Status.WriteFault → Rose (K.faults sink.old) (K.faults sink.new) }
+    ensures sink_counted { (K.faults sink.new ≡ K.faults sink.old) ⊎ (result ≡ Status.WriteFault) }
+    ensures ends { (result ≡ answer_status answer.now) ⊎ (result ≡ Status.WriteFault) ⊎ (result ≡ Status.OutOfMemory) }
+    ensures among { (result ≡ Status.Done) ⊎ (result ≡ Status.Usage) ⊎ (result ≡ Status.Refused) ⊎ (result ≡ Status.WriteFault) ⊎ (result ≡ Status.OutOfMemory) }
 {
-    match what {
-        Asked::Usage => {
-            b"usage dapseq MODE [--device NAME] [--variant NAME] [--pname NAME] [--sequence NAME] [--number N]\n"
-        }
-        Asked::TooLong => b"refused TooLong\n",
-        Asked::BadJson => b"refused BadJson\n",
-        Asked::NotBuilt => b"refused NotBuilt\n",
-        Asked::Run(_) => b"",
+    match write_answer(alloc, answer, sink) {
+        Ok(()) => status_of(answer),
+        Err(TextError::Failed) => Status::WriteFault,
+        Err(TextError::OutOfMemory) => Status::OutOfMemory,
     }
 }
 
@@ -67,14 +69,18 @@ fn run<K: Sink, B: Bench>(alloc: Global, job: &RunJob, sink: &mut K, bench: &mut
     }
 }
 
-/// Does all that the program does: reads a job of at most 16,777,216 bytes from the source, runs it
-/// over the bench, and writes to the sink.
+/// Does all that the program does. In the mode `check` it reads a job of at most 16,777,216 bytes from
+/// the source, checks the sequences of a device, and writes to the sink what it found; in the mode
+/// `run` it reads a job, runs it over the bench, and writes its report.
 ///
-/// - `Done`: the run came to its end, and its report is written.
-/// - `Usage`: the words are not `run --device NAME --sequence NAME`; the usage line is written, and
-///   the source is not read.
-/// - `Refused`: the job is too long, no JSON, or not one that is built yet; a line with the reason
-///   is written.
+/// - `Done`: the set of sequences is valid, and is written with a line for each; or the run came to
+///   its end, and its report is written.
+/// - `Usage`: the words are no command of these two modes; the usage line is written, and the source
+///   is not read.
+/// - `Refused`: a line with the reason is written, the first of these. In `check`: the job is too
+///   long, no JSON, or no job; no device, several devices, or no variant of the device have the
+///   name; the set of sequences is not valid. In `run`: the job is too long, no JSON, or not one that
+///   is built yet.
 /// - `BenchFault`: a call of the bench failed. The bench is as it was, or its target is behind the
 ///   first register accesses of the run, as many as the probe's work has grown by since `load`; no
 ///   further line is written.
@@ -102,17 +108,19 @@ pub fn dapseq<S: Source, K: Sink, B: Bench>(
     ensures lines { let at = moment S.left S.faults K.written K.faults B.told B.state in
         Lines words.now (at source.old sink.old bench.old) (at source.new sink.new bench.new) }
 
-    // Where no run is asked for, the bench is left as it was, and the answer is the stated one.
-    ensures unchanged { IfSome (S.left source.old) (λ bytes. UnlessRun words.now bytes (λ what. bench.new ≡ bench.old)) }
+    // Where no run is asked for, the bench is left as it was, and the answer is the one that is asked for.
+    ensures unchanged { IfSome (S.left source.old) (λ bytes. UnlessRun words.now bytes (λ answer. bench.new ≡ bench.old)) }
     ensures answer { let at = moment S.left S.faults K.written K.faults B.told B.state in
-        Answer words.now (at source.old sink.old bench.old) (at source.new sink.new bench.new) result }
+        Answered words.now (at source.old sink.old bench.old) (at source.new sink.new bench.new) result }
     ensures unread { result ≡ Status.ReadFault → bench.new ≡ bench.old }
     ensures unread_text { result ≡ Status.ReadFault → Appends (K.written sink.old) (K.written sink.new) fault_text }
 
     // Each other answer has its cause.
-    ensures usage { result ≡ Status.Usage → names_in words.now ≡ None }
+    ensures done { let at = moment S.left S.faults K.written K.faults B.told B.state in
+        result ≡ Status.Done → DoneAsked words.now (at source.old sink.old bench.old) }
+    ensures usage { result ≡ Status.Usage → IsUsage words.now }
     ensures refused { let at = moment S.left S.faults K.written K.faults B.told B.state in
-        result ≡ Status.Refused → Refusal words.now (at source.old sink.old bench.old) }
+        result ≡ Status.Refused → RefusalAsked words.now (at source.old sink.old bench.old) }
     ensures read { result ≡ Status.ReadFault → Rose (S.faults source.old) (S.faults source.new) }
     ensures write { result ≡ Status.WriteFault → Rose (K.faults sink.old) (K.faults sink.new) }
     ensures bench { result ≡ Status.BenchFault → Rose (B.told bench.old).faults (B.told bench.new).faults }
@@ -129,14 +137,7 @@ pub fn dapseq<S: Source, K: Sink, B: Bench>(
 {
     match ask(alloc, words, source) {
         Ok(Asked::Run(job)) => run(alloc, &job, sink, bench),
-        Ok(Asked::Usage) => match sink.put(text_of(&Asked::Usage)) {
-            Ok(()) => Status::Usage,
-            Err(_) => Status::WriteFault,
-        },
-        Ok(what) => match sink.put(text_of(&what)) {
-            Ok(()) => Status::Refused,
-            Err(_) => Status::WriteFault,
-        },
+        Ok(Asked::Answer(what)) => answer(alloc, &what, sink),
         Err(Unasked::OutOfMemory) => Status::OutOfMemory,
         Err(Unasked::ReadFault) => match sink.put(b"end readfault\n") {
             Ok(()) => Status::ReadFault,

@@ -2,6 +2,7 @@
 #![tactic(auto)]
 
 mod access;
+mod answering;
 mod asking;
 mod call;
 mod chain;
@@ -14,7 +15,6 @@ mod reporting;
 mod run;
 mod status;
 mod unit;
-mod words;
 
 pub use call::dapseq;
 pub use status::Status;

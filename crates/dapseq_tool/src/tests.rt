@@ -117,32 +117,105 @@ fn runs_are_reported(rt: HostRuntime) -> Result<(), Fail> {
     Ok(())
 }
 
+// Words that are no command of a mode that is built, the words that `clap` answers by itself among them.
 #[test]
-fn other_words_and_jobs_are_answered(rt: HostRuntime) -> Result<(), Fail> {
-    let cut = JOB.as_bytes().split_last().ok_or("empty")?.1;
-    let usage = (Status::Usage, USAGE);
+fn other_words_are_the_usage(rt: HostRuntime) -> Result<(), Fail> {
+    let table: [&[&str]; 22] = [
+        &[],
+        &[""],
+        &["walk"],
+        &["walk", "--device", "D1", "--sequence", "Main"],
+        &["--help"],
+        &["-h"],
+        &["--version"],
+        &["check", "--device", "D1", "--help"],
+        &["check"],
+        &["check", "--device"],
+        &["check", "--device", "-D1"],
+        &["check", "--device", "D1", "--device", "D1"],
+        &["check", "--dev", "D1"],
+        &["check", "--device", "D1", "check"],
+        &["check", "--device", "D1", "--sequence", "Main"],
+        &["check", "--device", "D1", "--number", "1"],
+        &["check", "--", "--device", "D1"],
+        &["run", "--device", "D1"],
+        &["run", "--sequence", "Main"],
+        &[
+            "run",
+            "--device",
+            "D1",
+            "--sequence",
+            "Main",
+            "--number",
+            "1",
+        ],
+        &["trace", "--device", "D1", "--sequence", "Main"],
+        &["gen", "--number", "37"],
+    ];
+    for words in table {
+        ends(
+            &rt,
+            rt.alloc(),
+            words,
+            JOB.as_bytes(),
+            (Status::Usage, USAGE),
+        )?;
+    }
+    Ok(())
+}
+
+// Other words that are such a command.
+#[test]
+fn other_words_are_a_command(rt: HostRuntime) -> Result<(), Fail> {
+    let checked = (
+        Status::Done,
+        "check ok sequences 1\nsequence Main from device blocks 1 controls 0 atomic 0\n",
+    );
+    let no_variant = (Status::Refused, "refused NoVariant\n");
+    let no_device = (Status::Refused, "refused NoDevice\n");
     let not_built = (Status::Refused, "refused NotBuilt\n");
-    let table: [(&[&str], &[u8], (Status, &str)); 7] = [
-        (&["walk"], JOB.as_bytes(), usage),
+    let table: [(&[&str], (Status, &str)); 12] = [
+        (&["check", "--device", "D1"], checked),
+        (&["check", "--device=D1"], checked),
+        (&["--device", "D1", "check"], checked),
+        (&["--device", "D1", "--", "check"], checked),
+        (&["check", "--device", "D1", "--pname", ""], checked),
+        (&["check", "--device", "D1", "--variant", "-"], no_variant),
+        (&["check", "--device="], no_device),
         (
-            &["walk", "--device", "D1", "--sequence", "Main"],
-            JOB.as_bytes(),
-            usage,
+            &["run", "--sequence=Main", "--device=D1"],
+            (Status::Done, REPORT),
         ),
-        (&[], JOB.as_bytes(), usage),
-        (&["run", "--sequence", "Main", "--device", "D1"], b"", usage),
-        (&RUN, cut, (Status::Refused, "refused BadJson\n")),
-        (&RUN, b"{}", not_built),
+        (&["run", "--device", "D9", "--sequence", "Main"], not_built),
+        (&["run", "--device", "D1", "--sequence", "Other"], not_built),
         (
-            &["run", "--device", "D1", "--sequence", "Other"],
-            JOB.as_bytes(),
+            &[
+                "run",
+                "--device",
+                "D1",
+                "--sequence",
+                "Main",
+                "--variant=V1",
+            ],
+            not_built,
+        ),
+        (
+            &["run", "--device", "D1", "--sequence", "Main", "--pname="],
             not_built,
         ),
     ];
-    for (words, job, ending) in table {
-        ends(&rt, rt.alloc(), words, job, ending)?;
+    for (words, ending) in table {
+        ends(&rt, rt.alloc(), words, JOB.as_bytes(), ending)?;
     }
     Ok(())
+}
+
+// A job of the device `D1` with these members, in a family with these ones.
+fn job_of(alloc: Global, device: &str, family: &str) -> Result<String, Fail> {
+    let job = format!(in alloc;
+        r#"{{"pack":{{"families":[{{"Dfamily":"F","devices":[{{"Dname":"D1",{device}}}]{family}}}]}},"bench":{{"packet_size":64,"packet_count":1,"target":{{"powered":true,"aps":[{{"ap":0}}],"memory":[{{"address":"0x20000000","length":4096}}]}}}}}}"#
+    )?;
+    Ok(job)
 }
 
 // The debugvars and the block of jobs that are not built.
@@ -155,10 +228,198 @@ fn other_code_is_answered(rt: HostRuntime) -> Result<(), Fail> {
         ("", "/* x"),
         (";", "Write32(0x20000000, 1);"),
     ] {
-        let job = format!(in rt.alloc();
-            r#"{{"pack":{{"families":[{{"Dfamily":"F","devices":[{{"Dname":"D1","debugvars":"{debugvars}","sequences":[{{"name":"Main","steps":[{{"block":"{block}"}}]}}]}}]}}]}},"bench":{{"packet_size":64,"packet_count":1,"target":{{"powered":true,"aps":[{{"ap":0}}],"memory":[{{"address":"0x20000000","length":4096}}]}}}}}}"#
+        let members = format!(in rt.alloc();
+            r#""debugvars":"{debugvars}","sequences":[{{"name":"Main","steps":[{{"block":"{block}"}}]}}]"#
         )?;
+        let job = job_of(rt.alloc(), &members, "")?;
         ends(&rt, rt.alloc(), &RUN, job.as_bytes(), not_built)?;
+    }
+    ends(&rt, rt.alloc(), &RUN, b"{}", not_built)?;
+    Ok(())
+}
+
+const CHECK: [&str; 3] = ["check", "--device", "D1"];
+
+/// The sequences of a device that is checked, and the fault that is told.
+const REFUSED: [(&str, &str); 6] = [
+    (
+        r#"{"name":"Main","steps":[{"control":[{"block":"x = 1;"}],"if":"0"}]}"#,
+        "refused check UndefinedName Main 0.0 block 1:1\n",
+    ),
+    (
+        r#"{"name":"Main","steps":[{"block":"Write32(1);"}]}"#,
+        "refused check ArgumentCount Main 0 block 1:1\n",
+    ),
+    (
+        r#"{"name":"Main","steps":[{"control":[],"while":"1"}]}"#,
+        "refused check UnboundedLoop Main 0 control 0:0\n",
+    ),
+    (
+        r#"{"name":"Main","steps":[{"block":"Sequence(\"B\");"}]},{"name":"B","steps":[{"block":"Sequence(\"Main\");"}]}"#,
+        "refused check CallCycle Main 0 block 1:1\n",
+    ),
+    (
+        r#"{"name":"Main","steps":[{"block":"Message(0, \"%d\");"}]}"#,
+        "refused check FormatMismatch Main 0 block 1:12\n",
+    ),
+    (
+        r#"{"name":"Main","steps":[{"block":"a - ;"}]}"#,
+        "refused check Syntax Main 0 block 1:5\n",
+    ),
+];
+
+#[test]
+fn faults_of_sequences_are_told(rt: HostRuntime) -> Result<(), Fail> {
+    for (sequences, line) in REFUSED {
+        let members = format!(in rt.alloc(); r#""sequences":[{sequences}]"#)?;
+        let job = job_of(rt.alloc(), &members, "")?;
+        ends(
+            &rt,
+            rt.alloc(),
+            &CHECK,
+            job.as_bytes(),
+            (Status::Refused, line),
+        )?;
+    }
+    Ok(())
+}
+
+// The device's sequence holds over the family's, and the variant disables it.
+#[test]
+fn a_variant_is_checked(rt: HostRuntime) -> Result<(), Fail> {
+    let device =
+        r#""sequences":[{"name":"Main","steps":[{"block":"Sequence(\"ResetSystem\");"}]},{"name":"ResetSystem","steps":[{"block":"Message(0, \"device\");"}]}],"variants":[{"Dvariant":"V1","sequences":[{"name":"ResetSystem","disable":true,"steps":[]}]}]"#;
+    let family =
+        r#","sequences":[{"name":"ResetSystem","steps":[{"block":"Message(0, \"family\");"}]}]"#;
+    let job = job_of(rt.alloc(), device, family)?;
+    ends(
+        &rt,
+        rt.alloc(),
+        &["check", "--device", "D1", "--variant", "V1"],
+        job.as_bytes(),
+        (
+            Status::Done,
+            "check ok sequences 2
+sequence ResetSystem from variant blocks 0 controls 0 atomic 0 disabled
+sequence Main from device blocks 1 controls 0 atomic 0
+",
+        ),
+    )?;
+    Ok(())
+}
+
+// Sequences `S0` and so on, each of which calls the next.
+fn chain_of(alloc: Global, count: u32) -> Result<String, Fail> {
+    let mut members = String::from_str(alloc, r#""sequences":["#)?;
+    for number in 1..count {
+        let before = number - 1;
+        let sequence = format!(in alloc;
+            r#"{{"name":"S{before}","steps":[{{"block":"Sequence(\"S{number}\");"}}]}},"#
+        )?;
+        members.push_str(&sequence)?;
+    }
+    let last = count.saturating_sub(1);
+    let sequence = format!(in alloc; r#"{{"name":"S{last}","steps":[]}}]"#)?;
+    members.push_str(&sequence)?;
+    job_of(alloc, &members, "")
+}
+
+#[test]
+fn a_chain_of_calls_has_at_most_32_sequences(rt: HostRuntime) -> Result<(), Fail> {
+    let job = chain_of(rt.alloc(), 33)?;
+    let line = "refused check CallsTooDeep S0 0 block 1:1\n";
+    ends(
+        &rt,
+        rt.alloc(),
+        &CHECK,
+        job.as_bytes(),
+        (Status::Refused, line),
+    )?;
+    let job = chain_of(rt.alloc(), 32)?;
+    let mut bench = MemoryBench::new(rt.alloc());
+    let (status, sink) = call(rt.alloc(), &CHECK, job.as_bytes(), &[], &[], &mut bench)?;
+    assert_eq!(rt; status, Status::Done);
+    assert!(rt; sink.bytes().starts_with(b"check ok sequences 32\nsequence S0 from device blocks 1 "));
+    Ok(())
+}
+
+// The job with one piece of its text in place of another.
+fn edited(alloc: Global, old: &str, new: &str) -> Result<String, Fail> {
+    let (front, back) = JOB.split_once(old).ok_or("absent")?;
+    let job = format!(in alloc; "{front}{new}{back}")?;
+    Ok(job)
+}
+
+// What stands before the check, in `check`; each in its order before the next.
+#[test]
+fn other_jobs_are_refused(rt: HostRuntime) -> Result<(), Fail> {
+    let cut = JOB.as_bytes().split_last().ok_or("empty")?.1;
+    let size = edited(rt.alloc(), r#""packet_size":64"#, r#""packet_size":63"#)?;
+    let speed = edited(rt.alloc(), r#","target""#, r#","speed":1,"target""#)?;
+    let bench = edited(rt.alloc(), r#""bench""#, r#""Bench""#)?;
+    let without = r#"{"pack":{"families":[]}}"#;
+    let table: [(&[u8], &str); 6] = [
+        (cut, "refused BadJson\n"),
+        (size.as_bytes(), "refused BadNumber #/bench/packet_size\n"),
+        (speed.as_bytes(), "refused UnknownKey #/bench/speed\n"),
+        (bench.as_bytes(), "refused UnknownKey #/Bench\n"),
+        (without.as_bytes(), "refused Missing #/bench\n"),
+        (JOB.as_bytes(), "refused NoDevice\n"),
+    ];
+    for (job, line) in table {
+        ends(
+            &rt,
+            rt.alloc(),
+            &["check", "--device", "D9"],
+            job,
+            (Status::Refused, line),
+        )?;
+    }
+    ends(
+        &rt,
+        rt.alloc(),
+        &RUN,
+        cut,
+        (Status::Refused, "refused BadJson\n"),
+    )?;
+    Ok(())
+}
+
+// A check never calls the bench, of which each call would fail here.
+#[test]
+fn a_check_leaves_the_bench(rt: HostRuntime) -> Result<(), Fail> {
+    let mut bench = FaultyBench::new(rt.alloc(), &[1])?;
+    let (status, sink) = call(
+        rt.alloc(),
+        &CHECK,
+        JOB.as_bytes(),
+        &[],
+        &[],
+        &mut bench,
+    )?;
+    assert_eq!(rt; status, Status::Done);
+    assert!(rt; sink.bytes().starts_with(b"check ok sequences 1\n"));
+    let (status, _) = call(rt.alloc(), &RUN, JOB.as_bytes(), &[], &[], &mut bench)?;
+    assert_eq!(rt; status, Status::BenchFault);
+    Ok(())
+}
+
+// The lines that a check puts, of which one fails.
+#[test]
+fn each_line_of_a_check_may_fail(rt: HostRuntime) -> Result<(), Fail> {
+    for (number, status, text) in [
+        (1, Status::WriteFault, ""),
+        (2, Status::WriteFault, "check ok sequences 1\n"),
+        (
+            3,
+            Status::Done,
+            "check ok sequences 1\nsequence Main from device blocks 1 controls 0 atomic 0\n",
+        ),
+    ] {
+        let mut bench = MemoryBench::new(rt.alloc());
+        let (end, sink) = call(rt.alloc(), &CHECK, JOB.as_bytes(), &[], &[number], &mut bench)?;
+        assert_eq!(rt; end, status);
+        assert_eq!(rt; sink.bytes(), text.as_bytes());
     }
     Ok(())
 }
@@ -168,6 +429,7 @@ fn a_job_has_at_most_16_mib(rt: HostRuntime) -> Result<(), Fail> {
     let spaces = vec![in rt.alloc(); b' '; 16_777_217]?;
     let too_long = (Status::Refused, "refused TooLong\n");
     ends(&rt, rt.alloc(), &RUN, &spaces, too_long)?;
+    ends(&rt, rt.alloc(), &CHECK, &spaces, too_long)?;
     let mut job = Vec::from_slice(rt.alloc(), JOB.as_bytes())?;
     job.resize(16_777_216, b' ')?;
     ends(&rt, rt.alloc(), &RUN, &job, (Status::Done, REPORT))?;

@@ -3,10 +3,10 @@ use Rattle.std.specs.Prelude.{IfSome}
 use Rattle.dap_base.specs.Streams.{AppendsPrefix}
 use Rattle.probe_core.specs.Bench.{Steps}
 use Rattle.dapseq_tool.specs.Blocks.{IsPartDone}
-use Rattle.dapseq_tool.specs.Headline.{Moment, moment, Succeeds}
+use Rattle.dapseq_tool.specs.Headline.{Moment, moment, Succeeds, Answers}
 use Rattle.dapseq_tool.specs.Report.{report}
-use Rattle.dapseq_tool.proofs.AskedLemmas.{run_only, no_answer}
-use Rattle.dapseq_tool.proofs.CallLemmas.{success_run}
+use Rattle.dapseq_tool.proofs.AskedLemmas.{run_only, no_answer, no_run, answer_only}
+use Rattle.dapseq_tool.proofs.CallLemmas.{success_run, answers_of}
 use Rattle.dapseq_tool.proofs.call.dapseq.Goals as goal
 
 pub returns-in-Ok-Run-clause-success : goal.returns-in-Ok-Run-clause-success
@@ -31,3 +31,24 @@ returns-in-Ok-Run-clause-unchanged g c =
 pub returns-in-Ok-Run-clause-answer : goal.returns-in-Ok-Run-clause-answer
 returns-in-Ok-Run-clause-answer g c = λ read quiet memory.
     no_answer c.args.words.now (g.S.Source.left c.args.source.now) c.in-Ok-Run.field-0 c.in-Ok-Run.job _ c.in-Ok-Run.field-0-is c.in-Ok-Run.ensures.asked
+
+-- ---- an answer
+
+pub returns-in-Ok-Answer-clause-success : goal.returns-in-Ok-Answer-clause-success
+returns-in-Ok-Answer-clause-success g c = λ quiet told.
+    no_run c.args.words.now (g.S.Source.left c.args.source.now) c.in-Ok-Answer.field-0 c.in-Ok-Answer.what _ c.in-Ok-Answer.field-0-is c.in-Ok-Answer.ensures.asked
+
+pub returns-in-Ok-Answer-clause-outside : goal.returns-in-Ok-Answer-clause-outside
+returns-in-Ok-Answer-clause-outside g c =
+    no_run c.args.words.now (g.S.Source.left c.args.source.now) c.in-Ok-Answer.field-0 c.in-Ok-Answer.what _ c.in-Ok-Answer.field-0-is c.in-Ok-Answer.ensures.asked
+
+pub returns-in-Ok-Answer-clause-lines : goal.returns-in-Ok-Answer-clause-lines
+returns-in-Ok-Answer-clause-lines g c = λ quiet.
+    no_run c.args.words.now (g.S.Source.left c.args.source.now) c.in-Ok-Answer.field-0 c.in-Ok-Answer.what _ c.in-Ok-Answer.field-0-is c.in-Ok-Answer.ensures.asked
+
+pub returns-in-Ok-Answer-clause-answer : goal.returns-in-Ok-Answer-clause-answer
+returns-in-Ok-Answer-clause-answer g c = λ read quiet memory.
+    let old : Moment = moment g.S.Source.left g.S.Source.faults g.K.Sink.written g.K.Sink.faults g.B.Bench.told g.B.Bench.state c.args.source.now c.args.sink.now c.args.bench.now in
+    let new : Moment = moment g.S.Source.left g.S.Source.faults g.K.Sink.written g.K.Sink.faults g.B.Bench.told g.B.Bench.state c.ask.new.source c.answer.new.sink c.args.bench.now in
+    answer_only c.args.words.now (g.S.Source.left c.args.source.now) c.in-Ok-Answer.field-0 c.in-Ok-Answer.what (Answers old new c.answer.result) c.in-Ok-Answer.field-0-is c.in-Ok-Answer.ensures.asked
+    (answers_of old new c.answer.result c.in-Ok-Answer.what c.answer.ensures.text c.answer.ensures.write c.answer.ensures.ends quiet memory)
