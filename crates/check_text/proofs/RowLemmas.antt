@@ -6,7 +6,7 @@ use Rattle.std.specs.Io.KnownBytes.{Appends}
 use Rattle.std.proofs.KnownBytes.{Appends-trans}
 use Rattle.std.specs.List.{flat_map}
 use Rattle.dap_base.specs.Streams.{AppendsPrefix, PutAppends}
-use Rattle.check_text.proofs.PutLemmas.{prefix_first, put_after}
+use Rattle.text_lines.proofs.PutLemmas.{prefix_first, put_after}
 
 -- the first items and the one behind them
 pub take-at : {X : Type 0} (xs : List X) (i : ℕ) (x : X) → slice_get xs i ≡ Some x → take (i + 1) xs ≡ take i xs ++ x ∷ []

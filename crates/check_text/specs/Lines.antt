@@ -8,7 +8,7 @@ use Rattle.sequence_code.specs.declared.spot.Part.{Part}
 use Rattle.sequence_code.specs.declared.spot.Spot.{Spot}
 use Rattle.sequence_resolve.specs.declared.entry.SeqEntry.{SeqEntry}
 use Rattle.sequence_resolve.specs.declared.entry.SeqSet.{SeqSet}
-use Rattle.check_text.specs.Shown.{shown, dotted}
+use Rattle.text_lines.specs.Shown.{shown, dotted}
 use Rattle.check_text.specs.Words.{level_word, part_word, kind_word, disabled_word}
 use Rattle.check_text.specs.Counts.{block_count, control_count, atomic_count}
 

@@ -3,14 +3,11 @@
 #![tactic(auto)]
 
 mod counts;
-mod line;
 mod lines;
-mod shown;
 mod words;
 mod writing;
 
-pub use line::Line;
-pub use writing::{TextError, put_line, put_text, write_check, write_check_fault};
+pub use writing::{write_check, write_check_fault};
 
 #[cfg(test)]
 mod tests;

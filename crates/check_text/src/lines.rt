@@ -1,11 +1,10 @@
 // The lines of the texts.
 ghost use Rattle.std.specs.Prelude.{◌≡◌, ◌++◌, codes, IfOk};
-ghost use Rattle.check_text.specs.Shown.{shown};
+ghost use Rattle.text_lines.specs.Shown.{shown};
 ghost use Rattle.check_text.specs.Words.{level_word, kind_word};
 ghost use Rattle.check_text.specs.Lines.{head_line, counts_words, sequence_line, place_words, step_words, where_words, fault_line};
 
 use crate::counts::counts_of;
-use crate::line::Line;
 use crate::words::{disabled_text, kind_text, level_text, part_text};
 use code_check::FaultKind;
 use dap_base::{OutOfMemory, Place};
@@ -13,6 +12,7 @@ use device_tree::Steps;
 use sequence_code::Spot;
 use sequence_resolve::SeqEntry;
 use std::alloc::Global;
+use text_lines::Line;
 
 pub fn head_text(alloc: Global, sequences: u64) -> Result<Line, OutOfMemory>
     ensures { IfOk result (λ line. line ≡ head_line sequences) }

@@ -1,4 +1,4 @@
-use crate::{TextError, write_check, write_check_fault};
+use crate::{write_check, write_check_fault};
 use code_check::FaultKind;
 use dap_base::{ItemList, MemorySink, NameText, OutOfMemory, Place};
 use device_tree::{Step, Steps};
@@ -6,6 +6,7 @@ use sequence_code::{Part, Spot};
 use sequence_resolve::{LevelKind, SeqEntry, SeqSet};
 use std::alloc::Global;
 use std::test::Fail;
+use text_lines::TextError;
 
 fn block(alloc: Global, atomic: bool) -> Result<Step, OutOfMemory> {
     let code = NameText::new(alloc, "1;")?;

@@ -1,50 +1,16 @@
 // Writing the texts line by line.
-ghost use Rattle.std.specs.Prelude.{◌≡◌, ℕ, List, IfOk};
 ghost use Rattle.std.specs.List.{flat_map};
 ghost use Rattle.dap_base.specs.Streams.{PutAppends};
-ghost use Rattle.check_text.specs.Causes.{NamesFault};
+ghost use Rattle.text_lines.specs.Causes.{NamesFault};
 ghost use Rattle.check_text.specs.Lines.{sequence_line, check_text, fault_line};
 
-use crate::line::Line;
 use crate::lines::{fault_text, head_text, sequence_text};
 use code_check::FaultKind;
-use dap_base::{OutOfMemory, Sink};
+use dap_base::Sink;
 use sequence_code::Spot;
 use sequence_resolve::{SeqEntry, SeqSet};
 use std::alloc::Global;
-
-/// Why a text was not written whole.
-#[derive(Clone, Copy, Debug, PartialEq, Eq)]
-pub enum TextError {
-    /// The sink failed.
-    Failed,
-    /// Memory was refused.
-    OutOfMemory,
-}
-
-/// Puts a text by one `put`. `Failed` where the sink failed; a prefix of the text was then appended.
-pub fn put_text<K: Sink>(text: &[u8], sink: &mut K) -> Result<(), TextError>
-    ensures text { PutAppends (K.written sink.old) (K.written sink.new) result text.now }
-    ensures sink { NamesFault TextError.Failed (K.faults sink.old) (K.faults sink.new) result }
-{
-    match sink.put(text) {
-        Ok(()) => Ok(()),
-        Err(_) => Err(TextError::Failed),
-    }
-}
-
-/// Puts a line by one `put`, if there was memory for it. `Failed` where the sink failed, `OutOfMemory`
-/// where the line is want of memory; a prefix of the line was then appended.
-#[tactic(auto, using(crate::proofs::PutLemmas::no_part))]
-pub fn put_line<K: Sink>(line: Result<Line, OutOfMemory>, sink: &mut K) -> Result<(), TextError>
-    ensures text { (text : List ℕ) → IfOk line (λ l. l ≡ text) → PutAppends (K.written sink.old) (K.written sink.new) result text }
-    ensures sink { NamesFault TextError.Failed (K.faults sink.old) (K.faults sink.new) result }
-{
-    match line {
-        Ok(line) => put_text(line.as_bytes(), sink),
-        Err(_) => Err(TextError::OutOfMemory),
-    }
-}
+use text_lines::{TextError, put_line};
 
 // Puts the lines of sequences.
 fn write_sequences<K: Sink>(

@@ -1,5 +1,4 @@
 pub mod TextLemmas
-pub mod PutLemmas
 pub mod RowLemmas
 pub mod ExchangeLemmas
 pub mod TransferLemmas

@@ -12,7 +12,7 @@ use Rattle.target_machine.specs.declared.image.ImageAsk.TheVariants as ask
 use Rattle.probe_core.specs.Bench.{BenchState, Seen, IsAsBefore}
 use Rattle.probe_core.specs.Probe.{target_of}
 use Rattle.dapseq_tool.specs.Report.{part_of, word_lines}
-use Rattle.dapseq_tool.proofs.PutLemmas.{prefix_first, put_after}
+use Rattle.text_lines.proofs.PutLemmas.{prefix_first, put_after}
 
 -- a bench that is twice as it was before
 pub before-trans : (a b c : Seen) → IsAsBefore a b → IsAsBefore b c → IsAsBefore a c

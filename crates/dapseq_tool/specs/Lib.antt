@@ -2,7 +2,6 @@ pub mod Asked
 pub mod Lines
 pub mod Meaning
 pub mod Report
-pub mod Ends
 pub mod Exchange
 pub mod Progress
 pub mod Ready

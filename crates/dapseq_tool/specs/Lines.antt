@@ -1,26 +1,10 @@
 -- The lines of a report. Each ends with a line feed.
 use Rattle.std.specs.Prelude.{ℕ, ◌^◌, nat_le, Bool, true, false, List, [], ◌++◌, codes, decimal, Option, Some, None, if◌then◌else◌}
-use Rattle.std.specs.Fmt.{digits}
-use Rattle.byteorder.specs.Endian.{big_bytes}
-use Rattle.hex.specs.Hex.{encode_lower}
+use Rattle.text_lines.specs.Hex.{hex, hex2, hex8, hex16}
 use Rattle.target_machine.specs.declared.image.ApImage.{ApImage}
 use Rattle.target_machine.specs.declared.image.DpImage.{DpImage}
 use Rattle.target_machine.specs.declared.image.LinesImage.{LinesImage}
 use Rattle.target_machine.specs.declared.image.WordImage.{WordImage}
-
--- `0x` and so many lower-case hexadecimal digits, two for each byte
-abbrev pub hex8 : ℕ → List ℕ
-hex8 n = codes "0x" ++ encode_lower (big_bytes 4 n)
-
-abbrev pub hex16 : ℕ → List ℕ
-hex16 n = codes "0x" ++ encode_lower (big_bytes 8 n)
-
-abbrev pub hex2 : ℕ → List ℕ
-hex2 n = codes "0x" ++ encode_lower (big_bytes 1 n)
-
--- `0x` and lower-case hexadecimal digits without leading zeros
-abbrev pub hex : ℕ → List ℕ
-hex n = codes "0x" ++ digits 16 false n
 
 -- an address: eight digits, and sixteen from 2^32 on
 abbrev pub hex_address : ℕ → List ℕ

@@ -8,7 +8,7 @@ ghost use Rattle.dap_transfer.specs.Wires.{access_of};
 ghost use Rattle.probe_core.specs.Bench.{Steps, sent, received};
 ghost use Rattle.probe_core.specs.Packet.{answered};
 ghost use Rattle.probe_core.specs.Probe.{target_of};
-ghost use Rattle.dapseq_tool.specs.Ends.{NamesFault};
+ghost use Rattle.text_lines.specs.Causes.{NamesFault};
 ghost use Rattle.dapseq_tool.specs.Exchange.{IsOpen, IsIdle, IsOne, HasAnswered, IsBadExchange, packet_of, reply_value};
 ghost use Rattle.dapseq_tool.specs.Progress.{CanDo, IsAmid, IsAccessed, actions_of};
 

@@ -1,15 +1,16 @@
 // What is written where no job runs.
 ghost use Rattle.std.specs.Prelude.{◌≡◌, ◌⊎◌};
 ghost use Rattle.dap_base.specs.Streams.{PutAppends};
-ghost use Rattle.check_text.specs.Causes.{NamesFault};
+ghost use Rattle.text_lines.specs.Causes.{NamesFault};
 ghost use Rattle.dapseq_tool.specs.Report.{answer_text, answer_status};
 
 use crate::asking::Answer;
 use crate::status::Status;
-use check_text::{TextError, put_text, write_check};
+use check_text::write_check;
 use dap_base::Sink;
 use job_check::write_refusal;
 use std::alloc::Global;
+use text_lines::{TextError, put_text};
 
 const USAGE: &[u8] =
     b"usage dapseq MODE [--device NAME] [--variant NAME] [--pname NAME] [--sequence NAME] [--number N]\n";

@@ -17,10 +17,10 @@ use crate::asking::{Answer, Asked, Unasked, ask};
 use crate::reporting::{TextEnd, write_report};
 use crate::run::run_job;
 use crate::status::Status;
-use check_text::TextError;
 use dap_base::{Sink, Source, Words};
 use probe_core::Bench;
 use std::alloc::Global;
+use text_lines::TextError;
 use word_job::RunJob;
 
 // Writes an answer.

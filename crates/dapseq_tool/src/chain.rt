@@ -2,7 +2,7 @@
 ghost use Rattle.std.specs.Prelude.{◌≡◌, [], ◌∷◌, IfOk, OnOk, OnErr, IsErrOf};
 ghost use Rattle.dap_base.specs.Causes.{Rose};
 ghost use Rattle.probe_core.specs.Bench.{Steps};
-ghost use Rattle.dapseq_tool.specs.Ends.{NamesFault};
+ghost use Rattle.text_lines.specs.Causes.{NamesFault};
 ghost use Rattle.dapseq_tool.specs.Exchange.{IsOpen, IsOne, IsBadExchange};
 ghost use Rattle.dapseq_tool.specs.Progress.{CanDo, IsAmid, AreAccessed, CannotFail, actions_of};
 

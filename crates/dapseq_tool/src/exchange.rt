@@ -4,7 +4,7 @@ ghost use Rattle.dap_base.specs.Causes.{Rose, HasCause};
 ghost use Rattle.probe_core.specs.Bench.{Steps, sent, received, IsSame};
 ghost use Rattle.probe_core.specs.Packet.{answered};
 ghost use Rattle.probe_core.specs.Probe.{is_queued};
-ghost use Rattle.dapseq_tool.specs.Ends.{NamesFault};
+ghost use Rattle.text_lines.specs.Causes.{NamesFault};
 ghost use Rattle.dapseq_tool.specs.Exchange.{IsOpen, IsIdle, HasAnswered};
 
 use dap_base::Failed;

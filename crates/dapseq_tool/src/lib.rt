@@ -8,7 +8,6 @@ mod call;
 mod chain;
 mod exchange;
 pub mod laws;
-mod line;
 mod lines;
 mod reading;
 mod reporting;

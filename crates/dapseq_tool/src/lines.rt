@@ -1,11 +1,12 @@
 // The lines of a report.
 ghost use Rattle.std.specs.Prelude.{◌≡◌, ◌++◌, IfOk, codes, decimal};
-ghost use Rattle.dapseq_tool.specs.Lines.{bit_of, hex2, hex8, hex16, units_line, variable_line, dp_line, high_part, ap_line, lines_line, hex_address, place_part, word_line};
+ghost use Rattle.text_lines.specs.Hex.{hex2, hex8, hex16};
+ghost use Rattle.dapseq_tool.specs.Lines.{bit_of, units_line, variable_line, dp_line, high_part, ap_line, lines_line, hex_address, place_part, word_line};
 
-use crate::line::Line;
 use dap_base::OutOfMemory;
 use std::alloc::Global;
 use target_machine::{ApImage, DpImage, LinesImage, WordImage};
+use text_lines::Line;
 
 /// How many units were asked.
 pub fn units_text(alloc: Global, units: u64) -> Result<Line, OutOfMemory>

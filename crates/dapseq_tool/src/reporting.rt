@@ -4,16 +4,16 @@ ghost use Rattle.std.specs.List.{All, zip};
 ghost use Rattle.dap_base.specs.Streams.{PutAppends};
 ghost use Rattle.probe_core.specs.Bench.{IsAsBefore, seen};
 ghost use Rattle.probe_core.specs.Probe.{target_of};
-ghost use Rattle.dapseq_tool.specs.Ends.{NamesFault};
+ghost use Rattle.text_lines.specs.Causes.{NamesFault};
 ghost use Rattle.word_job.specs.Sound.{IsLowItem};
 ghost use Rattle.dapseq_tool.specs.Report.{part_line, part_of, variable_lines, word_lines, watch_lines, lines_on, ports_on, target_lines, values_on, units_on, done_text};
 
-use crate::line::Line;
 use crate::lines::{ap_text, dp_text, lines_text, units_text, variable_text, word_text};
 use dap_base::{OutOfMemory, Sink};
 use probe_core::Bench;
 use std::alloc::Global;
 use target_machine::{ImageAsk, ImagePart};
+use text_lines::Line;
 use word_job::{Named, RunJob, WatchItem};
 
 /// Why a text was not written whole.
@@ -40,7 +40,7 @@ fn put<K: Sink>(text: &[u8], sink: &mut K) -> Result<(), TextEnd>
 }
 
 // Puts a line, if there was memory for it.
-#[tactic(auto, using(crate::proofs::PutLemmas::no_part))]
+#[tactic(auto, using(text_lines::proofs::PutLemmas::no_part))]
 fn put_line<K: Sink>(line: Result<Line, OutOfMemory>, sink: &mut K) -> Result<(), TextEnd>
     ensures text { (text : List ℕ) → IfOk line (λ l. l ≡ text) → PutAppends (K.written sink.old) (K.written sink.new) result text }
     ensures bench { IfErr result (λ e. e ≢ TextEnd.BenchFault) }
@@ -68,7 +68,7 @@ fn part_text(alloc: Global, ask: ImageAsk, part: &ImagePart) -> Result<Option<Li
 }
 
 // Puts the line of a part of the target.
-#[tactic(auto, unfolding(crate::specs::Report::part_of), using(crate::proofs::PutLemmas::no_part, crate::proofs::PutLemmas::nothing))]
+#[tactic(auto, unfolding(crate::specs::Report::part_of), using(text_lines::proofs::PutLemmas::no_part, text_lines::proofs::PutLemmas::nothing))]
 fn write_part<K: Sink, B: Bench>(
     alloc: Global,
     ask: ImageAsk,

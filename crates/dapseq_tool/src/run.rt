@@ -3,7 +3,7 @@ ghost use Rattle.std.specs.Prelude.{◌≡◌, ◌≢◌, ◌*◌, length, map, 
 ghost use Rattle.dap_base.specs.Causes.{Rose};
 ghost use Rattle.probe_core.specs.Bench.{Steps, fresh};
 ghost use Rattle.dapseq_tool.specs.Blocks.{HaveRun, IsAmidBlock, IsPartDone, IsRunDone};
-ghost use Rattle.dapseq_tool.specs.Ends.{NamesFault};
+ghost use Rattle.text_lines.specs.Causes.{NamesFault};
 ghost use Rattle.dapseq_tool.specs.Exchange.{IsOpen, IsBadExchange};
 ghost use Rattle.dapseq_tool.specs.Meaning.{outcome, first_values, stored};
 ghost use Rattle.word_job.specs.Sound.{IsSoundRun};

@@ -339,7 +339,9 @@ fn a_chain_of_calls_has_at_most_32_sequences(rt: HostRuntime) -> Result<(), Fail
     let mut bench = MemoryBench::new(rt.alloc());
     let (status, sink) = call(rt.alloc(), &CHECK, job.as_bytes(), &[], &[], &mut bench)?;
     assert_eq!(rt; status, Status::Done);
-    assert!(rt; sink.bytes().starts_with(b"check ok sequences 32\nsequence S0 from device blocks 1 "));
+    assert!(rt;
+        sink.bytes().starts_with(b"check ok sequences 32\nsequence S0 from device blocks 1 ")
+    );
     Ok(())
 }
 
@@ -389,14 +391,7 @@ fn other_jobs_are_refused(rt: HostRuntime) -> Result<(), Fail> {
 #[test]
 fn a_check_leaves_the_bench(rt: HostRuntime) -> Result<(), Fail> {
     let mut bench = FaultyBench::new(rt.alloc(), &[1])?;
-    let (status, sink) = call(
-        rt.alloc(),
-        &CHECK,
-        JOB.as_bytes(),
-        &[],
-        &[],
-        &mut bench,
-    )?;
+    let (status, sink) = call(rt.alloc(), &CHECK, JOB.as_bytes(), &[], &[], &mut bench)?;
     assert_eq!(rt; status, Status::Done);
     assert!(rt; sink.bytes().starts_with(b"check ok sequences 1\n"));
     let (status, _) = call(rt.alloc(), &RUN, JOB.as_bytes(), &[], &[], &mut bench)?;
@@ -417,7 +412,14 @@ fn each_line_of_a_check_may_fail(rt: HostRuntime) -> Result<(), Fail> {
         ),
     ] {
         let mut bench = MemoryBench::new(rt.alloc());
-        let (end, sink) = call(rt.alloc(), &CHECK, JOB.as_bytes(), &[], &[number], &mut bench)?;
+        let (end, sink) = call(
+            rt.alloc(),
+            &CHECK,
+            JOB.as_bytes(),
+            &[],
+            &[number],
+            &mut bench,
+        )?;
         assert_eq!(rt; end, status);
         assert_eq!(rt; sink.bytes(), text.as_bytes());
     }

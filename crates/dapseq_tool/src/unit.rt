@@ -4,7 +4,7 @@ ghost use Rattle.dap_base.specs.Causes.{Rose};
 ghost use Rattle.target_machine.specs.declared.job.RegionJob.{RegionJob};
 ghost use Rattle.probe_core.specs.Bench.{Steps};
 ghost use Rattle.probe_core.specs.Probe.{target_of};
-ghost use Rattle.dapseq_tool.specs.Ends.{NamesFault};
+ghost use Rattle.text_lines.specs.Causes.{NamesFault};
 ghost use Rattle.dapseq_tool.specs.Exchange.{IsOpen, IsOne, IsBadExchange};
 ghost use Rattle.dapseq_tool.specs.Meaning.{statement_done};
 ghost use Rattle.dapseq_tool.specs.Progress.{IsAmid, CanDo, AreAccessed, CannotFail, actions_of};

@@ -3,7 +3,7 @@ use Rattle.std.specs.Prelude.{ℕ, List, [], ◌++◌, codes}
 use Rattle.json_form.specs.declared.path.PathStep.{PathStep}
 use Rattle.json_form.specs.declared.fault.JobFault.{JobFault}
 use Rattle.json_form.specs.declared.fault.JobFault.TheVariants as faults
-use Rattle.check_text.specs.Shown.{shown}
+use Rattle.text_lines.specs.Shown.{shown}
 use Rattle.check_text.specs.Lines.{fault_line}
 use Rattle.job_text.specs.PathText.{path_bytes}
 use Rattle.job_check.specs.declared.answer.Refusal.{Refusal}

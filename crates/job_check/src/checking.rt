@@ -85,11 +85,7 @@ fn answered(alloc: Global, bytes: &[u8], selection: &Selection) -> Result<SeqSet
 /// `NoVariant` exactly where no device, two or more devices, and no variant of the one device have
 /// the names; `Check` exactly where the set is not valid, with its first fault. `OutOfMemory` where
 /// memory is refused. The limit on the number of bytes is the caller's.
-pub fn valid_set(
-    alloc: Global,
-    bytes: &[u8],
-    selection: &Selection,
-) -> Result<SeqSet, Unchecked>
+pub fn valid_set(alloc: Global, bytes: &[u8], selection: &Selection) -> Result<SeqSet, Unchecked>
     // What is answered is the answer to the bytes and the selection.
     ensures answer { AnswersJob bytes.now selection.now result }
     // Their answer is what is answered, unless memory is refused.

@@ -1,17 +1,18 @@
 // The line of a refusal.
 ghost use Rattle.std.specs.Prelude.{◌≡◌, ◌++◌, codes, IfOk};
 ghost use Rattle.dap_base.specs.Streams.{PutAppends};
-ghost use Rattle.check_text.specs.Causes.{NamesFault};
-ghost use Rattle.check_text.specs.Shown.{shown};
+ghost use Rattle.text_lines.specs.Causes.{NamesFault};
+ghost use Rattle.text_lines.specs.Shown.{shown};
 ghost use Rattle.job_text.specs.PathText.{path_bytes};
 ghost use Rattle.job_check.specs.Lines.{path_line, job_fault_line, refusal_line};
 
 use crate::answer::Refusal;
-use check_text::{Line, TextError, put_line, put_text, write_check_fault};
+use check_text::write_check_fault;
 use dap_base::{OutOfMemory, Sink};
 use device_tree::{JobFault, Path};
 use job_text::path_text;
 use std::alloc::Global;
+use text_lines::{Line, TextError, put_line, put_text};
 
 fn path_line(alloc: Global, kind: &str, path: &Path) -> Result<Line, OutOfMemory>
     ensures { IfOk result (λ line. line ≡ path_line kind.now path.now) }
