@@ -1,5 +1,5 @@
 -- What the check of a set answers.
-use Rattle.std.proofs.Common.{◌≡◌, ◌∙◌, sym, ap, subst, ℕ, zero, suc, ◌+◌, ◌-◌, true, false, List, [], ◌∷◌, ◌++◌, map, drop, slice_get, get_or, append_assoc, Option, Some, None, option_map, MatchOption, Result, Ok, Err, IfOk, refl, arith}
+use Rattle.std.proofs.Common.{◌≡◌, ◌∙◌, sym, ap, subst, ℕ, zero, suc, ◌+◌, true, false, List, [], ◌∷◌, ◌++◌, map, drop, slice_get, get_or, append_assoc, Option, Some, None, option_map, MatchOption, Result, Ok, Err, IfOk}
 use Rattle.std.specs.List.{IsDistinct}
 use Rattle.std.specs.Str.{bytes_eq}
 use Rattle.dap_base.specs.declared.text.OutOfMemory.{OutOfMemory}
@@ -20,11 +20,12 @@ use Rattle.code_check.specs.BlockFaults.{names_behind_all, BlockFault}
 use Rattle.seq_check.specs.declared.faulty.HeldFault.{HeldFault}
 use Rattle.seq_check.specs.declared.step_calls.StepCall.{StepCall}
 use Rattle.seq_check.specs.declared.set_check.FirstFault.{FirstFault}
-use Rattle.seq_check.specs.StepFaults.{StepFault, is_step_before, At, Under}
-use Rattle.seq_check.specs.SetFaults.{names_of, FaultInSequences, FaultInSet}
+use Rattle.seq_check.specs.declared.faulty.Holder.TheVariants as holders
+use Rattle.seq_check.specs.StepFaults.{At}
+use Rattle.seq_check.specs.SetFaults.{SetFault, is_set_before, Of, names_of, FaultInSequences, FaultInSet}
 use Rattle.seq_check.specs.Calls.{call_graph}
 use Rattle.seq_check.specs.Valid as valid
-use Rattle.seq_check.specs.Valid.{CallsAreSound, IsCallAt, IsFirstCallFault, holder_name, IsSound, IsFirstOf, IsFirstFaultOf}
+use Rattle.seq_check.specs.Valid.{CallsAreSound, IsCallAt, IsFirstCallFault, IsSound, IsFirstOf}
 use Rattle.seq_check.specs.Views.{held_view}
 use Rattle.seq_check.proofs.SetLemmas.{drop-at, set_held, set_answer}
 
@@ -68,45 +69,32 @@ pub calls_sound : (set : SetTrees) (g : List (List ℕ)) (o p : Option CallSpot)
 calls_sound set g o None e is finds deep_is deep = record { no_cycle = no_cycle set g o e is finds; none_deep = λ c h. deep c (subst (λ x. graph.IsDeep x c) (sym e) h) }
 calls_sound set g o (Some x) e is finds deep_is deep = absurd cc
 
--- ---- the name of what has a fault
-
-slice_get-map : {A B : Type 0} (f : A → B) (xs : List A) (i : ℕ) → slice_get (map f xs) i ≡ option_map f (slice_get xs i)
-slice_get-map f [] i = refl
-slice_get-map f (x ∷ xs) zero = refl
-slice_get-map f (x ∷ xs) (suc i) = slice_get-map f xs i
-
-pub holder_told : (set : SetTrees) (holder : ℕ) (o : Option (List ℕ)) → (holder ≡ 0 → ⊥) → o ≡ option_map (λ s. s.name) (slice_get set.sequences (holder - 1)) → o ≡ holder_name set holder
-holder_told set zero o h e = absurd (h refl)
-holder_told set (suc n) o h e =
-    let less : suc n - 1 ≡ n = omega arith in
-    e ∙ ap (λ m. option_map (λ s. s.name) (slice_get set.sequences m)) less ∙ sym (slice_get-map (λ s. s.name) set.sequences n)
-
 -- ---- the texts and controls of a set
 
-pub held_first : (set : SetTrees) (names sequences : List (List ℕ)) (code : List StmtTree) (f : StepFault) → names ≡ predefined → sequences ≡ names_of set → code ≡ set.debugvars
-    → IsFirst is_step_before (Under 0 (At parts.Debugvars (BlockFault (record { visible = names; sequences = sequences; in_debugvars = true }) code))) (Some f) → IsFirst is_step_before (FaultInSet set) (Some f)
+pub held_first : (set : SetTrees) (names sequences : List (List ℕ)) (code : List StmtTree) (f : SetFault) → names ≡ predefined → sequences ≡ names_of set → code ≡ set.debugvars
+    → IsFirst is_set_before (Of holders.Debugvars (At parts.Debugvars (BlockFault (record { visible = names; sequences = sequences; in_debugvars = true }) code))) (Some f) → IsFirst is_set_before (FaultInSet set) (Some f)
 held_first set names sequences code f p q r h = set_held set f (rw (p, q, r) at h)
 
 pub set_first : (set : SetTrees) (names sequences visible : List (List ℕ)) (code : List StmtTree) (r : Result (Option HeldFault) OutOfMemory)
     → names ≡ predefined → sequences ≡ names_of set → code ≡ set.debugvars → visible ≡ names_behind_all names code
-    → IsFirst is_step_before (Under 0 (At parts.Debugvars (BlockFault (record { visible = names; sequences = sequences; in_debugvars = true }) code))) None
-    → IfOk r (λ o. IsFirst is_step_before (FaultInSequences (record { visible = visible; sequences = sequences; in_debugvars = false }) 1 (map (λ s. s.steps) set.sequences)) (option_map held_view o))
-    → IfOk r (λ o. IsFirst is_step_before (FaultInSet set) (option_map held_view o))
+    → IsFirst is_set_before (Of holders.Debugvars (At parts.Debugvars (BlockFault (record { visible = names; sequences = sequences; in_debugvars = true }) code))) None
+    → IfOk r (λ o. IsFirst is_set_before (FaultInSequences (record { visible = visible; sequences = sequences; in_debugvars = false }) 0 (map (λ s. s.steps) set.sequences)) (option_map held_view o))
+    → IfOk r (λ o. IsFirst is_set_before (FaultInSet set) (option_map held_view o))
 set_first set names sequences visible code r p q e v none h =
     let seen : visible ≡ names_behind_all predefined set.debugvars = v ∙ ap (λ n. names_behind_all n code) p ∙ ap (names_behind_all predefined) e in
     let all = map (λ s. s.steps) set.sequences in
-    let First : List (List ℕ) → List (List ℕ) → Type 0 = λ x y. IfOk r (λ o. IsFirst is_step_before (FaultInSequences (record { visible = x; sequences = y; in_debugvars = false }) 1 all) (option_map held_view o)) in
+    let First : List (List ℕ) → List (List ℕ) → Type 0 = λ x y. IfOk r (λ o. IsFirst is_set_before (FaultInSequences (record { visible = x; sequences = y; in_debugvars = false }) 0 all) (option_map held_view o)) in
     set_answer set r (rw (p, q, e) at none) (subst (λ y. First (names_behind_all predefined set.debugvars) y) q (subst (λ x. First x sequences) seen h))
 
 -- ---- the whole
 
-pub rules_answer : (set : SetTrees) (r : Result (Option FirstFault) OutOfMemory) → ((f : StepFault) → FaultInSet set f → ⊥)
+pub rules_answer : (set : SetTrees) (r : Result (Option FirstFault) OutOfMemory) → ((f : SetFault) → FaultInSet set f → ⊥)
     → IfOk r (λ o. MatchOption o (CallsAreSound set) (λ t. IsFirstCallFault set t.kind t.spot)) → IfOk r (λ o. MatchOption o (IsSound set) (λ t. IsFirstOf set t.kind t.spot))
 rules_answer set (Err e) none h = tt
 rules_answer set (Ok None) none h = record { no_fault = none; calls = h }
 rules_answer set (Ok (Some t)) none h = valid.in_calls none h
 
-pub none_stands : (set : SetTrees) → IsFirst is_step_before (FaultInSet set) None → (f : StepFault) → FaultInSet set f → ⊥
+pub none_stands : (set : SetTrees) → IsFirst is_set_before (FaultInSet set) None → (f : SetFault) → FaultInSet set f → ⊥
 none_stands set h f s = h.none_before f s
 
 call_fault_unsound : (set : SetTrees) (kind : FaultKind) (spot : Spot) → CallsAreSound set → IsFirstCallFault set kind spot → ⊥

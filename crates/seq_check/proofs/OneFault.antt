@@ -10,13 +10,12 @@ use Rattle.call_graph.specs.Spots as graph
 use Rattle.code_check.specs.declared.fault.FaultKind.{FaultKind}
 use Rattle.code_check.specs.First.{IsFirst}
 use Rattle.code_check.proofs.OneFirst.{one_first}
-use Rattle.seq_check.specs.StepFaults.{StepFault, is_step_before}
-use Rattle.seq_check.specs.SetFaults.{FaultInSet}
+use Rattle.seq_check.specs.SetFaults.{SetFault, is_set_before, FaultInSet}
 use Rattle.seq_check.specs.Calls.{call_graph}
 use Rattle.seq_check.specs.Valid as valid
 use Rattle.seq_check.specs.Valid.{IsCallAt, IsFirstCallFault, spot_of, IsSound, IsFirstOf, IsValid, IsFirstFaultOf}
 use Rattle.seq_check.proofs.CheckLemmas.{not_sound}
-use Rattle.seq_check.proofs.OrderLaws.{is_step_before-total}
+use Rattle.seq_check.proofs.OrderLaws.{is_set_before-total}
 
 some_is : {X : Type 0} (x y : X) → Some x ≡ Some y → x ≡ y
 some_is x y e = cc
@@ -56,13 +55,13 @@ one_call_fault set kind other_kind spot other (valid.deep none c first at is) (v
 
 -- ---- a set that was read
 
-one_step_fault : (set : SetTrees) (f g : StepFault) → IsFirst is_step_before (FaultInSet set) (Some f) → IsFirst is_step_before (FaultInSet set) (Some g) → f ≡ g
-one_step_fault set f g h j = some_is f g (one_first is_step_before (FaultInSet set) (Some f) (Some g) is_step_before-total h j)
+one_set_fault : (set : SetTrees) (f g : SetFault) → IsFirst is_set_before (FaultInSet set) (Some f) → IsFirst is_set_before (FaultInSet set) (Some g) → f ≡ g
+one_set_fault set f g h j = some_is f g (one_first is_set_before (FaultInSet set) (Some f) (Some g) is_set_before-total h j)
 
 one_first_of : (set : SetTrees) (kind other_kind : FaultKind) (spot other : Spot) → IsFirstOf set kind spot → IsFirstOf set other_kind other → (kind ≡ other_kind) × (spot ≡ other)
 one_first_of set kind other_kind spot other (valid.in_texts f first is at) (valid.in_texts g second was at') =
-    let same : f ≡ g = one_step_fault set f g first second in
-    (is ∙ ap (λ x. x.fault.kind) same ∙ sym was, at ∙ ap (λ x. spot_of set x.path x.part x.fault.place) same ∙ sym at')
+    let same : f ≡ g = one_set_fault set f g first second in
+    (is ∙ ap (λ x. x.fault.fault.kind) same ∙ sym was, at ∙ ap (spot_of set) same ∙ sym at')
 one_first_of set kind other_kind spot other (valid.in_texts f first is at) (valid.in_calls none call) = absurd (none f first.stands)
 one_first_of set kind other_kind spot other (valid.in_calls none call) (valid.in_texts f first is at) = absurd (none f first.stands)
 one_first_of set kind other_kind spot other (valid.in_calls none call) (valid.in_calls none' call') = one_call_fault set kind other_kind spot other call call'

@@ -6,7 +6,10 @@ use Rattle.sequence_code.specs.declared.spot.Part.TheVariants as parts
 use Rattle.code_check.specs.declared.fault.CodeFault.{CodeFault}
 use Rattle.code_check.specs.Order.{is_before}
 use Rattle.code_check.proofs.OneFirst.{is_before-total}
+use Rattle.seq_check.specs.declared.faulty.Holder.{Holder}
+use Rattle.seq_check.specs.declared.faulty.Holder.TheVariants as holders
 use Rattle.seq_check.specs.StepFaults.{StepFault, path_before, part_rank, control_rank, fault_before, is_step_before}
+use Rattle.seq_check.specs.SetFaults.{SetFault, holder_before, is_set_before}
 
 or_first : (a b : Bool) → (a || b) ≡ false → a ≡ false
 or_first true b h = h
@@ -53,7 +56,7 @@ one_in_part parts.Block f g h j = is_before-total f g h j
 one_in_part parts.If f g h j = is_before-total f g h j
 one_in_part parts.While f g h j = is_before-total f g h j
 
-pub is_step_before-total : (f g : StepFault) → is_step_before f g ≡ false → is_step_before g f ≡ false → f ≡ g
+is_step_before-total : (f g : StepFault) → is_step_before f g ≡ false → is_step_before g f ≡ false → f ≡ g
 is_step_before-total f g h j =
     let no_path = or_first (path_before f.path g.path) _ h in
     let no_other = or_first (path_before g.path f.path) _ j in
@@ -64,3 +67,21 @@ is_step_before-total f g h j =
     ap (λ x. record { path = x; part = f.part; fault = f.fault }) (one_path f.path g.path no_path no_other)
     ∙ ap (λ x. record { path = g.path; part = x; fault = f.fault }) part
     ∙ ap (λ x. record { path = g.path; part = g.part; fault = x }) fault
+
+neither : (m n : ℕ) → nat_lt m n ≡ false → nat_lt n m ≡ false → m ≡ n
+neither m n h j = grind (arith, nat_tests)
+
+one_holder : (a b : Holder) → holder_before a b ≡ false → holder_before b a ≡ false → a ≡ b
+one_holder holders.Debugvars holders.Debugvars h j = refl
+one_holder holders.Debugvars (holders.Sequence n) h j = absurd (true≢false h)
+one_holder (holders.Sequence m) holders.Debugvars h j = absurd (true≢false j)
+one_holder (holders.Sequence m) (holders.Sequence n) h j = ap (λ x. holders.Sequence x) (neither m n h j)
+
+pub is_set_before-total : (f g : SetFault) → is_set_before f g ≡ false → is_set_before g f ≡ false → f ≡ g
+is_set_before-total f g h j =
+    let no_holder = or_first (holder_before f.holder g.holder) _ h in
+    let no_other = or_first (holder_before g.holder f.holder) _ j in
+    let fault : f.fault ≡ g.fault = is_step_before-total f.fault g.fault
+    (past (holder_before f.holder g.holder) (holder_before g.holder f.holder) _ h no_other) (past (holder_before g.holder f.holder) (holder_before f.holder g.holder) _ j no_holder) in
+    ap (λ x. record { holder = x; fault = f.fault }) (one_holder f.holder g.holder no_holder no_other)
+    ∙ ap (λ x. record { holder = g.holder; fault = x }) fault

@@ -1,5 +1,6 @@
 -- The sequences of a set, one after another.
-use Rattle.std.proofs.Common.{◌≡◌, ◌∙◌, sym, ap, subst, ℕ, zero, suc, ◌+◌, ◌≤◌, ◌||◌, Bool, true, false, List, [], ◌∷◌, ◌++◌, map, length, drop, slice_get, Option, Some, None, option_map, bytes_eq, append_assoc, refl, arith, add-one, true≢false, Result, Ok, Err, IfOk}
+use Rattle.std.proofs.Common.{◌≡◌, ◌∙◌, sym, ap, subst, ℕ, zero, suc, ◌+◌, ◌≤◌, nat_lt, ◌||◌, Bool, true, false, List, [], ◌∷◌, ◌++◌, map, length, drop, slice_get, Option, Some, None, option_map, bytes_eq, append_assoc, refl, arith, add-one, true≢false, Result, Ok, Err, IfOk}
+use Rattle.std.proofs.lemmas.Bool.Decides.{nat_tests}
 use Rattle.std.proofs.lemmas.Slice.Eq.{bytes_eq-Decides}
 use Rattle.std.proofs.lemmas.List.Folds.{list_any-append}
 use Rattle.std.proofs.lemmas.List.{append-nil}
@@ -13,10 +14,11 @@ use Rattle.code_check.specs.ExprFaults.{Scope}
 use Rattle.code_check.specs.BlockFaults.{BlockFault}
 use Rattle.seq_check.specs.declared.faulty.HeldFault.{HeldFault}
 use Rattle.seq_check.specs.Views.{held_view}
-use Rattle.seq_check.specs.StepFaults.{StepFault, is_step_before, At, under, Under, FaultInSteps}
-use Rattle.seq_check.specs.SetFaults.{debugvars_scope, sequences_scope, FaultInSequences, FaultInSet}
-use Rattle.seq_check.proofs.FirstLemmas.{first_of_none, first_here, first_there}
-use Rattle.seq_check.proofs.StepLemmas.{Numbered, first_under, later_path}
+use Rattle.seq_check.specs.declared.faulty.Holder.{Holder}
+use Rattle.seq_check.specs.declared.faulty.Holder.TheVariants as holders
+use Rattle.seq_check.specs.StepFaults.{StepFault, is_step_before, At, FaultInSteps}
+use Rattle.seq_check.specs.SetFaults.{SetFault, holder_before, is_set_before, Of, debugvars_scope, sequences_scope, FaultInSequences, FaultInSet}
+use Rattle.seq_check.proofs.FirstLemmas.{first_of_none, first_here, first_there, first_mapped}
 
 drop-slice_get : {X : Type 0} (xs : List X) (i : ℕ) (x : X) → slice_get xs i ≡ Some x → drop i xs ≡ x ∷ drop (suc i) xs
 drop-slice_get [] i x h = absurd cc
@@ -70,59 +72,95 @@ all_apart (n ∷ more) = (refl, all_apart more)
 pub added-distinct : (more : List (List ℕ)) → IsDistinct bytes_eq more → added [] more ≡ more
 added-distinct more h = added-append [] more (all_apart more) h
 
+-- ---- faults of one holder
+
+abbrev pub held : Holder → StepFault → SetFault
+held holder f = record { holder = holder; fault = f }
+
+below_itself : (n : ℕ) → nat_lt n n ≡ false
+below_itself n = grind (arith, nat_tests)
+
+held_order : (holder : Holder) (f g : StepFault) → is_set_before (held holder f) (held holder g) ≡ is_step_before f g
+held_order holders.Debugvars f g = refl
+held_order (holders.Sequence n) f g = rw (below_itself n) refl
+
+pub first_held : (holder : Holder) (P : StepFault → Type 0) (r : Option StepFault) → IsFirst is_step_before P r → IsFirst is_set_before (Of holder P) (option_map (held holder) r)
+first_held holder P r h =
+    first_mapped is_step_before is_set_before (held holder) P (Of holder P) r (held_order holder) (λ f p. record { holder_is = refl; stands = p })
+    (λ g o. (g.fault, o.stands, ap (λ x. held x g.fault) o.holder_is)) h
+
+-- ---- the order of sequences
+
+-- a sequence with a number from this one on has the fault
+pub record IsFrom (n : ℕ) (holder : Holder) : Type 0 where
+  pub number : ℕ
+  pub is : holder ≡ holders.Sequence number
+  pub least : n ≤ number
+
+from_there : (s : Scope) (n : ℕ) (more : List StepTrees) (f : SetFault) → FaultInSequences s n more f → IsFrom n f.holder
+from_there s n [] f h = elim h [ ]
+from_there s n (x ∷ more) f h = elim h [
+  | here p ↦ record { number = n; is = p.holder_is; least = omega arith }
+  | there q ↦ let r = from_there s (suc n) more f q in record { number = r.number; is = r.is; least = omega (arith, r.least) }
+]
+
+-- what an earlier holder has is before what a later one has
+behind_holder : (f g : SetFault) (a b : Holder) → f.holder ≡ a → g.holder ≡ b → holder_before a b ≡ false → holder_before b a ≡ true → is_set_before f g ≡ false
+behind_holder f g a b p q behind before = rw (p, q, behind, before) refl
+
+above : (n k : ℕ) → suc n ≤ k → nat_lt k n ≡ false
+above n k h = grind (arith, nat_tests)
+
+below : (n k : ℕ) → suc n ≤ k → nat_lt n k ≡ true
+below n k h = grind (arith, nat_tests)
+
+sequences_order : (s : Scope) (n : ℕ) (P : StepFault → Type 0) (more : List StepTrees) (p q : SetFault) → Of (holders.Sequence n) P p → FaultInSequences s (suc n) more q → is_set_before q p ≡ false
+sequences_order s n P more p q h j =
+    let r = from_there s (suc n) more q j in
+    behind_holder q p (holders.Sequence r.number) (holders.Sequence n) r.is h.holder_is (above n r.number r.least) (below n r.number r.least)
+
+debugvars_order : (s : Scope) (n : ℕ) (P : StepFault → Type 0) (more : List StepTrees) (p q : SetFault) → Of holders.Debugvars P p → FaultInSequences s n more q → is_set_before q p ≡ false
+debugvars_order s n P more p q h j = (let r = from_there s n more q j in behind_holder q p (holders.Sequence r.number) holders.Debugvars r.is h.holder_is refl refl)
+
 -- ---- the first fault
 
 -- what is the first fault from this sequence on is that of all sequences
-abbrev pub Onward : Scope → ℕ → List StepTrees → StepFault → Type 0
-Onward s i all = FaultInSequences s (1 + i) (drop i all)
+abbrev pub Onward : Scope → ℕ → List StepTrees → SetFault → Type 0
+Onward s i all = FaultInSequences s i (drop i all)
 
 abbrev pub Carries : Scope → ℕ → List StepTrees → Type 0
-Carries s i all = (r : Option StepFault) → IsFirst is_step_before (Onward s i all) r → IsFirst is_step_before (FaultInSequences s 1 all) r
+Carries s i all = (r : Option SetFault) → IsFirst is_set_before (Onward s i all) r → IsFirst is_set_before (FaultInSequences s 0 all) r
 
 -- a fault of the sequence with this number, or of a later one
-opened : (s : Scope) (i : ℕ) (all : List StepTrees) (steps : StepTrees) (r : Option StepFault) → slice_get all i ≡ Some steps
-    → IsFirst is_step_before (InEither (Under (1 + i) (FaultInSteps s 0 0 steps)) (Onward s (i + 1) all)) r → IsFirst is_step_before (Onward s i all) r
+opened : (s : Scope) (i : ℕ) (all : List StepTrees) (steps : StepTrees) (r : Option SetFault) → slice_get all i ≡ Some steps
+    → IsFirst is_set_before (InEither (Of (holders.Sequence i) (FaultInSteps s 0 0 steps)) (Onward s (i + 1) all)) r → IsFirst is_set_before (Onward s i all) r
 opened s i all steps r at h =
-    let e : suc (1 + i) ≡ 1 + (i + 1) = omega arith in
-    rw (drop-at all i steps at) (subst (λ n. IsFirst is_step_before (InEither (Under (1 + i) (FaultInSteps s 0 0 steps)) (FaultInSequences s n (drop (i + 1) all))) r) (sym e) h)
+    rw (drop-at all i steps at) (subst (λ n. IsFirst is_set_before (InEither (Of (holders.Sequence i) (FaultInSteps s 0 0 steps)) (FaultInSequences s n (drop (i + 1) all))) r) (add-one i) h)
 
 pub carries_on : (s : Scope) (i : ℕ) (all : List StepTrees) (steps : StepTrees) → slice_get all i ≡ Some steps → Carries s i all
     → IsFirst is_step_before (FaultInSteps s 0 0 steps) None → Carries s (i + 1) all
-carries_on s i all steps at before none = λ r h. before r (opened s i all steps r at (first_there is_step_before _ _ r (first_under (1 + i) (FaultInSteps s 0 0 steps) None none) h))
+carries_on s i all steps at before none = λ r h. before r (opened s i all steps r at (first_there is_set_before _ _ r (first_held (holders.Sequence i) (FaultInSteps s 0 0 steps) None none) h))
 
-sequences_order : (s : Scope) (n : ℕ) (P : StepFault → Type 0) (more : List StepTrees) (p q : StepFault) → Under n P p → FaultInSequences s (suc n) more q → is_step_before q p ≡ false
-sequences_order s n P more p q h k = later_path n P p q h (numbered s (suc n) more q k) where
-  numbered : (s : Scope) (n : ℕ) (more : List StepTrees) (f : StepFault) → FaultInSequences s n more f → Numbered n f.path
-  numbered s n [] f h = elim h [ ]
-  numbered s n (x ∷ more) f h = elim h [
-    | here p ↦ record { number = n; rest = p.inner.path; parts = ap (λ x. x.path) p.is; least = omega arith }
-    | there q ↦ let r = numbered s (suc n) more f q in record { number = r.number; rest = r.rest; parts = r.parts; least = omega (arith, r.least) }
-  ]
+pub found_there : (s : Scope) (i : ℕ) (all : List StepTrees) (steps : StepTrees) (f : StepFault) → slice_get all i ≡ Some steps → Carries s i all
+    → IsFirst is_step_before (FaultInSteps s 0 0 steps) (Some f) → IsFirst is_set_before (FaultInSequences s 0 all) (Some (held (holders.Sequence i) f))
+found_there s i all steps f at before found =
+    let r = Some (held (holders.Sequence i) f) in
+    let order : (p q : SetFault) → Of (holders.Sequence i) (FaultInSteps s 0 0 steps) p → Onward s (i + 1) all q → is_set_before q p ≡ false =
+    λ p q u v. sequences_order s i (FaultInSteps s 0 0 steps) (drop (i + 1) all) p q u (subst (λ m. FaultInSequences s m (drop (i + 1) all) q) (add-one i) v) in
+    before r (opened s i all steps r at (first_here is_set_before _ _ (held (holders.Sequence i) f) order (first_held (holders.Sequence i) (FaultInSteps s 0 0 steps) (Some f) found)))
 
-pub found_there : (s : Scope) (i n : ℕ) (all : List StepTrees) (steps : StepTrees) (f : StepFault) → n ≡ 1 + i → slice_get all i ≡ Some steps → Carries s i all
-    → IsFirst is_step_before (FaultInSteps s 0 0 steps) (Some f) → IsFirst is_step_before (FaultInSequences s 1 all) (Some (under n f))
-found_there s i n all steps f is at before found =
-    let e : suc (1 + i) ≡ 1 + (i + 1) = omega arith in
-    let r = Some (under (1 + i) f) in
-    let order : (p q : StepFault) → Under (1 + i) (FaultInSteps s 0 0 steps) p → Onward s (i + 1) all q → is_step_before q p ≡ false =
-    λ p q u v. sequences_order s (1 + i) (FaultInSteps s 0 0 steps) (drop (i + 1) all) p q u (subst (λ m. FaultInSequences s m (drop (i + 1) all) q) (sym e) v) in
-    rw is (before r (opened s i all steps r at (first_here is_step_before _ _ (under (1 + i) f) order (first_under (1 + i) (FaultInSteps s 0 0 steps) (Some f) found))))
-
-pub carries_first : (s : Scope) (all : List StepTrees) → Carries s 0 all
-carries_first s all = λ r h. h
-
-pub none_at_end : (s : Scope) (n : ℕ) (all : List StepTrees) → length all ≤ n → Carries s n all → IsFirst is_step_before (FaultInSequences s 1 all) None
-none_at_end s n all e before = before None (rw (drop-past all n e) (first_of_none is_step_before))
+pub none_at_end : (s : Scope) (n : ℕ) (all : List StepTrees) → length all ≤ n → Carries s n all → IsFirst is_set_before (FaultInSequences s 0 all) None
+none_at_end s n all e before = before None (rw (drop-past all n e) (first_of_none is_set_before))
 
 -- ---- the debug variables, and then the sequences
 
-pub set_held : (set : SetTrees) (f : StepFault)
-    → IsFirst is_step_before (Under 0 (At parts.Debugvars (BlockFault (debugvars_scope set) set.debugvars))) (Some f) → IsFirst is_step_before (FaultInSet set) (Some f)
-set_held set f h = first_here is_step_before _ _ f (sequences_order (sequences_scope set) 0 (At parts.Debugvars (BlockFault (debugvars_scope set) set.debugvars)) (map (λ s. s.steps) set.sequences)) h
+pub set_held : (set : SetTrees) (f : SetFault)
+    → IsFirst is_set_before (Of holders.Debugvars (At parts.Debugvars (BlockFault (debugvars_scope set) set.debugvars))) (Some f) → IsFirst is_set_before (FaultInSet set) (Some f)
+set_held set f h = first_here is_set_before _ _ f (debugvars_order (sequences_scope set) 0 (At parts.Debugvars (BlockFault (debugvars_scope set) set.debugvars)) (map (λ s. s.steps) set.sequences)) h
 
 pub set_answer : (set : SetTrees) (r : Result (Option HeldFault) OutOfMemory)
-    → IsFirst is_step_before (Under 0 (At parts.Debugvars (BlockFault (debugvars_scope set) set.debugvars))) None
-    → IfOk r (λ o. IsFirst is_step_before (FaultInSequences (sequences_scope set) 1 (map (λ s. s.steps) set.sequences)) (option_map held_view o))
-    → IfOk r (λ o. IsFirst is_step_before (FaultInSet set) (option_map held_view o))
+    → IsFirst is_set_before (Of holders.Debugvars (At parts.Debugvars (BlockFault (debugvars_scope set) set.debugvars))) None
+    → IfOk r (λ o. IsFirst is_set_before (FaultInSequences (sequences_scope set) 0 (map (λ s. s.steps) set.sequences)) (option_map held_view o))
+    → IfOk r (λ o. IsFirst is_set_before (FaultInSet set) (option_map held_view o))
 set_answer set (Err e) none h = tt
-set_answer set (Ok o) none h = first_there is_step_before _ _ (option_map held_view o) none h
+set_answer set (Ok o) none h = first_there is_set_before _ _ (option_map held_view o) none h

@@ -33,7 +33,7 @@ step_tree-Control cond repeat timeout steps = ap step_tree (sym (c.rolls-Control
 -- ---- the order of steps
 
 -- the path begins with a number from this one on
-pub record Numbered (from : ℕ) (path : List ℕ) : Type 0 where
+record Numbered (from : ℕ) (path : List ℕ) : Type 0 where
   pub number : ℕ
   pub rest : List ℕ
   pub parts : path ≡ number ∷ rest
@@ -62,7 +62,7 @@ behind_path : (a b p q : List ℕ) (n j : ℕ) (x y : Part) (f g : CodeFault) �
 behind_path a b p q n j x y f g ea eb h = rw (ea, eb, above n j h, apart n j h, under_it n j h) refl
 
 -- what stands at a later number is not before what stands at this one
-pub later_path : (n : ℕ) (P : StepFault → Type 0) (p q : StepFault) → Under n P p → Numbered (suc n) q.path → is_step_before q p ≡ false
+later_path : (n : ℕ) (P : StepFault → Type 0) (p q : StepFault) → Under n P p → Numbered (suc n) q.path → is_step_before q p ≡ false
 later_path n P p q h r = behind_path q.path p.path r.rest h.inner.path n r.number q.part p.part q.fault p.fault r.parts (ap (λ x. x.path) h.is) r.least
 
 -- none of the later steps is before an earlier one
@@ -104,7 +104,7 @@ same_number n = grind (arith, nat_tests)
 under_order : (n : ℕ) (f g : StepFault) → is_step_before (under n f) (under n g) ≡ is_step_before f g
 under_order n f g = rw (below_itself n, same_number n) refl
 
-pub first_under : (n : ℕ) (P : StepFault → Type 0) (r : Option StepFault) → IsFirst is_step_before P r → IsFirst is_step_before (Under n P) (option_map (under n) r)
+first_under : (n : ℕ) (P : StepFault → Type 0) (r : Option StepFault) → IsFirst is_step_before P r → IsFirst is_step_before (Under n P) (option_map (under n) r)
 first_under n P r h = first_mapped is_step_before is_step_before (under n) P (Under n P) r (under_order n) (λ f p. record { inner = f; stands = p; is = refl }) (λ g u. (u.inner, u.stands, u.is)) h
 
 abbrev behind : Scope → List StepTree → Scope

@@ -1,8 +1,6 @@
 -- Valid sets, and the first fault of one that is not valid.
-use Rattle.std.specs.Prelude.{◌≡◌, ℕ, zero, suc, List, [], ◌∷◌, Option, Some, None, slice_get}
-use Rattle.dap_base.specs.declared.text.Place.{Place}
+use Rattle.std.specs.Prelude.{◌≡◌, ℕ, List, Option, Some, None, slice_get}
 use Rattle.sequence_resolve.specs.declared.entry.SeqSet.{SeqSet}
-use Rattle.sequence_code.specs.declared.spot.Part.{Part}
 use Rattle.sequence_code.specs.declared.spot.Spot.{Spot}
 use Rattle.sequence_code.specs.Trees.{SetTrees}
 use Rattle.sequence_code.specs.Reading.{ReadsSet}
@@ -13,8 +11,9 @@ use Rattle.code_check.specs.declared.fault.FaultKind.{FaultKind}
 use Rattle.code_check.specs.declared.fault.FaultKind.TheVariants as k
 use Rattle.code_check.specs.First.{IsFirst}
 use Rattle.seq_check.specs.declared.step_calls.StepCall.{StepCall}
-use Rattle.seq_check.specs.StepFaults.{StepFault, is_step_before}
-use Rattle.seq_check.specs.SetFaults.{names_of, FaultInSet}
+use Rattle.seq_check.specs.declared.faulty.Holder.{Holder}
+use Rattle.seq_check.specs.declared.faulty.Holder.TheVariants as holders
+use Rattle.seq_check.specs.SetFaults.{SetFault, is_set_before, names_of, FaultInSet}
 use Rattle.seq_check.specs.Calls.{set_calls, call_graph}
 
 -- ---- calls that lead back or too deep
@@ -42,25 +41,24 @@ pub data IsFirstCallFault (set : SetTrees) (kind : FaultKind) (spot : Spot) : Ty
 
 -- ---- sets that were read
 
--- the name of what has this number within the set
-abbrev pub holder_name : SetTrees → ℕ → Option (List ℕ)
-holder_name set zero = None
-holder_name set (suc n) = slice_get (names_of set) n
+-- the name of the sequence that has a fault; none for the debug variables
+abbrev pub holder_name : SetTrees → Holder → Option (List ℕ)
+holder_name set holders.Debugvars = None
+holder_name set (holders.Sequence n) = slice_get (names_of set) n
 
--- the place of a fault, named
-abbrev pub spot_of : SetTrees → List ℕ → Part → Place → Spot
-spot_of set [] part place = record { sequence = None; path = []; part = part; place = place }
-spot_of set (holder ∷ path) part place = record { sequence = holder_name set holder; path = path; part = part; place = place }
+-- where a fault stands, with the name
+abbrev pub spot_of : SetTrees → SetFault → Spot
+spot_of set f = record { sequence = holder_name set f.holder; path = f.fault.path; part = f.fault.part; place = f.fault.fault.place }
 
 -- no fault stands in the texts and the controls of the set, and its calls are sound
 pub record IsSound (set : SetTrees) : Type 0 where
-  pub no_fault : (f : StepFault) → FaultInSet set f → ⊥
+  pub no_fault : (f : SetFault) → FaultInSet set f → ⊥
   pub calls : CallsAreSound set
 
 -- the first fault of a set that can be read, by phases
 pub data IsFirstOf (set : SetTrees) (kind : FaultKind) (spot : Spot) : Type 0 where
-  in_texts : (f : StepFault) → IsFirst is_step_before (FaultInSet set) (Some f) → kind ≡ f.fault.kind → spot ≡ spot_of set f.path f.part f.fault.place → IsFirstOf set kind spot
-  in_calls : ((f : StepFault) → FaultInSet set f → ⊥) → IsFirstCallFault set kind spot → IsFirstOf set kind spot
+  in_texts : (f : SetFault) → IsFirst is_set_before (FaultInSet set) (Some f) → kind ≡ f.fault.fault.kind → spot ≡ spot_of set f → IsFirstOf set kind spot
+  in_calls : ((f : SetFault) → FaultInSet set f → ⊥) → IsFirstCallFault set kind spot → IsFirstOf set kind spot
 
 -- ---- sets
 

@@ -3,7 +3,8 @@ use Rattle.std.specs.Prelude.{[], reverse}
 use Rattle.seq_check.specs.declared.faulty.PartFault.{PartFault}
 use Rattle.seq_check.specs.declared.faulty.FaultyStep.{FaultyStep}
 use Rattle.seq_check.specs.declared.faulty.HeldFault.{HeldFault}
-use Rattle.seq_check.specs.StepFaults.{StepFault, under}
+use Rattle.seq_check.specs.StepFaults.{StepFault}
+use Rattle.seq_check.specs.SetFaults.{SetFault}
 
 -- a fault of a step itself
 abbrev pub own_view : PartFault → StepFault
@@ -14,5 +15,5 @@ abbrev pub faulty_view : FaultyStep → StepFault
 faulty_view f = record { path = reverse f.outward; part = f.own.part; fault = f.own.fault }
 
 -- a fault of a set
-abbrev pub held_view : HeldFault → StepFault
-held_view f = under f.holder (faulty_view f.faulty)
+abbrev pub held_view : HeldFault → SetFault
+held_view f = record { holder = f.holder; fault = faulty_view f.faulty }

@@ -24,11 +24,18 @@ pub struct FaultyStep {
     pub own: PartFault,
 }
 
+/// What of a set has a fault.
+#[derive(Clone, Copy, Debug, PartialEq, Eq)]
+pub enum Holder {
+    Debugvars,
+    /// The sequence of this number, counted from 0.
+    Sequence(usize),
+}
+
 /// A fault of a set.
 #[derive(Debug, Drop)]
 pub struct HeldFault {
-    /// What has it: 0 for the debug variables, and for a sequence its number, counted from 1.
-    pub holder: u64,
+    pub holder: Holder,
     /// The fault, seen from the steps of the holder.
     pub faulty: FaultyStep,
 }

@@ -13,7 +13,7 @@ ghost use Rattle.seq_check.specs.Valid.{CallsAreSound, IsFirstCallFault, holder_
 ghost use Rattle.seq_check.specs.Answers.{AnswersCheck, GivesTrees, TellsFault};
 
 use crate::checked::{CheckFault, Checked};
-use crate::faulty::HeldFault;
+use crate::faulty::{HeldFault, Holder};
 use crate::set_calls::{call_spot, graph_of, set_calls};
 use crate::sets::{sequence_names, set_fault};
 use call_graph::{first_cycle, first_deep};
@@ -37,13 +37,17 @@ fn told(kind: FaultKind, spot: Spot) -> FirstFault
     FirstFault { kind, spot }
 }
 
-fn holder_name(alloc: Global, set: &ReadSet, holder: u64) -> Result<Option<NameText>, OutOfMemory>
+fn holder_name(
+    alloc: Global,
+    set: &ReadSet,
+    holder: Holder,
+) -> Result<Option<NameText>, OutOfMemory>
     ensures { IfOk result (λ name. name ≡ holder_name (set_trees set.now) holder) }
 {
-    if holder == 0 {
+    let Holder::Sequence(index) = holder else {
         return Ok(None);
-    }
-    match set.name_at((holder - 1) as usize) {
+    };
+    match set.name_at(index) {
         Some(name) => Ok(Some(NameText::new(alloc, name)?)),
         None => Ok(None),
     }
@@ -60,8 +64,8 @@ fn path_of(alloc: Global, outward: &[u64]) -> Result<StepPath, OutOfMemory>
 }
 
 fn fault_told(alloc: Global, set: &ReadSet, held: &HeldFault) -> Result<FirstFault, OutOfMemory>
-    ensures kind { IfOk result (λ t. t.kind ≡ (held_view held.now).fault.kind) }
-    ensures spot { IfOk result (λ t. let f = held_view held.now in t.spot ≡ spot_of (set_trees set.now) f.path f.part f.fault.place) }
+    ensures kind { IfOk result (λ t. t.kind ≡ (held_view held.now).fault.fault.kind) }
+    ensures spot { IfOk result (λ t. t.spot ≡ spot_of (set_trees set.now) (held_view held.now)) }
 {
     let own = held.faulty.own;
     let spot = Spot {

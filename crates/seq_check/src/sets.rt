@@ -8,11 +8,12 @@ ghost use Rattle.code_check.specs.BlockFaults.{names_behind_all, BlockFault};
 ghost use Rattle.sequence_code.specs.declared.spot.Part.TheVariants as parts;
 ghost use Rattle.sequence_code.specs.Trees.{steps_tree};
 ghost use Rattle.sequence_code.specs.SetView.{set_trees};
-ghost use Rattle.seq_check.specs.StepFaults.{is_step_before, At, Under};
-ghost use Rattle.seq_check.specs.SetFaults.{names_of, FaultInSequences, FaultInSet};
+ghost use Rattle.seq_check.specs.declared.faulty.Holder.TheVariants as holders;
+ghost use Rattle.seq_check.specs.StepFaults.{At};
+ghost use Rattle.seq_check.specs.SetFaults.{is_set_before, Of, names_of, FaultInSequences, FaultInSet};
 ghost use Rattle.seq_check.specs.Views.{held_view};
 
-use crate::faulty::{HeldFault, in_part, own};
+use crate::faulty::{HeldFault, Holder, in_part, own};
 use crate::steps::inner_fault;
 use code_check::{Names, block_fault};
 use dap_base::OutOfMemory;
@@ -58,13 +59,13 @@ fn debugvars_fault(
     sequences: &Names,
     code: &[Stmt],
 ) -> Result<Option<HeldFault>, OutOfMemory>
-    ensures first { IfOk result (λ r. IsFirst is_step_before (Under 0 (At parts.Debugvars (BlockFault (record { visible = names.old; sequences = sequences.now; in_debugvars = true }) (code_trees code.now)))) (option_map held_view r)) }
+    ensures first { IfOk result (λ r. IsFirst is_set_before (Of holders.Debugvars (At parts.Debugvars (BlockFault (record { visible = names.old; sequences = sequences.now; in_debugvars = true }) (code_trees code.now)))) (option_map held_view r)) }
     ensures names { OnOk result (names.new ≡ names_behind_all names.old (code_trees code.now)) }
 {
     let fault = block_fault(alloc, names, sequences, true, code)?;
     match in_part(Part::Debugvars, fault) {
         Some(fault) => Ok(Some(HeldFault {
-            holder: 0,
+            holder: Holder::Debugvars,
             faulty: own(alloc, fault),
         })),
         None => Ok(None),
@@ -77,13 +78,13 @@ fn sequences_fault(
     sequences: &Names,
     set: &ReadSet,
 ) -> Result<Option<HeldFault>, OutOfMemory>
-    ensures { IfOk result (λ r. IsFirst is_step_before (FaultInSequences (record { visible = names.old; sequences = sequences.now; in_debugvars = false }) 1 (map (λ s. s.steps) (set_trees set.now).sequences)) (option_map held_view r)) }
+    ensures { IfOk result (λ r. IsFirst is_set_before (FaultInSequences (record { visible = names.old; sequences = sequences.now; in_debugvars = false }) 0 (map (λ s. s.steps) (set_trees set.now).sequences)) (option_map held_view r)) }
 {
     for index in 0..set.len() {
         let steps = steps_of(set, index);
         if let Some(faulty) = inner_fault(alloc, names, sequences, 0, steps.as_slice())? {
             return Ok(Some(HeldFault {
-                holder: index as u64 + 1,
+                holder: Holder::Sequence(index),
                 faulty,
             }));
         }
@@ -98,7 +99,7 @@ pub fn set_fault(
     sequences: &Names,
 ) -> Result<Option<HeldFault>, OutOfMemory>
     requires { sequences.now ≡ names_of (set_trees set.now) }
-    ensures { IfOk result (λ r. IsFirst is_step_before (FaultInSet (set_trees set.now)) (option_map held_view r)) }
+    ensures { IfOk result (λ r. IsFirst is_set_before (FaultInSet (set_trees set.now)) (option_map held_view r)) }
 {
     let mut names = Names::predefined(alloc)?;
     if let Some(faulty) = debugvars_fault(

@@ -1,4 +1,4 @@
-use Rattle.std.proofs.Common.{◌≡◌, ◌∙◌, ◌+◌, ◌≤◌, map, length, false, arith}
+use Rattle.std.proofs.Common.{◌∙◌, ◌≤◌, map, length, false, arith}
 use Rattle.std.proofs.lemmas.List.{length-map}
 use Rattle.sequence_code.specs.Trees.{steps_tree}
 use Rattle.sequence_code.specs.SetView.{set_trees}
@@ -13,8 +13,7 @@ returns-in-Some c =
     let all = map (λ s. s.steps) (set_trees c.args.set.now).sequences in
     let inv = c.loop-index.invariant in
     let found = rw c.in-Some.is at c.in_ok-faulty.ensures.first in
-    let is : c.loop-index.index + 1 ≡ 1 + c.loop-index.index = omega arith in
-    found_there s c.loop-index.index (c.loop-index.index + 1) all (steps_tree c.steps_of-steps.result.now) (faulty_view c.in-Some.faulty) is c.steps_of-steps.ensures inv.carries (rw (← c.as_slice.ensures, ← inv.names) found)
+    found_there s c.loop-index.index all (steps_tree c.steps_of-steps.result.now) (faulty_view c.in-Some.faulty) c.steps_of-steps.ensures inv.carries (rw (← c.as_slice.ensures, ← inv.names) found)
 
 pub loop-index-preserved : goal.loop-index-preserved
 loop-index-preserved c =
