@@ -13,7 +13,7 @@ pub leader_is_node : (graph : List (List ℕ)) (v w : ℕ) → Leads graph v w �
 leader_is_node graph v w (Leads.call h) = caller_is_node graph v w h
 leader_is_node graph v w (Leads.onward {u = u} h leads) = caller_is_node graph v u h
 
-call_of : (graph : List (List ℕ)) (spot : CallSpot) (w : ℕ) → IsCallOf graph spot w → w < length graph → Calls graph spot.node w
+pub call_of : (graph : List (List ℕ)) (spot : CallSpot) (w : ℕ) → IsCallOf graph spot w → w < length graph → Calls graph spot.node w
 call_of graph spot w h exists = record { callee = (spot.call, slice_get_within (callees_of graph spot.node) spot.call w h, get_or_from_slice_get (callees_of graph spot.node) spot.call w w h); exists = exists }
 
 -- the callee of a call in a cycle leads to the node of the call, and that to itself

@@ -2,3 +2,4 @@ pub mod Chains
 pub mod Firsts
 pub mod Cycles
 pub mod Search
+pub mod Falls

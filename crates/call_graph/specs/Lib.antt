@@ -1,3 +1,4 @@
 pub mod Graph
 pub mod Spots
 pub mod Marks
+pub mod Ranks

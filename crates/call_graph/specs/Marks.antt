@@ -3,7 +3,7 @@ use Rattle.std.specs.Prelude.{◌≡◌, ℕ, ◌<◌, ◌⊎◌, Bool, true, fa
 use Rattle.std.specs.List.{list_any}
 use Rattle.call_graph.specs.declared.graph.CallSpot.{CallSpot}
 use Rattle.call_graph.specs.Graph.{Calls, Leads}
-use Rattle.call_graph.specs.Spots.{IsCallOf}
+use Rattle.call_graph.specs.Spots.{IsCallOf, IsInCycle}
 
 abbrev pub is_marked : List Bool → ℕ → Bool
 is_marked marks v = slice_index_or marks v false
@@ -17,6 +17,10 @@ pub record IsInto (graph : List (List ℕ)) (marks : List Bool) (spot : CallSpot
   pub callee : ℕ
   pub is_call : IsCallOf graph spot callee
   pub marked : is_marked marks callee ≡ true
+
+-- each node with a call in a cycle is marked
+abbrev pub MarksCycles : List (List ℕ) → List Bool → Type 0
+MarksCycles graph marks = (spot : CallSpot) → IsInCycle graph spot → is_marked marks spot.node ≡ true
 
 -- v is w, or calls lead from v to w
 abbrev pub Reaches : List (List ℕ) → ℕ → ℕ → Type 0

@@ -3,31 +3,49 @@
 ghost use Rattle.std.specs.Prelude.{◌≡◌, ◌↔◌, ◌<◌, ◌++◌, length, IfOk, OnOk, IsTrue};
 ghost use Rattle.std.specs.Bool.{OnFalse};
 ghost use Rattle.call_graph.specs.Spots.{IsInCycle, FindsFirst};
-ghost use Rattle.call_graph.specs.Marks.{Avoids, Reaches, FindsFirstIn};
+ghost use Rattle.call_graph.specs.Marks.{Avoids, MarksCycles, Reaches, FindsFirstIn};
 
 use crate::depth::{TOO_DEEP, chain_beginnings};
 use crate::graph::{CallGraph, CallSpot};
 use crate::marks::{all_marks, is_marked, is_unmarked};
+use crate::ranks::{fall, level_callers, ranks_of};
 use dap_base::OutOfMemory;
 use std::alloc::Global;
 
 /// The first call, by node and then by place, of the node that it stands in or of a node from which
 /// calls lead back to that. `None` exactly where there is none. `OutOfMemory` where memory is
-/// refused. The calls are gone through `TOO_DEEP` times, and once more for each node before the
-/// answer at which a chain of `TOO_DEEP` nodes begins.
+/// refused. The calls are gone through `TOO_DEEP` times. Where there is a chain of `TOO_DEEP` nodes,
+/// they are gone through a few times more, to number the nodes by components of calls and for one
+/// search, from the node of the answer.
 pub fn first_cycle(alloc: Global, graph: &CallGraph) -> Result<Option<CallSpot>, OutOfMemory>
     ensures { IfOk result (FindsFirst (IsInCycle graph.now)) }
 {
-    // A node of a cycle begins chains of any length.
-    let deep = chain_beginnings(alloc, graph, TOO_DEEP)?;
+    let candidates = cycle_candidates(alloc, graph)?;
     for node in 0..graph.len() {
-        if is_marked(deep.as_slice(), node) {
+        if is_marked(candidates.as_slice(), node) {
             if let Some(call) = first_back(alloc, graph, node)? {
                 return Ok(Some(CallSpot { node, call }));
             }
         }
     }
     Ok(None)
+}
+
+/// A mark for each node with a call in a cycle. Another node is marked only where the ranks are not
+/// those of components; it is then searched from in vain.
+fn cycle_candidates(alloc: Global, graph: &CallGraph) -> Result<Vec<bool>, OutOfMemory>
+    ensures { IfOk result (λ marks. MarksCycles graph.now marks.items) }
+{
+    // A node of a cycle begins chains of any length, and most graphs have no long ones.
+    let deep = chain_beginnings(alloc, graph, TOO_DEEP)?;
+    if !deep.as_slice().contains(&true) {
+        return Ok(deep);
+    }
+    let ranks = ranks_of(alloc, graph)?;
+    if !fall(graph, ranks.as_slice()) {
+        return Ok(deep);
+    }
+    level_callers(alloc, graph, ranks.as_slice())
 }
 
 /// The first call of the node that leads back to it.

@@ -6,6 +6,8 @@ mod depth;
 mod graph;
 pub mod laws;
 mod marks;
+mod ranks;
+mod walk;
 
 pub use cycle::first_cycle;
 pub use depth::{TOO_DEEP, first_deep};

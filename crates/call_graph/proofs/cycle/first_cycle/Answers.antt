@@ -1,7 +1,6 @@
 use Rattle.std.proofs.Common.{arith}
 use Rattle.call_graph.specs.Spots.{IsInCycle}
 use Rattle.call_graph.proofs.Firsts.{none_below_more, no_call, spot_of}
-use Rattle.call_graph.proofs.Cycles.{cycle_begins}
 use Rattle.call_graph.proofs.cycle.first_cycle.Goals as goal
 use Rattle.call_graph.proofs.cycle.first_cycle.Goals.{then-is_marked+in_ok-call+in_default, else-is_marked}
 
@@ -11,7 +10,7 @@ loop-node-preserved c =
     (elim c.if-is_marked.branch [
       | then-is_marked+in_ok-call+in_default w ↦ rw w.in_default.is at w.in_ok-call.ensures
       | else-is_marked w ↦ λ call h.
-          let marked = (c.in_ok-deep.ensures c.loop-node.node).1 (cycle_begins c.args.graph.now (spot_of c.loop-node.node call) h) in
+          let marked = c.in_ok-candidates.ensures (spot_of c.loop-node.node call) h in
           let told = rw c.as_slice.ensures.value at c.is_marked.ensures in
           let no = w.if-is_marked.false in cc
     ])
