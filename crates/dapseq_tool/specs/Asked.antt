@@ -31,6 +31,17 @@ IsBuilt (commands.Gen number) = ⊥
 abbrev pub IsUsage : List (List ℕ) → Type 0
 IsUsage words = (c : Command) → IsCommand words c → IsBuilt c → ⊥
 
+-- the command of the mode `run`
+abbrev pub IsRunCommand : Command → Type 0
+IsRunCommand (commands.Run s sequence) = ⊤
+IsRunCommand (commands.Check s) = ⊥
+IsRunCommand (commands.Trace s sequence) = ⊥
+IsRunCommand (commands.Gen number) = ⊥
+
+-- the words are such a command
+abbrev pub IsRunLine : List (List ℕ) → Type 0
+IsRunLine words = (c : Command) × IsCommand words c × IsRunCommand c
+
 -- ---- the mode `check`
 
 -- what is asked for by the answer to a check: a valid set, or a refusal

@@ -3,7 +3,7 @@ ghost use Rattle.std.specs.Prelude.{◌≡◌, ◌⊎◌, ◌≤◌, IsUtf8, Non
 ghost use Rattle.dap_base.specs.Causes.{Rose};
 ghost use Rattle.serde_json.specs.View.{view};
 ghost use Rattle.command_words.specs.Table.{IsCommand};
-ghost use Rattle.dapseq_tool.specs.Asked.{limit, text_value, IsBuilt, IsUsage, IsRunOf, AsksOfCheck, AsksOfRun, AsksOfBytes, AsksOfCommand, Asks, OnRun};
+ghost use Rattle.dapseq_tool.specs.Asked.{limit, text_value, IsBuilt, IsUsage, IsRunCommand, IsRunLine, AsksOfCheck, AsksOfRun, AsksOfBytes, AsksOfCommand, Asks, OnRun};
 ghost use Rattle.word_job.specs.Sound.{IsSoundRun};
 
 use crate::reading::{Unread, read_all};
@@ -103,7 +103,7 @@ fn asked_of_run(
 // What the bytes of a job ask for in the mode `check`.
 fn asked_of_check(alloc: Global, selection: &Selection, bytes: &[u8]) -> Result<Asked, OutOfMemory>
     ensures asked { IfOk result (AsksOfCheck selection.now bytes.now) }
-    ensures sound { IfOk result (λ what. OnRun what IsSoundRun) }
+    ensures no_run { IfOk result (λ what. OnRun what (λ job. ⊥)) }
 {
     match valid_set(alloc, bytes, selection) {
         Ok(set) => Ok(Asked::Answer(Answer::CheckOk(set))),
@@ -127,6 +127,7 @@ fn asked_of_bytes(alloc: Global, command: &Command, bytes: &[u8]) -> Result<Aske
     requires { IsBuilt command.now }
     ensures asked { IfOk result (AsksOfBytes command.now bytes.now) }
     ensures sound { IfOk result (λ what. OnRun what IsSoundRun) }
+    ensures run { IfOk result (λ what. OnRun what (λ job. IsRunCommand command.now)) }
 {
     match command {
         Command::Check(selection) => asked_of_check(alloc, selection, bytes),
@@ -147,6 +148,7 @@ fn asked_of_source<S: Source>(
     requires { IsBuilt command.now }
     ensures asked { IfOk result (λ what. IfSome (S.left source.old) (λ bytes. AsksOfCommand command.now bytes what)) }
     ensures sound { IfOk result (λ what. OnRun what IsSoundRun) }
+    ensures run { IfOk result (λ what. OnRun what (λ job. IsRunCommand command.now)) }
     ensures used { IfOk result (λ what. what ≡ Asked.Answer Answer.Usage → ⊥) }
     ensures failed { IsErrOf result Unasked.ReadFault → Rose (S.faults source.old) (S.faults source.new) }
     ensures quiet { IfErr result (λ e. (e ≡ Unasked.ReadFault) ⊎ (S.faults source.new ≡ S.faults source.old)) }
@@ -169,6 +171,7 @@ fn asked_of_source<S: Source>(
 pub fn ask<S: Source>(alloc: Global, words: &Words, source: &mut S) -> Result<Asked, Unasked>
     ensures asked { IfOk result (λ what. IfSome (S.left source.old) (λ bytes. Asks words.now bytes what)) }
     ensures sound { IfOk result (λ what. OnRun what IsSoundRun) }
+    ensures run { IfOk result (λ what. OnRun what (λ job. IsRunLine words.now)) }
     ensures usage { IfOk result (λ what. what ≡ Asked.Answer Answer.Usage → IsUsage words.now) }
     ensures failed { IsErrOf result Unasked.ReadFault → Rose (S.faults source.old) (S.faults source.new) }
     ensures quiet { IfErr result (λ e. (e ≡ Unasked.ReadFault) ⊎ (S.faults source.new ≡ S.faults source.old)) }

@@ -2,7 +2,7 @@
 ghost use Rattle.std.specs.Prelude.{◌≡◌, ◌≢◌, ◌⊎◌, None, IfSome, IsSome};
 ghost use Rattle.std.specs.Io.KnownBytes.{Appends};
 ghost use Rattle.dap_base.specs.Causes.{Rose};
-ghost use Rattle.dapseq_tool.specs.Asked.{IsUsage, UnlessRun};
+ghost use Rattle.dapseq_tool.specs.Asked.{IsUsage, IsRunLine, UnlessRun};
 ghost use Rattle.dapseq_tool.specs.Headline.{moment, Success, Outside, Lines, Answered, DoneAsked, RefusalAsked, HasBadReply};
 ghost use Rattle.dapseq_tool.specs.Report.{report, answer_text, answer_status, fault_text};
 ghost use Rattle.word_job.specs.Sound.{IsSoundRun};
@@ -108,7 +108,9 @@ pub fn dapseq<S: Source, K: Sink, B: Bench>(
     ensures lines { let at = moment S.left S.faults K.written K.faults B.told B.state in
         Lines words.now (at source.old sink.old bench.old) (at source.new sink.new bench.new) }
 
-    // Where no run is asked for, the bench is left as it was, and the answer is the one that is asked for.
+    // The bench is called in the mode `run` alone. Where no run is asked for, it is left as it was, and the answer is
+    // the one that is asked for.
+    ensures mode { (bench.new ≡ bench.old) ⊎ IsRunLine words.now }
     ensures unchanged { IfSome (S.left source.old) (λ bytes. UnlessRun words.now bytes (λ answer. bench.new ≡ bench.old)) }
     ensures answer { let at = moment S.left S.faults K.written K.faults B.told B.state in
         Answered words.now (at source.old sink.old bench.old) (at source.new sink.new bench.new) result }
