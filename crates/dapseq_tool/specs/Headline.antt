@@ -73,6 +73,11 @@ abbrev pub Answered : List (List ℕ) → Moment → Moment → Status → Type 
 Answered words old new end =
     end ≢ status.ReadFault → IsQuiet old.sink_faults new.sink_faults → end ≢ status.OutOfMemory → IfSome old.left (λ bytes. UnlessRun words bytes (Answers old new end))
 
+-- unless the source failed, what is written is a part of the answer that is asked for, from the front
+abbrev pub AnswerLines : List (List ℕ) → Moment → Moment → Type 0
+AnswerLines words old new =
+    IsQuiet old.source_faults new.source_faults → IfSome old.left (λ bytes. UnlessRun words bytes (λ answer. AppendsPrefix old.written new.written (answer_text answer)))
+
 -- what is done was asked for: the check of a valid set, or a run
 abbrev pub DoneAsked : List (List ℕ) → Moment → Type 0
 DoneAsked words old = IfSome old.left (λ bytes.

@@ -3,7 +3,7 @@ ghost use Rattle.std.specs.Prelude.{◌≡◌, ◌≢◌, ◌⊎◌, None, IfSom
 ghost use Rattle.std.specs.Io.KnownBytes.{Appends};
 ghost use Rattle.dap_base.specs.Causes.{Rose};
 ghost use Rattle.dapseq_tool.specs.Asked.{IsUsage, IsRunLine, UnlessRun};
-ghost use Rattle.dapseq_tool.specs.Headline.{moment, Success, Outside, Lines, Answered, DoneAsked, RefusalAsked, HasBadReply};
+ghost use Rattle.dapseq_tool.specs.Headline.{moment, Success, Outside, Lines, AnswerLines, Answered, DoneAsked, RefusalAsked, HasBadReply};
 ghost use Rattle.dapseq_tool.specs.Report.{report, answer_text, answer_status, fault_text};
 ghost use Rattle.word_job.specs.Sound.{IsSoundRun};
 ghost use Rattle.dap_base.specs.Streams.{AppendsPrefix};
@@ -26,6 +26,7 @@ use word_job::RunJob;
 // Writes an answer.
 fn answer<K: Sink>(alloc: Global, answer: &Answer, sink: &mut K) -> Status
     ensures text { result ≡ answer_status answer.now → Appends (K.written sink.old) (K.written sink.new) (answer_text answer.now) }
+    ensures part { AppendsPrefix (K.written sink.old) (K.written sink.new) (answer_text answer.now) }
     ensures write { result ≡ Status.WriteFault → Rose (K.faults sink.old) (K.faults sink.new) }
     ensures sink_counted { (K.faults sink.new ≡ K.faults sink.old) ⊎ (result ≡ Status.WriteFault) }
     ensures ends { (result ≡ answer_status answer.now) ⊎ (result ≡ Status.WriteFault) ⊎ (result ≡ Status.OutOfMemory) }
@@ -114,6 +115,8 @@ pub fn dapseq<S: Source, K: Sink, B: Bench>(
     ensures unchanged { IfSome (S.left source.old) (λ bytes. UnlessRun words.now bytes (λ answer. bench.new ≡ bench.old)) }
     ensures answer { let at = moment S.left S.faults K.written K.faults B.told B.state in
         Answered words.now (at source.old sink.old bench.old) (at source.new sink.new bench.new) result }
+    ensures part { let at = moment S.left S.faults K.written K.faults B.told B.state in
+        AnswerLines words.now (at source.old sink.old bench.old) (at source.new sink.new bench.new) }
     ensures unread { result ≡ Status.ReadFault → bench.new ≡ bench.old }
     ensures unread_text { result ≡ Status.ReadFault → Appends (K.written sink.old) (K.written sink.new) fault_text }
 

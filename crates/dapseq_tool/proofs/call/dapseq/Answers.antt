@@ -4,7 +4,7 @@ use Rattle.dap_base.specs.Streams.{AppendsPrefix}
 use Rattle.probe_core.specs.Bench.{Steps}
 use Rattle.dapseq_tool.specs.Blocks.{IsPartDone}
 use Rattle.dapseq_tool.specs.Headline.{Moment, moment, Succeeds, Answers}
-use Rattle.dapseq_tool.specs.Report.{report}
+use Rattle.dapseq_tool.specs.Report.{report, answer_text}
 use Rattle.dapseq_tool.proofs.AskedLemmas.{run_only, no_answer, no_run, answer_only}
 use Rattle.dapseq_tool.proofs.CallLemmas.{success_run, answers_of}
 use Rattle.dapseq_tool.proofs.call.dapseq.Goals as goal
@@ -52,3 +52,12 @@ returns-in-Ok-Answer-clause-answer g c = λ read quiet memory.
     let new : Moment = moment g.S.Source.left g.S.Source.faults g.K.Sink.written g.K.Sink.faults g.B.Bench.told g.B.Bench.state c.ask.new.source c.answer.new.sink c.args.bench.now in
     answer_only c.args.words.now (g.S.Source.left c.args.source.now) c.in-Ok-Answer.field-0 c.in-Ok-Answer.what (Answers old new c.answer.result) c.in-Ok-Answer.field-0-is c.in-Ok-Answer.ensures.asked
     (answers_of old new c.answer.result c.in-Ok-Answer.what c.answer.ensures.text c.answer.ensures.write c.answer.ensures.ends quiet memory)
+
+pub returns-in-Ok-Answer-clause-part : goal.returns-in-Ok-Answer-clause-part
+returns-in-Ok-Answer-clause-part g c = λ quiet.
+    answer_only c.args.words.now (g.S.Source.left c.args.source.now) c.in-Ok-Answer.field-0 c.in-Ok-Answer.what (λ answer. AppendsPrefix (g.K.Sink.written c.args.sink.now) (g.K.Sink.written c.answer.new.sink) (answer_text answer))
+    c.in-Ok-Answer.field-0-is c.in-Ok-Answer.ensures.asked c.answer.ensures.part
+
+pub returns-in-Ok-Run-clause-part : goal.returns-in-Ok-Run-clause-part
+returns-in-Ok-Run-clause-part g c = λ quiet.
+    no_answer c.args.words.now (g.S.Source.left c.args.source.now) c.in-Ok-Run.field-0 c.in-Ok-Run.job _ c.in-Ok-Run.field-0-is c.in-Ok-Run.ensures.asked
