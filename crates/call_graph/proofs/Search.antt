@@ -154,15 +154,15 @@ turn_over graph from target node seen work rest popped stale h = passes_over gra
 pub turn_over-less : (graph : List (List ℕ)) (node : ℕ) (seen : List Bool) (work rest : List ℕ) → work ≡ rest ++ node ∷ [] → length rest + left graph seen < length work + left graph seen
 turn_over-less graph node seen work rest popped = omega (arith, ap length popped, length-append rest (node ∷ []))
 
-pub turn_on : (graph : List (List ℕ)) (from target node : ℕ) (seen : List Bool) (work rest more behind : List ℕ) → work ≡ rest ++ node ∷ [] → more ≡ callees_of graph node → behind ≡ rest ++ more → node ≢ target → node < length seen
-    → Searching graph from target seen work → Searching graph from target (set seen node true) behind
-turn_on graph from target node seen work rest more behind popped callees appended other lt h =
-    let e : rest ++ callees_of graph node ≡ behind = sym (appended ∙ ap (λ (m : List ℕ). rest ++ m) callees) in
+pub turn_on : (graph : List (List ℕ)) (from target node : ℕ) (seen : List Bool) (work rest more after : List ℕ) → work ≡ rest ++ node ∷ [] → more ≡ callees_of graph node → after ≡ rest ++ more → node ≢ target → node < length seen
+    → Searching graph from target seen work → Searching graph from target (set seen node true) after
+turn_on graph from target node seen work rest more after popped callees appended other lt h =
+    let e : rest ++ callees_of graph node ≡ after = sym (appended ∙ ap (λ (m : List ℕ). rest ++ m) callees) in
     subst (Searching graph from target (set seen node true)) e (goes_on graph from target node seen rest other lt (subst (Searching graph from target seen) popped h))
 
-pub turn_on-less : (graph : List (List ℕ)) (node : ℕ) (seen : List Bool) (work rest more behind : List ℕ) → work ≡ rest ++ node ∷ [] → more ≡ callees_of graph node → behind ≡ rest ++ more → length seen ≡ length graph → node < length seen → is_marked seen node ≡ false
-    → length behind + left graph (set seen node true) < length work + left graph seen
-turn_on-less graph node seen work rest more behind popped callees appended size lt unmarked =
+pub turn_on-less : (graph : List (List ℕ)) (node : ℕ) (seen : List Bool) (work rest more after : List ℕ) → work ≡ rest ++ node ∷ [] → more ≡ callees_of graph node → after ≡ rest ++ more → length seen ≡ length graph → node < length seen → is_marked seen node ≡ false
+    → length after + left graph (set seen node true) < length work + left graph seen
+turn_on-less graph node seen work rest more after popped callees appended size lt unmarked =
     omega (arith, ap length popped, length-append rest (node ∷ []), ap length appended, length-append rest more, ap length callees, left-set graph seen node size lt unmarked)
 
 pub no_items : (work : List ℕ) → length work ≡ 0 → work ≡ []

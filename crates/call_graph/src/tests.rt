@@ -71,7 +71,7 @@ fn a_path_between_two_rings_is_in_none(rt: HostRuntime) -> Result<(), Fail> {
 }
 
 #[test]
-fn a_ring_is_found_behind_a_long_chain(rt: HostRuntime) -> Result<(), Fail> {
+fn a_ring_is_found_after_a_long_chain(rt: HostRuntime) -> Result<(), Fail> {
     let long = chain(rt.alloc(), 5000, None)?;
     assert_eq!(rt; first_cycle(rt.alloc(), &long), Ok(None));
     let lasso = chain(rt.alloc(), 5000, Some(4990))?;

@@ -8,7 +8,7 @@ use Rattle.std.specs.List.{flat_map}
 use Rattle.dap_base.specs.Streams.{AppendsPrefix, PutAppends}
 use Rattle.text_lines.proofs.PutLemmas.{prefix_first, put_after}
 
--- the first items and the one behind them
+-- the first items and the one after them
 pub take-at : {X : Type 0} (xs : List X) (i : ℕ) (x : X) → slice_get xs i ≡ Some x → take (i + 1) xs ≡ take i xs ++ x ∷ []
 take-at [] zero x at = cc
 take-at [] (suc i) x at = cc

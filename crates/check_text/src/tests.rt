@@ -105,7 +105,7 @@ fn spot(
 }
 
 // What is written of a fault.
-fn told(alloc: Global, kind: FaultKind, spot: &Spot) -> Result<MemorySink, Fail> {
+fn reported(alloc: Global, kind: FaultKind, spot: &Spot) -> Result<MemorySink, Fail> {
     let mut sink = MemorySink::new(alloc, &[])?;
     write_check_fault(alloc, kind, spot, &mut sink)?;
     Ok(sink)
@@ -116,7 +116,7 @@ fn faults(rt: HostRuntime) -> Result<(), Fail> {
     let alloc = rt.alloc();
     let first = Place { line: 1, column: 1 };
     let spot_1 = spot(alloc, Some("Main"), &[0, 0], Part::Block, first)?;
-    let name = told(alloc, FaultKind::UndefinedName, &spot_1)?;
+    let name = reported(alloc, FaultKind::UndefinedName, &spot_1)?;
     assert_eq!(rt;
         name.bytes(),
         "refused check UndefinedName Main 0.0 block 1:1\n".as_bytes()
@@ -124,7 +124,7 @@ fn faults(rt: HostRuntime) -> Result<(), Fail> {
 
     let whole = Place { line: 0, column: 0 };
     let spot_2 = spot(alloc, Some("Main"), &[0], Part::Control, whole)?;
-    let endless = told(alloc, FaultKind::UnboundedLoop, &spot_2)?;
+    let endless = reported(alloc, FaultKind::UnboundedLoop, &spot_2)?;
     assert_eq!(rt;
         endless.bytes(),
         "refused check UnboundedLoop Main 0 control 0:0\n".as_bytes()
@@ -135,7 +135,7 @@ fn faults(rt: HostRuntime) -> Result<(), Fail> {
         column: 12,
     };
     let spot_3 = spot(alloc, Some("S\\"), &[10, 2, 3], Part::While, conversion)?;
-    let format = told(alloc, FaultKind::FormatMismatch, &spot_3)?;
+    let format = reported(alloc, FaultKind::FormatMismatch, &spot_3)?;
     assert_eq!(rt;
         format.bytes(),
         "refused check FormatMismatch S\\\\ 10.2.3 while 1:12\n".as_bytes()
@@ -143,7 +143,7 @@ fn faults(rt: HostRuntime) -> Result<(), Fail> {
 
     let second = Place { line: 2, column: 5 };
     let spot_4 = spot(alloc, None, &[], Part::Debugvars, second)?;
-    let variables = told(alloc, FaultKind::BadDebugvars, &spot_4)?;
+    let variables = reported(alloc, FaultKind::BadDebugvars, &spot_4)?;
     assert_eq!(rt;
         variables.bytes(),
         "refused check BadDebugvars debugvars 2:5\n".as_bytes()

@@ -73,14 +73,14 @@ pub at_function : (s : Scope) (name : Name) (args : ArgTrees) (fn : Function) (o
 at_function s name args fn o r each e h =
     let named = (each fn).0 e in
     first_of_there (first_where_not _ _ _ (λ none. none fn named)) (first_of_same
-    (λ f p. record { function = fn; named = named; stands = p })
-    (λ f p. subst (λ g. KnownFault s name args g f) (same_function o fn p.function e ((each p.function).1 p.named)) p.stands) h)
+    (λ f p. record { function = fn; named = named; holds = p })
+    (λ f p. subst (λ g. KnownFault s name args g f) (same_function o fn p.function e ((each p.function).1 p.named)) p.holds) h)
 
 pub at_no_function : (s : Scope) (name : Name) (args : ArgTrees) (o : Option Function) (r : Option CodeFault) → ((f : Function) → (o ≡ Some f) ↔ (name.text ≡ name_of f)) → o ≡ None
     → r ≡ Some (record { place = name.at; kind = k.UndefinedFunction }) → IsFirst is_before (FunctionFault s name args) r
 at_no_function s name args o r each e found =
     let none : NamesNone name.text = λ f p. (let q = (each f).1 p in cc) in
-    subst (IsFirst is_before (FunctionFault s name args)) (sym found) (first_of_here (first_where _ _ _ none) (record { stands = tt; none_before = λ g p. absurd (none p.function p.named) }))
+    subst (IsFirst is_before (FunctionFault s name args)) (sym found) (first_of_here (first_where _ _ _ none) (record { holds = tt; none_before = λ g p. absurd (none p.function p.named) }))
 
 pub at_debugvars : (s : Scope) (name : Name) (args : ArgTrees) (r x y : Option CodeFault) → s.in_debugvars ≡ true → x ≡ Some (record { place = name.at; kind = k.BadDebugvars }) → r ≡ earlier x y
     → IsFirst is_before (FunctionFault s name args) y → IsFirst is_before (CallFault s name args) r

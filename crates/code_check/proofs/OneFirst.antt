@@ -49,12 +49,12 @@ is_before-total f g h j =
     ∙ ap (λ x. record { place = g.place; kind = x }) (one_kind f.kind g.kind same.2)
 
 -- where no two faults are unordered, there is one first fault
-pub one_first : {F : Type 0} (before : F → F → Bool) (Stands : F → Type 0) (a b : Option F) → ((f g : F) → before f g ≡ false → before g f ≡ false → f ≡ g)
-    → IsFirst before Stands a → IsFirst before Stands b → a ≡ b
-one_first before Stands None None total h j = refl
-one_first before Stands None (Some g) total h j = absurd (h.none_before g j.stands)
-one_first before Stands (Some f) None total h j = absurd (j.none_before f h.stands)
-one_first before Stands (Some f) (Some g) total h j = ap (λ x. Some x) (total f g (j.none_before f h.stands) (h.none_before g j.stands))
+pub one_first : {F : Type 0} (before : F → F → Bool) (Holds : F → Type 0) (a b : Option F) → ((f g : F) → before f g ≡ false → before g f ≡ false → f ≡ g)
+    → IsFirst before Holds a → IsFirst before Holds b → a ≡ b
+one_first before Holds None None total h j = refl
+one_first before Holds None (Some g) total h j = absurd (h.none_before g j.holds)
+one_first before Holds (Some f) None total h j = absurd (j.none_before f h.holds)
+one_first before Holds (Some f) (Some g) total h j = ap (λ x. Some x) (total f g (j.none_before f h.holds) (h.none_before g j.holds))
 
 pub one_expr_fault : (s : Scope) (e : Tree) (a b : Option CodeFault) → IsFirst is_before (ExprFault s e) a → IsFirst is_before (ExprFault s e) b → a ≡ b
 one_expr_fault s e a b h j = one_first is_before (ExprFault s e) a b is_before-total h j

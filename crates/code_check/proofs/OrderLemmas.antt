@@ -56,15 +56,15 @@ module _ (P Q : CodeFault → Type 0) where
 
   first_at : (a b : Option CodeFault) → IsFirst is_before P a → IsFirst is_before Q b → IsFirst is_before (InEither P Q) (earlier a b)
   first_at None b h k = record {
-    stands = found_there b k.stands;
+    holds = found_there b k.holds;
     none_before = λ x s. elim s [ here p ↦ absurd (h.none_before x p) | there q ↦ k.none_before x q ];
   }
   first_at (Some f) None h k = record {
-    stands = here h.stands;
+    holds = here h.holds;
     none_before = λ x s. elim s [ here p ↦ h.none_before x p | there q ↦ absurd (k.none_before x q) ];
   }
   first_at (Some f) (Some g) h k = record {
-    stands = found_either f g (is_before g f) h.stands k.stands;
+    holds = found_either f g (is_before g f) h.holds k.holds;
     none_before = λ x s. elim s [ here p ↦ after_either f g x (is_before g f) refl (h.none_before x p) | there q ↦ after_other f g x (is_before g f) refl (k.none_before x q) ];
   }
 
@@ -83,7 +83,7 @@ first_of_there {P} {Q} {r} h k = first_of_two r None r refl h k
 
 -- where the same faults stand, the first is the same
 pub first_of_same : {P Q : CodeFault → Type 0} {r : Option CodeFault} → ((f : CodeFault) → P f → Q f) → ((f : CodeFault) → Q f → P f) → IsFirst is_before P r → IsFirst is_before Q r
-first_of_same {P} {Q} {r} to from h = record { stands = carried r h.stands; none_before = λ g s. h.none_before g (from g s) } where
+first_of_same {P} {Q} {r} to from h = record { holds = carried r h.holds; none_before = λ g s. h.none_before g (from g s) } where
   carried : (o : Option CodeFault) → IfSome o P → IfSome o Q
   carried None q = tt
   carried (Some f) q = to f q
@@ -91,25 +91,25 @@ first_of_same {P} {Q} {r} to from h = record { stands = carried r h.stands; none
 -- ---- single faults
 
 pub first_of_none : IsFirst is_before Nowhere None
-first_of_none = record { stands = tt; none_before = λ g s. elim s [ ] }
+first_of_none = record { holds = tt; none_before = λ g s. elim s [ ] }
 
 pub first_where : (Cause : Type 0) (place : Place) (kind : FaultKind) → Cause → IsFirst is_before (FaultWhere Cause place kind) (Some (record { place = place; kind = kind }))
 first_where Cause place kind c = record {
-  stands = record { cause = c; is = refl };
+  holds = record { cause = c; is = refl };
   none_before = λ g s. subst (λ x. is_before x (record { place = place; kind = kind }) ≡ false) (sym s.is) (is_before-irrefl (record { place = place; kind = kind }));
 }
 
 pub first_where_not : (Cause : Type 0) (place : Place) (kind : FaultKind) → (Cause → ⊥) → IsFirst is_before (FaultWhere Cause place kind) None
-first_where_not Cause place kind c = record { stands = tt; none_before = λ g s. absurd (c s.cause) }
+first_where_not Cause place kind c = record { holds = tt; none_before = λ g s. absurd (c s.cause) }
 
 where_of : (Cause : Type 0) (P : CodeFault → Type 0) (r : Option CodeFault) → Cause → IfSome r P → IfSome r (Where Cause P)
 where_of Cause P None c h = tt
-where_of Cause P (Some f) c h = record { cause = c; stands = h }
+where_of Cause P (Some f) c h = record { cause = c; holds = h }
 
 pub first_of_where : {Cause : Type 0} {P : CodeFault → Type 0} {r : Option CodeFault} → Cause → IsFirst is_before P r → IsFirst is_before (Where Cause P) r
-first_of_where {Cause} {P} {r} c h = record { stands = where_of Cause P r c h.stands; none_before = λ g s. h.none_before g s.stands }
+first_of_where {Cause} {P} {r} c h = record { holds = where_of Cause P r c h.holds; none_before = λ g s. h.none_before g s.holds }
 
 pub first_of_where_not : {Cause : Type 0} {P : CodeFault → Type 0} → (Cause → ⊥) → IsFirst is_before (Where Cause P) None
-first_of_where_not c = record { stands = tt; none_before = λ g s. absurd (c s.cause) }
+first_of_where_not c = record { holds = tt; none_before = λ g s. absurd (c s.cause) }
 
 pub ruleset firsts = (first_of_two, first_of_none, first_where, first_where_not, first_of_where, first_of_where_not)

@@ -1,10 +1,10 @@
--- The names visible behind statements.
+-- The names visible after statements.
 use Rattle.std.proofs.Common.{◌≡◌, ◌∙◌, sym, ap, subst, ℕ, Bool, true, false, ◌||◌, cond, List, [], ◌∷◌, ◌++◌, bytes_eq, refl, true≢false}
 use Rattle.std.proofs.lemmas.Slice.Eq.{bytes_eq-Decides}
 use Rattle.std.proofs.lemmas.List.Folds.{list_any-append}
 use Rattle.expr_grammar.specs.Tree.{StmtTree, Empty, Declare, Plain}
 use Rattle.code_check.specs.Names.{has_name, with_name}
-use Rattle.code_check.specs.BlockFaults.{names_behind_all, declares}
+use Rattle.code_check.specs.BlockFaults.{names_after_all, declares}
 
 or_false : (b : Bool) → (b || false) ≡ b
 or_false true = refl
@@ -26,9 +26,9 @@ with_at names name x false e = list_any-append (bytes_eq x) names (name ∷ []) 
 has_name-with : (names : List (List ℕ)) (name x : List ℕ) → has_name (with_name names name) x ≡ (has_name names x || bytes_eq x name)
 has_name-with names name x = with_at names name x (has_name names name) refl
 
-pub has_name_behind : (names : List (List ℕ)) (code : List StmtTree) (name : List ℕ) → has_name (names_behind_all names code) name ≡ (has_name names name || declares code name)
-has_name_behind names [] name = sym (or_false (has_name names name))
-has_name_behind names (Empty at ∷ code) name = has_name_behind names code name
-has_name_behind names (Declare declared value ∷ code) name =
-    has_name_behind (with_name names declared.text) code name ∙ ap (λ b. b || declares code name) (has_name-with names declared.text name) ∙ or_assoc (has_name names name) (bytes_eq name declared.text) (declares code name)
-has_name_behind names (Plain at e ∷ code) name = has_name_behind names code name
+pub has_name_after : (names : List (List ℕ)) (code : List StmtTree) (name : List ℕ) → has_name (names_after_all names code) name ≡ (has_name names name || declares code name)
+has_name_after names [] name = sym (or_false (has_name names name))
+has_name_after names (Empty at ∷ code) name = has_name_after names code name
+has_name_after names (Declare declared value ∷ code) name =
+    has_name_after (with_name names declared.text) code name ∙ ap (λ b. b || declares code name) (has_name-with names declared.text name) ∙ or_assoc (has_name names name) (bytes_eq name declared.text) (declares code name)
+has_name_after names (Plain at e ∷ code) name = has_name_after names code name

@@ -4,7 +4,7 @@ ghost use Rattle.expr_grammar.specs.Tree.{stmt_tree, code_trees};
 ghost use Rattle.code_check.specs.Order.{is_before};
 ghost use Rattle.code_check.specs.First.{IsFirst, FaultWhere};
 ghost use Rattle.code_check.specs.Names.{has_name};
-ghost use Rattle.code_check.specs.BlockFaults.{names_behind, names_behind_all, StmtFault, BlockFault};
+ghost use Rattle.code_check.specs.BlockFaults.{names_after, names_after_all, StmtFault, BlockFault};
 ghost use Rattle.code_check.specs.Views.{scope_view};
 
 use crate::calls::fault_at;
@@ -47,7 +47,7 @@ fn statement_fault(scope: Scope<'_>, statement: &Stmt) -> Option<CodeFault>
 
 /// Makes the name visible that the statement declares.
 fn declare(alloc: Global, names: &mut Names, statement: &Stmt) -> Result<(), OutOfMemory>
-    ensures { OnOk result (names.new ≡ names_behind names.old (stmt_tree statement.now)) }
+    ensures { OnOk result (names.new ≡ names_after names.old (stmt_tree statement.now)) }
 {
     match statement {
         Stmt::Declare(name, _) => names.add(alloc, name.text.as_str()),
@@ -64,7 +64,7 @@ pub fn block_fault(
     code: &[Stmt],
 ) -> Result<Option<CodeFault>, OutOfMemory>
     ensures first { IfOk result (IsFirst is_before (BlockFault (record { visible = names.old; sequences = sequences.now; in_debugvars = in_debugvars }) (code_trees code.now))) }
-    ensures names { OnOk result (names.new ≡ names_behind_all names.old (code_trees code.now)) }
+    ensures names { OnOk result (names.new ≡ names_after_all names.old (code_trees code.now)) }
 {
     let mut found = None;
     for statement in code {

@@ -31,31 +31,31 @@ pub fn name_fault(scope: Scope<'_>, name: &Name) -> Option<CodeFault>
 }
 
 #[tactic(auto, using(crate::proofs::OrderLemmas::firsts))]
-fn text_expected(wanted: Option<ParameterKind>, at: Place) -> Option<CodeFault>
-    ensures { IsFirst is_before (FaultWhere (wanted ≡ Some ParameterKind.Text) at FaultKind.TextExpected) result }
+fn text_expected(requested: Option<ParameterKind>, at: Place) -> Option<CodeFault>
+    ensures { IsFirst is_before (FaultWhere (requested ≡ Some ParameterKind.Text) at FaultKind.TextExpected) result }
 {
-    match wanted {
+    match requested {
         Some(ParameterKind::Text) => fault_at(at, FaultKind::TextExpected),
         _ => None,
     }
 }
 
 #[tactic(auto, using(crate::proofs::OrderLemmas::firsts))]
-fn number_expected(wanted: Option<ParameterKind>, at: Place) -> Option<CodeFault>
-    ensures { IsFirst is_before (FaultWhere (wanted ≡ Some ParameterKind.Number) at FaultKind.NumberExpected) result }
+fn number_expected(requested: Option<ParameterKind>, at: Place) -> Option<CodeFault>
+    ensures { IsFirst is_before (FaultWhere (requested ≡ Some ParameterKind.Number) at FaultKind.NumberExpected) result }
 {
-    match wanted {
+    match requested {
         Some(ParameterKind::Number) => fault_at(at, FaultKind::NumberExpected),
         _ => None,
     }
 }
 
-fn kind_fault(wanted: Option<ParameterKind>, arg: &Arg) -> Option<CodeFault>
-    ensures { IsFirst is_before (KindFault wanted (arg_tree arg.now)) result }
+fn kind_fault(requested: Option<ParameterKind>, arg: &Arg) -> Option<CodeFault>
+    ensures { IsFirst is_before (KindFault requested (arg_tree arg.now)) result }
 {
     match arg {
-        Arg::Number(at, _) => text_expected(wanted, *at),
-        Arg::Text(text) => number_expected(wanted, text.at),
+        Arg::Number(at, _) => text_expected(requested, *at),
+        Arg::Text(text) => number_expected(requested, text.at),
     }
 }
 

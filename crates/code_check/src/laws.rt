@@ -7,13 +7,13 @@ ghost use Rattle.code_check.specs.Order.{is_before};
 ghost use Rattle.code_check.specs.First.{IsFirst};
 ghost use Rattle.code_check.specs.Names.{has_name};
 ghost use Rattle.code_check.specs.ExprFaults.{Scope, ExprFault};
-ghost use Rattle.code_check.specs.BlockFaults.{names_behind_all, declares, BlockFault};
+ghost use Rattle.code_check.specs.BlockFaults.{names_after_all, declares, BlockFault};
 
-/// Behind statements a name is visible exactly where it was before them or where one of them
+/// After statements a name is visible exactly where it was before them or where one of them
 /// declares it.
-#[tactic(auto, using(crate::proofs::Visible::has_name_behind))]
+#[tactic(auto, using(crate::proofs::Visible::has_name_after))]
 pub fn visible_by_declaration()
-    ensures { (names : List (List ℕ)) (code : List StmtTree) (name : List ℕ) → has_name (names_behind_all names code) name ≡ (has_name names name || declares code name) }
+    ensures { (names : List (List ℕ)) (code : List StmtTree) (name : List ℕ) → has_name (names_after_all names code) name ≡ (has_name names name || declares code name) }
 {}
 
 /// An expression has one first fault, or none.

@@ -67,7 +67,7 @@ impl Names {
         self.set.get_index_of(name)
     }
 
-    /// Puts the name behind the others, unless it is among them. Where memory is refused, the names
+    /// Puts the name after the others, unless it is among them. Where memory is refused, the names
     /// stay.
     #[tactic(auto, using(crate::proofs::NameLemmas::naming))]
     pub fn add(&mut self, alloc: Global, name: &str) -> Result<(), OutOfMemory>
@@ -83,7 +83,7 @@ impl Names {
         Ok(())
     }
 
-    /// Drops the names behind the first `len`.
+    /// Drops the names after the first `len`.
     #[tactic(auto, using(crate::proofs::NameLemmas::naming))]
     pub fn cut_back(&mut self, len: usize)
         ensures { self.new ≡ take len self.old }

@@ -4,7 +4,7 @@ ghost use Rattle.std.specs.Prelude.{◌≡◌, drop, map, string_bytes, IfOk};
 use dap_base::{NameText, OutOfMemory, Words};
 use std::alloc::Global;
 
-/// The words behind the program's name, in order: all arguments but the first. `OutOfMemory` where
+/// The words after the program's name, in order: all arguments but the first. `OutOfMemory` where
 /// memory is refused.
 pub fn words_of(alloc: Global, arguments: &[String]) -> Result<Words, OutOfMemory>
     ensures { IfOk result (λ words. words ≡ map string_bytes (drop 1 arguments.now)) }

@@ -26,7 +26,7 @@ of_a_check : (s : Selection) (bytes : List ℕ) (x y : Asked) → AsksOfCheck s 
 of_a_check s bytes x y p q = p.2 ∙ ap of_check (check.one_answer bytes s p.0 q.0 p.1 q.1) ∙ sym q.2
 
 of_a_value : (s : Selection) (sequence : List ℕ) (d : Data) (x y : Asked) → AsksOfRun s sequence (Some d) x → AsksOfRun s sequence (Some d) y → x ≡ y
-of_a_value s sequence d (asked.Run a) (asked.Run b) p q = ap asked.Run (one_job s.device sequence d a b p.stands q.stands)
+of_a_value s sequence d (asked.Run a) (asked.Run b) p q = ap asked.Run (one_job s.device sequence d a b p.holds q.holds)
 of_a_value s sequence d (asked.Run a) (asked.Answer b) p q = absurd (q.1 a p)
 of_a_value s sequence d (asked.Answer a) (asked.Run b) p q = absurd (p.1 b q)
 of_a_value s sequence d (asked.Answer a) (asked.Answer b) p q = ap asked.Answer (p.0 ∙ sym q.0)
@@ -99,7 +99,7 @@ no_run words (Some bytes) what here P is asks =
 -- no run of a device that has no job
 pub not_built : (s : Selection) (sequence device name : List ℕ) (d : Data) → device ≡ s.device → name ≡ sequence → ((job : RunJob) → IsJob device name d job → ⊥)
     → (job : RunJob) → IsRunOf s sequence d job → ⊥
-not_built s sequence device name d e f none job is = none job (rw (e, f) is.stands)
+not_built s sequence device name d e f none job is = none job (rw (e, f) is.holds)
 
 -- words that are no command ask for the usage
 pub usage_asked : (words : List (List ℕ)) (left : Option (List ℕ)) → IsUsage words → IfSome left (λ bytes. Asks words bytes (asked.Answer answers.Usage))

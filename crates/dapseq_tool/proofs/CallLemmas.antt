@@ -76,21 +76,21 @@ pub success_run : (old new : Moment) (end : Status) (job : RunJob)
     → (end ≡ status.Done → Steps (λ m n. IsRunDone job n) old.state new.state)
     → (end ≡ status.Done → IfSome old.state (λ m. Appends old.written new.written (report job)))
     → (end ≡ status.WriteFault → Rose old.sink_faults new.sink_faults)
-    → (end ≡ status.BenchFault → Rose old.told.faults new.told.faults)
+    → (end ≡ status.BenchFault → Rose old.reported.faults new.reported.faults)
     → (end ≡ status.ReplyBad → old.state ≡ None)
     → ((end ≡ status.Done) ⊎ (end ≡ status.WriteFault) ⊎ (end ≡ status.BenchFault) ⊎ (end ≡ status.ReplyBad) ⊎ (end ≡ status.OutOfMemory))
     → IsQuietCall old new end → IsSome old.state → Succeeds old new end job
-success_run old new end job done text write bench bad ends quiet told = record {
+success_run old new end job done text write bench bad ends quiet reported = record {
   state = done (is_done ends);
-  text = some_holds _ old.state told (text (is_done ends));
+  text = some_holds _ old.state reported (text (is_done ends));
   status = is_done ends;
 }
   where
     is_done : (end ≡ status.Done) ⊎ (end ≡ status.WriteFault) ⊎ (end ≡ status.BenchFault) ⊎ (end ≡ status.ReplyBad) ⊎ (end ≡ status.OutOfMemory) → end ≡ status.Done
     is_done (inl e) = e
     is_done (inr (inl e)) = absurd (no_rise old.sink_faults new.sink_faults quiet.sink (write e))
-    is_done (inr (inr (inl e))) = absurd (no_rise old.told.faults new.told.faults quiet.bench (bench e))
-    is_done (inr (inr (inr (inl e)))) = absurd (no_some old.state (bad e) told)
+    is_done (inr (inr (inl e))) = absurd (no_rise old.reported.faults new.reported.faults quiet.bench (bench e))
+    is_done (inr (inr (inr (inl e)))) = absurd (no_some old.state (bad e) reported)
     is_done (inr (inr (inr (inr e)))) = absurd (quiet.memory e)
 
 -- the text and the status of an answer that was written whole

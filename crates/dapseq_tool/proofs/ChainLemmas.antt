@@ -9,7 +9,7 @@ use Rattle.dap_transfer.specs.Laws.{value_now}
 use Rattle.dap_transfer.specs.Wires.{access_of}
 use Rattle.probe_core.specs.Bench.{BenchState, Steps}
 use Rattle.probe_core.specs.Probe.{target_of, work_of}
-use Rattle.dapseq_tool.specs.Progress.{after_actions, actions_of, IsClear, IsBehind, IsAmid, CanDo, AreAccessed, IsAccessed, CannotFail}
+use Rattle.dapseq_tool.specs.Progress.{after_actions, actions_of, IsClear, IsAfter, IsAmid, CanDo, AreAccessed, IsAccessed, CannotFail}
 
 pub steps_then : {A B C : BenchState → BenchState → Type 0} → ((m n o : BenchState) → A m n → B n o → C m o) → (a b c : Option BenchState) → Steps A a b → Steps B b c → Steps C a c
 steps_then f None b c s t = tt
@@ -30,20 +30,20 @@ none_of : (xs : List Action) → take 0 xs ≡ []
 none_of [] = refl
 none_of (x ∷ xs) = refl
 
-pub behind_then : (r : Request) (rs : List Request) (m n o : BenchState) → IsBehind (actions_of (r ∷ [])) m n → IsBehind (actions_of rs) n o → IsBehind (actions_of (r ∷ rs)) m o
-behind_then r rs m n o first rest = record {
+pub after_then : (r : Request) (rs : List Request) (m n o : BenchState) → IsAfter (actions_of (r ∷ [])) m n → IsAfter (actions_of rs) n o → IsAfter (actions_of (r ∷ rs)) m o
+after_then r rs m n o first rest = record {
   target = rest.target ∙ ap (λ u. after_actions u (actions_of rs)) first.target;
   work = let a = first.work in let b = rest.work in omega arith;
   idle = rest.idle;
 }
 
-pub can_then : (k : ℕ) (r : Request) (m n : BenchState) → CanDo (suc k) m → IsBehind (actions_of (r ∷ [])) m n → CanDo k n
+pub can_then : (k : ℕ) (r : Request) (m n : BenchState) → CanDo (suc k) m → IsAfter (actions_of (r ∷ [])) m n → CanDo k n
 can_then k r m n can first = record { idle = first.idle; room = let a = first.work in let b = can.room in omega arith }
 
 pub can_first : (k : ℕ) (m : BenchState) → CanDo (suc k) m → CanDo 1 m
 can_first k m can = record { idle = can.idle; room = let b = can.room in omega arith }
 
-pub amid_then : (r : Request) (rs : List Request) (m n o : BenchState) → IsBehind (actions_of (r ∷ [])) m n → IsAmid (actions_of rs) n o → IsAmid (actions_of (r ∷ rs)) m o
+pub amid_then : (r : Request) (rs : List Request) (m n o : BenchState) → IsAfter (actions_of (r ∷ [])) m n → IsAmid (actions_of rs) n o → IsAmid (actions_of (r ∷ rs)) m o
 amid_then r rs m n o first rest =
     let count : work_of o.probe - work_of m.probe ≡ suc (work_of o.probe - work_of n.probe) = (let a = first.work in let b = rest.least in omega arith) in
     record {
@@ -77,10 +77,10 @@ pub done_then : (r : Request) (first : List Request) (last : Request) (u v : ℕ
 done_then r first last u v a b c s t = steps_then
     (λ m n o one more can.
     let k : ℕ = length (first ++ last ∷ []) in
-    let front : IsBehind (actions_of (r ∷ [])) m n = (one (can_first k m can)).behind in
+    let front : IsAfter (actions_of (r ∷ [])) m n = (one (can_first k m can)).after in
     let back : AreAccessed first last v n o = more (can_then k r m n can front) in
     record {
-      behind = behind_then r (first ++ last ∷ []) m n o front back.behind;
+      after = after_then r (first ++ last ∷ []) m n o front back.after;
       value_is = λ is_read. subst (λ (t : TargetState). value_now (after_actions t (actions_of first)) (access_of last) < 2 ^ 32 → v ≡ value_now (after_actions t (actions_of first)) (access_of last)) front.target (back.value_is is_read);
     })
     a b c s t
@@ -88,7 +88,7 @@ done_then r first last u v a b c s t = steps_then
 pub part_then : (r : Request) (rs : List Request) (u : ℕ) (a b c : Option BenchState) → Steps (λ m n. CanDo 1 m → IsAccessed r u m n) a b → Steps (λ m n. CanDo (length rs) m → IsAmid (actions_of rs) m n) b c → Steps (λ m n. CanDo (suc (length rs)) m → IsAmid (actions_of (r ∷ rs)) m n) a c
 part_then r rs u a b c s t = steps_then
     (λ m n o one more can.
-    let front : IsBehind (actions_of (r ∷ [])) m n = (one (can_first (length rs) m can)).behind in
+    let front : IsAfter (actions_of (r ∷ [])) m n = (one (can_first (length rs) m can)).after in
     amid_then r rs m n o front (more (can_then (length rs) r m n can front)))
     a b c s t
 
@@ -98,7 +98,7 @@ part_first r rs a b s = steps_map (λ m n one can. amid_first r rs m n (one (can
 pub never_then : (r : Request) (rs : List Request) (u : ℕ) (a b c : Option BenchState) → Steps (λ m n. CanDo 1 m → IsAccessed r u m n) a b → Steps (CannotFail rs) b c → Steps (CannotFail (r ∷ rs)) a c
 never_then r rs u a b c s t = steps_then
     (λ m n o one more can clear.
-    let front : IsBehind (actions_of (r ∷ [])) m n = (one (can_first (length rs) m can)).behind in
+    let front : IsAfter (actions_of (r ∷ [])) m n = (one (can_first (length rs) m can)).after in
     more (can_then (length rs) r m n can front) (subst (λ t. IsClear t (actions_of rs)) (sym front.target) (clear_then r rs (target_of m.probe) clear)))
     a b c s t
 

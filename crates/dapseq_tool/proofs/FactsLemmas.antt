@@ -10,7 +10,7 @@ use Rattle.target_machine.specs.declared.access.RegAccess.{RegAccess}
 use Rattle.target_machine.specs.declared.ap.ApState.{ApState}
 use Rattle.target_machine.specs.declared.job.RegionJob.{RegionJob}
 use Rattle.target_machine.proofs.Maps.{got_inserted}
-use Rattle.dap_messages.specs.Requests.{has_bit}
+use Rattle.dap_base.specs.Bits.{has_bit}
 use Rattle.dap_transfer.specs.Laws.{value_now}
 use Rattle.dap_transfer.specs.Transfer.{value_of as value_of_outcome}
 use Rattle.dap_transfer.specs.Wires.{access_of}
@@ -21,7 +21,7 @@ use Rattle.dapseq_tool.specs.Ready.{IsPort, IsReady}
 use Rattle.dapseq_tool.specs.Units.{address_of, select_request, csw_request, size_request, tar_request, drw_request, requests_of, IsPlaced}
 use Rattle.word_job.specs.declared.statement.Statement.{Statement}
 use Rattle.word_job.specs.declared.statement.Statement.TheVariants.{Write, Read}
-use Rattle.dapseq_tool.proofs.UnitLemmas.{Five, Has, at_select, read_at, write_at, size_word, five_actions, after_five, five_by, csw_of, pointed, moved, at_tar, behind_read, behind_write, read_last, write_last, last_selects, next_selects, read_done, write_done}
+use Rattle.dapseq_tool.proofs.UnitLemmas.{Five, Has, at_select, read_at, write_at, size_word, five_actions, after_five, five_by, csw_of, pointed, moved, at_tar, after_read, after_write, read_last, write_last, last_selects, next_selects, read_done, write_done}
 
 some_of : {A : Type 0} {P : A → Type 0} → (o : Option A) → IsSomeAnd o P → (a : A) × (o ≡ Some a) × P a
 some_of None is = absurd is
@@ -31,8 +31,8 @@ none_of : (k : ℕ) → take k (actions_of []) ≡ []
 none_of zero = refl
 none_of (suc k) = refl
 
-ready_behind : (region : RegionJob) (t : TargetState) (address : ℕ) (port : ApState) (cell other : Cell) (r : ℕ) → Has region t address port cell → other.read_only ≡ false → IsReady region (record (moved t port (csw_of port) address) { words = fin.insert t.words address other; rdbuff = r })
-ready_behind region t address port cell other r has writable = record {
+ready_after : (region : RegionJob) (t : TargetState) (address : ℕ) (port : ApState) (cell other : Cell) (r : ℕ) → Has region t address port cell → other.read_only ≡ false → IsReady region (record (moved t port (csw_of port) address) { words = fin.insert t.words address other; rdbuff = r })
+ready_after region t address port cell other r has writable = record {
   power = has.ready.power;
   clear = has.ready.clear;
   port = subst (λ o. IsSomeAnd o IsPort) (sym (next_selects (at_tar t port (csw_of port) address) (pointed port (csw_of port) address) _ (last_selects region t address port cell has)).port) (record { small = has.is_port.small; csw = below });
@@ -116,7 +116,7 @@ facts_read : (region : RegionJob) (t : TargetState) (place address : ℕ) (port 
 facts_read region t place address port cell has =
     let c : ℕ = csw_of port in
     let shown : ℕ = bit_and (shown_value cell) 0xFFFF_FFFF in
-    let last : attempt (at_tar t port c address) (read_at 12) ≡ posted shown (behind_read t port cell address) = read_last region t address port cell has in
+    let last : attempt (at_tar t port c address) (read_at 12) ≡ posted shown (after_read t port cell address) = read_last region t address port cell has in
     let good : is_fault (attempt (at_tar t port c address) (read_at 12)).outcome ≡ false = ap (λ (x : Attempt). is_fault x.outcome) last in
     let five : Five t c address (read_at 12) = five_by region t address port cell (read_at 12) has good in
     let low : address % 2 ^ 32 ≡ address = (let l = has.low in omega (arith, l)) in
@@ -134,13 +134,13 @@ facts_read region t place address port cell has =
       next = ap (λ (d : CallDone). d.next) whole ∙ sym (after_five t c address (read_at 12) five);
       stores = λ v is values. ap (λ (n : ℕ). slice_set values place n) (v_is v is ∙ sym (ap (λ (d : CallDone). value_of d.end) whole ∙ ap (λ (x : Attempt). from_lanes 4 address (given x.outcome)) last ∙ lane_is address shown has.aligned below));
       clear = clear_five region t address port cell (read_at 12) has good (ap (λ (x : Attempt). x.next.sticky) last ∙ has.ready.clear);
-      ready = subst (IsReady region) (sym (ap (λ (d : CallDone). d.next) whole ∙ ap (λ (x : Attempt). x.next) last)) (ready_behind region t address port cell (moved_on cell) shown has has.writable);
+      ready = subst (IsReady region) (sym (ap (λ (d : CallDone). d.next) whole ∙ ap (λ (x : Attempt). x.next) last)) (ready_after region t address port cell (moved_on cell) shown has has.writable);
     }
 
 facts_write : (region : RegionJob) (t : TargetState) (address value : ℕ) (port : ApState) (cell : Cell) → Has region t address port cell → UnitFacts region t (Write address value)
 facts_write region t address value port cell has =
     let c : ℕ = csw_of port in
-    let last : attempt (at_tar t port c address) (write_at 12 value) ≡ done (behind_write t port cell address value) = write_last region t address value port cell has in
+    let last : attempt (at_tar t port c address) (write_at 12 value) ≡ done (after_write t port cell address value) = write_last region t address value port cell has in
     let good : is_fault (attempt (at_tar t port c address) (write_at 12 value)).outcome ≡ false = ap (λ (x : Attempt). is_fault x.outcome) last in
     let five : Five t c address (write_at 12 value) = five_by region t address port cell (write_at 12 value) has good in
     let low : address % 2 ^ 32 ≡ address = (let l = has.low in omega (arith, l)) in
@@ -153,7 +153,7 @@ facts_write region t address value port cell has =
       next = ap (λ (d : CallDone). d.next) whole ∙ sym (after_five t c address (write_at 12 value) five);
       stores = λ v is values. refl;
       clear = clear_five region t address port cell (write_at 12 value) has good (ap (λ (x : Attempt). x.next.sticky) last ∙ has.ready.clear);
-      ready = subst (IsReady region) (sym (ap (λ (d : CallDone). d.next) whole ∙ ap (λ (x : Attempt). x.next) last)) (ready_behind region t address port cell (with_values cell (merged (shown_value cell) value 0xFFFF_FFFF ∷ [])) (behind_write t port cell address value).rdbuff has has.writable);
+      ready = subst (IsReady region) (sym (ap (λ (d : CallDone). d.next) whole ∙ ap (λ (x : Attempt). x.next) last)) (ready_after region t address port cell (with_values cell (merged (shown_value cell) value 0xFFFF_FFFF ∷ [])) (after_write t port cell address value).rdbuff has has.writable);
     }
 
 aligned_in : (region : RegionJob) (address : ℕ) → lies_in region address ≡ true → address % 4 ≡ 0

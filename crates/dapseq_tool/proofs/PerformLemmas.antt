@@ -3,13 +3,13 @@ use Rattle.std.proofs.Common.{◌≡◌, ◌∙◌, ℕ, zero, suc, ◌+◌, ◌
 use Rattle.target_machine.specs.State.{TargetState}
 use Rattle.target_machine.specs.Plain.{Action}
 use Rattle.target_machine.specs.declared.job.RegionJob.{RegionJob}
-use Rattle.dap_messages.specs.Requests.{has_bit}
+use Rattle.dap_base.specs.Bits.{has_bit}
 use Rattle.dap_transfer.specs.Laws.{value_now}
 use Rattle.dap_transfer.specs.Wires.{access_of}
 use Rattle.probe_core.specs.Bench.{BenchState, Steps}
 use Rattle.probe_core.specs.Probe.{target_of, work_of}
 use Rattle.dapseq_tool.specs.Meaning.{statement_done}
-use Rattle.dapseq_tool.specs.Progress.{after_actions, actions_of, IsClear, IsBehind, IsAmid, CanDo, AreAccessed, CannotFail}
+use Rattle.dapseq_tool.specs.Progress.{after_actions, actions_of, IsClear, IsAfter, IsAmid, CanDo, AreAccessed, CannotFail}
 use Rattle.dapseq_tool.specs.Units.{address_of, select_request, csw_request, size_request, tar_request, drw_request, front, back, requests_of, IsPlaced, CanRun, IsStatementDone}
 use Rattle.word_job.specs.declared.statement.Statement.{Statement}
 use Rattle.dapseq_tool.proofs.ChainLemmas.{steps_then, steps_map}
@@ -21,7 +21,7 @@ Front u m n = CanDo 2 m → AreAccessed (select_request ∷ []) csw_request u m 
 can_front : (m : BenchState) → CanDo 5 m → CanDo 2 m
 can_front m can = record { idle = can.idle; room = let r = can.room in omega (arith, r) }
 
-can_back : (m n : BenchState) → CanDo 5 m → IsBehind (actions_of front) m n → CanDo 3 n
+can_back : (m n : BenchState) → CanDo 5 m → IsAfter (actions_of front) m n → CanDo 3 n
 can_back m n can is = record { idle = is.idle; room = let r = can.room in let w = is.work in omega (arith, r, w) }
 
 csw_same : (u : ℕ) (region : RegionJob) (s : Statement) (m n : BenchState) (f : UnitFacts region (target_of m.probe) s) → AreAccessed (select_request ∷ []) csw_request u m n → u ≡ f.csw
@@ -32,14 +32,14 @@ perform_done s u v a b c x y region placed = steps_then
     (λ m n o first more can.
     let f : UnitFacts region (target_of m.probe) s = unit_facts region (target_of m.probe) s can.ready placed in
     let one : AreAccessed (select_request ∷ []) csw_request u m n = first (can_front m can.can) in
-    let two : AreAccessed (size_request u ∷ tar_request (address_of s) ∷ []) (drw_request s) v n o = more (can_back m n can.can one.behind) in
+    let two : AreAccessed (size_request u ∷ tar_request (address_of s) ∷ []) (drw_request s) v n o = more (can_back m n can.can one.after) in
     let rest : AreAccessed (size_request f.csw ∷ tar_request (address_of s) ∷ []) (drw_request s) v n o =
     subst (λ k. AreAccessed (size_request k ∷ tar_request (address_of s) ∷ []) (drw_request s) v n o) (csw_same u region s m n f one) two in
     record {
-      target = rest.behind.target ∙ ap (λ t. after_actions t (actions_of (back f.csw s))) one.behind.target ∙ sym f.next;
-      work = let w = one.behind.work in let z = rest.behind.work in let l : length (statement_done (target_of m.probe) s).actions ≡ 5 = ap length f.actions in omega (arith, w, z, l);
-      stores = f.stores v (subst (λ t. has_bit (drw_request s).byte 2 ≡ true → value_now (after_actions t (actions_of (size_request f.csw ∷ tar_request (address_of s) ∷ []))) (access_of (drw_request s)) < 2 ^ 32 → v ≡ value_now (after_actions t (actions_of (size_request f.csw ∷ tar_request (address_of s) ∷ []))) (access_of (drw_request s))) one.behind.target rest.value_is);
-      idle = rest.behind.idle;
+      target = rest.after.target ∙ ap (λ t. after_actions t (actions_of (back f.csw s))) one.after.target ∙ sym f.next;
+      work = let w = one.after.work in let z = rest.after.work in let l : length (statement_done (target_of m.probe) s).actions ≡ 5 = ap length f.actions in omega (arith, w, z, l);
+      stores = f.stores v (subst (λ t. has_bit (drw_request s).byte 2 ≡ true → value_now (after_actions t (actions_of (size_request f.csw ∷ tar_request (address_of s) ∷ []))) (access_of (drw_request s)) < 2 ^ 32 → v ≡ value_now (after_actions t (actions_of (size_request f.csw ∷ tar_request (address_of s) ∷ []))) (access_of (drw_request s))) one.after.target rest.value_is);
+      idle = rest.after.idle;
     })
     a b c x y
 
@@ -67,14 +67,14 @@ perform_part_then s u a b c x y region placed = steps_then
     (λ m n o first more can.
     let f : UnitFacts region (target_of m.probe) s = unit_facts region (target_of m.probe) s can.ready placed in
     let one : AreAccessed (select_request ∷ []) csw_request u m n = first (can_front m can.can) in
-    let p : IsAmid (actions_of (back f.csw s)) n o = subst (λ k. IsAmid (actions_of (back k s)) n o) (csw_same u region s m n f one) (more (can_back m n can.can one.behind)) in
-    let w : work_of n.probe ≡ work_of m.probe + 2 = one.behind.work in
+    let p : IsAmid (actions_of (back f.csw s)) n o = subst (λ k. IsAmid (actions_of (back k s)) n o) (csw_same u region s m n f one) (more (can_back m n can.can one.after)) in
+    let w : work_of n.probe ≡ work_of m.probe + 2 = one.after.work in
     let count : work_of o.probe - work_of m.probe ≡ suc (suc (work_of o.probe - work_of n.probe)) = (let l = p.least in omega (arith, w, l)) in
     subst (λ (acts : List Action). IsAmid acts m o) (sym f.actions)
     (record {
       least = let l = p.least in omega (arith, w, l);
       most = let q = p.most in omega (arith, w, q);
-      target = p.target ∙ ap (λ t. after_actions t (take (work_of o.probe - work_of n.probe) (actions_of (back f.csw s)))) one.behind.target
+      target = p.target ∙ ap (λ t. after_actions t (take (work_of o.probe - work_of n.probe) (actions_of (back f.csw s)))) one.after.target
           ∙ ap (λ k. after_actions (target_of m.probe) (take k (actions_of (requests_of f.csw s)))) (sym count);
     }))
     a b c x y
@@ -97,6 +97,6 @@ perform_never_then s u a b c x y region placed = steps_then
     (λ m n o first no can.
     let f : UnitFacts region (target_of m.probe) s = unit_facts region (target_of m.probe) s can.ready placed in
     let one : AreAccessed (select_request ∷ []) csw_request u m n = first (can_front m can.can) in
-    subst (λ k. CannotFail (back k s) n o) (csw_same u region s m n f one) no (can_back m n can.can one.behind)
-    (subst (λ t. IsClear t (actions_of (back f.csw s))) (sym one.behind.target) (λ k. f.clear (suc (suc k)))))
+    subst (λ k. CannotFail (back k s) n o) (csw_same u region s m n f one) no (can_back m n can.can one.after)
+    (subst (λ t. IsClear t (actions_of (back f.csw s))) (sym one.after.target) (λ k. f.clear (suc (suc k)))))
     a b c x y

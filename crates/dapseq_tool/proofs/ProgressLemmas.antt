@@ -10,7 +10,8 @@ use Rattle.dap_messages.specs.declared.request.Kind.{Kind}
 use Rattle.dap_messages.specs.declared.request.Kind.TheVariants.{Posted, Write}
 use Rattle.dap_messages.specs.declared.request.Response.{Response}
 use Rattle.dap_messages.specs.declared.request.Response.TheVariants.{Good, Wait, Fault, Mismatch}
-use Rattle.dap_messages.specs.Requests.{kind, has_bit}
+use Rattle.dap_messages.specs.Requests.{kind}
+use Rattle.dap_base.specs.Bits.{has_bit}
 use Rattle.dap_messages.specs.Responses.{code_of}
 use Rattle.dap_messages.specs.Words.{word_bytes}
 use Rattle.dap_transfer.specs.Wires.{access_of}
@@ -51,7 +52,7 @@ one_same t (r ∷ rs) (suc k) = one_same (attempt t (access_of r)).next rs k
 grown_is : (w k : ℕ) → w + 1 < 2 ^ 64 → k ≤ 1 → grown w k ≡ w + k
 grown_is w k room few = omega arith
 
--- what executes packets, behind some of the accesses
+-- what executes packets, after some of the accesses
 record Came (actions : List Action) (e f : ExecutorState) : Type 0 where
   count : ℕ
   few : count ≤ length actions
@@ -179,7 +180,7 @@ accessed r reply value m n one can has is =
     let next = next_is r reply m n one can.idle has in
     let came : Came (actions_of (r ∷ [])) e (answer_to e r).next = came_one e r one can.room in
     record {
-      behind = record {
+      after = record {
         target = ap (λ (f : ExecutorState). f.transfers.line.target) next ∙ makes_prefix e.transfers (r ∷ []) (are_normal r one) ∙ ap (λ (k : ℕ). one_at_a_time e.transfers.line.target (take k (map access_of (r ∷ [])))) once;
         work = ap (λ (f : ExecutorState). f.transfers.work) next ∙ counts_executed e.transfers (r ∷ []) (are_normal r one) (one.work, tt) ∙ ap (grown e.transfers.work) once ∙ grown_is e.transfers.work 1 can.room (omega arith);
         idle = record {
@@ -193,7 +194,7 @@ accessed r reply value m n one can has is =
           (sym (good_reply e r one good) ∙ ap (reply_value (has_bit r.byte 2)) (sym (reply_is r reply m n one can.idle has)) ∙ is) is_read small;
     }
 
--- a reply that does not say so, where no access leaves a fault behind
+-- a reply that does not say so, where no access leaves a fault after
 pub never_bad : (r : Request) (reply : List ℕ) (m n : BenchState) → IsOne r → IsIdle m → HasAnswered (packet_of r) reply m n → reply_value (has_bit r.byte 2) reply ≡ None → (target_of m.probe).sticky ≡ false → (attempt (target_of m.probe) (access_of r)).next.sticky ≡ false → ⊥
 never_bad r reply m n one idle has bad clear after =
     let e : ExecutorState = m.probe.executor in

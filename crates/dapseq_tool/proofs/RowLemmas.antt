@@ -16,9 +16,9 @@ use Rattle.text_lines.proofs.PutLemmas.{prefix_first, put_after}
 
 -- a bench that is twice as it was before
 pub before-trans : (a b c : Seen) → IsAsBefore a b → IsAsBefore b c → IsAsBefore a c
-before-trans a b c first second = record { told = grind (arith, first.told, second.told); state = second.state ∙ first.state }
+before-trans a b c first second = record { reported = grind (arith, first.reported, second.reported); state = second.state ∙ first.state }
 
--- a text, and what is known of it where a state is told
+-- a text, and what is known of it where a state is reported
 abbrev pub Wrote : Option BenchState → (TargetState → List ℕ) → Option (List ℕ) → Option (List ℕ) → Type 0
 Wrote state text old new = IfSome state (λ m. Appends old new (text (target_of m.probe)))
 
@@ -87,7 +87,7 @@ take-zip (x ∷ xs) [] i all = take-nil i
 take-zip (x ∷ xs) (y ∷ ys) zero all = let no : ⊥ = omega arith in absurd no
 take-zip (x ∷ xs) (y ∷ ys) (suc i) all = ap (λ zs. (x, y) ∷ zs) (take-zip xs ys i (omega arith))
 
--- the first items and the one behind them
+-- the first items and the one after them
 pub take-at : {X : Type 0} (xs : List X) (i : ℕ) (x : X) → slice_get xs i ≡ Some x → take (i + 1) xs ≡ take i xs ++ x ∷ []
 take-at [] zero x at = cc
 take-at [] (suc i) x at = cc

@@ -7,7 +7,7 @@ use Rattle.target_machine.specs.declared.job.RegionJob.{RegionJob}
 use Rattle.target_machine.specs.declared.unit.Variable.{Variable}
 use Rattle.probe_core.specs.Bench.{BenchState, Steps}
 use Rattle.probe_core.specs.Probe.{target_of, work_of}
-use Rattle.dapseq_tool.specs.Meaning.{Now, behind, now_of, ran, statement_done, value_of, stored}
+use Rattle.dapseq_tool.specs.Meaning.{Now, after, now_of, ran, statement_done, value_of, stored}
 use Rattle.dapseq_tool.specs.Progress.{after_actions, IsAmid}
 use Rattle.dapseq_tool.specs.Ready.{IsReady}
 use Rattle.std.specs.List.{All}
@@ -51,10 +51,10 @@ no_more [] = refl
 no_more (x ∷ xs) = ap (λ ws. x ∷ ws) (no_more xs)
 
 -- what is issued goes on with what was issued
-grows : (now : Now) (ss : List Statement) → (rest : List Action) × ((fold behind now ss).issued ≡ now.issued ++ rest)
+grows : (now : Now) (ss : List Statement) → (rest : List Action) × ((fold after now ss).issued ≡ now.issued ++ rest)
 grows now [] = ([], no_more now.issued)
 grows now (s ∷ ss) =
-    let more = grows (behind now s) ss in
+    let more = grows (after now s) ss in
     ((statement_done now.target s).actions ++ more.0, more.1 ∙ both_of now.issued (statement_done now.target s).actions more.0)
 
 -- a run of statements is a run of their accesses
@@ -77,7 +77,7 @@ done_more region count ss s v before after m n o placed few can is more =
     let one : IsStatementDone s v n o = more ready in
     let f : UnitFacts region (target_of n.probe) s = unit_facts region (target_of n.probe) s is.ready placed in
     let five : length (statement_done (target_of n.probe) s).actions ≡ 5 = ap length f.actions in
-    let same : ran t before (ss ++ s ∷ []) ≡ behind now s = fold_both behind (now_of t before) ss (s ∷ []) in
+    let same : ran t before (ss ++ s ∷ []) ≡ after now s = fold_both after (now_of t before) ss (s ∷ []) in
     let at : (statement_done (target_of n.probe) s) ≡ (statement_done now.target s) = ap (λ (u : TargetState). statement_done u s) is.target in
     let issued : length (ran t before (ss ++ s ∷ [])).issued ≡ length now.issued + 5 =
     ap (λ (w : Now). length w.issued) same ∙ length_both now.issued (statement_done now.target s).actions ∙ ap (λ k. length now.issued + k) (sym (ap (λ d. length d.actions) at) ∙ five) in
@@ -94,11 +94,11 @@ done_more region count ss s v before after m n o placed few can is more =
       idle = one.idle;
     }
 
-amid_more : (t : TargetState) (now : Now) (s : Statement) (rest : List Statement) (acts : List Action) (m n o : BenchState) → acts ≡ (statement_done now.target s).actions → target_of m.probe ≡ t → target_of n.probe ≡ after_actions t now.issued → work_of n.probe ≡ work_of m.probe + length now.issued → IsAmid acts n o → IsAmid (fold behind now (s ∷ rest)).issued m o
+amid_more : (t : TargetState) (now : Now) (s : Statement) (rest : List Statement) (acts : List Action) (m n o : BenchState) → acts ≡ (statement_done now.target s).actions → target_of m.probe ≡ t → target_of n.probe ≡ after_actions t now.issued → work_of n.probe ≡ work_of m.probe + length now.issued → IsAmid acts n o → IsAmid (fold after now (s ∷ rest)).issued m o
 amid_more t now s rest acts m n o same from went work part =
     let k : ℕ = work_of o.probe - work_of n.probe in
-    let more = grows (behind now s) rest in
-    let whole : (fold behind now (s ∷ rest)).issued ≡ now.issued ++ (acts ++ more.0) =
+    let more = grows (after now s) rest in
+    let whole : (fold after now (s ∷ rest)).issued ≡ now.issued ++ (acts ++ more.0) =
     more.1 ∙ ap (λ (xs : List Action). (now.issued ++ xs) ++ more.0) (sym same) ∙ both_of now.issued acts more.0 in
     let few : k ≤ length acts = (let q = part.most in omega (arith, q)) in
     let count : work_of o.probe - work_of m.probe ≡ length now.issued + k = (let l = part.least in omega (arith, work, l)) in
@@ -115,7 +115,7 @@ amid_more t now s rest acts m n o same from went work part =
 pub part_more : (region : RegionJob) (count : ℕ) (ss : List Statement) (s : Statement) (rest : List Statement) (before after : List ℕ) (m n o : BenchState) → 5 * length ss + 5 ≤ count → CanRun region count m → AreDone region ss before after m n → (CanRun region 5 n → IsAmid (statement_done (target_of n.probe) s).actions n o) → IsAmid (ran (target_of m.probe) before (ss ++ s ∷ rest)).issued m o
 part_more region count ss s rest before after m n o few can is part =
     let t : TargetState = target_of m.probe in
-    subst (λ (w : Now). IsAmid w.issued m o) (sym (fold_both behind (now_of t before) ss (s ∷ rest)))
+    subst (λ (w : Now). IsAmid w.issued m o) (sym (fold_both after (now_of t before) ss (s ∷ rest)))
     (amid_more t (ran t before ss) s rest (statement_done (target_of n.probe) s).actions m n o (ap (λ (u : TargetState). (statement_done u s).actions) is.target) refl is.accesses is.work (part (room_for count 0 region ss before after m n can is few)))
 
 pub none_done : (region : RegionJob) (count : ℕ) (before : List ℕ) (m : BenchState) → CanRun region count m → AreDone region [] before before m m

@@ -26,7 +26,7 @@ ends_good s l a none clear = good_by s l a (is_free l.target a) refl none clear
 did_good : (s : Setting) (l : Line) (role : Role) (a : RegAccess) (executed mask : ℕ) → IsPlain role → s.stalls ≡ [] → l.target.sticky ≡ false → did s l (item role a executed mask) ≡ record { response = Good; line = made l a; count = 1 }
 did_good s l role a executed mask plain none clear = plain_once role s l mask a plain ∙ ap (λ r. once_at r l a) (ends_good s l a none clear)
 
--- two wire transfers, an access and a read of RDBUFF behind it
+-- two wire transfers, an access and a read of RDBUFF after it
 pub good_two : (s : Setting) (l : Line) (one two : Role) (a : RegAccess) (mask : ℕ) → IsPlain one → IsPlain two → s.stalls ≡ [] → l.target.sticky ≡ false → (attempt l.target a).next.sticky ≡ false
     → (run s false l (item one a 0 mask ∷ item two rdbuff 1 mask ∷ [])).response ≡ Good
 good_two s l one two a mask plain_one plain_two none clear after =
@@ -77,7 +77,7 @@ transferred_ran : (p : TransferState) (r : Request) → transferred p (r ∷ [])
 unfolding ran
 transferred_ran p r = ap (λ a. ended p [] a 1 (last_mask p.mask (r ∷ []))) (first_place p.setting false p.line (wires p.mask (r ∷ [])))
 
--- the response is 01 where nothing stalls and STICKYERR is clear before the access and behind it
+-- the response is 01 where nothing stalls and STICKYERR is clear before the access and after it
 pub response_good : (p : TransferState) (r : Request) → IsAccess r → p.setting.stalls ≡ [] → p.line.target.sticky ≡ false → (attempt p.line.target (access_of r)).next.sticky ≡ false → (transferred p (r ∷ [])).response ≡ Good
 unfolding ran
 response_good p r is none clear after =

@@ -112,7 +112,7 @@ lanes_is address aligned =
     let same : address / 4 * 4 % 4 ≡ 0 = omega (arith, aligned) in
     rw same refl
 
--- the target behind DRW
+-- the target after DRW
 abbrev pub moved : TargetState → ApState → ℕ → ℕ → TargetState
 moved t ap c address = advanced (at_tar t ap c address) (pointed ap c address) 4
 
@@ -141,19 +141,19 @@ last_selects region t address ap cell has =
     let s2 : Selects (sized ap c) (at_size t ap c) = next_selects (csw_read_at t c) ap (sized ap c) s1 in
     next_selects (at_size t ap c) (sized ap c) (pointed ap c address) s2
 
--- the target behind a read, and behind a write
-abbrev pub behind_read : TargetState → ApState → Cell → ℕ → TargetState
-behind_read t ap cell address = record (moved t ap (csw_of ap) address) { words = map.insert t.words address (moved_on cell) }
+-- the target after a read, and after a write
+abbrev pub after_read : TargetState → ApState → Cell → ℕ → TargetState
+after_read t ap cell address = record (moved t ap (csw_of ap) address) { words = map.insert t.words address (moved_on cell) }
 
-abbrev pub behind_write : TargetState → ApState → Cell → ℕ → ℕ → TargetState
-behind_write t ap cell address value = record (moved t ap (csw_of ap) address) { words = map.insert t.words address (with_values cell (merged (shown_value cell) value 0xFFFF_FFFF ∷ [])) }
+abbrev pub after_write : TargetState → ApState → Cell → ℕ → ℕ → TargetState
+after_write t ap cell address value = record (moved t ap (csw_of ap) address) { words = map.insert t.words address (with_values cell (merged (shown_value cell) value 0xFFFF_FFFF ∷ [])) }
 
-pub read_last : (region : RegionJob) (t : TargetState) (address : ℕ) (ap : ApState) (cell : Cell) → Has region t address ap cell → attempt (at_tar t ap (csw_of ap) address) (read_at 12) ≡ posted (bit_and (shown_value cell) 0xFFFF_FFFF) (behind_read t ap cell address)
+pub read_last : (region : RegionJob) (t : TargetState) (address : ℕ) (ap : ApState) (cell : Cell) → Has region t address ap cell → attempt (at_tar t ap (csw_of ap) address) (read_at 12) ≡ posted (bit_and (shown_value cell) 0xFFFF_FFFF) (after_read t ap cell address)
 read_last region t address ap cell has =
     read_drw (at_tar t ap (csw_of ap) address) (pointed ap (csw_of ap) address) (last_selects region t address ap cell has)
     ∙ rw (word_size (csw_of ap), drw_is address ap (csw_of ap) has.is_port.small has.aligned, lanes_is address has.aligned, has.word) refl
 
-pub write_last : (region : RegionJob) (t : TargetState) (address value : ℕ) (ap : ApState) (cell : Cell) → Has region t address ap cell → attempt (at_tar t ap (csw_of ap) address) (write_at 12 value) ≡ done (behind_write t ap cell address value)
+pub write_last : (region : RegionJob) (t : TargetState) (address value : ℕ) (ap : ApState) (cell : Cell) → Has region t address ap cell → attempt (at_tar t ap (csw_of ap) address) (write_at 12 value) ≡ done (after_write t ap cell address value)
 write_last region t address value ap cell has =
     write_drw (at_tar t ap (csw_of ap) address) (pointed ap (csw_of ap) address) value (last_selects region t address ap cell has)
     ∙ rw (word_size (csw_of ap), drw_is address ap (csw_of ap) has.is_port.small has.aligned, lanes_is address has.aligned, has.word, has.writable) refl

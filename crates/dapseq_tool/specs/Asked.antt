@@ -58,11 +58,11 @@ AsksOfCheck s bytes what = (answer : Result SeqSet Refusal) × IsAnswer bytes s 
 abbrev pub text_value : List ℕ → Option Data
 text_value bytes = if is_utf8 bytes then read bytes else None
 
--- the value is this job of the device, and neither a variant nor a processor is wanted
+-- the value is this job of the device, and neither a variant nor a processor is requested
 pub record IsRunOf (s : Selection) (sequence : List ℕ) (d : Data) (job : RunJob) : Type 0 where
   pub variant : s.variant ≡ None
   pub pname : s.pname ≡ None
-  pub stands : IsJob s.device sequence d job
+  pub holds : IsJob s.device sequence d job
 
 -- what a value asks for, if there is one: the run of its job, or none that is built
 abbrev pub AsksOfRun : Selection → List ℕ → Option Data → Asked → Type 0

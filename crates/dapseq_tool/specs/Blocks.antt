@@ -25,7 +25,7 @@ pub record AreDone (region : RegionJob) (statements : List Statement) (before af
 abbrev pub HaveRun : RegionJob → ℕ → List Statement → List ℕ → List ℕ → BenchState → BenchState → Type 0
 HaveRun region count statements before after m n = CanRun region (5 * count) m → AreDone region statements before after m n
 
--- where a bench can run all statements, it is behind the first of their accesses, as many as its work has grown by
+-- where a bench can run all statements, it is after the first of their accesses, as many as its work has grown by
 abbrev pub IsAmidBlock : RegionJob → List Statement → List ℕ → BenchState → BenchState → Type 0
 IsAmidBlock region statements before m n = CanRun region (5 * length statements) m → IsAmid (ran (target_of m.probe) before statements).issued m n
 

@@ -3,18 +3,19 @@ use Rattle.std.specs.Prelude.{◌≡◌, ℕ, ◌≤◌, Bool, false, ◌==◌, 
 use Rattle.std.specs.Int.{w32, from_le_bytes}
 use Rattle.dap_messages.specs.declared.request.Request.{Request}
 use Rattle.dap_messages.specs.declared.request.Kind.TheVariants.{Posted, Write}
-use Rattle.dap_messages.specs.Requests.{kind, has_bit, request_bytes, IsRequest}
+use Rattle.dap_messages.specs.Requests.{kind, request_bytes, IsRequest}
+use Rattle.dap_base.specs.Bits.{has_bit}
 use Rattle.dap_transfer.specs.Transfer.{is_rdbuff}
 use Rattle.dap_transfer.specs.Wires.{access_of}
-use Rattle.probe_core.specs.Bench.{Told, BenchState, Exchange}
+use Rattle.probe_core.specs.Bench.{Reported, BenchState, Exchange}
 use Rattle.probe_core.specs.Packet.{answered}
 use Rattle.probe_core.specs.Ranges.{AreLimits}
 
 -- a bench that may be sent a packet: none is held, and no reply waits
-pub record IsOpen (told : Told) : Type 0 where
-  pub held : told.held ≡ 0
-  pub waiting : told.waiting ≡ 0
-  pub limits : AreLimits told.limits
+pub record IsOpen (reported : Reported) : Type 0 where
+  pub held : reported.held ≡ 0
+  pub waiting : reported.waiting ≡ 0
+  pub limits : AreLimits reported.limits
 
 -- the state of a bench that holds no packet, in which no reply waits, whose packets have room and whose transfers meet no WAIT
 pub record IsIdle (m : BenchState) : Type 0 where
@@ -23,7 +24,7 @@ pub record IsIdle (m : BenchState) : Type 0 where
   pub room : 64 ≤ m.probe.executor.limits.packet_size
   pub stalls : m.probe.executor.transfers.setting.stalls ≡ []
 
--- behind a packet whose reply was taken
+-- after a packet whose reply was taken
 pub record HasAnswered (packet reply : List ℕ) (m n : BenchState) : Type 0 where
   pub answer : reply ≡ (answered m.probe.executor packet).reply
   pub executor : n.probe.executor ≡ (answered m.probe.executor packet).next

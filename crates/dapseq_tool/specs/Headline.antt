@@ -3,7 +3,7 @@ use Rattle.std.specs.Prelude.{◌≡◌, ◌≢◌, ◌⊎◌, ℕ, List, Option
 use Rattle.std.specs.Io.KnownBytes.{Appends}
 use Rattle.dap_base.specs.Causes.{IsQuiet, Rose}
 use Rattle.dap_base.specs.Streams.{AppendsPrefix}
-use Rattle.probe_core.specs.Bench.{Told, BenchState, Steps}
+use Rattle.probe_core.specs.Bench.{Reported, BenchState, Steps}
 use Rattle.dapseq_tool.specs.Asked.{Asks, IfRun, UnlessRun}
 use Rattle.dapseq_tool.specs.Blocks.{IsPartDone, IsRunDone}
 use Rattle.dapseq_tool.specs.Exchange.{IsBadExchange}
@@ -22,17 +22,17 @@ pub record Moment : Type 0 where
   pub source_faults : ℕ
   pub written : Option (List ℕ)
   pub sink_faults : ℕ
-  pub told : Told
+  pub reported : Reported
   pub state : Option BenchState
 
 -- what the three objects tell, by the ghost members of their traits
-abbrev pub moment : {S K B : Type 0} → (S → Option (List ℕ)) → (S → ℕ) → (K → Option (List ℕ)) → (K → ℕ) → (B → Told) → (B → Option BenchState) → S → K → B → Moment
-moment left source_faults written sink_faults told state source sink bench = record {
+abbrev pub moment : {S K B : Type 0} → (S → Option (List ℕ)) → (S → ℕ) → (K → Option (List ℕ)) → (K → ℕ) → (B → Reported) → (B → Option BenchState) → S → K → B → Moment
+moment left source_faults written sink_faults reported state source sink bench = record {
   left = left source;
   source_faults = source_faults source;
   written = written sink;
   sink_faults = sink_faults sink;
-  told = told bench;
+  reported = reported bench;
   state = state bench;
 }
 
@@ -40,7 +40,7 @@ moment left source_faults written sink_faults told state source sink bench = rec
 pub record IsQuietCall (old new : Moment) (end : Status) : Type 0 where
   pub source : IsQuiet old.source_faults new.source_faults
   pub sink : IsQuiet old.sink_faults new.sink_faults
-  pub bench : IsQuiet old.told.faults new.told.faults
+  pub bench : IsQuiet old.reported.faults new.reported.faults
   pub memory : end ≢ status.OutOfMemory
 
 -- the target and the probe's work, the text and the status are those of the run
@@ -54,7 +54,7 @@ abbrev pub Success : List (List ℕ) → Moment → Moment → Status → Type 0
 Success words old new end =
     IsQuietCall old new end → IsSome old.state → IfSome old.left (λ bytes. IfRun words bytes (Succeeds old new end))
 
--- whatever failed outside, the bench is as it was or behind the first accesses of the run, as many as its probe's work
+-- whatever failed outside, the bench is as it was or after the first accesses of the run, as many as its probe's work
 abbrev pub Outside : List (List ℕ) → Moment → Moment → Type 0
 Outside words old new = IfSome old.left (λ bytes. IfRun words bytes (λ job. Steps (IsPartDone job) old.state new.state))
 
@@ -89,5 +89,5 @@ RefusalAsked words old = IfSome old.left (λ bytes. (answer : Answer) × Asks wo
 
 -- the bench began an exchange since, and the last one is one packet and one reply, which does not say that it was executed
 pub record HasBadReply (old new : Moment) : Type 0 where
-  pub began : Rose old.told.exchanges new.told.exchanges
-  pub bad : IsBadExchange new.told.last
+  pub began : Rose old.reported.exchanges new.reported.exchanges
+  pub bad : IsBadExchange new.reported.last

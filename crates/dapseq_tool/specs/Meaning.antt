@@ -27,7 +27,7 @@ value_of Skipped = 0
 value_of Faulted = 0
 value_of Small = 0
 
--- the values of the variables behind a statement that answered this value
+-- the values of the variables after a statement that answered this value
 abbrev pub stored : Statement → ℕ → List ℕ → List ℕ
 stored (Write address value) n values = values
 stored (Read place address) n values = slice_set values place n
@@ -38,9 +38,9 @@ pub record Now : Type 0 where
   pub values : List ℕ
   pub issued : List Action
 
--- a run behind one statement more
-abbrev pub behind : Now → Statement → Now
-behind now s = record {
+-- a run after one statement more
+abbrev pub after : Now → Statement → Now
+after now s = record {
   target = (statement_done now.target s).next;
   values = stored s (value_of (statement_done now.target s).end) now.values;
   issued = now.issued ++ (statement_done now.target s).actions;
@@ -51,16 +51,16 @@ abbrev pub now_of : TargetState → List ℕ → Now
 now_of t values = record { target = t; values = values; issued = [] }
 
 abbrev pub ran : TargetState → List ℕ → List Statement → Now
-ran t values statements = fold behind (now_of t values) statements
+ran t values statements = fold after (now_of t values) statements
 
 -- the values with which the variables of a run begin
 abbrev pub first_values : RunJob → List ℕ
 first_values job = map (λ v. v.value) job.variables
 
--- A run behind its last statement.
+-- A run after its last statement.
 unfoldable pub outcome : RunJob → Now
 outcome job = ran (start job.bench.target) (first_values job) job.statements
 
--- the target behind the first register accesses of a run, so many of them
+-- the target after the first register accesses of a run, so many of them
 abbrev pub target_after : RunJob → ℕ → TargetState
 target_after job count = after_actions (start job.bench.target) (take count (outcome job).issued)

@@ -33,7 +33,7 @@ abbrev pub drw_request : Statement → Request
 drw_request (Write address value) = record { byte = 0x0D; word = value }
 drw_request (Read place address) = record { byte = 0x0F; word = 0 }
 
--- the requests up to the read of CSW, and those behind it
+-- the requests up to the read of CSW, and those after it
 abbrev pub front : List Request
 front = select_request ∷ csw_request ∷ []
 

@@ -3,7 +3,7 @@ ghost use Rattle.std.specs.Prelude.{◌≡◌, ◌≢◌, ◌⊎◌, ⊤, ◌<�
 ghost use Rattle.std.specs.List.{All};
 ghost use Rattle.dap_base.specs.Causes.{Rose, HasCause};
 ghost use Rattle.target_machine.specs.Attempt.{attempt};
-ghost use Rattle.dap_messages.specs.Requests.{has_bit};
+ghost use Rattle.dap_base.specs.Bits.{has_bit};
 ghost use Rattle.dap_transfer.specs.Wires.{access_of};
 ghost use Rattle.probe_core.specs.Bench.{Steps, sent, received};
 ghost use Rattle.probe_core.specs.Packet.{answered};
@@ -38,14 +38,14 @@ fn is_read(byte: u8) -> bool
 // Sends the packet of one request, and takes its reply.
 #[tactic(auto, using(crate::proofs::AccessLemmas::read_packet, crate::proofs::AccessLemmas::write_packet))]
 fn send_request<B: Bench>(request: Request, out: &mut [u8], bench: &mut B) -> Result<usize, Failed>
-    requires open { IsOpen (B.told bench.old) }
+    requires open { IsOpen (B.reported bench.old) }
     requires one { IsOne request }
     requires room { length out.old ≡ 1024 }
     ensures bound { IfOk result (λ n. n ≤ length out.new) }
-    ensures told { IfOk result (λ n. B.told bench.new ≡ received (sent (B.told bench.old) (packet_of request)) (take n out.new)) }
+    ensures reported { IfOk result (λ n. B.reported bench.new ≡ received (sent (B.reported bench.old) (packet_of request)) (take n out.new)) }
     ensures state { IfOk result (λ n. Steps (λ m o. IsIdle m → HasAnswered (packet_of request) (take n out.new) m o) (B.state bench.old) (B.state bench.new)) }
     ensures failed { OnErr result (Steps (λ m o. IsIdle m → (o.probe.executor ≡ m.probe.executor) ⊎ (o.probe.executor ≡ (answered m.probe.executor (packet_of request)).next)) (B.state bench.old) (B.state bench.new)) }
-    ensures cause { HasCause (B.told bench.old).faults (B.told bench.new).faults result }
+    ensures cause { HasCause (B.reported bench.old).faults (B.reported bench.new).faults result }
 {
     if is_read(request.byte) {
         return exchange(&[0x05, 0, 1, request.byte], out, bench);
@@ -71,18 +71,18 @@ fn value_in(is_read: bool, reply: &[u8]) -> Option<u32>
 }
 
 /// Makes one register access. `ReplyBad` where the reply does not say that it was executed.
-#[tactic(auto, using(crate::proofs::AccessLemmas::accessed_told, crate::proofs::AccessLemmas::failed_told, crate::proofs::AccessLemmas::refused_told, crate::proofs::AccessLemmas::bad_told))]
+#[tactic(auto, using(crate::proofs::AccessLemmas::accessed_reported, crate::proofs::AccessLemmas::failed_reported, crate::proofs::AccessLemmas::refused_reported, crate::proofs::AccessLemmas::bad_reported))]
 pub fn access<B: Bench>(request: Request, bench: &mut B) -> Result<u32, RunEnd>
-    requires open { IsOpen (B.told bench.old) }
+    requires open { IsOpen (B.reported bench.old) }
     requires one { IsOne request }
     ensures done { IfOk result (λ v. Steps (λ m n. CanDo 1 m → IsAccessed request v m n) (B.state bench.old) (B.state bench.new)) }
     ensures part { OnErr result (Steps (λ m n. CanDo 1 m → IsAmid (actions_of (request ∷ [])) m n) (B.state bench.old) (B.state bench.new)) }
     ensures never { IsErrOf result RunEnd.ReplyBad → Steps (λ m n. CanDo 1 m → (target_of m.probe).sticky ≡ false → (attempt (target_of m.probe) (access_of request)).next.sticky ≡ false → ⊥) (B.state bench.old) (B.state bench.new) }
-    ensures bad { IsErrOf result RunEnd.ReplyBad → IsBadExchange (B.told bench.new).last }
-    ensures begun { IsErrOf result RunEnd.ReplyBad → Rose (B.told bench.old).exchanges (B.told bench.new).exchanges }
-    ensures open { OnOk result (IsOpen (B.told bench.new)) }
-    ensures rose { OnOk result (Rose (B.told bench.old).exchanges (B.told bench.new).exchanges) }
-    ensures bench { NamesFault RunEnd.BenchFault (B.told bench.old).faults (B.told bench.new).faults result }
+    ensures bad { IsErrOf result RunEnd.ReplyBad → IsBadExchange (B.reported bench.new).last }
+    ensures begun { IsErrOf result RunEnd.ReplyBad → Rose (B.reported bench.old).exchanges (B.reported bench.new).exchanges }
+    ensures open { OnOk result (IsOpen (B.reported bench.new)) }
+    ensures rose { OnOk result (Rose (B.reported bench.old).exchanges (B.reported bench.new).exchanges) }
+    ensures bench { NamesFault RunEnd.BenchFault (B.reported bench.old).faults (B.reported bench.new).faults result }
 {
     let mut out = [0u8; 1024];
     let Ok(count) = send_request(request, &mut out, bench) else {

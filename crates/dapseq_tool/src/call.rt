@@ -47,13 +47,13 @@ fn run<K: Sink, B: Bench>(alloc: Global, job: &RunJob, sink: &mut K, bench: &mut
     ensures part { Steps (IsPartDone job.now) (B.state bench.old) (B.state bench.new) }
     ensures lines { IfSome (B.state bench.old) (λ m. AppendsPrefix (K.written sink.old) (K.written sink.new) (report job.now)) }
     ensures write { result ≡ Status.WriteFault → Rose (K.faults sink.old) (K.faults sink.new) }
-    ensures bench { result ≡ Status.BenchFault → Rose (B.told bench.old).faults (B.told bench.new).faults }
+    ensures bench { result ≡ Status.BenchFault → Rose (B.reported bench.old).faults (B.reported bench.new).faults }
     ensures bad { result ≡ Status.ReplyBad → B.state bench.old ≡ None }
-    ensures bad_reply { result ≡ Status.ReplyBad → IsBadExchange (B.told bench.new).last }
-    ensures began { result ≡ Status.ReplyBad → Rose (B.told bench.old).exchanges (B.told bench.new).exchanges }
+    ensures bad_reply { result ≡ Status.ReplyBad → IsBadExchange (B.reported bench.new).last }
+    ensures began { result ≡ Status.ReplyBad → Rose (B.reported bench.old).exchanges (B.reported bench.new).exchanges }
     ensures bad_text { result ≡ Status.ReplyBad → K.written sink.new ≡ K.written sink.old }
     ensures sink_counted { (K.faults sink.new ≡ K.faults sink.old) ⊎ (result ≡ Status.WriteFault) }
-    ensures bench_counted { ((B.told bench.new).faults ≡ (B.told bench.old).faults) ⊎ (result ≡ Status.BenchFault) }
+    ensures bench_counted { ((B.reported bench.new).faults ≡ (B.reported bench.old).faults) ⊎ (result ≡ Status.BenchFault) }
     ensures ends { (result ≡ Status.Done) ⊎ (result ≡ Status.WriteFault) ⊎ (result ≡ Status.BenchFault) ⊎ (result ≡ Status.ReplyBad) ⊎ (result ≡ Status.OutOfMemory) }
 {
     let values = match run_job(alloc, job, bench) {
@@ -82,7 +82,7 @@ fn run<K: Sink, B: Bench>(alloc: Global, job: &RunJob, sink: &mut K, bench: &mut
 ///   long, no JSON, or no job; no device, several devices, or no variant of the device have the
 ///   name; the set of sequences is not valid. In `run`: the job is too long, no JSON, or not one that
 ///   is built yet.
-/// - `BenchFault`: a call of the bench failed. The bench is as it was, or its target is behind the
+/// - `BenchFault`: a call of the bench failed. The bench is as it was, or its target is after the
 ///   first register accesses of the run, as many as the probe's work has grown by since `load`; no
 ///   further line is written.
 /// - `ReadFault`: the source failed. The bench is as it was; `end readfault` is written.
@@ -100,44 +100,44 @@ pub fn dapseq<S: Source, K: Sink, B: Bench>(
     bench: &mut B,
 ) -> Status
     // Where nothing outside fails, the run is done and reported.
-    ensures success { let at = moment S.left S.faults K.written K.faults B.told B.state in
+    ensures success { let at = moment S.left S.faults K.written K.faults B.reported B.state in
         Success words.now (at source.old sink.old bench.old) (at source.new sink.new bench.new) result }
 
-    // Whatever fails outside, the target is behind the first accesses of the run.
-    ensures outside { let at = moment S.left S.faults K.written K.faults B.told B.state in
+    // Whatever fails outside, the target is after the first accesses of the run.
+    ensures outside { let at = moment S.left S.faults K.written K.faults B.reported B.state in
         Outside words.now (at source.old sink.old bench.old) (at source.new sink.new bench.new) }
-    ensures lines { let at = moment S.left S.faults K.written K.faults B.told B.state in
+    ensures lines { let at = moment S.left S.faults K.written K.faults B.reported B.state in
         Lines words.now (at source.old sink.old bench.old) (at source.new sink.new bench.new) }
 
     // The bench is called in the mode `run` alone. Where no run is asked for, it is left as it was, and the answer is
     // the one that is asked for.
     ensures mode { (bench.new ≡ bench.old) ⊎ IsRunLine words.now }
     ensures unchanged { IfSome (S.left source.old) (λ bytes. UnlessRun words.now bytes (λ answer. bench.new ≡ bench.old)) }
-    ensures answer { let at = moment S.left S.faults K.written K.faults B.told B.state in
+    ensures answer { let at = moment S.left S.faults K.written K.faults B.reported B.state in
         Answered words.now (at source.old sink.old bench.old) (at source.new sink.new bench.new) result }
-    ensures part { let at = moment S.left S.faults K.written K.faults B.told B.state in
+    ensures part { let at = moment S.left S.faults K.written K.faults B.reported B.state in
         AnswerLines words.now (at source.old sink.old bench.old) (at source.new sink.new bench.new) }
     ensures unread { result ≡ Status.ReadFault → bench.new ≡ bench.old }
     ensures unread_text { result ≡ Status.ReadFault → Appends (K.written sink.old) (K.written sink.new) fault_text }
 
     // Each other answer has its cause.
-    ensures done { let at = moment S.left S.faults K.written K.faults B.told B.state in
+    ensures done { let at = moment S.left S.faults K.written K.faults B.reported B.state in
         result ≡ Status.Done → DoneAsked words.now (at source.old sink.old bench.old) }
     ensures usage { result ≡ Status.Usage → IsUsage words.now }
-    ensures refused { let at = moment S.left S.faults K.written K.faults B.told B.state in
+    ensures refused { let at = moment S.left S.faults K.written K.faults B.reported B.state in
         result ≡ Status.Refused → RefusalAsked words.now (at source.old sink.old bench.old) }
     ensures read { result ≡ Status.ReadFault → Rose (S.faults source.old) (S.faults source.new) }
     ensures write { result ≡ Status.WriteFault → Rose (K.faults sink.old) (K.faults sink.new) }
-    ensures bench { result ≡ Status.BenchFault → Rose (B.told bench.old).faults (B.told bench.new).faults }
+    ensures bench { result ≡ Status.BenchFault → Rose (B.reported bench.old).faults (B.reported bench.new).faults }
     ensures bad { result ≡ Status.ReplyBad → B.state bench.old ≡ None }
-    ensures bad_reply { let at = moment S.left S.faults K.written K.faults B.told B.state in
+    ensures bad_reply { let at = moment S.left S.faults K.written K.faults B.reported B.state in
         result ≡ Status.ReplyBad → HasBadReply (at source.old sink.old bench.old) (at source.new sink.new bench.new) }
     ensures bad_text { result ≡ Status.ReplyBad → K.written sink.new ≡ K.written sink.old }
 
-    // A fault outside is told.
+    // A fault outside is reported.
     ensures source_counted { (S.faults source.new ≡ S.faults source.old) ⊎ (result ≡ Status.ReadFault) ⊎ (result ≡ Status.WriteFault) }
     ensures sink_counted { (K.faults sink.new ≡ K.faults sink.old) ⊎ (result ≡ Status.WriteFault) }
-    ensures bench_counted { ((B.told bench.new).faults ≡ (B.told bench.old).faults) ⊎ (result ≡ Status.BenchFault) }
+    ensures bench_counted { ((B.reported bench.new).faults ≡ (B.reported bench.old).faults) ⊎ (result ≡ Status.BenchFault) }
     ensures stopped { result ≢ Status.Stopped }
 {
     match ask(alloc, words, source) {

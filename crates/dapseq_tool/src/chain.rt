@@ -13,17 +13,17 @@ use probe_core::Bench;
 /// Makes two register accesses, and gives the value of the second.
 #[tactic(auto, using(crate::proofs::ChainLemmas::done_then, crate::proofs::ChainLemmas::part_then, crate::proofs::ChainLemmas::part_first, crate::proofs::ChainLemmas::never_then, crate::proofs::ChainLemmas::never_first, crate::proofs::ChainLemmas::rose_then))]
 pub fn two<B: Bench>(first: Request, last: Request, bench: &mut B) -> Result<u32, RunEnd>
-    requires open { IsOpen (B.told bench.old) }
+    requires open { IsOpen (B.reported bench.old) }
     requires first { IsOne first }
     requires last { IsOne last }
     ensures done { IfOk result (λ v. Steps (λ m n. CanDo 2 m → AreAccessed (first ∷ []) last v m n) (B.state bench.old) (B.state bench.new)) }
     ensures part { OnErr result (Steps (λ m n. CanDo 2 m → IsAmid (actions_of (first ∷ last ∷ [])) m n) (B.state bench.old) (B.state bench.new)) }
     ensures never { IsErrOf result RunEnd.ReplyBad → Steps (CannotFail (first ∷ last ∷ [])) (B.state bench.old) (B.state bench.new) }
-    ensures bad { IsErrOf result RunEnd.ReplyBad → IsBadExchange (B.told bench.new).last }
-    ensures begun { IsErrOf result RunEnd.ReplyBad → Rose (B.told bench.old).exchanges (B.told bench.new).exchanges }
-    ensures open { OnOk result (IsOpen (B.told bench.new)) }
-    ensures rose { OnOk result (Rose (B.told bench.old).exchanges (B.told bench.new).exchanges) }
-    ensures bench { NamesFault RunEnd.BenchFault (B.told bench.old).faults (B.told bench.new).faults result }
+    ensures bad { IsErrOf result RunEnd.ReplyBad → IsBadExchange (B.reported bench.new).last }
+    ensures begun { IsErrOf result RunEnd.ReplyBad → Rose (B.reported bench.old).exchanges (B.reported bench.new).exchanges }
+    ensures open { OnOk result (IsOpen (B.reported bench.new)) }
+    ensures rose { OnOk result (Rose (B.reported bench.old).exchanges (B.reported bench.new).exchanges) }
+    ensures bench { NamesFault RunEnd.BenchFault (B.reported bench.old).faults (B.reported bench.new).faults result }
 {
     match access(first, bench) {
         Ok(_) => access(last, bench),
@@ -39,18 +39,18 @@ pub fn three<B: Bench>(
     last: Request,
     bench: &mut B,
 ) -> Result<u32, RunEnd>
-    requires open { IsOpen (B.told bench.old) }
+    requires open { IsOpen (B.reported bench.old) }
     requires first { IsOne first }
     requires second { IsOne second }
     requires last { IsOne last }
     ensures done { IfOk result (λ v. Steps (λ m n. CanDo 3 m → AreAccessed (first ∷ second ∷ []) last v m n) (B.state bench.old) (B.state bench.new)) }
     ensures part { OnErr result (Steps (λ m n. CanDo 3 m → IsAmid (actions_of (first ∷ second ∷ last ∷ [])) m n) (B.state bench.old) (B.state bench.new)) }
     ensures never { IsErrOf result RunEnd.ReplyBad → Steps (CannotFail (first ∷ second ∷ last ∷ [])) (B.state bench.old) (B.state bench.new) }
-    ensures bad { IsErrOf result RunEnd.ReplyBad → IsBadExchange (B.told bench.new).last }
-    ensures begun { IsErrOf result RunEnd.ReplyBad → Rose (B.told bench.old).exchanges (B.told bench.new).exchanges }
-    ensures open { OnOk result (IsOpen (B.told bench.new)) }
-    ensures rose { OnOk result (Rose (B.told bench.old).exchanges (B.told bench.new).exchanges) }
-    ensures bench { NamesFault RunEnd.BenchFault (B.told bench.old).faults (B.told bench.new).faults result }
+    ensures bad { IsErrOf result RunEnd.ReplyBad → IsBadExchange (B.reported bench.new).last }
+    ensures begun { IsErrOf result RunEnd.ReplyBad → Rose (B.reported bench.old).exchanges (B.reported bench.new).exchanges }
+    ensures open { OnOk result (IsOpen (B.reported bench.new)) }
+    ensures rose { OnOk result (Rose (B.reported bench.old).exchanges (B.reported bench.new).exchanges) }
+    ensures bench { NamesFault RunEnd.BenchFault (B.reported bench.old).faults (B.reported bench.new).faults result }
 {
     match access(first, bench) {
         Ok(_) => two(second, last, bench),

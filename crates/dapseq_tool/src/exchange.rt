@@ -13,16 +13,16 @@ use probe_core::Bench;
 /// Sends a packet that is not held, and takes its reply. At `Failed` the packet was executed or not.
 #[tactic(auto, using(crate::proofs::ExchangeLemmas::answers, crate::proofs::ExchangeLemmas::taken, crate::proofs::ExchangeLemmas::not_taken))]
 pub fn exchange<B: Bench>(packet: &[u8], out: &mut [u8], bench: &mut B) -> Result<usize, Failed>
-    requires open { IsOpen (B.told bench.old) }
+    requires open { IsOpen (B.reported bench.old) }
     requires some { 0 < length packet.now }
     requires fits { length packet.now ≤ 64 }
     requires plain { is_queued packet.now ≡ false }
     requires room { length out.old ≡ 1024 }
     ensures bound { IfOk result (λ n. n ≤ length out.new) }
-    ensures told { IfOk result (λ n. B.told bench.new ≡ received (sent (B.told bench.old) packet.now) (take n out.new)) }
+    ensures reported { IfOk result (λ n. B.reported bench.new ≡ received (sent (B.reported bench.old) packet.now) (take n out.new)) }
     ensures state { IfOk result (λ n. Steps (λ m o. IsIdle m → HasAnswered packet.now (take n out.new) m o) (B.state bench.old) (B.state bench.new)) }
     ensures failed { OnErr result (Steps (λ m o. IsIdle m → (o.probe.executor ≡ m.probe.executor) ⊎ (o.probe.executor ≡ (answered m.probe.executor packet.now).next)) (B.state bench.old) (B.state bench.new)) }
-    ensures cause { HasCause (B.told bench.old).faults (B.told bench.new).faults result }
+    ensures cause { HasCause (B.reported bench.old).faults (B.reported bench.new).faults result }
 {
     match bench.send(packet) {
         Ok(()) => bench.receive(out),

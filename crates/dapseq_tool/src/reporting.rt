@@ -76,8 +76,8 @@ fn write_part<K: Sink, B: Bench>(
     sink: &mut K,
 ) -> Result<(), TextEnd>
     ensures text { IfSome (B.state bench.old) (λ m. PutAppends (K.written sink.old) (K.written sink.new) result (part_of (target_of m.probe) ask)) }
-    ensures same { IsAsBefore (seen B.told B.state bench.old) (seen B.told B.state bench.new) }
-    ensures bench { NamesFault TextEnd.BenchFault (B.told bench.old).faults (B.told bench.new).faults result }
+    ensures same { IsAsBefore (seen B.reported B.state bench.old) (seen B.reported B.state bench.new) }
+    ensures bench { NamesFault TextEnd.BenchFault (B.reported bench.old).faults (B.reported bench.new).faults result }
     ensures sink { NamesFault TextEnd.WriteFault (K.faults sink.old) (K.faults sink.new) result }
 {
     let Ok(part) = bench.image(ask) else {
@@ -99,8 +99,8 @@ fn write_words<K: Sink, B: Bench>(
 ) -> Result<(), TextEnd>
     requires { IsLowItem item }
     ensures text { IfSome (B.state bench.old) (λ m. PutAppends (K.written sink.old) (K.written sink.new) result (word_lines (target_of m.probe) item.address item.words)) }
-    ensures same { IsAsBefore (seen B.told B.state bench.old) (seen B.told B.state bench.new) }
-    ensures bench { NamesFault TextEnd.BenchFault (B.told bench.old).faults (B.told bench.new).faults result }
+    ensures same { IsAsBefore (seen B.reported B.state bench.old) (seen B.reported B.state bench.new) }
+    ensures bench { NamesFault TextEnd.BenchFault (B.reported bench.old).faults (B.reported bench.new).faults result }
     ensures sink { NamesFault TextEnd.WriteFault (K.faults sink.old) (K.faults sink.new) result }
 {
     for number in 0..item.words {
@@ -122,8 +122,8 @@ fn write_watch<K: Sink, B: Bench>(
 ) -> Result<(), TextEnd>
     requires { All IsLowItem watch.now }
     ensures text { IfSome (B.state bench.old) (λ m. PutAppends (K.written sink.old) (K.written sink.new) result (watch_lines (target_of m.probe) watch.now)) }
-    ensures same { IsAsBefore (seen B.told B.state bench.old) (seen B.told B.state bench.new) }
-    ensures bench { NamesFault TextEnd.BenchFault (B.told bench.old).faults (B.told bench.new).faults result }
+    ensures same { IsAsBefore (seen B.reported B.state bench.old) (seen B.reported B.state bench.new) }
+    ensures bench { NamesFault TextEnd.BenchFault (B.reported bench.old).faults (B.reported bench.new).faults result }
     ensures sink { NamesFault TextEnd.WriteFault (K.faults sink.old) (K.faults sink.new) result }
 {
     for item in watch {
@@ -144,8 +144,8 @@ fn write_lines<K: Sink, B: Bench>(
 ) -> Result<(), TextEnd>
     requires { All IsLowItem watch.now }
     ensures text { IfSome (B.state bench.old) (λ m. PutAppends (K.written sink.old) (K.written sink.new) result (lines_on (target_of m.probe) watch.now)) }
-    ensures same { IsAsBefore (seen B.told B.state bench.old) (seen B.told B.state bench.new) }
-    ensures bench { NamesFault TextEnd.BenchFault (B.told bench.old).faults (B.told bench.new).faults result }
+    ensures same { IsAsBefore (seen B.reported B.state bench.old) (seen B.reported B.state bench.new) }
+    ensures bench { NamesFault TextEnd.BenchFault (B.reported bench.old).faults (B.reported bench.new).faults result }
     ensures sink { NamesFault TextEnd.WriteFault (K.faults sink.old) (K.faults sink.new) result }
 {
     match write_part(alloc, ImageAsk::Lines, bench, sink) {
@@ -154,7 +154,7 @@ fn write_lines<K: Sink, B: Bench>(
     }
 }
 
-// Puts the line of the access port, and those behind it.
+// Puts the line of the access port, and those after it.
 fn write_ports<K: Sink, B: Bench>(
     alloc: Global,
     watch: &[WatchItem],
@@ -163,8 +163,8 @@ fn write_ports<K: Sink, B: Bench>(
 ) -> Result<(), TextEnd>
     requires { All IsLowItem watch.now }
     ensures text { IfSome (B.state bench.old) (λ m. PutAppends (K.written sink.old) (K.written sink.new) result (ports_on (target_of m.probe) watch.now)) }
-    ensures same { IsAsBefore (seen B.told B.state bench.old) (seen B.told B.state bench.new) }
-    ensures bench { NamesFault TextEnd.BenchFault (B.told bench.old).faults (B.told bench.new).faults result }
+    ensures same { IsAsBefore (seen B.reported B.state bench.old) (seen B.reported B.state bench.new) }
+    ensures bench { NamesFault TextEnd.BenchFault (B.reported bench.old).faults (B.reported bench.new).faults result }
     ensures sink { NamesFault TextEnd.WriteFault (K.faults sink.old) (K.faults sink.new) result }
 {
     match write_part(alloc, ImageAsk::Ap(0), bench, sink) {
@@ -182,8 +182,8 @@ fn write_target<K: Sink, B: Bench>(
 ) -> Result<(), TextEnd>
     requires { All IsLowItem watch.now }
     ensures text { IfSome (B.state bench.old) (λ m. PutAppends (K.written sink.old) (K.written sink.new) result (target_lines (target_of m.probe) watch.now)) }
-    ensures same { IsAsBefore (seen B.told B.state bench.old) (seen B.told B.state bench.new) }
-    ensures bench { NamesFault TextEnd.BenchFault (B.told bench.old).faults (B.told bench.new).faults result }
+    ensures same { IsAsBefore (seen B.reported B.state bench.old) (seen B.reported B.state bench.new) }
+    ensures bench { NamesFault TextEnd.BenchFault (B.reported bench.old).faults (B.reported bench.new).faults result }
     ensures sink { NamesFault TextEnd.WriteFault (K.faults sink.old) (K.faults sink.new) result }
 {
     match write_part(alloc, ImageAsk::Dp, bench, sink) {
@@ -225,8 +225,8 @@ fn write_values<K: Sink, B: Bench>(
     requires values { length values.now ≡ length job.now.variables }
     requires watch { All IsLowItem job.now.watch }
     ensures text { IfSome (B.state bench.old) (λ m. PutAppends (K.written sink.old) (K.written sink.new) result (values_on job.now values.now (target_of m.probe))) }
-    ensures same { IsAsBefore (seen B.told B.state bench.old) (seen B.told B.state bench.new) }
-    ensures bench { NamesFault TextEnd.BenchFault (B.told bench.old).faults (B.told bench.new).faults result }
+    ensures same { IsAsBefore (seen B.reported B.state bench.old) (seen B.reported B.state bench.new) }
+    ensures bench { NamesFault TextEnd.BenchFault (B.reported bench.old).faults (B.reported bench.new).faults result }
     ensures sink { NamesFault TextEnd.WriteFault (K.faults sink.old) (K.faults sink.new) result }
 {
     match write_variables(alloc, &job.variables, values, sink) {
@@ -246,8 +246,8 @@ fn write_units<K: Sink, B: Bench>(
     requires values { length values.now ≡ length job.now.variables }
     requires watch { All IsLowItem job.now.watch }
     ensures text { IfSome (B.state bench.old) (λ m. PutAppends (K.written sink.old) (K.written sink.new) result (units_on job.now values.now (target_of m.probe))) }
-    ensures same { IsAsBefore (seen B.told B.state bench.old) (seen B.told B.state bench.new) }
-    ensures bench { NamesFault TextEnd.BenchFault (B.told bench.old).faults (B.told bench.new).faults result }
+    ensures same { IsAsBefore (seen B.reported B.state bench.old) (seen B.reported B.state bench.new) }
+    ensures bench { NamesFault TextEnd.BenchFault (B.reported bench.old).faults (B.reported bench.new).faults result }
     ensures sink { NamesFault TextEnd.WriteFault (K.faults sink.old) (K.faults sink.new) result }
 {
     let line = units_text(alloc, job.statements.len() as u64);
@@ -269,8 +269,8 @@ pub fn write_report<K: Sink, B: Bench>(
     requires values { length values.now ≡ length job.now.variables }
     requires watch { All IsLowItem job.now.watch }
     ensures text { IfSome (B.state bench.old) (λ m. PutAppends (K.written sink.old) (K.written sink.new) result (done_text job.now values.now (target_of m.probe))) }
-    ensures same { IsAsBefore (seen B.told B.state bench.old) (seen B.told B.state bench.new) }
-    ensures bench { NamesFault TextEnd.BenchFault (B.told bench.old).faults (B.told bench.new).faults result }
+    ensures same { IsAsBefore (seen B.reported B.state bench.old) (seen B.reported B.state bench.new) }
+    ensures bench { NamesFault TextEnd.BenchFault (B.reported bench.old).faults (B.reported bench.new).faults result }
     ensures sink { NamesFault TextEnd.WriteFault (K.faults sink.old) (K.faults sink.new) result }
 {
     match put(b"end done\n", sink) {

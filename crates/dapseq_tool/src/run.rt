@@ -30,7 +30,7 @@ fn values_of(alloc: Global, variables: &Named) -> Result<Vec<u64>, OutOfMemory>
     Ok(values)
 }
 
-// The values of variables behind a statement that gave this value.
+// The values of variables after a statement that gave this value.
 fn store(statement: Statement, value: u32, values: &mut [u64])
     ensures values { values.new ≡ stored statement value values.old }
     ensures length { length values.new ≡ length values.old }
@@ -45,15 +45,15 @@ fn store(statement: Statement, value: u32, values: &mut [u64])
 // Does the statements of a block in order.
 fn run_block<B: Bench>(job: &RunJob, values: &mut [u64], bench: &mut B) -> Result<(), RunEnd>
     requires sound { IsSoundRun job.now }
-    requires open { IsOpen (B.told bench.old) }
+    requires open { IsOpen (B.reported bench.old) }
     requires values { length values.old ≡ length job.now.variables }
     ensures done { OnOk result (Steps (HaveRun job.now.region (length job.now.statements) job.now.statements values.old values.new) (B.state bench.old) (B.state bench.new)) }
     ensures part { OnErr result (Steps (IsAmidBlock job.now.region job.now.statements values.old) (B.state bench.old) (B.state bench.new)) }
     ensures never { IsErrOf result RunEnd.ReplyBad → Steps (λ m n. CanRun job.now.region (5 * length job.now.statements) m → ⊥) (B.state bench.old) (B.state bench.new) }
-    ensures bad { IsErrOf result RunEnd.ReplyBad → IsBadExchange (B.told bench.new).last }
-    ensures begun { IsErrOf result RunEnd.ReplyBad → Rose (B.told bench.old).exchanges (B.told bench.new).exchanges }
+    ensures bad { IsErrOf result RunEnd.ReplyBad → IsBadExchange (B.reported bench.new).last }
+    ensures begun { IsErrOf result RunEnd.ReplyBad → Rose (B.reported bench.old).exchanges (B.reported bench.new).exchanges }
     ensures length { length values.new ≡ length values.old }
-    ensures bench { NamesFault RunEnd.BenchFault (B.told bench.old).faults (B.told bench.new).faults result }
+    ensures bench { NamesFault RunEnd.BenchFault (B.reported bench.old).faults (B.reported bench.new).faults result }
 {
     for statement in job.statements.as_slice() {
         match perform(*statement, bench) {
@@ -67,12 +67,12 @@ fn run_block<B: Bench>(job: &RunJob, values: &mut [u64], bench: &mut B) -> Resul
 // Loads the bench of a job.
 fn load<B: Bench>(alloc: Global, job: &RunJob, bench: &mut B) -> Result<(), RunEnd>
     requires { IsSoundRun job.now }
-    ensures open { OnOk result (IsOpen (B.told bench.new)) }
+    ensures open { OnOk result (IsOpen (B.reported bench.new)) }
     ensures state { OnOk result (Steps (λ m n. n ≡ fresh job.now.bench) (B.state bench.old) (B.state bench.new)) }
     ensures same { OnErr result (B.state bench.new ≡ B.state bench.old) }
     ensures bad { IfErr result (λ e. e ≢ RunEnd.ReplyBad) }
-    ensures exchanges { (B.told bench.new).exchanges ≡ (B.told bench.old).exchanges }
-    ensures bench { NamesFault RunEnd.BenchFault (B.told bench.old).faults (B.told bench.new).faults result }
+    ensures exchanges { (B.reported bench.new).exchanges ≡ (B.reported bench.old).exchanges }
+    ensures bench { NamesFault RunEnd.BenchFault (B.reported bench.old).faults (B.reported bench.new).faults result }
 {
     match bench.load(alloc, &job.bench) {
         Ok(()) => Ok(()),
@@ -95,10 +95,10 @@ fn run_loaded<B: Bench>(
     ensures values { OnOk result (IfSome (B.state bench.old) (λ m. values.new ≡ (outcome job.now).values)) }
     ensures part { OnErr result (Steps (IsPartDone job.now) (B.state bench.old) (B.state bench.new)) }
     ensures never { IsErrOf result RunEnd.ReplyBad → B.state bench.old ≡ None }
-    ensures bad { IsErrOf result RunEnd.ReplyBad → IsBadExchange (B.told bench.new).last }
-    ensures begun { IsErrOf result RunEnd.ReplyBad → Rose (B.told bench.old).exchanges (B.told bench.new).exchanges }
+    ensures bad { IsErrOf result RunEnd.ReplyBad → IsBadExchange (B.reported bench.new).last }
+    ensures begun { IsErrOf result RunEnd.ReplyBad → Rose (B.reported bench.old).exchanges (B.reported bench.new).exchanges }
     ensures length { length values.new ≡ length values.old }
-    ensures bench { NamesFault RunEnd.BenchFault (B.told bench.old).faults (B.told bench.new).faults result }
+    ensures bench { NamesFault RunEnd.BenchFault (B.reported bench.old).faults (B.reported bench.new).faults result }
 {
     match load(alloc, job, bench) {
         Ok(()) => run_block(job, values, bench),
@@ -113,10 +113,10 @@ pub fn run_job<B: Bench>(alloc: Global, job: &RunJob, bench: &mut B) -> Result<V
     ensures values { IfOk result (λ values. IfSome (B.state bench.old) (λ m. values.items ≡ (outcome job.now).values)) }
     ensures part { OnErr result (Steps (IsPartDone job.now) (B.state bench.old) (B.state bench.new)) }
     ensures never { IsErrOf result RunEnd.ReplyBad → B.state bench.old ≡ None }
-    ensures bad { IsErrOf result RunEnd.ReplyBad → IsBadExchange (B.told bench.new).last }
-    ensures begun { IsErrOf result RunEnd.ReplyBad → Rose (B.told bench.old).exchanges (B.told bench.new).exchanges }
+    ensures bad { IsErrOf result RunEnd.ReplyBad → IsBadExchange (B.reported bench.new).last }
+    ensures begun { IsErrOf result RunEnd.ReplyBad → Rose (B.reported bench.old).exchanges (B.reported bench.new).exchanges }
     ensures length { IfOk result (λ values. length values.items ≡ length job.now.variables) }
-    ensures bench { NamesFault RunEnd.BenchFault (B.told bench.old).faults (B.told bench.new).faults result }
+    ensures bench { NamesFault RunEnd.BenchFault (B.reported bench.old).faults (B.reported bench.new).faults result }
 {
     let Ok(mut values) = values_of(alloc, &job.variables) else {
         return Err(RunEnd::OutOfMemory);

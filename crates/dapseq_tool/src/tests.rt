@@ -61,7 +61,7 @@ fn words_of(alloc: Global, texts: &[&str]) -> Result<Words, OutOfMemory> {
     Ok(words)
 }
 
-// What a call answers, and the sink behind it. The calls of the source and of the sink whose
+// What a call answers, and the sink after it. The calls of the source and of the sink whose
 // numbers are listed fail.
 fn call<B: Bench>(
     alloc: Global,
@@ -240,7 +240,7 @@ fn other_code_is_answered(rt: HostRuntime) -> Result<(), Fail> {
 
 const CHECK: [&str; 3] = ["check", "--device", "D1"];
 
-/// The sequences of a device that is checked, and the fault that is told.
+/// The sequences of a device that is checked, and the fault that is reported.
 const REFUSED: [(&str, &str); 6] = [
     (
         r#"{"name":"Main","steps":[{"control":[{"block":"x = 1;"}],"if":"0"}]}"#,
@@ -269,7 +269,7 @@ const REFUSED: [(&str, &str); 6] = [
 ];
 
 #[test]
-fn faults_of_sequences_are_told(rt: HostRuntime) -> Result<(), Fail> {
+fn faults_of_sequences_are_reported(rt: HostRuntime) -> Result<(), Fail> {
     for (sequences, line) in REFUSED {
         let members = format!(in rt.alloc(); r#""sequences":[{sequences}]"#)?;
         let job = job_of(rt.alloc(), &members, "")?;
@@ -445,7 +445,7 @@ fn each_call_of_a_bench_may_fail(rt: HostRuntime) -> Result<(), Fail> {
     for number in 1..=16u32 {
         let mut bench = FaultyBench::new(rt.alloc(), &[number])?;
         let (status, sink) = call(rt.alloc(), &RUN, JOB.as_bytes(), &[], &[], &mut bench)?;
-        let wanted = match number {
+        let requested = match number {
             1..=11 => (Status::BenchFault, 0),
             12 => (Status::BenchFault, 9),
             13 => (Status::BenchFault, 10),
@@ -453,8 +453,8 @@ fn each_call_of_a_bench_may_fail(rt: HostRuntime) -> Result<(), Fail> {
             15 => (Status::BenchFault, 12),
             _ => (Status::Done, 13),
         };
-        assert_eq!(rt; status, wanted.0);
-        assert_eq!(rt; lines_of_report(sink.bytes()), Some(wanted.1));
+        assert_eq!(rt; status, requested.0);
+        assert_eq!(rt; lines_of_report(sink.bytes()), Some(requested.1));
     }
     Ok(())
 }
@@ -476,12 +476,12 @@ fn each_call_of_a_sink_may_fail(rt: HostRuntime) -> Result<(), Fail> {
     for number in 1..=14u32 {
         let mut bench = MemoryBench::new(rt.alloc());
         let (status, sink) = call(rt.alloc(), &RUN, JOB.as_bytes(), &[], &[number], &mut bench)?;
-        let wanted = if number < 14 {
+        let requested = if number < 14 {
             Status::WriteFault
         } else {
             Status::Done
         };
-        assert_eq!(rt; status, wanted);
+        assert_eq!(rt; status, requested);
         assert_eq!(rt; lines_of_report(sink.bytes()), Some(number as usize - 1));
     }
     Ok(())

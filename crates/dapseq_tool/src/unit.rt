@@ -86,30 +86,30 @@ fn drw(statement: Statement) -> Request
 
 // Makes the accesses up to the read of CSW.
 fn access_csw<B: Bench>(bench: &mut B) -> Result<u32, RunEnd>
-    requires open { IsOpen (B.told bench.old) }
+    requires open { IsOpen (B.reported bench.old) }
     ensures done { IfOk result (λ u. Steps (λ m n. CanDo 2 m → AreAccessed (select_request ∷ []) csw_request u m n) (B.state bench.old) (B.state bench.new)) }
     ensures part { OnErr result (Steps (λ m n. CanDo 2 m → IsAmid (actions_of front) m n) (B.state bench.old) (B.state bench.new)) }
     ensures never { IsErrOf result RunEnd.ReplyBad → Steps (CannotFail front) (B.state bench.old) (B.state bench.new) }
-    ensures bad { IsErrOf result RunEnd.ReplyBad → IsBadExchange (B.told bench.new).last }
-    ensures begun { IsErrOf result RunEnd.ReplyBad → Rose (B.told bench.old).exchanges (B.told bench.new).exchanges }
-    ensures open { OnOk result (IsOpen (B.told bench.new)) }
-    ensures rose { OnOk result (Rose (B.told bench.old).exchanges (B.told bench.new).exchanges) }
-    ensures bench { NamesFault RunEnd.BenchFault (B.told bench.old).faults (B.told bench.new).faults result }
+    ensures bad { IsErrOf result RunEnd.ReplyBad → IsBadExchange (B.reported bench.new).last }
+    ensures begun { IsErrOf result RunEnd.ReplyBad → Rose (B.reported bench.old).exchanges (B.reported bench.new).exchanges }
+    ensures open { OnOk result (IsOpen (B.reported bench.new)) }
+    ensures rose { OnOk result (Rose (B.reported bench.old).exchanges (B.reported bench.new).exchanges) }
+    ensures bench { NamesFault RunEnd.BenchFault (B.reported bench.old).faults (B.reported bench.new).faults result }
 {
     two(select(), csw_read(), bench)
 }
 
-// Makes the accesses behind the read of CSW.
+// Makes the accesses after the read of CSW.
 fn access_word<B: Bench>(statement: Statement, csw: u32, bench: &mut B) -> Result<u32, RunEnd>
-    requires open { IsOpen (B.told bench.old) }
+    requires open { IsOpen (B.reported bench.old) }
     ensures done { IfOk result (λ v. Steps (λ m n. CanDo 3 m → AreAccessed (size_request csw ∷ tar_request (address_of statement) ∷ []) (drw_request statement) v m n) (B.state bench.old) (B.state bench.new)) }
     ensures part { OnErr result (Steps (λ m n. CanDo 3 m → IsAmid (actions_of (back csw statement)) m n) (B.state bench.old) (B.state bench.new)) }
     ensures never { IsErrOf result RunEnd.ReplyBad → Steps (CannotFail (back csw statement)) (B.state bench.old) (B.state bench.new) }
-    ensures bad { IsErrOf result RunEnd.ReplyBad → IsBadExchange (B.told bench.new).last }
-    ensures begun { IsErrOf result RunEnd.ReplyBad → Rose (B.told bench.old).exchanges (B.told bench.new).exchanges }
-    ensures open { OnOk result (IsOpen (B.told bench.new)) }
-    ensures rose { OnOk result (Rose (B.told bench.old).exchanges (B.told bench.new).exchanges) }
-    ensures bench { NamesFault RunEnd.BenchFault (B.told bench.old).faults (B.told bench.new).faults result }
+    ensures bad { IsErrOf result RunEnd.ReplyBad → IsBadExchange (B.reported bench.new).last }
+    ensures begun { IsErrOf result RunEnd.ReplyBad → Rose (B.reported bench.old).exchanges (B.reported bench.new).exchanges }
+    ensures open { OnOk result (IsOpen (B.reported bench.new)) }
+    ensures rose { OnOk result (Rose (B.reported bench.old).exchanges (B.reported bench.new).exchanges) }
+    ensures bench { NamesFault RunEnd.BenchFault (B.reported bench.old).faults (B.reported bench.new).faults result }
 {
     three(csw_write(csw), tar(statement), drw(statement), bench)
 }
@@ -117,15 +117,15 @@ fn access_word<B: Bench>(statement: Statement, csw: u32, bench: &mut B) -> Resul
 /// Does one statement: SELECT, CSW, TAR and DRW of access port 0. Answers what DRW gave.
 #[tactic(auto, using(crate::proofs::PerformLemmas::perform_done, crate::proofs::PerformLemmas::perform_part_first, crate::proofs::PerformLemmas::perform_part_then, crate::proofs::PerformLemmas::perform_never_first, crate::proofs::PerformLemmas::perform_never_then, crate::proofs::ChainLemmas::rose_then))]
 pub fn perform<B: Bench>(statement: Statement, bench: &mut B) -> Result<u32, RunEnd>
-    requires open { IsOpen (B.told bench.old) }
+    requires open { IsOpen (B.reported bench.old) }
     ensures done { IfOk result (λ v. (region : RegionJob) → IsPlaced region statement → Steps (λ m n. CanRun region 5 m → IsStatementDone statement v m n) (B.state bench.old) (B.state bench.new)) }
     ensures part { OnErr result ((region : RegionJob) → IsPlaced region statement → Steps (λ m n. CanRun region 5 m → IsAmid (statement_done (target_of m.probe) statement).actions m n) (B.state bench.old) (B.state bench.new)) }
     ensures never { IsErrOf result RunEnd.ReplyBad → (region : RegionJob) → IsPlaced region statement → Steps (λ m n. CanRun region 5 m → ⊥) (B.state bench.old) (B.state bench.new) }
-    ensures bad { IsErrOf result RunEnd.ReplyBad → IsBadExchange (B.told bench.new).last }
-    ensures begun { IsErrOf result RunEnd.ReplyBad → Rose (B.told bench.old).exchanges (B.told bench.new).exchanges }
-    ensures open { OnOk result (IsOpen (B.told bench.new)) }
-    ensures rose { OnOk result (Rose (B.told bench.old).exchanges (B.told bench.new).exchanges) }
-    ensures bench { NamesFault RunEnd.BenchFault (B.told bench.old).faults (B.told bench.new).faults result }
+    ensures bad { IsErrOf result RunEnd.ReplyBad → IsBadExchange (B.reported bench.new).last }
+    ensures begun { IsErrOf result RunEnd.ReplyBad → Rose (B.reported bench.old).exchanges (B.reported bench.new).exchanges }
+    ensures open { OnOk result (IsOpen (B.reported bench.new)) }
+    ensures rose { OnOk result (Rose (B.reported bench.old).exchanges (B.reported bench.new).exchanges) }
+    ensures bench { NamesFault RunEnd.BenchFault (B.reported bench.old).faults (B.reported bench.new).faults result }
 {
     match access_csw(bench) {
         Ok(csw) => access_word(statement, csw, bench),

@@ -2,7 +2,7 @@
 use Rattle.std.specs.Prelude.{codes, false, [], map, None, Result, Ok}
 use Rattle.serde_json.specs.Data.{Data}
 use Rattle.json_form.specs.declared.fault.JobFault.{JobFault}
-use Rattle.json_form.specs.Faults.{◌>>=◌}
+use Rattle.dap_base.specs.Outcome.{◌>>=◌}
 use Rattle.json_form.specs.Reading.{text, flag, only_keys, required, optional, or_else, list_of, alone, never, repeats_by}
 use Rattle.device_tree.specs.declared.levels.TheConstants.{PACK_KEYS, LEVEL_KEYS, VARIANT_KEYS, DEVICE_KEYS, SUB_FAMILY_KEYS, FAMILY_KEYS}
 use Rattle.device_tree.specs.declared.sequences.TheConstants.{SEQUENCE_KEYS}

@@ -8,7 +8,8 @@ use Rattle.serde_json.specs.Find.{get}
 use Rattle.json_form.specs.declared.fault.JobFault.{JobFault}
 use Rattle.json_form.specs.declared.fault.JobFault.TheVariants.{Missing, WrongKind}
 use Rattle.json_form.specs.declared.path.PathStep.TheVariants.{Key, Index}
-use Rattle.json_form.specs.Faults.{◌>>=◌, at}
+use Rattle.json_form.specs.Faults.{at}
+use Rattle.dap_base.specs.Outcome.{◌>>=◌}
 use Rattle.json_form.specs.Reading.{text, flag, number as number_in, only_keys, required, optional, or_else}
 use Rattle.device_tree.specs.declared.step_reader.TheConstants.{BLOCK_KEYS, CONTROL_KEYS}
 use Rattle.device_tree.specs.StepTree.{StepTree, no_steps}

@@ -10,7 +10,8 @@ use Rattle.expr_grammar.specs.declared.fault.Fault.{Fault}
 use Rattle.expr_grammar.specs.declared.fault.Fault.TheVariants as faults
 use Rattle.expr_grammar.specs.Lexeme.{Lexeme}
 use Rattle.expr_grammar.specs.Tree.{ArgTree, ArgTrees, NoArgs, MoreArgs, args_of, arg_tree, arg_trees, StmtTree}
-use Rattle.expr_grammar.specs.Reading.{◌>>=◌, Front, Fails, Further, is_mark, IsNotNext, expect, read, argument, arguments, further, statement, statements}
+use Rattle.expr_grammar.specs.Reading.{Front, Fails, Further, is_mark, IsNotNext, expect, read, argument, arguments, further, statement, statements}
+use Rattle.dap_base.specs.Outcome.{◌>>=◌}
 use Rattle.expr_grammar.proofs.Fix.{further_is, statements_is}
 
 -- ---- arguments
@@ -40,7 +41,7 @@ with_more args a (Ok x) =
     ap (λ (l : ArgTrees). Ok (l, x.1)) same
 with_more args a (Err k) = refl
 
--- an argument behind a comma
+-- an argument after a comma
 comma : (ts us vs : List Lexeme) (k : Lexeme) (a : ArgTree) → ts ≡ k ∷ us → is_mark (codes ",") k ≡ true → argument read us ≡ Ok (a, vs) → read Further ts ≡ (read Further vs >>= λ x. Ok (MoreArgs a x.0, x.1))
 unfolding further arguments
 comma ts us vs k a parts is got = ap (read Further) parts ∙ further_is (k ∷ us) ∙ rw (is, got) refl
@@ -95,7 +96,7 @@ unfolding statements statement
 one_statement [] us s got = absurd cc
 one_statement (k ∷ ts) us s got = rw got (ap (λ (r : Front (List StmtTree)). r >>= λ x. Ok (s ∷ x.0, x.1)) (statements_is us))
 
--- how many tokens are left behind a statement that was found, and one more
+-- how many tokens are left after a statement that was found, and one more
 abbrev pub left : Option (Stmt × Bor (List Token)) → ℕ
 left None = 0
 left (Some x) = suc (length x.1.now)

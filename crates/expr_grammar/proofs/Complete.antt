@@ -9,7 +9,8 @@ use Rattle.expr_grammar.specs.Tree as t
 use Rattle.expr_grammar.specs.Tree.{Tree, ArgTree, ArgTrees}
 use Rattle.expr_grammar.specs.Lexeme.{Lexeme}
 use Rattle.expr_grammar.specs.Grammar.{level, binary_text, unary_text, IsMark, IsName, Reads}
-use Rattle.expr_grammar.specs.Reading.{◌>>=◌, Read, Whole, Choice, Climb, is_mark, operator_of, binary_of, name_of, expect, grouped, named, asked, assigned, read, whole, choice, at_level, operand}
+use Rattle.expr_grammar.specs.Reading.{Read, Whole, Choice, Climb, is_mark, operator_of, binary_of, name_of, expect, grouped, named, asked, assigned, read, whole, choice, at_level, operand}
+use Rattle.dap_base.specs.Outcome.{◌>>=◌}
 use Rattle.expr_grammar.proofs.Fix.{whole_is, choice_is, operand_is}
 use Rattle.expr_grammar.proofs.Turns.{climbs}
 use Rattle.expr_grammar.proofs.Levels.{level_of, binds, begins, top, level_most, level_least, operator_shut, unary_is, mark_binary, mark_is, op_binary, climb_stops, asked_stops, assigned_stops, expect_is}
@@ -38,7 +39,7 @@ below_top (t.Call n args) l ts r = r.0
 
 -- ---- completeness
 
--- No parenthesis is opened behind the tree: it would make a call of a name at its end.
+-- No parenthesis is opened after the tree: it would make a call of a name at its end.
 abbrev pub NoOpen : List Lexeme → Type 0
 NoOpen rest = begins (codes "(") rest ≡ false
 

@@ -48,16 +48,16 @@ mark_no_start text k m none shut = record { refused = λ ts. mark_operand text k
 pub text_no_start : (k : Lexeme) → k.kind ≡ kinds.Text → NoStart k
 text_no_start k is = record { refused = λ ts. text_operand k ts is }
 
--- ---- an argument, behind which a comma or the closing parenthesis comes
+-- ---- an argument, after which a comma or the closing parenthesis comes
 
-pub record Behind (rest : List Lexeme) : Type 0 where
+pub record After (rest : List Lexeme) : Type 0 where
   pub shut : NoOpen rest
   pub no_operator : binds rest ≡ 0
   pub no_question : begins (codes "?") rest ≡ false
   pub no_set : begins (codes "=") rest ≡ false
 
-pub behind_mark : (text : List ℕ) → Closes text → (k : Lexeme) (rest : List Lexeme) → IsMark text k → Behind (k ∷ rest)
-behind_mark text c k rest m = record {
+pub after_mark : (text : List ℕ) → Closes text → (k : Lexeme) (rest : List Lexeme) → IsMark text k → After (k ∷ rest)
+after_mark text c k rest m = record {
   shut = mark_is text (codes "(") k m ∙ c.no_open;
   no_operator = ap level_of (mark_binary text k m ∙ c.no_operator);
   no_question = mark_is text (codes "?") k m ∙ c.no_question;
@@ -65,8 +65,8 @@ behind_mark text c k rest m = record {
 }
 
 pub record CompleteArg (a : ArgTree) : Type 0 where
-  pub argument : (front rest : List Lexeme) → ReadsArg front a → Behind rest → argument read (front ++ rest) ≡ Ok (a, rest)
-  pub starts : (k : Lexeme) (front rest : List Lexeme) → ReadsArg (k ∷ front) a → Behind rest → is_mark (codes ")") k ≡ false
+  pub argument : (front rest : List Lexeme) → ReadsArg front a → After rest → argument read (front ++ rest) ≡ Ok (a, rest)
+  pub starts : (k : Lexeme) (front rest : List Lexeme) → ReadsArg (k ∷ front) a → After rest → is_mark (codes ")") k ≡ false
   pub some : ReadsArg [] a → ⊥
 
 pub text_test : (kind : TokenKind) (v : Bool) → is_text_kind kind ≡ v → v ≡ true → kind ≡ kinds.Text
@@ -89,10 +89,10 @@ expr_argument at e k ts rest place good =
     let no : is_text_kind k.kind ≡ false = no_text k ts e rest good (is_text_kind k.kind) refl in
     rw (no, good) (ap (λ (p : Place). Ok (t.ExprArg p e, rest)) place)
 
-pub read_whole : {e : Tree} → Complete e → (front rest : List Lexeme) → Reads 0 front e → Behind rest → whole read (front ++ rest) ≡ Ok (e, rest)
+pub read_whole : {e : Tree} → Complete e → (front rest : List Lexeme) → Reads 0 front e → After rest → whole read (front ++ rest) ≡ Ok (e, rest)
 read_whole h front rest r b = h.wholes front rest r b.shut b.no_operator b.no_question b.no_set
 
-pub expr_arg_read : (at : Place) (e : Tree) → Complete e → (front rest : List Lexeme) → ReadsArg front (t.ExprArg at e) → Behind rest → argument read (front ++ rest) ≡ Ok (t.ExprArg at e, rest)
+pub expr_arg_read : (at : Place) (e : Tree) → Complete e → (front rest : List Lexeme) → ReadsArg front (t.ExprArg at e) → After rest → argument read (front ++ rest) ≡ Ok (t.ExprArg at e, rest)
 expr_arg_read at e h [] rest r b = absurd r.1
 expr_arg_read at e h (k ∷ front) rest r b = expr_argument at e k (front ++ rest) rest r.1 (read_whole h (k ∷ front) rest r.0 b)
 
@@ -126,7 +126,7 @@ text_arg_complete s = record {
 
 pub record CompleteArgs (args : ArgTrees) : Type 0 where
   pub more : (front : List Lexeme) (k : Lexeme) (rest : List Lexeme) → ReadsMore front args → IsMark (codes ")") k → further read (front ++ k ∷ rest) ≡ Ok (args, rest)
-  pub ends : (front : List Lexeme) (k : Lexeme) (rest : List Lexeme) → ReadsMore front args → IsMark (codes ")") k → Behind (front ++ k ∷ rest)
+  pub ends : (front : List Lexeme) (k : Lexeme) (rest : List Lexeme) → ReadsMore front args → IsMark (codes ")") k → After (front ++ k ∷ rest)
   pub call : (n : Name) (front : List Lexeme) (k : Lexeme) (rest : List Lexeme) → ReadsArgs front args → IsMark (codes ")") k → called read n (front ++ k ∷ rest) ≡ Ok (t.Call n args, rest)
 
 pub one_argument : (ts us rest : List Lexeme) (a : ArgTree) (more : ArgTrees) → argument read ts ≡ Ok (a, us) → further read us ≡ Ok (more, rest) → arguments read ts ≡ Ok (t.MoreArgs a more, rest)
@@ -155,11 +155,11 @@ called_some n k ts rest args other got = let next : read Arguments (k ∷ ts) �
 pub none_complete : CompleteArgs t.NoArgs
 none_complete = record {
   more = λ front k rest r m. ap (λ (f : List Lexeme). further read (f ++ k ∷ rest)) r ∙ nothing_further k rest m;
-  ends = λ front k rest r m. subst (λ (f : List Lexeme). Behind (f ++ k ∷ rest)) (sym r) (behind_mark (codes ")") close_closes k rest m);
+  ends = λ front k rest r m. subst (λ (f : List Lexeme). After (f ++ k ∷ rest)) (sym r) (after_mark (codes ")") close_closes k rest m);
   call = λ n front k rest r m. ap (λ (f : List Lexeme). called read n (f ++ k ∷ rest)) r ∙ called_none n k rest m;
 }
 
--- one argument and those behind it, from the front
+-- one argument and those after it, from the front
 pub args_read : (a : ArgTree) (more : ArgTrees) → CompleteArg a → CompleteArgs more → (front : List Lexeme) (k : Lexeme) (rest : List Lexeme) → ReadsArgs front (t.MoreArgs a more) → IsMark (codes ")") k
     → arguments read (front ++ k ∷ rest) ≡ Ok (t.MoreArgs a more, rest)
 args_read a more ha hm front k rest r m =
@@ -178,7 +178,7 @@ more_complete a more ha hm = record {
   more = λ front k rest r m.
       let p = r.inner in
       ap (λ (f : List Lexeme). further read (f ++ k ∷ rest)) r.parts ∙ comma_further r.mark (r.rest ++ k ∷ rest) r.is_mark ∙ args_read a more ha hm r.rest k rest p m;
-  ends = λ front k rest r m. subst (λ (f : List Lexeme). Behind (f ++ k ∷ rest)) (sym r.parts) (behind_mark (codes ",") comma_closes r.mark (r.rest ++ k ∷ rest) r.is_mark);
+  ends = λ front k rest r m. subst (λ (f : List Lexeme). After (f ++ k ∷ rest)) (sym r.parts) (after_mark (codes ",") comma_closes r.mark (r.rest ++ k ∷ rest) r.is_mark);
   call = λ n front k rest r m. ap (λ (f : List Lexeme). called read n (f ++ k ∷ rest)) r.parts ∙ call_by n a more ha hm r.left r.right k rest r.first r.second m;
 }
 

@@ -8,7 +8,7 @@ use Rattle.expr_grammar.specs.Lexeme.{Lexeme}
 use Rattle.expr_grammar.specs.Lexing.{is_blank, is_in_line, place_at, IsGapFront, blank, IsTokenFront, Gap, nothing, more, IsTokenOf, Divides}
 use Rattle.expr_grammar.specs.Front.{IsGapPiece, blanks, comment}
 
--- ---- gaps and tokens, one behind the other
+-- ---- gaps and tokens, one after the other
 
 pub gap_join : {text : List ℕ} {a b c : ℕ} → Gap text a b → Gap text b c → Gap text a c
 gap_join nothing h = h

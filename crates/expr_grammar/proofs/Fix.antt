@@ -12,7 +12,8 @@ use Rattle.expr_grammar.specs.Tree as t
 use Rattle.expr_grammar.specs.Tree.{Tree, ArgTree, ArgTrees, StmtTree}
 use Rattle.expr_grammar.specs.Lexeme.{Lexeme}
 use Rattle.expr_grammar.specs.Grammar.{level}
-use Rattle.expr_grammar.specs.Reading.{◌>>=◌, Front, Made, name_of, Aim, Whole, Choice, Level, Climb, Operand, Arguments, Further, Statements, is_mark, is_text_kind, unary_of, binary_of, between_quotes, expect, name_first, quoted, grouped, marked, called, named, operand_by, climb_by, asked, set_to, assigned, argument, arguments, closed, further, declared, plain, statement, statements, step, read, read_within, whole, choice, at_level, climb, operand}
+use Rattle.expr_grammar.specs.Reading.{Front, Made, name_of, Aim, Whole, Choice, Level, Climb, Operand, Arguments, Further, Statements, is_mark, is_text_kind, unary_of, binary_of, between_quotes, expect, name_first, quoted, grouped, marked, called, named, operand_by, climb_by, asked, set_to, assigned, argument, arguments, closed, further, declared, plain, statement, statements, step, read, read_within, whole, choice, at_level, climb, operand}
+use Rattle.dap_base.specs.Outcome.{◌>>=◌}
 use Rattle.expr_grammar.proofs.Shrinks.{bind_over, bind_same, cond_same, cond_same_else, Short, Shrinks, expect_shrinks, operand_shrinks, level_shrinks, choice_shrinks, argument_shrinks, name_shrinks, statement_shrinks, step_shrinks}
 
 module _ (n : ℕ) (p : (aim : Aim) → List Lexeme → Front (Made aim)) (h : Shrinks n p) where

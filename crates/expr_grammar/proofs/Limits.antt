@@ -11,7 +11,7 @@ use Rattle.expr_grammar.specs.declared.limit.Span.{Span}
 use Rattle.expr_grammar.specs.declared.limit.Span.TheVariants.{Text, Statement}
 use Rattle.expr_grammar.specs.Lexeme.{Lexeme, lexeme, lexemes}
 use Rattle.expr_grammar.specs.Reading.{is_mark}
-use Rattle.expr_grammar.specs.Refusal.{counted_with_next, open_behind, IsOneTooMany, token, parenthesis, IsDeep, NoneDeepBefore}
+use Rattle.expr_grammar.specs.Refusal.{counted_with_next, open_after, IsOneTooMany, token, parenthesis, IsDeep, NoneDeepBefore}
 use Rattle.expr_grammar.specs.Counting.{IsCountOf, is_full, ends, counted, nothing_counted, with_token}
 use Rattle.expr_grammar.proofs.Found.{mark_from}
 use Rattle.expr_grammar.proofs.Levels.{mark_is}
@@ -53,7 +53,7 @@ with_is span count ts k c = subst (IsCountOf (with_token span count k)) (sym (co
 
 -- ---- too many
 
-open_is : (count : Count) (own : List Lexeme) → IsCountOf count own → count.opened - count.closed ≡ open_behind own
+open_is : (count : Count) (own : List Lexeme) → IsCountOf count own → count.opened - count.closed ≡ open_after own
 open_is count own c = ap (λ (n : ℕ). n - count.closed) c.opened ∙ ap (λ (n : ℕ). count_by (is_mark (codes "(")) own - n) c.closed
 
 too_many : (count : Count) (own : List Lexeme) (k : Lexeme) → IsCountOf count own → is_full count k ≡ true → IsOneTooMany own k
@@ -95,12 +95,12 @@ split_at : (ts : List Lexeme) (i : ℕ) (d : Lexeme) → i < length ts → ts �
 split_at ts i d lt = sym (take-append-drop i ts) ∙ ap (λ (l : List Lexeme). take i ts ++ l) (drop_more ts i d lt)
 
 deep_at : (span : Span) (ts : List Lexeme) (i : ℕ) (d : Lexeme) → i < length ts → IsOneTooMany (counted_with_next span (take i ts)) (get_or ts i d) → IsDeep span ts i
-deep_at span ts i d lt over = record { before = take i ts; here = get_or ts i d; behind = drop (i + 1) ts; parts = split_at ts i d lt; index = length-take-le i ts (omega arith); over = over }
+deep_at span ts i d lt over = record { before = take i ts; here = get_or ts i d; after = drop (i + 1) ts; parts = split_at ts i d lt; index = length-take-le i ts (omega arith); over = over }
 
 over_at : (span : Span) (ts : List Lexeme) (i : ℕ) (d : Lexeme) → IsDeep span ts i → IsOneTooMany (counted_with_next span (take i ts)) (get_or ts i d)
 over_at span ts i d deep =
-    let before : take i ts ≡ deep.before = ap (take i) deep.parts ∙ take_at deep.before (deep.here ∷ deep.behind) i deep.index in
-    let here : get_or ts i d ≡ deep.here = ap (λ (l : List Lexeme). get_or l i d) deep.parts ∙ get_or_at deep.before deep.here deep.behind d i deep.index in
+    let before : take i ts ≡ deep.before = ap (take i) deep.parts ∙ take_at deep.before (deep.here ∷ deep.after) i deep.index in
+    let here : get_or ts i d ≡ deep.here = ap (λ (l : List Lexeme). get_or l i d) deep.parts ∙ get_or_at deep.before deep.here deep.after d i deep.index in
     rw (before, here) deep.over
 
 -- ---- a turn of the loop

@@ -51,8 +51,8 @@ one_block bs n m c d =
     elim (cases_order c.close d.close) [
       | inl same ↦ omega (arith, same, c.size, d.size)
       | inr other ↦ elim other [
-        | inl lt ↦ absurd (both_ways (closes bs c.close) (d.inside c.close c.behind lt) c.ends)
-        | inr gt ↦ absurd (both_ways (closes bs d.close) (c.inside d.close d.behind gt) d.ends)
+        | inl lt ↦ absurd (both_ways (closes bs c.close) (d.inside c.close c.after lt) c.ends)
+        | inr gt ↦ absurd (both_ways (closes bs d.close) (c.inside d.close d.after gt) d.ends)
       ]
     ]
 

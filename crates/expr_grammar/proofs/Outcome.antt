@@ -1,7 +1,7 @@
--- What a reader did with a list: what it took, and that nothing behind the next token matters.
+-- What a reader did with a list: what it took, and that nothing after the next token matters.
 use Rattle.std.proofs.Common.{◌≡◌, ℕ, List, [], ◌∷◌, ◌++◌, length, Result, Ok, Err, refl, sym, ap, subst, ◌∙◌, append_assoc}
 use Rattle.expr_grammar.specs.Lexeme.{Lexeme}
-use Rattle.expr_grammar.specs.Reading.{◌>>=◌}
+use Rattle.dap_base.specs.Outcome.{◌>>=◌}
 
 abbrev pub Reader : Type 0 → Type 0
 Reader X = List Lexeme → Result (X × List Lexeme) ℕ
@@ -35,9 +35,9 @@ pub same_self : (ts : List Lexeme) → SameHead ts ts
 same_self [] = tt
 same_self (t ∷ ts) = refl
 
-pub same_behind : (front rest us : List Lexeme) → SameHead rest us → SameHead (front ++ rest) (front ++ us)
-same_behind [] rest us h = h
-same_behind (t ∷ front) rest us h = refl
+pub same_after : (front rest us : List Lexeme) → SameHead rest us → SameHead (front ++ rest) (front ++ us)
+same_after [] rest us h = h
+same_after (t ∷ front) rest us h = refl
 
 -- ---- one after the other
 
@@ -52,7 +52,7 @@ module _ {X Y : Type 0} (P : List Lexeme → Y → Type 0) (V : List Lexeme → 
     parts = first.parts ∙ ap (λ (l : List Lexeme). first.front ++ l) second.parts ∙ sym (append_assoc first.front second.front y.1);
     is = second.is;
     only = λ us same.
-        let head : SameHead x.1 (second.front ++ us) = subst (λ (l : List Lexeme). SameHead l (second.front ++ us)) (sym second.parts) (same_behind second.front y.1 us same) in
+        let head : SameHead x.1 (second.front ++ us) = subst (λ (l : List Lexeme). SameHead l (second.front ++ us)) (sym second.parts) (same_after second.front y.1 us same) in
         ap both (append_assoc first.front second.front us) ∙ ap (λ r. r >>= λ z. g z.0 z.1) (first.only (second.front ++ us) head) ∙ second.only us same;
   }
   after_good ts R x e first (Err k) second = record {
@@ -62,7 +62,7 @@ module _ {X Y : Type 0} (P : List Lexeme → Y → Type 0) (V : List Lexeme → 
     left = second.left;
     goes_on = second.goes_on;
     only = λ us same.
-        let head : SameHead x.1 (second.front ++ us) = subst (λ (l : List Lexeme). SameHead l (second.front ++ us)) (sym second.parts) (same_behind second.front second.rest us same) in
+        let head : SameHead x.1 (second.front ++ us) = subst (λ (l : List Lexeme). SameHead l (second.front ++ us)) (sym second.parts) (same_after second.front second.rest us same) in
         ap both (append_assoc first.front second.front us) ∙ ap (λ r. r >>= λ z. g z.0 z.1) (first.only (second.front ++ us) head) ∙ second.only us same;
   }
 
@@ -87,15 +87,15 @@ module _ {X Y : Type 0} (P : List Lexeme → Y → Type 0) (V : List Lexeme → 
   seq ts R W first weak then' = seq_at ts R W (f ts) refl first weak then'
 
 -- ---- a reader that begins with a known token
-pub behind : {X : Type 0} (P : List Lexeme → X → Type 0) (V : List Lexeme → Type 0) (f g : Reader X) (k : Lexeme) (ts : List Lexeme) (r : Result (X × List Lexeme) ℕ) → ((us : List Lexeme) → f (k ∷ us) ≡ g us)
+pub after : {X : Type 0} (P : List Lexeme → X → Type 0) (V : List Lexeme → Type 0) (f g : Reader X) (k : Lexeme) (ts : List Lexeme) (r : Result (X × List Lexeme) ℕ) → ((us : List Lexeme) → f (k ∷ us) ≡ g us)
     → Outcome (λ back x. P (k ∷ back) x) (λ back. V (k ∷ back)) g ts r → Outcome P V f (k ∷ ts) r
-behind P V f g k ts (Ok x) same o = record {
+after P V f g k ts (Ok x) same o = record {
   front = k ∷ o.front;
   parts = ap (λ (l : List Lexeme). k ∷ l) o.parts;
   is = o.is;
   only = λ us h. same (o.front ++ us) ∙ o.only us h;
 }
-behind P V f g k ts (Err n) same o = record {
+after P V f g k ts (Err n) same o = record {
   front = k ∷ o.front;
   rest = o.rest;
   parts = ap (λ (l : List Lexeme). k ∷ l) o.parts;
@@ -134,7 +134,7 @@ headed P V f g k ts (Ok x) same o = record {
   front = o.front;
   parts = o.parts;
   is = o.is;
-  only = λ us h. by_head (λ l. f l ≡ g l) k ts same (o.front ++ us) (subst (λ (l : List Lexeme). SameHead l (o.front ++ us)) (sym o.parts) (same_behind o.front x.1 us h)) ∙ o.only us h;
+  only = λ us h. by_head (λ l. f l ≡ g l) k ts same (o.front ++ us) (subst (λ (l : List Lexeme). SameHead l (o.front ++ us)) (sym o.parts) (same_after o.front x.1 us h)) ∙ o.only us h;
 }
 headed P V f g k ts (Err n) same o = record {
   front = o.front;
@@ -142,5 +142,5 @@ headed P V f g k ts (Err n) same o = record {
   parts = o.parts;
   left = o.left;
   goes_on = o.goes_on;
-  only = λ us h. by_head (λ l. f l ≡ g l) k ts same (o.front ++ us) (subst (λ (l : List Lexeme). SameHead l (o.front ++ us)) (sym o.parts) (same_behind o.front o.rest us h)) ∙ o.only us h;
+  only = λ us h. by_head (λ l. f l ≡ g l) k ts same (o.front ++ us) (subst (λ (l : List Lexeme). SameHead l (o.front ++ us)) (sym o.parts) (same_after o.front o.rest us h)) ∙ o.only us h;
 }

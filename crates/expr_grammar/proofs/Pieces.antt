@@ -128,7 +128,7 @@ block_taken bs n opens c =
     let last : get_or bs (c.0 + 1) 0 ≡ 47 = eqb-true (get_or bs (c.0 + 1) 0) 47 ends.1 in
     let in_ : c.0 + 1 < length bs = within_by bs (c.0 + 1) 46 last in
     let at : n - 1 ≡ c.0 + 1 = omega (arith, c.2) in (
-      comment (block (record { close = c.0; opens = opens; behind = c.1; inside = c.4; ends = c.3; size = c.2 })),
+      comment (block (record { close = c.0; opens = opens; after = c.1; inside = c.4; ends = c.3; size = c.2 })),
       record { some = omega (arith, c.2); within = omega (arith, c.2, in_); edge = inr (omega (arith, last, ap (λ (k : ℕ). get_or bs k 0) at)) },
     )
 
@@ -143,7 +143,7 @@ block_stuck bs opens never = record { no_gap = no_gap; no_token = λ kind n t. b
   no_gap : (n : ℕ) → IsGapFront n bs → ⊥
   no_gap n (blank is) = both_ways (is_blank (first bs)) (slash_no_blank (first bs) (and_parts (eqb (first bs) 47) (eqb (get_or bs 1 0) 42) opens).0) is
   no_gap n (line c) = second_is (eqb (first bs) 47) true (get_or bs 1 0) opens c.opens
-  no_gap n (block c) = both_ways (closes bs c.close) (never c.close c.behind) c.ends
+  no_gap n (block c) = both_ways (closes bs c.close) (never c.close c.after) c.ends
 
 line_end : (c : ℕ) → is_in_line c ≡ false → c ≡ 10
 line_end c e = grind (arith, nat_tests)

@@ -1,4 +1,4 @@
--- What is left behind what was read is shorter.
+-- What is left after what was read is shorter.
 use Rattle.std.proofs.Common.{◌≡◌, ℕ, suc, ◌+◌, ◌<◌, ◌≤◌, Bool, true, false, cond, List, [], ◌∷◌, length, Option, Some, None, Result, Ok, Err, refl, ap, ◌∙◌, arith}
 use Rattle.std.specs.Prelude.{codes, nat_lt}
 use Rattle.std.specs.Str.{bytes_eq}
@@ -13,7 +13,8 @@ use Rattle.expr_grammar.specs.Tree.{Tree, ArgTree, ArgTrees, StmtTree}
 use Rattle.dap_base.specs.Number.{number_value}
 use Rattle.expr_grammar.specs.Lexeme.{Lexeme}
 use Rattle.expr_grammar.specs.Grammar.{level}
-use Rattle.expr_grammar.specs.Reading.{◌>>=◌, Front, Made, name_of, Aim, Whole, Choice, Level, Climb, Operand, Arguments, Further, Statements, is_mark, is_text_kind, is_name_kind, unary_of, binary_of, between_quotes, expect, name_first, numbered, quoted, grouped, marked, called, named, operand_by, climb_by, asked, set_to, assigned, argument, arguments, closed, further, declared, plain, statement, statements, step, whole, choice, at_level, climb, operand}
+use Rattle.expr_grammar.specs.Reading.{Front, Made, name_of, Aim, Whole, Choice, Level, Climb, Operand, Arguments, Further, Statements, is_mark, is_text_kind, is_name_kind, unary_of, binary_of, between_quotes, expect, name_first, numbered, quoted, grouped, marked, called, named, operand_by, climb_by, asked, set_to, assigned, argument, arguments, closed, further, declared, plain, statement, statements, step, whole, choice, at_level, climb, operand}
+use Rattle.dap_base.specs.Outcome.{◌>>=◌}
 
 pub bind_ok : {A B : Type 0} (r : Result A ℕ) (f : A → Result B ℕ) (y : B) → (r >>= f) ≡ Ok y → (x : A) × (r ≡ Ok x) × (f x ≡ Ok y)
 bind_ok (Ok x) f y e = (x, refl, e)

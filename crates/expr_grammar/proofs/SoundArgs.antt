@@ -8,13 +8,14 @@ use Rattle.expr_grammar.specs.Lexeme.{Lexeme}
 use Rattle.expr_grammar.specs.Tree as t
 use Rattle.expr_grammar.specs.Tree.{Tree, ArgTree, ArgTrees, StmtTree}
 use Rattle.expr_grammar.specs.Grammar.{IsMark, Single, BeginsAt, Reads, ReadsArg}
-use Rattle.expr_grammar.specs.Reading.{◌>>=◌, Front, Read, Aim, Further, is_mark, is_text_kind, between_quotes, quoted, expect, argument, arguments, closed, further, read, whole, choice, at_level, operand}
+use Rattle.expr_grammar.specs.Reading.{Front, Read, Aim, Further, is_mark, is_text_kind, between_quotes, quoted, expect, argument, arguments, closed, further, read, whole, choice, at_level, operand}
+use Rattle.dap_base.specs.Outcome.{◌>>=◌}
 use Rattle.expr_grammar.specs.Refusal.{Begins}
 use Rattle.expr_grammar.proofs.Found.{mark_from}
 use Rattle.expr_grammar.proofs.Quotes.{between_from}
 use Rattle.expr_grammar.proofs.Shrinks.{argument_shrinks}
 use Rattle.expr_grammar.proofs.Fix.{shrinks}
-use Rattle.expr_grammar.proofs.Outcome.{Outcome, seq, behind, nothing_taken, refused, loosen, by_head, at_end, headed}
+use Rattle.expr_grammar.proofs.Outcome.{Outcome, seq, after, nothing_taken, refused, loosen, by_head, at_end, headed}
 use Rattle.expr_grammar.proofs.CompleteArgs.{reads_whole}
 use Rattle.expr_grammar.proofs.Viable.{mark, mark_marks, Viable, viable_nothing, expect_law, SomeArgs, MoreArgs, Law}
 use Rattle.expr_grammar.proofs.SoundChoices.{whole_law}
@@ -57,7 +58,7 @@ module _ (n : ℕ) (H : (aim : Aim) (ts : List Lexeme) → length ts < n → Law
   unfolding argument
   quoted_law k ts is None o_is = refused ReadsArg (Begins ReadsArg) (argument read) (k ∷ ts) arg_nothing (by_head (λ us. argument read us ≡ Err (length us)) k ts (λ us. rw (is, o_is) refl))
   quoted_law k ts is (Some text) o_is =
-      behind ReadsArg (Begins ReadsArg) (argument read) (λ us. Ok (t.TextArg (record { text = text; at = k.at }), us)) k ts (Ok (t.TextArg (record { text = text; at = k.at }), ts)) (λ us. rw (is, o_is) refl)
+      after ReadsArg (Begins ReadsArg) (argument read) (λ us. Ok (t.TextArg (record { text = text; at = k.at }), us)) k ts (Ok (t.TextArg (record { text = text; at = k.at }), ts)) (λ us. rw (is, o_is) refl)
       (nothing_taken (λ back x. ReadsArg (k ∷ back) x) (λ back. Begins ReadsArg (k ∷ back)) (λ us. Ok (t.TextArg (record { text = text; at = k.at }), us)) ts (t.TextArg (record { text = text; at = k.at }))
       (string_arg k (text_kind k.kind is) text o_is) (λ us same. refl))
 
@@ -77,7 +78,7 @@ module _ (n : ℕ) (H : (aim : Aim) (ts : List Lexeme) → length ts < n → Law
   argument_law [] le = refused ReadsArg (Begins ReadsArg) (argument read) [] arg_nothing (at_end (λ us. argument read us ≡ Err (length us)) refl)
   argument_law (k ∷ ts) le = argument_by_law k ts le (is_text_kind k.kind) refl
 
-  -- an argument and those behind it
+  -- an argument and those after it
   pub joined_args : (front : List Lexeme) (a : ArgTree) → ReadsArg front a → (back : List Lexeme) (more : ArgTrees) → MoreArgs back more → SomeArgs (front ++ back) (t.MoreArgs a more)
   joined_args front a r back more m = record {
     front = front ++ m.front;
@@ -129,9 +130,9 @@ module _ (n : ℕ) (H : (aim : Aim) (ts : List Lexeme) → length ts < n → Law
       nothing_taken (λ back y. MoreArgs (front ++ back) y) (λ back. Begins MoreArgs (front ++ back)) (λ us. Ok (t.NoArgs, us)) x.1 t.NoArgs
       (subst (λ (l : List Lexeme). MoreArgs l t.NoArgs) (sym (append-nil front ∙ one.parts)) (no_more one.only one.is)) (λ us same. refl))
 
-  pub behind_comma : (k : Lexeme) → IsMark (codes ",") k → (front : List Lexeme) (args : ArgTrees) → SomeArgs front args → MoreArgs (k ∷ front) args
-  behind_comma k m front t.NoArgs s = absurd s
-  behind_comma k m front (t.MoreArgs a more) s = record {
+  pub after_comma : (k : Lexeme) → IsMark (codes ",") k → (front : List Lexeme) (args : ArgTrees) → SomeArgs front args → MoreArgs (k ∷ front) args
+  after_comma k m front t.NoArgs s = absurd s
+  after_comma k m front (t.MoreArgs a more) s = record {
     front = k ∷ s.front;
     mark = s.mark;
     parts = ap (λ (l : List Lexeme). k ∷ l) s.parts;
@@ -143,9 +144,9 @@ module _ (n : ℕ) (H : (aim : Aim) (ts : List Lexeme) → length ts < n → Law
   unfolding further
   further_by_law k ts le true is =
       let m = mark_from (codes ",") k is in
-      behind MoreArgs (Begins MoreArgs) (further read) (arguments read) k ts (arguments read ts) (λ us. rw is refl)
+      after MoreArgs (Begins MoreArgs) (further read) (arguments read) k ts (arguments read ts) (λ us. rw is refl)
       (loosen SomeArgs (λ back x. MoreArgs (k ∷ back) x) (Begins SomeArgs) (λ back. Begins MoreArgs (k ∷ back)) (arguments read) (arguments read) ts (arguments read ts) (λ us. refl)
-      (λ front x s. behind_comma k m front x s) (λ front v. record { more = v.more; made = v.made; is = behind_comma k m (front ++ v.more) v.made v.is }) (arguments_law ts le))
+      (λ front x s. after_comma k m front x s) (λ front v. record { more = v.more; made = v.made; is = after_comma k m (front ++ v.more) v.made v.is }) (arguments_law ts le))
   further_by_law k ts le false is = headed MoreArgs (Begins MoreArgs) (further read) (closed read) k ts (closed read (k ∷ ts)) (λ us. rw is refl) (closed_law (k ∷ ts))
 
   pub further_nothing : Outcome MoreArgs (Begins MoreArgs) (further read) [] (further read [])

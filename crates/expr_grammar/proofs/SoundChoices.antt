@@ -7,10 +7,11 @@ use Rattle.expr_grammar.specs.Lexeme.{Lexeme}
 use Rattle.expr_grammar.specs.Tree as t
 use Rattle.expr_grammar.specs.Tree.{Tree, ArgTree, ArgTrees, StmtTree}
 use Rattle.expr_grammar.specs.Grammar.{IsMark, IsName, Single, Reads}
-use Rattle.expr_grammar.specs.Reading.{◌>>=◌, Read, Aim, Whole, Choice, Level, is_mark, expect, asked, set_to, assigned, read, whole, choice, at_level}
+use Rattle.expr_grammar.specs.Reading.{Read, Aim, Whole, Choice, Level, is_mark, expect, asked, set_to, assigned, read, whole, choice, at_level}
+use Rattle.dap_base.specs.Outcome.{◌>>=◌}
 use Rattle.expr_grammar.proofs.Found.{mark_from}
 use Rattle.expr_grammar.proofs.Fix.{shrinks, choice_is, level_is}
-use Rattle.expr_grammar.proofs.Outcome.{Outcome, seq, behind, nothing_taken, by_head, at_end}
+use Rattle.expr_grammar.proofs.Outcome.{Outcome, seq, after, nothing_taken, by_head, at_end}
 use Rattle.expr_grammar.proofs.Complete.{relevel, below_top}
 use Rattle.expr_grammar.proofs.Viable.{mark, nought, mark_marks, Viable, nought_reads, expect_law, Law}
 use Rattle.expr_grammar.proofs.SoundLevels.{level_law}
@@ -83,7 +84,7 @@ module _ (n : ℕ) (H : (aim : Aim) (ts : List Lexeme) → length ts < n → Law
 
     asked_by_law : (k : Lexeme) (ts : List Lexeme) → length ts < n → (v : Bool) → is_mark (codes "?") k ≡ v → Outcome Asks AsksOn (asked read c) (k ∷ ts) (cond v (asking ts) (Ok (c, k ∷ ts)))
     unfolding asked
-    asked_by_law k ts lt true is = behind Asks AsksOn (asked read c) asking k ts (asking ts) (λ us. rw is refl) (asking_law k ts lt (mark_from (codes "?") k is))
+    asked_by_law k ts lt true is = after Asks AsksOn (asked read c) asking k ts (asking ts) (λ us. rw is refl) (asking_law k ts lt (mark_from (codes "?") k is))
     asked_by_law k ts lt false is = nothing_taken Asks AsksOn (asked read c) (k ∷ ts) c no_choice (by_head (λ us. asked read c us ≡ Ok (c, us)) k ts (λ us. rw is refl))
 
     asked_law : (ts : List Lexeme) → length ts ≤ n → Outcome Asks AsksOn (asked read c) ts (asked read c ts)
@@ -125,7 +126,7 @@ module _ (n : ℕ) (H : (aim : Aim) (ts : List Lexeme) → length ts < n → Law
     no_set = (omega arith, subst (Single (IsName m)) (sym (append-nil before)) name)
 
     set_by_law : (k : Lexeme) (ts : List Lexeme) → length ts < n → (v : Bool) → is_mark (codes "=") k ≡ v → Outcome Sets SetsOn (set_to read m) (k ∷ ts) (cond v (read Whole ts >>= λ x. Ok (t.Assign m x.0, x.1)) (Ok (t.Named m, k ∷ ts)))
-    set_by_law k ts lt true is = behind Sets SetsOn (set_to read m) (λ us. read Whole us >>= λ x. Ok (t.Assign m x.0, x.1)) k ts (read Whole ts >>= λ x. Ok (t.Assign m x.0, x.1)) (λ us. rw is refl) (setting_law k ts lt (mark_from (codes "=") k is))
+    set_by_law k ts lt true is = after Sets SetsOn (set_to read m) (λ us. read Whole us >>= λ x. Ok (t.Assign m x.0, x.1)) k ts (read Whole ts >>= λ x. Ok (t.Assign m x.0, x.1)) (λ us. rw is refl) (setting_law k ts lt (mark_from (codes "=") k is))
     set_by_law k ts lt false is = nothing_taken Sets SetsOn (set_to read m) (k ∷ ts) (t.Named m) no_set (by_head (λ us. set_to read m us ≡ Ok (t.Named m, us)) k ts (λ us. rw is refl))
 
     set_law : (ts : List Lexeme) → length ts ≤ n → Outcome Sets SetsOn (set_to read m) ts (set_to read m ts)

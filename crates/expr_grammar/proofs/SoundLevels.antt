@@ -7,10 +7,11 @@ use Rattle.expr_grammar.specs.Lexeme.{Lexeme}
 use Rattle.expr_grammar.specs.Tree as t
 use Rattle.expr_grammar.specs.Tree.{Tree, ArgTree, ArgTrees, StmtTree}
 use Rattle.expr_grammar.specs.Grammar.{level, binary_text, IsMark, Reads}
-use Rattle.expr_grammar.specs.Reading.{◌>>=◌, Read, Aim, Level, Climb, binary_of, climb_by, read, at_level, climb, operand}
+use Rattle.expr_grammar.specs.Reading.{Read, Aim, Level, Climb, binary_of, climb_by, read, at_level, climb, operand}
+use Rattle.dap_base.specs.Outcome.{◌>>=◌}
 use Rattle.expr_grammar.proofs.Found.{binary_found}
 use Rattle.expr_grammar.proofs.Fix.{shrinks}
-use Rattle.expr_grammar.proofs.Outcome.{Outcome, seq, behind, nothing_taken, loosen, by_head, at_end}
+use Rattle.expr_grammar.proofs.Outcome.{Outcome, seq, after, nothing_taken, loosen, by_head, at_end}
 use Rattle.expr_grammar.proofs.Levels.{level_of, binds, top, level_most, level_least}
 use Rattle.expr_grammar.proofs.Complete.{relevel, below_top}
 use Rattle.expr_grammar.proofs.Viable.{binds_most, Viable, Law, level_ends, operand_short}
@@ -54,7 +55,7 @@ module _ (n : ℕ) (H : (aim : Aim) (ts : List Lexeme) → length ts < n → Law
     unfolding climb
     climb_op_law k ts lt op is tops true v_is = climb_leaves k ts (λ us. rw (is, v_is) refl)
     climb_op_law k ts lt op is tops false v_is =
-        behind (λ front x. Reads l (before ++ front) x) (λ front. Viable l (before ++ front)) (climb read l e) (turn op) k ts (turn op ts) (λ us. rw (is, v_is) refl)
+        after (λ front x. Reads l (before ++ front) x) (λ front. Viable l (before ++ front)) (climb read l e) (turn op) k ts (turn op ts) (λ us. rw (is, v_is) refl)
         (climb_turn k ts op lt (binary_found k op is) (ltb-false (level op) l v_is) tops)
 
     climb_by_law : (k : Lexeme) (ts : List Lexeme) → length ts < n → (o : Option BinaryOp) → binary_of k ≡ o → level_of o ≤ top e → Climbs (k ∷ ts) (climb_by read l e o k ts)

@@ -12,10 +12,11 @@ use Rattle.expr_grammar.specs.Lexeme.{Lexeme}
 use Rattle.expr_grammar.specs.Tree as t
 use Rattle.expr_grammar.specs.Tree.{Tree, ArgTree, ArgTrees, StmtTree}
 use Rattle.expr_grammar.specs.Grammar.{unary_text, IsMark, Single, Ended, Reads, ReadsArgs}
-use Rattle.expr_grammar.specs.Reading.{◌>>=◌, Read, Aim, Whole, Operand, Arguments, is_mark, unary_of, name_of, expect, numbered, grouped, marked, called, named, operand_by, read, operand}
+use Rattle.expr_grammar.specs.Reading.{Read, Aim, Whole, Operand, Arguments, is_mark, unary_of, name_of, expect, numbered, grouped, marked, called, named, operand_by, read, operand}
+use Rattle.dap_base.specs.Outcome.{◌>>=◌}
 use Rattle.expr_grammar.specs.Refusal.{Begins}
 use Rattle.expr_grammar.proofs.Found.{mark_from, unary_found}
-use Rattle.expr_grammar.proofs.Outcome.{Outcome, seq, behind, nothing_taken, refused, by_head, at_end, headed}
+use Rattle.expr_grammar.proofs.Outcome.{Outcome, seq, after, nothing_taken, refused, by_head, at_end, headed}
 use Rattle.expr_grammar.proofs.Complete.{open_operand}
 use Rattle.expr_grammar.proofs.Viable.{mark, mark_marks, Viable, viable_nothing, expect_law, SomeArgs, Law}
 
@@ -57,7 +58,7 @@ module _ (n : ℕ) (H : (aim : Aim) (ts : List Lexeme) → length ts < n → Law
   unfolding operand
   number_law k ts is None o_is = operand_refused k ts (λ us. rw (is, o_is) refl)
   number_law k ts is (Some v) o_is =
-      behind (Reads 12) (Viable 12) (operand read) (λ us. Ok (t.Number v, us)) k ts (Ok (t.Number v, ts)) (λ us. rw (is, o_is) refl)
+      after (Reads 12) (Viable 12) (operand read) (λ us. Ok (t.Number v, us)) k ts (Ok (t.Number v, ts)) (λ us. rw (is, o_is) refl)
       (nothing_taken (λ back x. Reads 12 (k ∷ back) x) (λ back. Viable 12 (k ∷ back)) (λ us. Ok (t.Number v, us)) ts (t.Number v) (omega arith, record { only = k; parts = refl; is = record { kind = is; value = o_is } }) (λ us same. refl))
 
   -- ---- calls
@@ -92,7 +93,7 @@ module _ (n : ℕ) (H : (aim : Aim) (ts : List Lexeme) → length ts < n → Law
 
     called_by_law : (m : Lexeme) (ts : List Lexeme) → suc (length ts) < n → (v : Bool) → is_mark (codes ")") m ≡ v → Outcome Calls CallsOn (called read (name_of j)) (m ∷ ts) (cond v (Ok (t.Call (name_of j) t.NoArgs, ts)) (with_args (m ∷ ts)))
     called_by_law m ts lt true v_is =
-        behind Calls CallsOn (called read (name_of j)) (λ us. Ok (t.Call (name_of j) t.NoArgs, us)) m ts (Ok (t.Call (name_of j) t.NoArgs, ts)) (λ us. rw v_is refl)
+        after Calls CallsOn (called read (name_of j)) (λ us. Ok (t.Call (name_of j) t.NoArgs, us)) m ts (Ok (t.Call (name_of j) t.NoArgs, ts)) (λ us. rw v_is refl)
         (nothing_taken (λ back x. Calls (m ∷ back) x) (λ back. CallsOn (m ∷ back)) (λ us. Ok (t.Call (name_of j) t.NoArgs, us)) ts (t.Call (name_of j) t.NoArgs) (called_args j k is opens (m ∷ []) t.NoArgs (no_args m (mark_from (codes ")") m v_is))) (λ us same. refl))
     called_by_law m ts lt false v_is =
         headed Calls CallsOn (called read (name_of j)) with_args m ts (with_args (m ∷ ts)) (λ us. rw v_is refl) (args_law (m ∷ ts) lt)
@@ -115,7 +116,7 @@ module _ (n : ℕ) (H : (aim : Aim) (ts : List Lexeme) → length ts < n → Law
 
     named_by_law : (k : Lexeme) (ts : List Lexeme) → length ts < n → (v : Bool) → is_mark (codes "(") k ≡ v → Outcome Names NamesOn (named read (name_of j)) (k ∷ ts) (cond v (called read (name_of j) ts) (Ok (t.Named (name_of j), k ∷ ts)))
     named_by_law k ts lt true v_is =
-        behind Names NamesOn (named read (name_of j)) (called read (name_of j)) k ts (called read (name_of j) ts) (λ us. rw v_is refl) (called_law j k is (mark_from (codes "(") k v_is) ts lt)
+        after Names NamesOn (named read (name_of j)) (called read (name_of j)) k ts (called read (name_of j) ts) (λ us. rw v_is refl) (called_law j k is (mark_from (codes "(") k v_is) ts lt)
     named_by_law k ts lt false v_is = nothing_taken Names NamesOn (named read (name_of j)) (k ∷ ts) (t.Named (name_of j)) name_alone (by_head (λ us. named read (name_of j) us ≡ Ok (t.Named (name_of j), us)) k ts (λ us. rw v_is refl))
 
     named_law : (ts : List Lexeme) → length ts < n → Outcome Names NamesOn (named read (name_of j)) ts (named read (name_of j) ts)
@@ -124,20 +125,20 @@ module _ (n : ℕ) (H : (aim : Aim) (ts : List Lexeme) → length ts < n → Law
 
   pub name_law : (k : Lexeme) (ts : List Lexeme) → length ts < n → k.kind ≡ kinds.Name → Operands (k ∷ ts) (named read (name_of k) ts)
   unfolding operand
-  name_law k ts lt is = behind (Reads 12) (Viable 12) (operand read) (named read (name_of k)) k ts (named read (name_of k) ts) (λ us. rw is refl) (named_law k is ts lt)
+  name_law k ts lt is = after (Reads 12) (Viable 12) (operand read) (named read (name_of k)) k ts (named read (name_of k) ts) (λ us. rw is refl) (named_law k is ts lt)
 
   pub open_law : (k : Lexeme) (ts : List Lexeme) → length ts < n → k.kind ≡ kinds.Mark → unary_of k.text ≡ None → (v : Bool) → bytes_eq k.text (codes "(") ≡ v → Operands (k ∷ ts) (cond v (grouped read ts) (Err (suc (length ts))))
   unfolding operand
   open_law k ts lt is none true v_is =
       let m : IsMark (codes "(") k = record { kind = is; text_is = same_text k.text (codes "(") (sym v_is) } in
-      behind (Reads 12) (Viable 12) (operand read) (grouped read) k ts (grouped read ts) (λ us. open_operand k us m) (grouped_law k ts m lt)
+      after (Reads 12) (Viable 12) (operand read) (grouped read) k ts (grouped read ts) (λ us. open_operand k us m) (grouped_law k ts m lt)
   open_law k ts lt is none false v_is = operand_refused k ts (λ us. rw (is, none, v_is) refl)
 
   pub marked_law : (k : Lexeme) (ts : List Lexeme) → length ts < n → k.kind ≡ kinds.Mark → (o : Option UnaryOp) → unary_of k.text ≡ o → Operands (k ∷ ts) (marked read o k ts)
   unfolding operand
   marked_law k ts lt is (Some op) o_is =
       let m : IsMark (unary_text op) k = record { kind = is; text_is = unary_found k.text op o_is } in
-      behind (Reads 12) (Viable 12) (operand read) (λ us. read Operand us >>= λ x. Ok (t.Unary op x.0, x.1)) k ts (read Operand ts >>= λ x. Ok (t.Unary op x.0, x.1)) (λ us. rw (is, o_is) refl) (unary_law op k ts m lt)
+      after (Reads 12) (Viable 12) (operand read) (λ us. read Operand us >>= λ x. Ok (t.Unary op x.0, x.1)) k ts (read Operand ts >>= λ x. Ok (t.Unary op x.0, x.1)) (λ us. rw (is, o_is) refl) (unary_law op k ts m lt)
   marked_law k ts lt is None o_is = open_law k ts lt is o_is (bytes_eq k.text (codes "(")) refl
 
   pub operand_by_law : (k : Lexeme) (ts : List Lexeme) → length ts < n → (kind : TokenKind) → k.kind ≡ kind → Operands (k ∷ ts) (operand_by read kind k ts)

@@ -8,12 +8,13 @@ use Rattle.expr_grammar.specs.Lexeme.{Lexeme}
 use Rattle.expr_grammar.specs.Tree as t
 use Rattle.expr_grammar.specs.Tree.{Tree, ArgTree, ArgTrees, StmtTree}
 use Rattle.expr_grammar.specs.Grammar.{IsMark, IsName, Single, Ended, BeginsAt, Reads, ReadsStmt, ReadsCode}
-use Rattle.expr_grammar.specs.Reading.{◌>>=◌, Front, Aim, Statements, is_mark, is_name_kind, name_of, expect, name_first, declared, plain, statement, statements, read, whole}
+use Rattle.expr_grammar.specs.Reading.{Front, Aim, Statements, is_mark, is_name_kind, name_of, expect, name_first, declared, plain, statement, statements, read, whole}
+use Rattle.dap_base.specs.Outcome.{◌>>=◌}
 use Rattle.expr_grammar.specs.Refusal.{Begins}
 use Rattle.expr_grammar.proofs.Found.{mark_from}
 use Rattle.expr_grammar.proofs.Shrinks.{statement_shrinks, name_shrinks, expect_shrinks}
 use Rattle.expr_grammar.proofs.Fix.{shrinks}
-use Rattle.expr_grammar.proofs.Outcome.{Outcome, seq, behind, nothing_taken, refused, by_head, at_end, headed}
+use Rattle.expr_grammar.proofs.Outcome.{Outcome, seq, after, nothing_taken, refused, by_head, at_end, headed}
 use Rattle.expr_grammar.proofs.Complete.{ended}
 use Rattle.expr_grammar.proofs.Viable.{mark, nought, some_name, name_kind, mark_marks, Viable, nought_reads, expect_law, Law}
 use Rattle.expr_grammar.proofs.SoundChoices.{whole_law}
@@ -52,7 +53,7 @@ module _ (n : ℕ) (H : (aim : Aim) (ts : List Lexeme) → length ts < n → Law
     nought_ended : Ended (λ v. Reads 0 v (t.Number 0)) (codes ";") (nought ∷ semicolon ∷ [])
     nought_ended = ended_value (nought ∷ []) (t.Number 0) (nought_reads 0 (omega arith)) semicolon (mark_marks (codes ";"))
 
-    -- behind the keyword
+    -- after the keyword
     no_name : DeclaresOn []
     no_name = record {
       more = some_name ∷ mark (codes "=") ∷ nought ∷ semicolon ∷ [];
@@ -60,7 +61,7 @@ module _ (n : ℕ) (H : (aim : Aim) (ts : List Lexeme) → length ts < n → Law
       is = declared_by (name_of some_name) (some_name ∷ []) (record { only = some_name; parts = refl; is = record { kind = refl; text_is = refl; at_is = refl } }) (mark (codes "=")) (mark_marks (codes "=")) (nought ∷ semicolon ∷ []) (t.Number 0) nought_ended;
     }
 
-    -- behind the name
+    -- after the name
     no_equals : (m : Name) (left : List Lexeme) → Single (IsName m) left → DeclaresOn left
     no_equals m left name = record { more = mark (codes "=") ∷ nought ∷ semicolon ∷ []; made = t.Declare m (t.Number 0); is = declared_by m left name (mark (codes "=")) (mark_marks (codes "=")) (nought ∷ semicolon ∷ []) (t.Number 0) nought_ended }
 
@@ -73,7 +74,7 @@ module _ (n : ℕ) (H : (aim : Aim) (ts : List Lexeme) → length ts < n → Law
           (declared_by m left name equals q ((front ++ v.more) ++ semicolon ∷ []) v.made (ended_value (front ++ v.more) v.made v.is semicolon (mark_marks (codes ";"))));
     }
 
-    -- behind the value
+    -- after the value
     no_end : (m : Name) (left : List Lexeme) → Single (IsName m) left → (equals : Lexeme) → IsMark (codes "=") equals → (front : List Lexeme) (e : Tree) → Reads 0 front e → DeclaresOn (left ++ equals ∷ front)
     no_end m left name equals q front e r = no_value m left name equals q front (record { more = []; made = e; is = subst (λ (l : List Lexeme). Reads 0 l e) (sym (append-nil front)) r })
 
@@ -139,10 +140,10 @@ module _ (n : ℕ) (H : (aim : Aim) (ts : List Lexeme) → length ts < n → Law
   pub statement_by_law : (k : Lexeme) (ts : List Lexeme) → length ts < n → (v w : Bool) → is_mark (codes ";") k ≡ v → is_mark (codes "__var") k ≡ w → Stmts (k ∷ ts) (cond v (Ok (t.Empty k.at, ts)) (cond w (declared read ts) (plain read k.at (k ∷ ts))))
   unfolding statement
   statement_by_law k ts lt true w is is2 =
-      behind ReadsStmt (Begins ReadsStmt) (statement read) (λ us. Ok (t.Empty k.at, us)) k ts (Ok (t.Empty k.at, ts)) (λ us. rw is refl)
+      after ReadsStmt (Begins ReadsStmt) (statement read) (λ us. Ok (t.Empty k.at, us)) k ts (Ok (t.Empty k.at, ts)) (λ us. rw is refl)
       (nothing_taken (λ back s. ReadsStmt (k ∷ back) s) (λ back. Begins ReadsStmt (k ∷ back)) (λ us. Ok (t.Empty k.at, us)) ts (t.Empty k.at) (empty_by k (mark_from (codes ";") k is)) (λ us same. refl))
   statement_by_law k ts lt false true is is2 =
-      behind ReadsStmt (Begins ReadsStmt) (statement read) (declared read) k ts (declared read ts) (λ us. rw (is, is2) refl) (declared_law k (mark_from (codes "__var") k is2) ts (omega (arith, lt)))
+      after ReadsStmt (Begins ReadsStmt) (statement read) (declared read) k ts (declared read ts) (λ us. rw (is, is2) refl) (declared_law k (mark_from (codes "__var") k is2) ts (omega (arith, lt)))
   statement_by_law k ts lt false false is is2 =
       headed ReadsStmt (Begins ReadsStmt) (statement read) (plain read k.at) k ts (plain read k.at (k ∷ ts)) (λ us. rw (is, is2) refl) (plain_law k ts lt)
 
@@ -150,7 +151,7 @@ module _ (n : ℕ) (H : (aim : Aim) (ts : List Lexeme) → length ts < n → Law
   unfolding statement
   statement_law k ts lt = statement_by_law k ts lt (is_mark (codes ";") k) (is_mark (codes "__var") k) refl refl
 
-  -- a statement and those behind it
+  -- a statement and those after it
   pub code_by : (front : List Lexeme) (s : StmtTree) → ReadsStmt front s → (back : List Lexeme) (more : List StmtTree) → ReadsCode back more → ReadsCode (front ++ back) (s ∷ more)
   code_by front s r back more m = record { left = front; right = back; parts = refl; first = r; second = m }
 

@@ -8,7 +8,8 @@ use Rattle.expr_grammar.specs.Tree as t
 use Rattle.expr_grammar.specs.Tree.{Tree}
 use Rattle.expr_grammar.specs.Lexeme.{Lexeme}
 use Rattle.expr_grammar.specs.Grammar.{level}
-use Rattle.expr_grammar.specs.Reading.{◌>>=◌, Read, Fails, Climb, read, at_level, climb, binary_of}
+use Rattle.expr_grammar.specs.Reading.{Read, Fails, Climb, read, at_level, climb, binary_of}
+use Rattle.dap_base.specs.Outcome.{◌>>=◌}
 use Rattle.expr_grammar.proofs.Fix.{climb_is, level_is}
 
 -- with an operator that binds tightly enough
@@ -19,9 +20,9 @@ climbs l e ts m us op parts is le =
     let no : ltb (level op) l ≡ false = le-ltb (level op) l le in
     ap (read (Climb l e)) parts ∙ climb_is l e (m ∷ us) ∙ rw (is, no, level_is) refl
 
-pub goes_on : (l : ℕ) (e : Tree) (ts : List Lexeme) (m : Lexeme) (us : List Lexeme) (op : BinaryOp) (right made : Tree) (behind : List Lexeme) (total : Read) → ts ≡ m ∷ us → binary_of m ≡ Some op → l ≤ level op
-    → at_level read (level op + 1) us ≡ Ok (right, behind) → made ≡ t.Binary op e right → read (Climb l e) ts ≡ total → read (Climb l made) behind ≡ total
-goes_on l e ts m us op right made behind total parts is le got made_is so_far =
+pub goes_on : (l : ℕ) (e : Tree) (ts : List Lexeme) (m : Lexeme) (us : List Lexeme) (op : BinaryOp) (right made : Tree) (after : List Lexeme) (total : Read) → ts ≡ m ∷ us → binary_of m ≡ Some op → l ≤ level op
+    → at_level read (level op + 1) us ≡ Ok (right, after) → made ≡ t.Binary op e right → read (Climb l e) ts ≡ total → read (Climb l made) after ≡ total
+goes_on l e ts m us op right made after total parts is le got made_is so_far =
     let one = climbs l e ts m us op parts is le in
     rw (made_is) (sym (one ∙ rw got refl) ∙ so_far)
 

@@ -9,7 +9,8 @@ use Rattle.expr_grammar.specs.Lexeme.{Lexeme}
 use Rattle.expr_grammar.specs.Tree as t
 use Rattle.expr_grammar.specs.Tree.{Tree, ArgTree, ArgTrees, StmtTree}
 use Rattle.expr_grammar.specs.Grammar.{level, IsMark, Single, Ended, Reads, ReadsArgs, ReadsMore, ReadsCode}
-use Rattle.expr_grammar.specs.Reading.{◌>>=◌, Read, Aim, Whole, Choice, Level, Climb, Operand, Arguments, Further, Statements, is_mark, is_name_kind, binary_of, expect, climb_by, read, at_level, climb, operand}
+use Rattle.expr_grammar.specs.Reading.{Read, Aim, Whole, Choice, Level, Climb, Operand, Arguments, Further, Statements, is_mark, is_name_kind, binary_of, expect, climb_by, read, at_level, climb, operand}
+use Rattle.dap_base.specs.Outcome.{◌>>=◌}
 use Rattle.expr_grammar.specs.Refusal.{Begins}
 use Rattle.expr_grammar.proofs.Found.{mark_from}
 use Rattle.expr_grammar.proofs.Fix.{shrinks, level_is, climb_is, operand_is}
@@ -95,7 +96,7 @@ pub stops_bind : (l : ℕ) (r : Read) (g : Tree × List Lexeme → Read) → ((x
 stops_bind l (Ok x) g h = h x refl
 stops_bind l (Err k) g h = tt
 
--- behind a level no operator of it comes
+-- after a level no operator of it comes
 module _ (l : ℕ) (pos : 0 < l) (n : ℕ) (H : (e : Tree) (ts : List Lexeme) → length ts < n → Stops l (read (Climb l e) ts)) where
   ends_op : (e : Tree) (k : Lexeme) (ts : List Lexeme) → length ts < n → (op : BinaryOp) → binary_of k ≡ Some op → (v : Bool) → ltb (level op) l ≡ v
       → Stops l (cond v (Ok (e, k ∷ ts)) (read (Level (level op + 1)) ts >>= λ x. read (Climb l (t.Binary op e x.0)) x.1))

@@ -10,7 +10,8 @@ use Rattle.expr_grammar.specs.declared.limit.Span.{Span}
 use Rattle.expr_grammar.specs.declared.parse.ParseError.{ParseError}
 use Rattle.expr_grammar.specs.declared.parse.ParseError.TheVariants.{Unexpected, TooDeep, OutOfMemory}
 use Rattle.expr_grammar.specs.Lexeme.{Lexeme}
-use Rattle.expr_grammar.specs.Reading.{◌>>=◌, Front, Gives, all_of}
+use Rattle.expr_grammar.specs.Reading.{Front, Gives, all_of}
+use Rattle.dap_base.specs.Outcome.{◌>>=◌}
 use Rattle.expr_grammar.specs.Refusal.{Begins, IsUnexpected, IsDeep, NoneDeepBefore, place_of, IsAccepted, IsUnexpectedFirst, IsDeepFirst, Answers, Accepts, Refuses}
 use Rattle.expr_grammar.specs.Counting.{answered}
 use Rattle.expr_grammar.proofs.Shrinks.{ok_is}
@@ -188,7 +189,7 @@ module _ {X : Type 0} (R : List Lexeme → X → Type 0) (f : List Lexeme → Fr
           none_at_end : limit ≡ length ts → (i : ℕ) → i ≤ length ts → NoneDeepBefore span ts (i + 1)
           none_at_end all i le j lt d = elim (cases_lt j limit) [ inl before ↦ none j before d | inr ge ↦ absurd (past_end d (omega (arith, ge, all))) ] where
             past_end : {j : ℕ} → IsDeep span ts j → length ts ≤ j → ⊥
-            past_end {j} d ge = absurd (omega (arith, ge, ap length d.parts, length-append d.before (d.here ∷ d.behind), d.index))
+            past_end {j} d ge = absurd (omega (arith, ge, ap length d.parts, length-append d.before (d.here ∷ d.after), d.index))
 
     err_by : (left : ℕ) → all_of f front ≡ Err left → (b : Bool) → (eqb left 0 && ltb limit (length ts)) ≡ b
         → Answers view R span ts (cond b (Err (TooDeep (place_of ts limit))) (Err (Unexpected (place_of ts (limit - left)))))
@@ -215,7 +216,7 @@ module _ {X : Type 0} (R : List Lexeme → X → Type 0) (f : List Lexeme → Fr
   -- ---- no other answer is one
   module _ {V : Type 0} (view : V → X) (span : Span) (ts : List Lexeme) where
     deep_within : (us : List Lexeme) (i : ℕ) → IsDeep span us i → i < length us
-    deep_within us i d = omega (arith, ap length d.parts, length-append d.before (d.here ∷ d.behind), d.index)
+    deep_within us i d = omega (arith, ap length d.parts, length-append d.before (d.here ∷ d.after), d.index)
 
     begins_at : (i : ℕ) → i < length ts → IsUnexpected R ts i → (j : ℕ) → i < j → Begins R (take j ts) → ⊥
     begins_at i less u j lt b = u.none less (begins_less ts (i + 1) j (omega (arith, lt)) b)

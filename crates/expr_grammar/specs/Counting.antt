@@ -21,7 +21,7 @@ pub record IsCountOf (count : Count) (ts : List Lexeme) : Type 0 where
 abbrev pub is_full : Count → Lexeme → Bool
 is_full count k = count.tokens == 512 || (is_mark (codes "(") k && count.opened - count.closed == 64)
 
--- counting begins again behind this token
+-- counting begins again after this token
 abbrev pub ends : Span → Lexeme → Bool
 ends Text k = false
 ends Statement k = is_mark (codes ";") k

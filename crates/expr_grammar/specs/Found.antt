@@ -1,11 +1,12 @@
--- A statement that was found, and what is read behind it.
+-- A statement that was found, and what is read after it.
 use Rattle.std.specs.Prelude.{List, [], ◌∷◌, Option, Some, None, Ok}
 use Rattle.std.specs.Borrow.{Bor}
 use Rattle.expr_grammar.specs.declared.code.Stmt.{Stmt}
 use Rattle.expr_grammar.specs.declared.token.Token.{Token}
 use Rattle.expr_grammar.specs.Lexeme.{lexemes}
 use Rattle.expr_grammar.specs.Tree.{StmtTree, stmt_tree}
-use Rattle.expr_grammar.specs.Reading.{◌>>=◌, Front, read, statements}
+use Rattle.expr_grammar.specs.Reading.{Front, read, statements}
+use Rattle.dap_base.specs.Outcome.{◌>>=◌}
 
 abbrev pub found_statements : Option (Stmt × Bor (List Token)) → Front (List StmtTree)
 found_statements None = Ok ([], [])

@@ -10,7 +10,7 @@ pub data IsGapPiece : ℕ → List ℕ → Type 0 where
   blanks : {n : ℕ} {bs : List ℕ} → 0 < n → ((k : ℕ) → k < n → is_blank (slice_index bs k) ≡ true) → IsGapPiece n bs
   comment : {n : ℕ} {bs : List ℕ} → IsGapFront n bs → IsGapPiece n bs
 
--- a cut behind n bytes takes some and falls between characters
+-- a cut after n bytes takes some and falls between characters
 pub record IsCut (n : ℕ) (bs : List ℕ) : Type 0 where
   pub some : 0 < n
   pub within : n ≤ length bs
@@ -25,7 +25,7 @@ FrontIs bs None = IsStuck bs
 FrontIs bs (Some (Gap n)) = IsGapPiece n bs × IsCut n bs
 FrontIs bs (Some (Token kind n)) = IsTokenFront kind n bs × IsCut n bs
 
--- where the comment ends that is open: behind the first `*/` from the third byte on
+-- where the comment ends that is open: after the first `*/` from the third byte on
 abbrev pub ClosesFirst : List ℕ → Option ℕ → Type 0
 ClosesFirst bs None = (k : ℕ) → 2 ≤ k → closes bs k ≡ false
 ClosesFirst bs (Some n) = (k : ℕ) × (2 ≤ k) × (n ≡ k + 2) × (closes bs k ≡ true) × ((j : ℕ) → 2 ≤ j → j < k → closes bs j ≡ false)
@@ -34,7 +34,7 @@ abbrev pub one_more : Option ℕ → Option ℕ
 one_more None = None
 one_more (Some n) = Some (suc n)
 
--- how many bytes a string has behind its opening quote, the closing one included
+-- how many bytes a string has after its opening quote, the closing one included
 abbrev pub string_end : Bool → List ℕ → Option ℕ
 string_end escaped [] = None
 string_end escaped (b ∷ bs) =

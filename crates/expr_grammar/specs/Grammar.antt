@@ -153,7 +153,7 @@ abbrev mutual
   ReadsArgs ts NoArgs = ts ≡ []
   ReadsArgs ts (MoreArgs a more) = Then (λ front. ReadsArg front a) (λ rest. ReadsMore rest more) ts
 
-  -- further arguments, each behind a comma
+  -- further arguments, each after a comma
   pub ReadsMore : List Lexeme → ArgTrees → Type 0
   ReadsMore ts NoArgs = ts ≡ []
   ReadsMore ts (MoreArgs a more) = Prefixed (codes ",") (Then (λ front. ReadsArg front a) (λ rest. ReadsMore rest more)) ts

@@ -17,11 +17,11 @@ abbrev pub is_in_line : ℕ → Bool
 is_in_line b = not (b == 10)
 
 -- The place of the byte at an offset: lines count line feeds from 1, columns count bytes from 1.
-abbrev pub place_behind : List ℕ → Place
-place_behind before = record { line = 1 + count_by (λ b. b == 10) before; column = 1 + suffix_len is_in_line before }
+abbrev pub place_after : List ℕ → Place
+place_after before = record { line = 1 + count_by (λ b. b == 10) before; column = 1 + suffix_len is_in_line before }
 
 abbrev pub place_at : List ℕ → ℕ → Place
-place_at text n = place_behind (take n text)
+place_at text n = place_after (take n text)
 
 abbrev pub begins_line_comment : List ℕ → Bool
 begins_line_comment bs = slice_index bs 0 == 47 && slice_index bs 1 == 47
@@ -44,7 +44,7 @@ pub record IsLineComment (n : ℕ) (bs : List ℕ) : Type 0 where
 pub record IsBlockComment (n : ℕ) (bs : List ℕ) : Type 0 where
   pub close : ℕ
   pub opens : begins_block_comment bs ≡ true
-  pub behind : 2 ≤ close
+  pub after : 2 ≤ close
   pub inside : (k : ℕ) → 2 ≤ k → k < close → closes bs k ≡ false
   pub ends : closes bs close ≡ true
   pub size : n ≡ close + 2
@@ -75,7 +75,7 @@ pub record IsTokenOf (text : List ℕ) (t : Lexeme) : Type 0 where
   pub front : IsTokenFront t.kind (length t.text) (drop t.start text)
   pub place : t.at ≡ place_at text t.start
 
--- The text from one offset to another is a gap, and then the tokens with a gap behind each.
+-- The text from one offset to another is a gap, and then the tokens with a gap after each.
 abbrev pub Divides : List ℕ → ℕ → List Lexeme → ℕ → Type 0
 Divides text here [] there = Gap text here there
 Divides text here (t ∷ ts) there = Gap text here t.start × IsTokenOf text t × Divides text (t.start + length t.text) ts there
@@ -111,5 +111,5 @@ GivesTokens ts (Err OutOfMemory) = Unit {0}
 -- a bad token at this place, unless memory ran out
 abbrev pub GivesBad : Place → Result (List Lexeme) TokenError → Type 0
 GivesBad at (Ok given) = ⊥
-GivesBad at (Err (BadToken told)) = told ≡ at
+GivesBad at (Err (BadToken reported)) = reported ≡ at
 GivesBad at (Err OutOfMemory) = Unit {0}

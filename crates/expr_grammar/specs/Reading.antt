@@ -16,11 +16,6 @@ use Rattle.expr_grammar.specs.Lexeme.{Lexeme}
 use Rattle.expr_grammar.specs.Tree.{Tree, Number, Named, Group, Unary, Binary, Cond, Assign, Call, ArgTree, ExprArg, TextArg, ArgTrees, NoArgs, MoreArgs, StmtTree, Empty, Declare, Plain}
 use Rattle.expr_grammar.specs.Grammar.{level}
 
-infixl 10 ◌>>=◌
-abbrev pub ◌>>=◌ : {A B : Type 0} → Result A ℕ → (A → Result B ℕ) → Result B ℕ
-(Ok x) >>= f = f x
-(Err e) >>= f = Err e
-
 -- What a function returned, seen by view, is what reading gives, unless memory ran out.
 abbrev pub Fails : {Y : Type 0} → Fault → Result Y ℕ → Type 0
 Fails faults.Memory read = Unit {0}
@@ -167,7 +162,7 @@ module _ (p : (aim : Aim) → List Lexeme → Front (Made aim)) where
     Ok (Unary op x.0, x.1)
   marked None k ts = if bytes_eq k.text (codes "(") then grouped ts else Err (suc (length ts))
 
-  -- a call, behind the opening parenthesis
+  -- a call, after the opening parenthesis
   abbrev pub called : Name → List Lexeme → Read
   called n [] = Err 0
   called n (k ∷ ts) =
@@ -260,12 +255,12 @@ module _ (p : (aim : Aim) → List Lexeme → Front (Made aim)) where
     rest ← expect (codes ")") ts
     Ok (NoArgs, rest.1)
 
-  -- further arguments, each behind a comma, and the closing parenthesis
+  -- further arguments, each after a comma, and the closing parenthesis
   unfoldable pub further : List Lexeme → Front ArgTrees
   further [] = closed []
   further (k ∷ ts) = if is_mark (codes ",") k then arguments ts else closed (k ∷ ts)
 
-  -- a declaration, behind `__var`
+  -- a declaration, after `__var`
   unfoldable pub declared : List Lexeme → Front StmtTree
   declared ts = do
     n ← name_first ts

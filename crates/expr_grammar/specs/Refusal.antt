@@ -27,26 +27,26 @@ pub record IsUnexpected {X : Type 0} (R : List Lexeme → X → Type 0) (ts : Li
 
 -- ---- tokens that are too deep
 
--- Of these tokens, those that are counted together with the next: all, or those behind the last `;`.
+-- Of these tokens, those that are counted together with the next: all, or those after the last `;`.
 abbrev pub counted_with_next : Span → List Lexeme → List Lexeme
 counted_with_next Text ts = ts
 counted_with_next Statement ts = after_last (is_mark (codes ";")) ts
 
--- how many parentheses are open behind these tokens
-abbrev pub open_behind : List Lexeme → ℕ
-open_behind ts = count_by (is_mark (codes "(")) ts - count_by (is_mark (codes ")")) ts
+-- how many parentheses are open after these tokens
+abbrev pub open_after : List Lexeme → ℕ
+open_after ts = count_by (is_mark (codes "(")) ts - count_by (is_mark (codes ")")) ts
 
--- behind these tokens, the next is the 513th, or the 65th parenthesis open at once
+-- after these tokens, the next is the 513th, or the 65th parenthesis open at once
 pub data IsOneTooMany (before : List Lexeme) (next : Lexeme) : Type 0 where
   token : length before ≡ 512 → IsOneTooMany before next
-  parenthesis : IsMark (codes "(") next → open_behind before ≡ 64 → IsOneTooMany before next
+  parenthesis : IsMark (codes "(") next → open_after before ≡ 64 → IsOneTooMany before next
 
 -- the token at this index is too deep
 pub record IsDeep (span : Span) (ts : List Lexeme) (i : ℕ) : Type 0 where
   pub before : List Lexeme
   pub here : Lexeme
-  pub behind : List Lexeme
-  pub parts : ts ≡ before ++ here ∷ behind
+  pub after : List Lexeme
+  pub parts : ts ≡ before ++ here ∷ after
   pub index : length before ≡ i
   pub over : IsOneTooMany (counted_with_next span before) here
 
@@ -104,4 +104,4 @@ Accepts view x (Err (TooDeep at)) = ⊥
 abbrev pub Refuses : {V : Type 0} → ParseError → Result V ParseError → Type 0
 Refuses error (Ok v) = ⊥
 Refuses error (Err OutOfMemory) = Unit {0}
-Refuses error (Err told) = told ≡ error
+Refuses error (Err reported) = reported ≡ error

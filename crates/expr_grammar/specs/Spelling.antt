@@ -43,7 +43,7 @@ pub record IsNameText (text : List ℕ) : Type 0 where
   pub words : list_all is_word text ≡ true
   pub other : text ≢ keyword
 
--- what stands between the quotes: no quote, backslash or line feed, unless a backslash takes the byte behind it, which is no line feed
+-- what stands between the quotes: no quote, backslash or line feed, unless a backslash takes the byte after it, which is no line feed
 pub data IsQuoted : List ℕ → Type 0 where
   nothing : IsQuoted []
   plain : {b : ℕ} {bs : List ℕ} → b ≢ 34 → b ≢ 92 → b ≢ 10 → IsQuoted bs → IsQuoted (b ∷ bs)

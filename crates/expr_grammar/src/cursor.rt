@@ -1,4 +1,4 @@
-//! The next token, and the tokens behind it.
+//! The next token, and the tokens after it.
 
 ghost use Rattle.std.specs.Prelude.{◌≡◌, ◌<◌, suc, [], ◌∷◌, length, IfOk, Ok, IfSome, MatchOption};
 ghost use Rattle.expr_grammar.specs.Lexeme.{lexeme, lexemes};

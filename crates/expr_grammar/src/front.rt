@@ -123,7 +123,7 @@ fn block_len(bytes: &[u8]) -> Option<usize>
     None
 }
 
-/// The length of a string behind its opening quote, the closing one included.
+/// The length of a string after its opening quote, the closing one included.
 fn string_end(bytes: &[u8]) -> Option<usize>
     ensures { result ≡ front.string_end false bytes.now }
 {

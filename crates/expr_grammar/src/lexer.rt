@@ -34,8 +34,8 @@ fn cut<'a>(alloc: Global, text: &'a str) -> Result<Tokens<'a>, TokenError>
         let Some(piece) = front_piece(rest) else {
             return Err(TokenError::BadToken(at));
         };
-        let (front, behind) = rest.split_at(piece.len());
-        let next = place_behind(at, front.as_bytes());
+        let (front, after) = rest.split_at(piece.len());
+        let next = place_after(at, front.as_bytes());
         if let Piece::Token(kind, _) = piece {
             items.push(Token {
                 kind,
@@ -44,17 +44,17 @@ fn cut<'a>(alloc: Global, text: &'a str) -> Result<Tokens<'a>, TokenError>
                 at,
             })?;
         }
-        rest = behind;
+        rest = after;
         at = next;
     }
     Ok(Tokens::of_text(text, items))
 }
 
-/// The place behind these bytes, where the first of them stands at this place.
-fn place_behind(at: Place, bytes: &[u8]) -> Place
+/// The place after these bytes, where the first of them stands at this place.
+fn place_after(at: Place, bytes: &[u8]) -> Place
     requires line { at.line + length bytes.now < 2 ^ 64 }
     requires column { at.column + length bytes.now + 1 < 2 ^ 64 }
-    ensures { (before : List ℕ) → at ≡ lexing.place_behind before → result ≡ lexing.place_behind (before ++ bytes.now) }
+    ensures { (before : List ℕ) → at ≡ lexing.place_after before → result ≡ lexing.place_after (before ++ bytes.now) }
 {
     let mut at = at;
     for b in bytes {

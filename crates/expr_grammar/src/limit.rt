@@ -50,7 +50,7 @@ impl Count {
             || (is_mark(token, "(") && self.opened.saturating_sub(self.closed) == MAX_OPEN)
     }
 
-    /// The count with this token, or from nothing behind the end of a statement.
+    /// The count with this token, or from nothing after the end of a statement.
     fn with_token(&self, token: &Token<'_>, span: Span) -> Count
         requires tokens { self.now.tokens < 512 }
         requires opened { self.now.opened ≤ 512 }

@@ -32,7 +32,7 @@ pub fn whole<'t, 'a>(
     }
 }
 
-/// What stands behind a name: a value for it, or nothing of it.
+/// What stands after a name: a value for it, or nothing of it.
 #[cycle(parser)]
 #[tactic(auto, using(crate::proofs::Fix::fixes))]
 fn assignment<'t, 'a>(
@@ -87,9 +87,9 @@ fn at_level<'t, 'a>(
         && let Some(op) = binary_of(&mark)
         && level(op) >= least
     {
-        let (right, behind) = at_level(alloc, level(op) + 1, after)?;
+        let (right, later) = at_level(alloc, level(op) + 1, after)?;
         left = made::binary(alloc, op, left, right)?;
-        rest = behind;
+        rest = later;
     }
     Ok((left, rest))
 }
@@ -139,7 +139,7 @@ fn operand<'t, 'a>(alloc: Global, tokens: &'t [Token<'a>]) -> Result<(Expr, &'t 
     }
 }
 
-/// A name, or a call of it, behind the name.
+/// A name, or a call of it, after the name.
 #[cycle(parser)]
 #[tactic(auto, using(crate::proofs::Fix::fixes))]
 fn named<'t, 'a>(
@@ -156,7 +156,7 @@ fn named<'t, 'a>(
     }
 }
 
-/// A call, behind its opening parenthesis.
+/// A call, after its opening parenthesis.
 #[cycle(parser)]
 #[tactic(auto, using(crate::proofs::Fix::fixes))]
 fn called<'t, 'a>(
@@ -213,9 +213,9 @@ fn arguments<'t, 'a>(
     let (first, mut rest) = argument(alloc, tokens)?;
     args.push(first)?;
     while let Some(after) = after_mark(rest, ",") {
-        let (arg, behind) = argument(alloc, after)?;
+        let (arg, later) = argument(alloc, after)?;
         args.push(arg)?;
-        rest = behind;
+        rest = later;
     }
     let rest = expect(rest, ")")?;
     Ok((args, rest))

@@ -17,7 +17,7 @@ use crate::token::Token;
 use dap_base::Place;
 use std::alloc::Global;
 
-/// A declaration, behind `__var`.
+/// A declaration, after `__var`.
 #[tactic(auto, unfolding(crate::specs::Reading::declared))]
 fn declaration<'t, 'a>(
     alloc: Global,

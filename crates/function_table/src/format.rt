@@ -48,18 +48,18 @@ pub fn conversions(format: &str) -> Option<usize>
     let mut count = 0;
     let mut rest = format.as_bytes();
     while !rest.is_empty() {
-        let Some((piece, behind)) = front_piece(rest) else {
+        let Some((piece, after)) = front_piece(rest) else {
             return None;
         };
         if let FormatPiece::Conversion(_) = piece {
             count += 1;
         }
-        rest = behind;
+        rest = after;
     }
     Some(count)
 }
 
-/// The piece that `format` begins with, and the bytes behind it. `None` exactly where `format` is
+/// The piece that `format` begins with, and the bytes after it. `None` exactly where `format` is
 /// empty or begins with a `%` that begins no piece.
 pub fn front_piece(format: &[u8]) -> Option<(FormatPiece, &[u8])>
     ensures found { IfSome result (λ front. BeginsWith front.0 format.now front.1.now) }
@@ -73,33 +73,33 @@ fn front(format: &[u8]) -> Option<(FormatPiece, &[u8])>
     ensures { MatchOption result (front.front_of format.now ≡ None) (λ r. front.front_of format.now ≡ Some (r.0, r.1.now)) }
 {
     match format {
-        [b'%', rest @ ..] => behind_percent(rest),
+        [b'%', rest @ ..] => after_percent(rest),
         [byte, rest @ ..] => Some((FormatPiece::Plain(*byte), rest)),
         [] => None,
     }
 }
 
-fn behind_percent(text: &[u8]) -> Option<(FormatPiece, &[u8])>
-    ensures { MatchOption result (front.behind_percent text.now ≡ None) (λ r. front.behind_percent text.now ≡ Some (r.0, r.1.now)) }
+fn after_percent(text: &[u8]) -> Option<(FormatPiece, &[u8])>
+    ensures { MatchOption result (front.after_percent text.now ≡ None) (λ r. front.after_percent text.now ≡ Some (r.0, r.1.now)) }
 {
     match text {
         [b'%', rest @ ..] => Some((FormatPiece::Percent, rest)),
-        [_, ..] => match conversion_behind(text) {
-            Some((conversion, behind)) => Some((FormatPiece::Conversion(conversion), behind)),
+        [_, ..] => match conversion_after(text) {
+            Some((conversion, after)) => Some((FormatPiece::Conversion(conversion), after)),
             None => None,
         },
         [] => None,
     }
 }
 
-// The conversion behind a `%`, and the bytes behind it.
+// The conversion after a `%`, and the bytes after it.
 #[tactic(auto, unfolding(crate::specs::Front::read_conversion))]
-fn conversion_behind(text: &[u8]) -> Option<(Conversion, &[u8])>
+fn conversion_after(text: &[u8]) -> Option<(Conversion, &[u8])>
     ensures { MatchOption result (front.read_conversion text.now ≡ None) (λ r. front.read_conversion text.now ≡ Some (r.0, r.1.now)) }
 {
-    let (zero, behind_fill) = fill(text);
-    let (width, behind_width) = width(behind_fill);
-    match behind_long(behind_width) {
+    let (zero, after_fill) = fill(text);
+    let (width, after_width) = width(after_fill);
+    match after_long(after_width) {
         [letter, rest @ ..] => match form_of(*letter) {
             Some(form) => Some((Conversion { zero, width, form }, rest)),
             None => None,
@@ -108,7 +108,7 @@ fn conversion_behind(text: &[u8]) -> Option<(Conversion, &[u8])>
     }
 }
 
-// Whether a `0` stands at the front, and what is behind it.
+// Whether a `0` stands at the front, and what is after it.
 fn fill(text: &[u8]) -> (bool, &[u8])
     ensures { front.read_fill text.now ≡ (result.0, result.1.now) }
 {
@@ -118,7 +118,7 @@ fn fill(text: &[u8]) -> (bool, &[u8])
     }
 }
 
-// The width at the front, and what is behind it.
+// The width at the front, and what is after it.
 fn width(text: &[u8]) -> (u8, &[u8])
     ensures { front.read_width text.now ≡ (result.0, result.1.now) }
 {
@@ -131,9 +131,9 @@ fn width(text: &[u8]) -> (u8, &[u8])
     }
 }
 
-// What is behind an `l` or `ll` at the front.
-fn behind_long(text: &[u8]) -> &[u8]
-    ensures { front.behind_long text.now ≡ result.now }
+// What is after an `l` or `ll` at the front.
+fn after_long(text: &[u8]) -> &[u8]
+    ensures { front.after_long text.now ≡ result.now }
 {
     match text {
         [b'l', b'l', rest @ ..] => rest,

@@ -79,13 +79,13 @@ fn formats_have_conversions(rt: HostRuntime) {
 
 #[test]
 fn a_front_is_taken_apart(rt: HostRuntime) -> Result<(), Fail> {
-    let (piece, behind) = front_piece(b"%012lX%%").ok_or("no piece")?;
+    let (piece, after) = front_piece(b"%012lX%%").ok_or("no piece")?;
     let conversion = Conversion {
         zero: true,
         width: 12,
         form: NumberForm::UpperHex,
     };
     assert_eq!(rt; piece, FormatPiece::Conversion(conversion));
-    assert_eq!(rt; behind, b"%%".as_slice());
+    assert_eq!(rt; after, b"%%".as_slice());
     Ok(())
 }

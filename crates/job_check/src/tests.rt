@@ -18,7 +18,7 @@ use std::alloc::{AllocError, Global};
 use std::process::Abort;
 use std::test::Fail;
 
-// The texts before and behind what the cases of a table say. Each makes a job with the device D1.
+// The texts before and after what the cases of a table say. Each makes a job with the device D1.
 // The cases are the code of the one block of Main,
 pub const BLOCK: (&str, &str) = (
     r#"{"pack":{"families":[{"Dfamily":"F","devices":[{"Dname":"D1","sequences":[{"name":"Main","steps":[{"block":""#,

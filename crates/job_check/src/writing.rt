@@ -36,8 +36,8 @@ fn job_fault_text(alloc: Global, fault: &JobFault) -> Result<Line, OutOfMemory>
     }
 }
 
-/// Puts the line of a refusal by one `put`: `refused` and its name; behind that of a job's fault the
-/// path, each byte as names are shown; behind `check` the fault of the set and its place.
+/// Puts the line of a refusal by one `put`: `refused` and its name; after that of a job's fault the
+/// path, each byte as names are shown; after `check` the fault of the set and its place.
 ///
 /// `Failed` where the sink failed, `OutOfMemory` where memory is refused, as it is for a job's fault
 /// that is want of memory; a prefix of the line was then appended.

@@ -1,4 +1,4 @@
--- A member with a default that is made only where it is wanted.
+-- A member with a default that is made only where it is requested.
 use Rattle.std.proofs.Common.{◌≡◌, ℕ, List, Option, Some, None, Result, Ok, Err, refl}
 use Rattle.serde_json.specs.Data.{Data}
 use Rattle.serde_json.specs.Find.{get}

@@ -2,7 +2,7 @@
 use Rattle.std.specs.Prelude.{codes, List, [], map, Some, Result, Ok}
 use Rattle.serde_json.specs.Data.{Data}
 use Rattle.json_form.specs.declared.fault.JobFault.{JobFault}
-use Rattle.json_form.specs.Faults.{◌>>=◌}
+use Rattle.dap_base.specs.Outcome.{◌>>=◌}
 use Rattle.json_form.specs.Reading.{number, such, only_keys, required, or_else, list_of, alone, never}
 use Rattle.device_tree.specs.PackReading.{pack_in}
 use Rattle.target_machine.specs.declared.job.RegionJob.{RegionJob}

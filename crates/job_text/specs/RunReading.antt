@@ -2,7 +2,7 @@
 use Rattle.std.specs.Prelude.{ℕ, ◌-◌, ◌^◌, codes, List, [], ◌∷◌, ◌++◌, map, Result, Ok}
 use Rattle.serde_json.specs.Data.{Data}
 use Rattle.json_form.specs.declared.fault.JobFault.{JobFault}
-use Rattle.json_form.specs.Faults.{◌>>=◌}
+use Rattle.dap_base.specs.Outcome.{◌>>=◌}
 use Rattle.json_form.specs.Reading.{number, only_keys, or_else}
 use Rattle.target_machine.specs.declared.unit.Variable.{Variable}
 use Rattle.target_machine.specs.declared.unit.Settings.{Settings}

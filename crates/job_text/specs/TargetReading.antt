@@ -3,7 +3,7 @@ use Rattle.std.specs.Prelude.{ℕ, ◌-◌, ◌^◌, codes, false, List, [], map
 use Rattle.serde_json.specs.Data.{Data}
 use Rattle.json_form.specs.declared.fault.JobFault.{JobFault}
 use Rattle.json_form.specs.declared.fault.JobFault.TheVariants.{Missing}
-use Rattle.json_form.specs.Faults.{◌>>=◌}
+use Rattle.dap_base.specs.Outcome.{◌>>=◌}
 use Rattle.json_form.specs.Reading.{flag, choice, number, such, only_keys, required, or_else, list_of, alone, never, repeats_by}
 use Rattle.target_machine.specs.declared.job.ApJob.{ApJob}
 use Rattle.target_machine.specs.declared.job.RegionJob.{RegionJob}

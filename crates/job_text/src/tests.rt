@@ -130,14 +130,14 @@ fn default_target(rt: HostRuntime) -> Result<(), Fail> {
 fn default_access_port(rt: HostRuntime) -> Result<(), Fail> {
     let job = defaults(rt.alloc()).ok_or("refused")?;
     let port = job.bench.target.aps.get(0).ok_or("no AP")?;
-    let wanted = ApJob {
+    let requested = ApJob {
         ap: 3,
         idr: 0x2477_0011,
         base: 0xE00F_F003,
         csw: 0,
         la: false,
     };
-    assert_eq!(rt; *port, wanted);
+    assert_eq!(rt; *port, requested);
     Ok(())
 }
 

@@ -4,7 +4,8 @@ use Rattle.std.specs.Prelude.{IfOk}
 use Rattle.serde_json.specs.Data.{Data}
 use Rattle.json_form.specs.declared.fault.JobFault.{JobFault}
 use Rattle.json_form.specs.declared.path.PathStep.{PathStep}
-use Rattle.json_form.specs.Faults.{Gives, ◌>>=◌, at}
+use Rattle.json_form.specs.Faults.{Gives, at}
+use Rattle.dap_base.specs.Outcome.{◌>>=◌}
 
 -- reading gives what stands for the value, and nothing else
 pub record Reads {A : Type 0} (reads : Data → Result A JobFault) (R : Data → A → Type 0) : Type 0 where
@@ -22,7 +23,7 @@ is_found reads R law d (Ok x) given = law.sound d x given
 is_found reads R law d (Err fault) given = tt
 
 pub is_only : {A : Type 0} (reads : Data → Result A JobFault) (R : Data → A → Type 0) → Reads reads R → (d : Data) (r : Result A JobFault) → Gives r (reads d) → (x : A) → R d x → Gives r (Ok x)
-is_only reads R law d r given x stands = subst (λ read. Gives r read) (law.complete d x stands) given
+is_only reads R law d r given x holds = subst (λ read. Gives r read) (law.complete d x holds) given
 
 -- ---- the steps of a reading
 
@@ -44,5 +45,5 @@ at_ok step (Err fault) y e = absurd cc
 pub at_reads : {A : Type 0} (step : PathStep) (reads : Data → Result A JobFault) (R : Data → A → Type 0) → Reads reads R → Reads (λ d. at step (reads d)) R
 at_reads step reads R law = record {
   sound = λ d x e. law.sound d x (at_ok step (reads d) x e);
-  complete = λ d x stands. rw (law.complete d x stands) refl;
+  complete = λ d x holds. rw (law.complete d x holds) refl;
 }

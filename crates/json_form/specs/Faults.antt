@@ -19,12 +19,6 @@ abbrev pub at : {A : Type 0} → PathStep → Result A JobFault → Result A Job
 at step (Ok x) = Ok x
 at step (Err fault) = Err (fault_at step fault)
 
-infixl 10 ◌>>=◌
--- reads on where a value was read, and else keeps the first fault
-abbrev pub ◌>>=◌ : {A B : Type 0} → Result A JobFault → (A → Result B JobFault) → Result B JobFault
-(Ok x) >>= next = next x
-(Err fault) >>= next = Err fault
-
 -- the fault was found, unless memory ran out
 abbrev pub Fails : {A : Type 0} → JobFault → Result A JobFault → Type 0
 Fails (Missing path) read = read ≡ Err (Missing path)

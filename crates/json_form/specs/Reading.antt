@@ -9,7 +9,8 @@ use Rattle.dap_base.specs.Number.{number_value}
 use Rattle.json_form.specs.declared.fault.JobFault.{JobFault}
 use Rattle.json_form.specs.declared.fault.JobFault.TheVariants.{Missing, WrongKind, UnknownKey, Repeated, BadNumber, TooMany}
 use Rattle.json_form.specs.declared.path.PathStep.TheVariants.{Key, Index}
-use Rattle.json_form.specs.Faults.{◌>>=◌, at}
+use Rattle.json_form.specs.Faults.{at}
+use Rattle.dap_base.specs.Outcome.{◌>>=◌}
 use Rattle.json_form.specs.Names.{names, least_unknown}
 
 -- ---- leaves

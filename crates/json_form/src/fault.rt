@@ -7,7 +7,7 @@ use dap_base::OutOfMemory;
 pub enum JobFault {
     /// A required key is absent. The path ends with the key.
     Missing(Path),
-    /// A value is of another kind than the one wanted here.
+    /// A value is of another kind than the one requested here.
     WrongKind(Path),
     /// An object has a key that it may not have. The path ends with the key.
     UnknownKey(Path),

@@ -16,7 +16,7 @@ use Rattle.code_check.specs.declared.fault.FaultKind.{FaultKind}
 use Rattle.code_check.specs.declared.fault.FaultKind.TheVariants as k
 use Rattle.code_check.specs.Names.{predefined}
 use Rattle.code_check.specs.First.{IsFirst}
-use Rattle.code_check.specs.BlockFaults.{names_behind_all, BlockFault}
+use Rattle.code_check.specs.BlockFaults.{names_after_all, BlockFault}
 use Rattle.seq_check.specs.declared.faulty.HeldFault.{HeldFault}
 use Rattle.seq_check.specs.declared.step_calls.StepCall.{StepCall}
 use Rattle.seq_check.specs.declared.set_check.FirstFault.{FirstFault}
@@ -47,18 +47,18 @@ calls_more F cs now ts i t x all at is grew inv =
     let rest = map F (drop (i + 1) ts) in
     ap (λ n. n ++ rest) grew ∙ append_assoc cs (x ∷ []) rest ∙ ap (λ y. cs ++ y ∷ rest) is ∙ ap (λ d. cs ++ map F d) (sym (drop-at ts i t at)) ∙ inv
 
-pub told_cycle : (set : SetTrees) (g : List (List ℕ)) (kind : FaultKind) (spot told : Spot) (c : CallSpot) → g ≡ call_graph set → graph.IsFirst (graph.IsInCycle g) c
-    → IsCallAt set c spot → kind ≡ k.CallCycle → told ≡ spot → IsFirstCallFault set kind told
-told_cycle set g kind spot told c e first at is same =
+pub reported_cycle : (set : SetTrees) (g : List (List ℕ)) (kind : FaultKind) (spot reported : Spot) (c : CallSpot) → g ≡ call_graph set → graph.IsFirst (graph.IsInCycle g) c
+    → IsCallAt set c spot → kind ≡ k.CallCycle → reported ≡ spot → IsFirstCallFault set kind reported
+reported_cycle set g kind spot reported c e first at is same =
     valid.cycle c (subst (λ h. graph.IsFirst (graph.IsInCycle h) c) e first) (subst (IsCallAt set c) (sym same) at) is
 
 pub no_cycle : (set : SetTrees) (g : List (List ℕ)) (o : Option CallSpot) → g ≡ call_graph set → o ≡ None → graph.FindsFirst (graph.IsInCycle g) o → (c : CallSpot) → graph.IsInCycle (call_graph set) c → ⊥
 no_cycle set g None e is finds c h = finds c (subst (λ x. graph.IsInCycle x c) (sym e) h)
 no_cycle set g (Some x) e is finds c h = absurd cc
 
-pub told_deep : (set : SetTrees) (g : List (List ℕ)) (kind : FaultKind) (spot told : Spot) (c : CallSpot) → g ≡ call_graph set → ((c : CallSpot) → graph.IsInCycle (call_graph set) c → ⊥)
-    → graph.IsFirst (graph.IsDeep g) c → IsCallAt set c spot → kind ≡ k.CallsTooDeep → told ≡ spot → IsFirstCallFault set kind told
-told_deep set g kind spot told c e none first at is same =
+pub reported_deep : (set : SetTrees) (g : List (List ℕ)) (kind : FaultKind) (spot reported : Spot) (c : CallSpot) → g ≡ call_graph set → ((c : CallSpot) → graph.IsInCycle (call_graph set) c → ⊥)
+    → graph.IsFirst (graph.IsDeep g) c → IsCallAt set c spot → kind ≡ k.CallsTooDeep → reported ≡ spot → IsFirstCallFault set kind reported
+reported_deep set g kind spot reported c e none first at is same =
     valid.deep none c (subst (λ h. graph.IsFirst (graph.IsDeep h) c) e first) (subst (IsCallAt set c) (sym same) at) is
 
 pub deep_call : (set : SetTrees) (g : List (List ℕ)) (c : CallSpot) → g ≡ call_graph set → graph.IsFirst (graph.IsDeep g) c → (x : ℕ) × graph.IsCallOf (call_graph set) c x
@@ -76,15 +76,15 @@ pub held_first : (set : SetTrees) (names sequences : List (List ℕ)) (code : Li
 held_first set names sequences code f p q r h = set_held set f (rw (p, q, r) at h)
 
 pub set_first : (set : SetTrees) (names sequences visible : List (List ℕ)) (code : List StmtTree) (r : Result (Option HeldFault) OutOfMemory)
-    → names ≡ predefined → sequences ≡ names_of set → code ≡ set.debugvars → visible ≡ names_behind_all names code
+    → names ≡ predefined → sequences ≡ names_of set → code ≡ set.debugvars → visible ≡ names_after_all names code
     → IsFirst is_set_before (Of holders.Debugvars (At parts.Debugvars (BlockFault (record { visible = names; sequences = sequences; in_debugvars = true }) code))) None
     → IfOk r (λ o. IsFirst is_set_before (FaultInSequences (record { visible = visible; sequences = sequences; in_debugvars = false }) 0 (map (λ s. s.steps) set.sequences)) (option_map held_view o))
     → IfOk r (λ o. IsFirst is_set_before (FaultInSet set) (option_map held_view o))
 set_first set names sequences visible code r p q e v none h =
-    let seen : visible ≡ names_behind_all predefined set.debugvars = v ∙ ap (λ n. names_behind_all n code) p ∙ ap (names_behind_all predefined) e in
+    let seen : visible ≡ names_after_all predefined set.debugvars = v ∙ ap (λ n. names_after_all n code) p ∙ ap (names_after_all predefined) e in
     let all = map (λ s. s.steps) set.sequences in
     let First : List (List ℕ) → List (List ℕ) → Type 0 = λ x y. IfOk r (λ o. IsFirst is_set_before (FaultInSequences (record { visible = x; sequences = y; in_debugvars = false }) 0 all) (option_map held_view o)) in
-    set_answer set r (rw (p, q, e) at none) (subst (λ y. First (names_behind_all predefined set.debugvars) y) q (subst (λ x. First x sequences) seen h))
+    set_answer set r (rw (p, q, e) at none) (subst (λ y. First (names_after_all predefined set.debugvars) y) q (subst (λ x. First x sequences) seen h))
 
 -- ---- the whole
 
@@ -94,15 +94,15 @@ rules_answer set (Err e) none h = tt
 rules_answer set (Ok None) none h = record { no_fault = none; calls = h }
 rules_answer set (Ok (Some t)) none h = valid.in_calls none h
 
-pub none_stands : (set : SetTrees) → IsFirst is_set_before (FaultInSet set) None → (f : SetFault) → FaultInSet set f → ⊥
-none_stands set h f s = h.none_before f s
+pub none_holds : (set : SetTrees) → IsFirst is_set_before (FaultInSet set) None → (f : SetFault) → FaultInSet set f → ⊥
+none_holds set h f s = h.none_before f s
 
 call_fault_unsound : (set : SetTrees) (kind : FaultKind) (spot : Spot) → CallsAreSound set → IsFirstCallFault set kind spot → ⊥
 call_fault_unsound set kind spot h f = elim f [ valid.cycle c first at is ↦ h.no_cycle c first.holds | valid.deep none c first at is ↦ h.none_deep c first.holds ]
 
 -- a set with a fault is not sound
 pub not_sound : (set : SetTrees) (kind : FaultKind) (spot : Spot) → IsSound set → IsFirstOf set kind spot → ⊥
-not_sound set kind spot h f = elim f [ valid.in_texts g first is at ↦ h.no_fault g first.stands | valid.in_calls none c ↦ call_fault_unsound set kind spot h.calls c ]
+not_sound set kind spot h f = elim f [ valid.in_texts g first is at ↦ h.no_fault g first.holds | valid.in_calls none c ↦ call_fault_unsound set kind spot h.calls c ]
 
 reads_names : (es : List SeqEntry) (ss : List SequenceTrees) → ReadsEntries es ss → map (λ s. s.name) ss ≡ map (λ e. e.name) es
 reads_names [] ss h = ap (map (λ s. s.name)) h

@@ -29,12 +29,12 @@ not_before_itself f = rw (below_itself (control_rank f.kind), same_rank (control
 
 pub form_where : (Cause : Type 0) (kind : FaultKind) → Cause → IsFirst (fault_before parts.Control) (FaultWhere Cause no_place kind) (Some (record { place = no_place; kind = kind }))
 form_where Cause kind c = record {
-  stands = record { cause = c; is = refl };
+  holds = record { cause = c; is = refl };
   none_before = λ g s. subst (λ x. fault_before parts.Control x (record { place = no_place; kind = kind }) ≡ false) (sym s.is) (not_before_itself (record { place = no_place; kind = kind }));
 }
 
 pub form_where_not : (Cause : Type 0) (kind : FaultKind) → (Cause → ⊥) → IsFirst (fault_before parts.Control) (FaultWhere Cause no_place kind) None
-form_where_not Cause kind c = record { stands = tt; none_before = λ g s. absurd (c s.cause) }
+form_where_not Cause kind c = record { holds = tt; none_before = λ g s. absurd (c s.cause) }
 
 pub form_none : IsFirst (fault_before parts.Control) Nowhere None
 form_none = first_of_none (fault_before parts.Control)
@@ -95,12 +95,12 @@ view_order : (part : Part) (f g : CodeFault) → is_step_before (view_at part f)
 view_order part f g = rw (below_itself (part_rank part), same_rank (part_rank part)) refl
 
 at_from : (part : Part) (P : CodeFault → Type 0) (g : StepFault) → At part P g → (f : CodeFault) × P f × (g ≡ view_at part f)
-at_from part P g h = (g.fault, h.stands, same_view g.path g.part g.fault part h.own h.part_is) where
+at_from part P g h = (g.fault, h.holds, same_view g.path g.part g.fault part h.own h.part_is) where
   same_view : (path : List ℕ) (x : Part) (f : CodeFault) (y : Part) → path ≡ [] → x ≡ y → record { path = path; part = x; fault = f } ≡ view_at y f
   same_view path x f y p q = rw (p, q) refl
 
 first_viewed : (part : Part) (P : CodeFault → Type 0) (r : Option CodeFault) → IsFirst (fault_before part) P r → IsFirst is_step_before (At part P) (option_map (view_at part) r)
-first_viewed part P r h = first_mapped (fault_before part) is_step_before (view_at part) P (At part P) r (view_order part) (λ f p. record { own = refl; part_is = refl; stands = p }) (at_from part P) h
+first_viewed part P r h = first_mapped (fault_before part) is_step_before (view_at part) P (At part P) r (view_order part) (λ f p. record { own = refl; part_is = refl; holds = p }) (at_from part P) h
 
 viewed : (part : Part) (r : Option CodeFault) (o : Option PartFault) → o ≡ option_map (λ f. record { part = part; fault = f }) r → option_map (view_at part) r ≡ option_map own_view o
 viewed part None o e = rw e refl
@@ -133,7 +133,7 @@ not_deep s around cond repeat timeout r h e = below (nat_lt around 32) refl wher
   none = rw e at h
 
   deep : 32 ≤ around → ⊥
-  deep too = none.none_before (view_at parts.Control (record { place = no_place; kind = k.NestedTooDeep })) (here (record { own = refl; part_is = refl; stands = here (record { cause = too; is = refl }) }))
+  deep too = none.none_before (view_at parts.Control (record { place = no_place; kind = k.NestedTooDeep })) (here (record { own = refl; part_is = refl; holds = here (record { cause = too; is = refl }) }))
 
   below : (b : Bool) → nat_lt around 32 ≡ b → around < 32
   below true q = grind (arith, nat_tests)

@@ -5,22 +5,22 @@ use Rattle.code_check.specs.First.{IsFirst, Nowhere, InEither, here, there}
 
 module _ {F : Type 0} (before : F → F → Bool) where
   pub first_of_none : IsFirst before Nowhere None
-  first_of_none = record { stands = tt; none_before = λ g s. elim s [ ] }
+  first_of_none = record { holds = tt; none_before = λ g s. elim s [ ] }
 
   -- where the same faults stand, the first is the same
   pub first_of_same : (P Q : F → Type 0) (r : Option F) → ((f : F) → P f → Q f) → ((f : F) → Q f → P f) → IsFirst before P r → IsFirst before Q r
-  first_of_same P Q r to from h = record { stands = carried r h.stands; none_before = λ g s. h.none_before g (from g s) } where
+  first_of_same P Q r to from h = record { holds = carried r h.holds; none_before = λ g s. h.none_before g (from g s) } where
     carried : (o : Option F) → IfSome o P → IfSome o Q
     carried None q = tt
     carried (Some f) q = to f q
 
   -- the first part has a fault, and none of the other part is before one of its
   pub first_here : (P Q : F → Type 0) (f : F) → ((p q : F) → P p → Q q → before q p ≡ false) → IsFirst before P (Some f) → IsFirst before (InEither P Q) (Some f)
-  first_here P Q f order h = record { stands = here h.stands; none_before = λ g s. elim s [ here p ↦ h.none_before g p | there q ↦ order f g h.stands q ] }
+  first_here P Q f order h = record { holds = here h.holds; none_before = λ g s. elim s [ here p ↦ h.none_before g p | there q ↦ order f g h.holds q ] }
 
   -- the first part has none
   pub first_there : (P Q : F → Type 0) (r : Option F) → IsFirst before P None → IsFirst before Q r → IsFirst before (InEither P Q) r
-  first_there P Q r h k = record { stands = carried r k.stands; none_before = λ g s. elim s [ here p ↦ absurd (h.none_before g p) | there q ↦ k.none_before g q ] } where
+  first_there P Q r h k = record { holds = carried r k.holds; none_before = λ g s. elim s [ here p ↦ absurd (h.none_before g p) | there q ↦ k.none_before g q ] } where
     carried : (o : Option F) → IfSome o Q → IfSome o (InEither P Q)
     carried None q = tt
     carried (Some f) q = there q
@@ -35,7 +35,7 @@ module _ {F : Type 0} (before : F → F → Bool) where
 -- seen through a map that keeps the order
 pub first_mapped : {F G : Type 0} (before : F → F → Bool) (before' : G → G → Bool) (m : F → G) (P : F → Type 0) (Q : G → Type 0) (r : Option F)
     → ((f g : F) → before' (m f) (m g) ≡ before f g) → ((f : F) → P f → Q (m f)) → ((g : G) → Q g → (f : F) × P f × (g ≡ m f)) → IsFirst before P r → IsFirst before' Q (option_map m r)
-first_mapped {F} {G} before before' m P Q r keeps to from h = record { stands = carried r h.stands; none_before = λ g s. (let x = from g s in subst (λ y. IsSomeAnd (option_map m r) (λ f. before' y f ≡ false)) (sym x.2) (later r x.0 (h.none_before x.0 x.1))) } where
+first_mapped {F} {G} before before' m P Q r keeps to from h = record { holds = carried r h.holds; none_before = λ g s. (let x = from g s in subst (λ y. IsSomeAnd (option_map m r) (λ f. before' y f ≡ false)) (sym x.2) (later r x.0 (h.none_before x.0 x.1))) } where
   carried : (o : Option F) → IfSome o P → IfSome (option_map m o) Q
   carried None p = tt
   carried (Some f) p = to f p

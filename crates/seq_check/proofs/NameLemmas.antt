@@ -1,13 +1,13 @@
--- The names that steps add stand behind those from before.
+-- The names that steps add stand after those from before.
 use Rattle.std.proofs.Common.{◌≡◌, ◌∙◌, sym, ap, ℕ, Bool, true, false, cond, List, [], ◌∷◌, ◌++◌, length, take, append_assoc, refl, Option, Some, None, IfNone}
 use Rattle.std.proofs.lemmas.List.{append-nil}
 use Rattle.std.proofs.Math.Seq.{take-append_seam}
 use Rattle.expr_grammar.specs.Tree.{StmtTree, Empty, Declare, Plain}
 use Rattle.sequence_code.specs.Trees.{StepTree, Block, Control, StepTrees, NoSteps, MoreSteps}
 use Rattle.code_check.specs.Names.{has_name}
-use Rattle.code_check.specs.BlockFaults.{names_behind, names_behind_all}
+use Rattle.code_check.specs.BlockFaults.{names_after, names_after_all}
 use Rattle.seq_check.specs.declared.faulty.FaultyStep.{FaultyStep}
-use Rattle.seq_check.specs.StepFaults.{names_behind_step, names_behind_steps}
+use Rattle.seq_check.specs.StepFaults.{names_after_step, names_after_steps}
 
 -- the second list begins with the first
 record Begins (names more : List (List ℕ)) : Type 0 where
@@ -24,32 +24,32 @@ with_at : (names : List (List ℕ)) (name : List ℕ) (b : Bool) → Begins name
 with_at names name true = same names
 with_at names name false = record { rest = name ∷ []; parts = refl }
 
-behind : (names : List (List ℕ)) (st : StmtTree) → Begins names (names_behind names st)
-behind names (Empty at) = same names
-behind names (Declare name value) = with_at names name.text (has_name names name.text)
-behind names (Plain at e) = same names
+after : (names : List (List ℕ)) (st : StmtTree) → Begins names (names_after names st)
+after names (Empty at) = same names
+after names (Declare name value) = with_at names name.text (has_name names name.text)
+after names (Plain at e) = same names
 
-behind_all : (names : List (List ℕ)) (code : List StmtTree) → Begins names (names_behind_all names code)
-behind_all names [] = same names
-behind_all names (st ∷ code) = onwards names (names_behind names st) (names_behind_all (names_behind names st) code) (behind names st) (behind_all (names_behind names st) code)
+after_all : (names : List (List ℕ)) (code : List StmtTree) → Begins names (names_after_all names code)
+after_all names [] = same names
+after_all names (st ∷ code) = onwards names (names_after names st) (names_after_all (names_after names st) code) (after names st) (after_all (names_after names st) code)
 
-behind_step : (names : List (List ℕ)) (step : StepTree) → Begins names (names_behind_step names step)
-behind_step names (Block code) = behind_all names code
-behind_step names (Control cond repeat timeout steps) = same names
+after_step : (names : List (List ℕ)) (step : StepTree) → Begins names (names_after_step names step)
+after_step names (Block code) = after_all names code
+after_step names (Control cond repeat timeout steps) = same names
 
-behind_steps : (names : List (List ℕ)) (steps : StepTrees) → Begins names (names_behind_steps names steps)
-behind_steps names NoSteps = same names
-behind_steps names (MoreSteps step more) =
-    onwards names (names_behind_step names step) (names_behind_steps (names_behind_step names step) more) (behind_step names step) (behind_steps (names_behind_step names step) more)
+after_steps : (names : List (List ℕ)) (steps : StepTrees) → Begins names (names_after_steps names steps)
+after_steps names NoSteps = same names
+after_steps names (MoreSteps step more) =
+    onwards names (names_after_step names step) (names_after_steps (names_after_step names step) more) (after_step names step) (after_steps (names_after_step names step) more)
 
 cut : (names more : List (List ℕ)) → Begins names more → take (length names) more ≡ names
 cut names more h = ap (take (length names)) h.parts ∙ take-append_seam names h.rest
 
--- cut back to their number, the names behind steps are those from before
-pub take-names_behind_steps : (names : List (List ℕ)) (steps : StepTrees) → take (length names) (names_behind_steps names steps) ≡ names
-take-names_behind_steps names steps = cut names (names_behind_steps names steps) (behind_steps names steps)
+-- cut back to their number, the names after steps are those from before
+pub take-names_after_steps : (names : List (List ℕ)) (steps : StepTrees) → take (length names) (names_after_steps names steps) ≡ names
+take-names_after_steps names steps = cut names (names_after_steps names steps) (after_steps names steps)
 
 pub cut_answer : (o : Option FaultyStep) (names more new : List (List ℕ)) (n : ℕ) (steps : StepTrees) → new ≡ take n more → n ≡ length names
-    → IfNone o (more ≡ names_behind_steps names steps) → IfNone o (new ≡ names)
-cut_answer None names more new n steps e is h = rw (e, is, h) (take-names_behind_steps names steps)
+    → IfNone o (more ≡ names_after_steps names steps) → IfNone o (new ≡ names)
+cut_answer None names more new n steps e is h = rw (e, is, h) (take-names_after_steps names steps)
 cut_answer (Some f) names more new n steps e is h = tt

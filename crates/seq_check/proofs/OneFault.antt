@@ -62,8 +62,8 @@ one_first_of : (set : SetTrees) (kind other_kind : FaultKind) (spot other : Spot
 one_first_of set kind other_kind spot other (valid.in_texts f first is at) (valid.in_texts g second was at') =
     let same : f ≡ g = one_set_fault set f g first second in
     (is ∙ ap (λ x. x.fault.fault.kind) same ∙ sym was, at ∙ ap (spot_of set) same ∙ sym at')
-one_first_of set kind other_kind spot other (valid.in_texts f first is at) (valid.in_calls none call) = absurd (none f first.stands)
-one_first_of set kind other_kind spot other (valid.in_calls none call) (valid.in_texts f first is at) = absurd (none f first.stands)
+one_first_of set kind other_kind spot other (valid.in_texts f first is at) (valid.in_calls none call) = absurd (none f first.holds)
+one_first_of set kind other_kind spot other (valid.in_calls none call) (valid.in_texts f first is at) = absurd (none f first.holds)
 one_first_of set kind other_kind spot other (valid.in_calls none call) (valid.in_calls none' call') = one_call_fault set kind other_kind spot other call call'
 
 -- ---- sets

@@ -36,7 +36,7 @@ drop-past (x ∷ xs) (suc n) h = drop-past xs n (omega arith)
 
 -- ---- names
 
--- the names, and these behind them
+-- the names, and these after them
 abbrev pub added : List (List ℕ) → List (List ℕ) → List (List ℕ)
 added names [] = names
 added names (n ∷ more) = added (with_name names n) more
@@ -86,8 +86,8 @@ held_order (holders.Sequence n) f g = rw (below_itself n) refl
 
 pub first_held : (holder : Holder) (P : StepFault → Type 0) (r : Option StepFault) → IsFirst is_step_before P r → IsFirst is_set_before (Of holder P) (option_map (held holder) r)
 first_held holder P r h =
-    first_mapped is_step_before is_set_before (held holder) P (Of holder P) r (held_order holder) (λ f p. record { holder_is = refl; stands = p })
-    (λ g o. (g.fault, o.stands, ap (λ x. held x g.fault) o.holder_is)) h
+    first_mapped is_step_before is_set_before (held holder) P (Of holder P) r (held_order holder) (λ f p. record { holder_is = refl; holds = p })
+    (λ g o. (g.fault, o.holds, ap (λ x. held x g.fault) o.holder_is)) h
 
 -- ---- the order of sequences
 
@@ -105,8 +105,8 @@ from_there s n (x ∷ more) f h = elim h [
 ]
 
 -- what an earlier holder has is before what a later one has
-behind_holder : (f g : SetFault) (a b : Holder) → f.holder ≡ a → g.holder ≡ b → holder_before a b ≡ false → holder_before b a ≡ true → is_set_before f g ≡ false
-behind_holder f g a b p q behind before = rw (p, q, behind, before) refl
+after_holder : (f g : SetFault) (a b : Holder) → f.holder ≡ a → g.holder ≡ b → holder_before a b ≡ false → holder_before b a ≡ true → is_set_before f g ≡ false
+after_holder f g a b p q after before = rw (p, q, after, before) refl
 
 above : (n k : ℕ) → suc n ≤ k → nat_lt k n ≡ false
 above n k h = grind (arith, nat_tests)
@@ -117,10 +117,10 @@ below n k h = grind (arith, nat_tests)
 sequences_order : (s : Scope) (n : ℕ) (P : StepFault → Type 0) (more : List StepTrees) (p q : SetFault) → Of (holders.Sequence n) P p → FaultInSequences s (suc n) more q → is_set_before q p ≡ false
 sequences_order s n P more p q h j =
     let r = from_there s (suc n) more q j in
-    behind_holder q p (holders.Sequence r.number) (holders.Sequence n) r.is h.holder_is (above n r.number r.least) (below n r.number r.least)
+    after_holder q p (holders.Sequence r.number) (holders.Sequence n) r.is h.holder_is (above n r.number r.least) (below n r.number r.least)
 
 debugvars_order : (s : Scope) (n : ℕ) (P : StepFault → Type 0) (more : List StepTrees) (p q : SetFault) → Of holders.Debugvars P p → FaultInSequences s n more q → is_set_before q p ≡ false
-debugvars_order s n P more p q h j = (let r = from_there s n more q j in behind_holder q p (holders.Sequence r.number) holders.Debugvars r.is h.holder_is refl refl)
+debugvars_order s n P more p q h j = (let r = from_there s n more q j in after_holder q p (holders.Sequence r.number) holders.Debugvars r.is h.holder_is refl refl)
 
 -- ---- the first fault
 

@@ -18,7 +18,7 @@ use Rattle.code_check.specs.BlockFaults.{seeing}
 use Rattle.dap_base.specs.declared.text.OutOfMemory.{OutOfMemory}
 use Rattle.seq_check.specs.declared.faulty.FaultyStep.{FaultyStep}
 use Rattle.seq_check.specs.Views.{faulty_view}
-use Rattle.seq_check.specs.StepFaults.{StepFault, path_before, part_rank, fault_before, is_step_before, under, Under, OwnFault, FaultInStep, FaultInSteps, names_behind_step, names_behind_steps}
+use Rattle.seq_check.specs.StepFaults.{StepFault, path_before, part_rank, fault_before, is_step_before, under, Under, OwnFault, FaultInStep, FaultInSteps, names_after_step, names_after_steps}
 use Rattle.seq_check.proofs.FirstLemmas.{first_of_none, first_of_same, first_here, first_there, first_mapped}
 
 -- ---- what each form of step is as a tree
@@ -43,7 +43,7 @@ numbered : (s : Scope) (around n : ℕ) (steps : StepTrees) (f : StepFault) → 
 numbered s around n NoSteps f h = elim h [ ]
 numbered s around n (MoreSteps step more) f h = elim h [
   | here p ↦ record { number = n; rest = p.inner.path; parts = ap (λ x. x.path) p.is; least = omega arith }
-  | there q ↦ let r = numbered (seeing s (names_behind_step s.visible step)) around (suc n) more f q in record { number = r.number; rest = r.rest; parts = r.parts; least = omega (arith, r.least) }
+  | there q ↦ let r = numbered (seeing s (names_after_step s.visible step)) around (suc n) more f q in record { number = r.number; rest = r.rest; parts = r.parts; least = omega (arith, r.least) }
 ]
 
 abbrev before_by : (a b : List ℕ) (x y : Part) (f g : CodeFault) → Bool
@@ -58,12 +58,12 @@ apart n j h = grind (arith, nat_tests)
 under_it : (n j : ℕ) → suc n ≤ j → nat_lt n j ≡ true
 under_it n j h = grind (arith, nat_tests)
 
-behind_path : (a b p q : List ℕ) (n j : ℕ) (x y : Part) (f g : CodeFault) → a ≡ j ∷ p → b ≡ n ∷ q → suc n ≤ j → before_by a b x y f g ≡ false
-behind_path a b p q n j x y f g ea eb h = rw (ea, eb, above n j h, apart n j h, under_it n j h) refl
+after_path : (a b p q : List ℕ) (n j : ℕ) (x y : Part) (f g : CodeFault) → a ≡ j ∷ p → b ≡ n ∷ q → suc n ≤ j → before_by a b x y f g ≡ false
+after_path a b p q n j x y f g ea eb h = rw (ea, eb, above n j h, apart n j h, under_it n j h) refl
 
 -- what stands at a later number is not before what stands at this one
 later_path : (n : ℕ) (P : StepFault → Type 0) (p q : StepFault) → Under n P p → Numbered (suc n) q.path → is_step_before q p ≡ false
-later_path n P p q h r = behind_path q.path p.path r.rest h.inner.path n r.number q.part p.part q.fault p.fault r.parts (ap (λ x. x.path) h.is) r.least
+later_path n P p q h r = after_path q.path p.path r.rest h.inner.path n r.number q.part p.part q.fault p.fault r.parts (ap (λ x. x.path) h.is) r.least
 
 -- none of the later steps is before an earlier one
 steps_order : (s : Scope) (around n : ℕ) (P : StepFault → Type 0) (more : StepTrees) (p q : StepFault) → Under n P p → FaultInSteps s around (suc n) more q → is_step_before q p ≡ false
@@ -105,54 +105,54 @@ under_order : (n : ℕ) (f g : StepFault) → is_step_before (under n f) (under 
 under_order n f g = rw (below_itself n, same_number n) refl
 
 first_under : (n : ℕ) (P : StepFault → Type 0) (r : Option StepFault) → IsFirst is_step_before P r → IsFirst is_step_before (Under n P) (option_map (under n) r)
-first_under n P r h = first_mapped is_step_before is_step_before (under n) P (Under n P) r (under_order n) (λ f p. record { inner = f; stands = p; is = refl }) (λ g u. (u.inner, u.stands, u.is)) h
+first_under n P r h = first_mapped is_step_before is_step_before (under n) P (Under n P) r (under_order n) (λ f p. record { inner = f; holds = p; is = refl }) (λ g u. (u.inner, u.holds, u.is)) h
 
-abbrev behind : Scope → List StepTree → Scope
-behind s front = seeing s (names_behind_steps s.visible (steps_of front))
+abbrev after : Scope → List StepTree → Scope
+after s front = seeing s (names_after_steps s.visible (steps_of front))
 
 split_to : (s : Scope) (around n : ℕ) (front back : List StepTree) (f : StepFault)
-    → InEither (FaultInSteps s around n (steps_of front)) (FaultInSteps (behind s front) around (n + length front) (steps_of back)) f → FaultInSteps s around n (steps_of (front ++ back)) f
+    → InEither (FaultInSteps s around n (steps_of front)) (FaultInSteps (after s front) around (n + length front) (steps_of back)) f → FaultInSteps s around n (steps_of (front ++ back)) f
 split_to s around n [] back f h = let e : n + 0 ≡ n = omega arith in elim h [ here p ↦ elim p [ ] | there q ↦ subst (λ m. FaultInSteps s around m (steps_of back) f) e q ]
 split_to s around n (x ∷ front) back f h =
     let e : n + suc (length front) ≡ suc n + length front = omega arith in
-    let s' = seeing s (names_behind_step s.visible x) in
+    let s' = seeing s (names_after_step s.visible x) in
     elim h [
       | here p ↦ elim p [ here u ↦ here u | there v ↦ there (split_to s' around (suc n) front back f (here v)) ]
-      | there q ↦ there (split_to s' around (suc n) front back f (there (subst (λ m. FaultInSteps (behind s' front) around m (steps_of back) f) e q)))
+      | there q ↦ there (split_to s' around (suc n) front back f (there (subst (λ m. FaultInSteps (after s' front) around m (steps_of back) f) e q)))
     ]
 
 split_from : (s : Scope) (around n : ℕ) (front back : List StepTree) (f : StepFault)
-    → FaultInSteps s around n (steps_of (front ++ back)) f → InEither (FaultInSteps s around n (steps_of front)) (FaultInSteps (behind s front) around (n + length front) (steps_of back)) f
+    → FaultInSteps s around n (steps_of (front ++ back)) f → InEither (FaultInSteps s around n (steps_of front)) (FaultInSteps (after s front) around (n + length front) (steps_of back)) f
 split_from s around n [] back f h = let e : n ≡ n + 0 = omega arith in there (subst (λ m. FaultInSteps s around m (steps_of back) f) e h)
 split_from s around n (x ∷ front) back f h =
     let e : suc n + length front ≡ n + suc (length front) = omega arith in
-    let s' = seeing s (names_behind_step s.visible x) in
+    let s' = seeing s (names_after_step s.visible x) in
     elim h [
       | here p ↦ here (here p)
-      | there q ↦ elim (split_from s' around (suc n) front back f q) [ here u ↦ here (there u) | there v ↦ there (subst (λ m. FaultInSteps (behind s' front) around m (steps_of back) f) e v) ]
+      | there q ↦ elim (split_from s' around (suc n) front back f q) [ here u ↦ here (there u) | there v ↦ there (subst (λ m. FaultInSteps (after s' front) around m (steps_of back) f) e v) ]
     ]
 
 -- none in the steps before, and this one in the next step
 found_in : (s : Scope) (around n : ℕ) (front : List StepTree) (step : StepTree) (back : List StepTree) (f : StepFault) → n ≡ length front
-    → IsFirst is_step_before (FaultInSteps s around 0 (steps_of front)) None → IsFirst is_step_before (FaultInStep (behind s front) around step) (Some f)
+    → IsFirst is_step_before (FaultInSteps s around 0 (steps_of front)) None → IsFirst is_step_before (FaultInStep (after s front) around step) (Some f)
     → IsFirst is_step_before (FaultInSteps s around 0 (steps_of (front ++ step ∷ back))) (Some (under n f))
 found_in s around n front step back f is none found =
-    let s' = seeing (behind s front) (names_behind_step (behind s front).visible step) in
-    let Later : ℕ → StepFault → Type 0 = λ m. FaultInSteps (behind s front) around m (steps_of (step ∷ back)) in
+    let s' = seeing (after s front) (names_after_step (after s front).visible step) in
+    let Later : ℕ → StepFault → Type 0 = λ m. FaultInSteps (after s front) around m (steps_of (step ∷ back)) in
     let e : n ≡ 0 + length front = omega arith in
-    let here_it : IsFirst is_step_before (Later n) (Some (under n f)) = first_here is_step_before _ _ (under n f) (steps_order s' around n (FaultInStep (behind s front) around step) (steps_of back)) (first_under n (FaultInStep (behind s front) around step) (Some f) found) in
+    let here_it : IsFirst is_step_before (Later n) (Some (under n f)) = first_here is_step_before _ _ (under n f) (steps_order s' around n (FaultInStep (after s front) around step) (steps_of back)) (first_under n (FaultInStep (after s front) around step) (Some f) found) in
     first_of_same is_step_before _ _ (Some (under n f)) (split_to s around 0 front (step ∷ back)) (split_from s around 0 front (step ∷ back))
     (first_there is_step_before _ _ (Some (under n f)) none (subst (λ m. IsFirst is_step_before (Later m) (Some (under n f))) e here_it))
 
 none_in : (s : Scope) (around : ℕ) (front : List StepTree) (step : StepTree) → IsFirst is_step_before (FaultInSteps s around 0 (steps_of front)) None
-    → IsFirst is_step_before (FaultInStep (behind s front) around step) None → IsFirst is_step_before (FaultInSteps s around 0 (steps_of (front ++ step ∷ []))) None
+    → IsFirst is_step_before (FaultInStep (after s front) around step) None → IsFirst is_step_before (FaultInSteps s around 0 (steps_of (front ++ step ∷ []))) None
 none_in s around front step none none' =
     first_of_same is_step_before _ _ None (split_to s around 0 front (step ∷ [])) (split_from s around 0 front (step ∷ []))
-    (first_there is_step_before _ _ None none (first_there is_step_before _ _ None (first_under (0 + length front) (FaultInStep (behind s front) around step) None none') (first_of_none is_step_before)))
+    (first_there is_step_before _ _ None none (first_there is_step_before _ _ None (first_under (0 + length front) (FaultInStep (after s front) around step) None none') (first_of_none is_step_before)))
 
-names_behind_steps-append : (names : List (List ℕ)) (front : List StepTree) (step : StepTree) → names_behind_steps names (steps_of (front ++ step ∷ [])) ≡ names_behind_step (names_behind_steps names (steps_of front)) step
-names_behind_steps-append names [] step = refl
-names_behind_steps-append names (x ∷ front) step = names_behind_steps-append (names_behind_step names x) front step
+names_after_steps-append : (names : List (List ℕ)) (front : List StepTree) (step : StepTree) → names_after_steps names (steps_of (front ++ step ∷ [])) ≡ names_after_step (names_after_steps names (steps_of front)) step
+names_after_steps-append names [] step = refl
+names_after_steps-append names (x ∷ front) step = names_after_steps-append (names_after_step names x) front step
 
 -- ---- in a list of steps
 
@@ -171,20 +171,20 @@ fronts-length xs i h = omega (arith, length-map (take i xs) step_tree, length-ta
 
 pub step_found : (s : Scope) (around : ℕ) (xs : List CheckedStep) (i : ℕ) (x : CheckedStep) (f : StepFault) → i < length xs
     → IsFirst is_step_before (FaultInSteps s around 0 (steps_tree (take i xs))) None
-    → IsFirst is_step_before (FaultInStep (seeing s (names_behind_steps s.visible (steps_tree (take i xs)))) around (step_tree (get_or xs i x))) (Some f)
+    → IsFirst is_step_before (FaultInStep (seeing s (names_after_steps s.visible (steps_tree (take i xs)))) around (step_tree (get_or xs i x))) (Some f)
     → IsFirst is_step_before (FaultInSteps s around 0 (steps_tree xs)) (Some (under i f))
 step_found s around xs i x f h none found =
     rw (steps_tree-parts xs i x h) (found_in s around i (fronts xs i) (step_tree (get_or xs i x)) (map step_tree (drop (suc i) xs)) f (fronts-length xs i h) none found)
 
 pub step_none : (s : Scope) (around : ℕ) (xs : List CheckedStep) (i : ℕ) (x : CheckedStep) → i < length xs
     → IsFirst is_step_before (FaultInSteps s around 0 (steps_tree (take i xs))) None
-    → IsFirst is_step_before (FaultInStep (seeing s (names_behind_steps s.visible (steps_tree (take i xs)))) around (step_tree (get_or xs i x))) None
+    → IsFirst is_step_before (FaultInStep (seeing s (names_after_steps s.visible (steps_tree (take i xs)))) around (step_tree (get_or xs i x))) None
     → IsFirst is_step_before (FaultInSteps s around 0 (steps_tree (take (i + 1) xs))) None
 step_none s around xs i x h none none' = rw (steps_tree-take xs i x h) (none_in s around (fronts xs i) (step_tree (get_or xs i x)) none none')
 
 pub names_more : (names : List (List ℕ)) (xs : List CheckedStep) (i : ℕ) (x : CheckedStep) → i < length xs
-    → names_behind_steps names (steps_tree (take (i + 1) xs)) ≡ names_behind_step (names_behind_steps names (steps_tree (take i xs))) (step_tree (get_or xs i x))
-names_more names xs i x h = ap (names_behind_steps names) (steps_tree-take xs i x h) ∙ names_behind_steps-append names (fronts xs i) (step_tree (get_or xs i x))
+    → names_after_steps names (steps_tree (take (i + 1) xs)) ≡ names_after_step (names_after_steps names (steps_tree (take i xs))) (step_tree (get_or xs i x))
+names_more names xs i x h = ap (names_after_steps names) (steps_tree-take xs i x h) ∙ names_after_steps-append names (fronts xs i) (step_tree (get_or xs i x))
 
 -- ---- as answers
 

@@ -30,5 +30,5 @@ GivesTrees trees (Err faults.OutOfMemory) = Unit {0}
 -- this fault, unless memory ran out
 abbrev pub TellsFault : FaultKind → Spot → Result Checked CheckFault → Type 0
 TellsFault kind spot (Ok checked) = ⊥
-TellsFault kind spot (Err (faults.Fault told_kind told)) = (told_kind ≡ kind) × (told ≡ spot)
+TellsFault kind spot (Err (faults.Fault reported_kind reported)) = (reported_kind ≡ kind) × (reported ≡ spot)
 TellsFault kind spot (Err faults.OutOfMemory) = Unit {0}

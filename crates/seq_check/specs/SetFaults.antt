@@ -5,7 +5,7 @@ use Rattle.sequence_code.specs.Trees.{StepTrees, SetTrees}
 use Rattle.code_check.specs.Names.{predefined}
 use Rattle.code_check.specs.First.{Nowhere, InEither}
 use Rattle.code_check.specs.ExprFaults.{Scope}
-use Rattle.code_check.specs.BlockFaults.{names_behind_all, BlockFault}
+use Rattle.code_check.specs.BlockFaults.{names_after_all, BlockFault}
 use Rattle.seq_check.specs.declared.faulty.Holder.{Holder}
 use Rattle.seq_check.specs.declared.faulty.Holder.TheVariants as holders
 use Rattle.seq_check.specs.StepFaults.{StepFault, is_step_before, At, FaultInSteps}
@@ -29,7 +29,7 @@ is_set_before f g = holder_before f.holder g.holder || not (holder_before g.hold
 -- these faults, of this holder
 pub record Of (holder : Holder) (Inside : StepFault → Type 0) (f : SetFault) : Type 0 where
   pub holder_is : f.holder ≡ holder
-  pub stands : Inside f.fault
+  pub holds : Inside f.fault
 
 abbrev pub names_of : SetTrees → List (List ℕ)
 names_of set = map (λ s. s.name) set.sequences
@@ -40,7 +40,7 @@ debugvars_scope set = record { visible = predefined; sequences = names_of set; i
 
 -- each sequence sees the predefined variables and the debug variables
 abbrev pub sequences_scope : SetTrees → Scope
-sequences_scope set = record { visible = names_behind_all predefined set.debugvars; sequences = names_of set; in_debugvars = false }
+sequences_scope set = record { visible = names_after_all predefined set.debugvars; sequences = names_of set; in_debugvars = false }
 
 -- in the steps of sequences, the first of which has this number
 abbrev pub FaultInSequences : Scope → ℕ → List StepTrees → SetFault → Type 0

@@ -30,7 +30,7 @@ pub struct FirstFault {
     pub spot: Spot,
 }
 
-fn told(kind: FaultKind, spot: Spot) -> FirstFault
+fn reported(kind: FaultKind, spot: Spot) -> FirstFault
     ensures kind { result.kind ≡ kind }
     ensures spot { result.spot ≡ spot }
 {
@@ -63,7 +63,7 @@ fn path_of(alloc: Global, outward: &[u64]) -> Result<StepPath, OutOfMemory>
     Ok(path)
 }
 
-fn fault_told(alloc: Global, set: &ReadSet, held: &HeldFault) -> Result<FirstFault, OutOfMemory>
+fn fault_reported(alloc: Global, set: &ReadSet, held: &HeldFault) -> Result<FirstFault, OutOfMemory>
     ensures kind { IfOk result (λ t. t.kind ≡ (held_view held.now).fault.fault.kind) }
     ensures spot { IfOk result (λ t. t.spot ≡ spot_of (set_trees set.now) (held_view held.now)) }
 {
@@ -74,7 +74,7 @@ fn fault_told(alloc: Global, set: &ReadSet, held: &HeldFault) -> Result<FirstFau
         part: own.part,
         place: own.fault.place,
     };
-    Ok(told(own.fault.kind, spot))
+    Ok(reported(own.fault.kind, spot))
 }
 
 fn call_fault(
@@ -89,11 +89,11 @@ fn call_fault(
     let graph = graph_of(alloc, calls.as_slice())?;
     if let Some(at) = first_cycle(alloc, &graph)? {
         let spot = call_spot(alloc, set, calls.as_slice(), at)?;
-        return Ok(Some(told(FaultKind::CallCycle, spot)));
+        return Ok(Some(reported(FaultKind::CallCycle, spot)));
     }
     if let Some(at) = first_deep(alloc, &graph)? {
         let spot = call_spot(alloc, set, calls.as_slice(), at)?;
-        return Ok(Some(told(FaultKind::CallsTooDeep, spot)));
+        return Ok(Some(reported(FaultKind::CallsTooDeep, spot)));
     }
     Ok(None)
 }
@@ -105,7 +105,7 @@ fn read_fault(alloc: Global, set: &ReadSet) -> Result<Option<FirstFault>, OutOfM
 {
     let sequences = sequence_names(alloc, set)?;
     if let Some(held) = set_fault(alloc, set, &sequences)? {
-        return Ok(Some(fault_told(alloc, set, &held)?));
+        return Ok(Some(fault_reported(alloc, set, &held)?));
     }
     call_fault(alloc, set, &sequences)
 }
@@ -134,7 +134,7 @@ pub fn check(alloc: Global, set: &SeqSet) -> Result<Checked, CheckFault>
         Err(SetFault::OutOfMemory) => return Err(CheckFault::OutOfMemory),
     };
     match read_fault(alloc, &read)? {
-        Some(told) => Err(CheckFault::Fault(told.kind, told.spot)),
+        Some(reported) => Err(CheckFault::Fault(reported.kind, reported.spot)),
         None => Ok(Checked::new(read)),
     }
 }

@@ -4,7 +4,7 @@ ghost use Rattle.std.specs.List.{IsDistinct};
 ghost use Rattle.std.specs.Str.{bytes_eq};
 ghost use Rattle.expr_grammar.specs.Tree.{code_trees};
 ghost use Rattle.code_check.specs.First.{IsFirst};
-ghost use Rattle.code_check.specs.BlockFaults.{names_behind_all, BlockFault};
+ghost use Rattle.code_check.specs.BlockFaults.{names_after_all, BlockFault};
 ghost use Rattle.sequence_code.specs.declared.spot.Part.TheVariants as parts;
 ghost use Rattle.sequence_code.specs.Trees.{steps_tree};
 ghost use Rattle.sequence_code.specs.SetView.{set_trees};
@@ -60,7 +60,7 @@ fn debugvars_fault(
     code: &[Stmt],
 ) -> Result<Option<HeldFault>, OutOfMemory>
     ensures first { IfOk result (λ r. IsFirst is_set_before (Of holders.Debugvars (At parts.Debugvars (BlockFault (record { visible = names.old; sequences = sequences.now; in_debugvars = true }) (code_trees code.now)))) (option_map held_view r)) }
-    ensures names { OnOk result (names.new ≡ names_behind_all names.old (code_trees code.now)) }
+    ensures names { OnOk result (names.new ≡ names_after_all names.old (code_trees code.now)) }
 {
     let fault = block_fault(alloc, names, sequences, true, code)?;
     match in_part(Part::Debugvars, fault) {

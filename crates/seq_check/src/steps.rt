@@ -1,11 +1,11 @@
 // The first fault of steps.
 ghost use Rattle.std.specs.Prelude.{◌≡◌, ◌≤◌, false, IfOk, OnOk, IfNone, option_map};
 ghost use Rattle.expr_grammar.specs.Tree.{code_trees};
-ghost use Rattle.code_check.specs.BlockFaults.{names_behind_all, BlockFault};
+ghost use Rattle.code_check.specs.BlockFaults.{names_after_all, BlockFault};
 ghost use Rattle.sequence_code.specs.declared.spot.Part.TheVariants as parts;
 ghost use Rattle.code_check.specs.First.{IsFirst};
 ghost use Rattle.sequence_code.specs.Trees.{step_tree, steps_tree};
-ghost use Rattle.seq_check.specs.StepFaults.{is_step_before, names_behind_step, names_behind_steps, At, FaultInStep, FaultInSteps};
+ghost use Rattle.seq_check.specs.StepFaults.{is_step_before, names_after_step, names_after_steps, At, FaultInStep, FaultInSteps};
 ghost use Rattle.seq_check.specs.Views.{faulty_view};
 
 use crate::controls::own_fault;
@@ -23,7 +23,7 @@ fn block_step_fault(
     code: &[Stmt],
 ) -> Result<Option<FaultyStep>, OutOfMemory>
     ensures first { IfOk result (λ r. IsFirst is_step_before (At parts.Block (BlockFault (record { visible = names.old; sequences = sequences.now; in_debugvars = false }) (code_trees code.now))) (option_map faulty_view r)) }
-    ensures names { OnOk result (names.new ≡ names_behind_all names.old (code_trees code.now)) }
+    ensures names { OnOk result (names.new ≡ names_after_all names.old (code_trees code.now)) }
 {
     let fault = block_fault(alloc, names, sequences, false, code)?;
     match in_part(Part::Block, fault) {
@@ -41,7 +41,7 @@ fn step_fault(
     step: &CheckedStep,
 ) -> Result<Option<FaultyStep>, OutOfMemory>
     ensures first { IfOk result (λ r. IsFirst is_step_before (FaultInStep (record { visible = names.old; sequences = sequences.now; in_debugvars = false }) around (step_tree step.now)) (option_map faulty_view r)) }
-    ensures names { IfOk result (λ r. IfNone r (names.new ≡ names_behind_step names.old (step_tree step.now))) }
+    ensures names { IfOk result (λ r. IfNone r (names.new ≡ names_after_step names.old (step_tree step.now))) }
 {
     match step {
         CheckedStep::Block(code) => block_step_fault(alloc, names, sequences, code.as_slice()),
@@ -64,7 +64,7 @@ fn step_fault(
     }
 }
 
-/// The first fault of the steps inside a control, behind which the names that they declare end.
+/// The first fault of the steps inside a control, after which the names that they declare end.
 #[cycle(steps)]
 pub fn inner_fault(
     alloc: Global,
@@ -83,7 +83,7 @@ pub fn inner_fault(
 }
 
 /// The first fault of steps that stand within `around` controls and see `names`. Where there is none,
-/// `names` has those that are visible behind the steps; else, and where memory is refused, it may have
+/// `names` has those that are visible after the steps; else, and where memory is refused, it may have
 /// further ones of theirs.
 #[cycle(steps)]
 pub fn steps_fault(
@@ -94,7 +94,7 @@ pub fn steps_fault(
     steps: &[CheckedStep],
 ) -> Result<Option<FaultyStep>, OutOfMemory>
     ensures first { IfOk result (λ r. IsFirst is_step_before (FaultInSteps (record { visible = names.old; sequences = sequences.now; in_debugvars = false }) around 0 (steps_tree steps.now)) (option_map faulty_view r)) }
-    ensures names { IfOk result (λ r. IfNone r (names.new ≡ names_behind_steps names.old (steps_tree steps.now))) }
+    ensures names { IfOk result (λ r. IfNone r (names.new ≡ names_after_steps names.old (steps_tree steps.now))) }
 {
     for (number, step) in steps.iter().enumerate() {
         if let Some(faulty) = step_fault(alloc, names, sequences, around, step)? {

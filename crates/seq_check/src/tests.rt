@@ -30,7 +30,7 @@ fn sequence(alloc: Global, name: &str, disabled: bool, steps: Steps) -> Result<S
     })
 }
 
-// A disabled sequence with a fault, and one with a control without children and this block behind it.
+// A disabled sequence with a fault, and one with a control without children and this block after it.
 fn set(alloc: Global, debugvars: &str, timeout: Option<u64>, code: &str) -> Result<SeqSet, Fail>
     ensures { IfOk result (λ s. IsDistinct bytes_eq (map (λ e. e.name) s.entries)) }
 {
@@ -52,7 +52,7 @@ fn set(alloc: Global, debugvars: &str, timeout: Option<u64>, code: &str) -> Resu
 }
 
 // The kind, the part, the first number of the path, the line and the column of the fault.
-fn told(checked: &Result<Checked, CheckFault>) -> Option<(FaultKind, Part, Option<u64>, u64, u64)> {
+fn reported(checked: &Result<Checked, CheckFault>) -> Option<(FaultKind, Part, Option<u64>, u64, u64)> {
     match checked {
         Err(CheckFault::Fault(kind, spot)) => Some((
             *kind,
@@ -139,7 +139,7 @@ fn first_faults(rt: HostRuntime) -> Result<(), Fail> {
         let set = set(rt.alloc(), debugvars, Some(1), code)?;
         let path = if part == Part::Block { Some(1) } else { None };
         assert_eq!(rt;
-            told(&check(rt.alloc(), &set)),
+            reported(&check(rt.alloc(), &set)),
             Some((kind, part, path, line, column)),
             "{debugvars} {code}"
         );
@@ -156,7 +156,7 @@ fn forms_of_controls(rt: HostRuntime) -> Result<(), Fail> {
     ] {
         let set = set(rt.alloc(), "", timeout, "y;")?;
         assert_eq!(rt;
-            told(&check(rt.alloc(), &set)),
+            reported(&check(rt.alloc(), &set)),
             Some((kind, Part::Control, Some(0), 0, 0))
         );
     }

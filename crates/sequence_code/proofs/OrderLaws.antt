@@ -49,8 +49,8 @@ fine_within (x ∷ xs) y ys a = fine_within xs y ys a.1
 
 pub fine_not_faulty : {W : Type 0} (xs : List (TextAt W)) (step : W) (part : Part) (at : Place) → AreFine xs → IsFirstFaulty xs step part at → ⊥
 fine_not_faulty {W} xs step part at a f =
-    let here : AreFine (f.before ++ text_at step part f.text ∷ f.behind) = subst (λ (ts : List (TextAt W)). AreFine ts) f.parts a in
-    not_both part f.text at (fine_within f.before (text_at step part f.text) f.behind here) f.faulty
+    let here : AreFine (f.before ++ text_at step part f.text ∷ f.after) = subst (λ (ts : List (TextAt W)). AreFine ts) f.parts a in
+    not_both part f.text at (fine_within f.before (text_at step part f.text) f.after here) f.faulty
 
 -- ---- the first faulty text stays the first one
 
@@ -58,18 +58,18 @@ pub first_before : {W : Type 0} (xs ys : List (TextAt W)) (step : W) (part : Par
 first_before xs ys step part at f = record {
   before = f.before;
   text = f.text;
-  behind = f.behind ++ ys;
-  parts = ap (λ ts. ts ++ ys) f.parts ∙ append_assoc f.before (text_at step part f.text ∷ f.behind) ys;
+  after = f.after ++ ys;
+  parts = ap (λ ts. ts ++ ys) f.parts ∙ append_assoc f.before (text_at step part f.text ∷ f.after) ys;
   fine = f.fine;
   faulty = f.faulty;
 }
 
-pub first_behind : {W : Type 0} (xs ys : List (TextAt W)) (step : W) (part : Part) (at : Place) → AreFine xs → IsFirstFaulty ys step part at → IsFirstFaulty (xs ++ ys) step part at
-first_behind xs ys step part at a f = record {
+pub first_after : {W : Type 0} (xs ys : List (TextAt W)) (step : W) (part : Part) (at : Place) → AreFine xs → IsFirstFaulty ys step part at → IsFirstFaulty (xs ++ ys) step part at
+first_after xs ys step part at a f = record {
   before = xs ++ f.before;
   text = f.text;
-  behind = f.behind;
-  parts = ap (λ ts. xs ++ ts) f.parts ∙ sym (append_assoc xs f.before (text_at step part f.text ∷ f.behind));
+  after = f.after;
+  parts = ap (λ ts. xs ++ ts) f.parts ∙ sym (append_assoc xs f.before (text_at step part f.text ∷ f.after));
   fine = fine_both xs f.before a f.fine;
   faulty = f.faulty;
 }
@@ -78,15 +78,15 @@ pub first_moved : {V W : Type 0} (g : V → W) (xs : List (TextAt V)) (step : V)
 first_moved g xs step part at f = record {
   before = map (moved g) f.before;
   text = f.text;
-  behind = map (moved g) f.behind;
-  parts = ap (map (moved g)) f.parts ∙ map-append (moved g) f.before (text_at step part f.text ∷ f.behind);
+  after = map (moved g) f.after;
+  parts = ap (map (moved g)) f.parts ∙ map-append (moved g) f.before (text_at step part f.text ∷ f.after);
   fine = fine_moved g f.before f.fine;
   faulty = f.faulty;
 }
 
 -- a single text
 pub first_single : {W : Type 0} (step : W) (part : Part) (text : List ℕ) (at : Place) → IsFaulty part text at → IsFirstFaulty (text_at step part text ∷ []) step part at
-first_single step part text at f = record { before = []; text = text; behind = []; parts = refl; fine = tt; faulty = f }
+first_single step part text at f = record { before = []; text = text; after = []; parts = refl; fine = tt; faulty = f }
 
 -- ---- there is one
 
@@ -96,26 +96,26 @@ pub record Same {W : Type 0} (step other : W) (part other_part : Part) (at there
   pub same_part : part ≡ other_part
   pub same_place : at ≡ there
 
-one_split : {W : Type 0} (xs ys : List (TextAt W)) (step other : W) (part other_part : Part) (text other_text : List ℕ) (behind rest : List (TextAt W)) (at there : Place)
-    → xs ++ text_at step part text ∷ behind ≡ ys ++ text_at other other_part other_text ∷ rest → AreFine xs → AreFine ys
+one_split : {W : Type 0} (xs ys : List (TextAt W)) (step other : W) (part other_part : Part) (text other_text : List ℕ) (after rest : List (TextAt W)) (at there : Place)
+    → xs ++ text_at step part text ∷ after ≡ ys ++ text_at other other_part other_text ∷ rest → AreFine xs → AreFine ys
     → IsFaulty part text at → IsFaulty other_part other_text there → Same step other part other_part at there
-one_split [] [] step other part other_part text other_text behind rest at there e a b f g =
+one_split [] [] step other part other_part text other_text after rest at there e a b f g =
     let same : text_at step part text ≡ text_at other other_part other_text = cc in
     let same_part : part ≡ other_part = ap (λ t. t.part) same in
     let same_text : text ≡ other_text = ap (λ t. t.text) same in
     let moved_place : IsFaulty part text there = subst (λ (p : Part). IsFaulty p text there) (sym same_part) (subst (λ (t : List ℕ). IsFaulty other_part t there) (sym same_text) g) in
     record { same_step = ap (λ t. t.step) same; same_part = same_part; same_place = one_place part text at there f moved_place }
-one_split {W} [] (y ∷ ys) step other part other_part text other_text behind rest at there e a b f g =
+one_split {W} [] (y ∷ ys) step other part other_part text other_text after rest at there e a b f g =
     let same : y ≡ text_at step part text = cc in
     absurd (not_both part text at (subst (λ (t : TextAt W). IsFine t.part t.text) same b.0) f)
-one_split {W} (x ∷ xs) [] step other part other_part text other_text behind rest at there e a b f g =
+one_split {W} (x ∷ xs) [] step other part other_part text other_text after rest at there e a b f g =
     let same : x ≡ text_at other other_part other_text = cc in
     absurd (not_both other_part other_text there (subst (λ (t : TextAt W). IsFine t.part t.text) same a.0) g)
-one_split (x ∷ xs) (y ∷ ys) step other part other_part text other_text behind rest at there e a b f g =
-    let tails : xs ++ text_at step part text ∷ behind ≡ ys ++ text_at other other_part other_text ∷ rest = cc in
-    one_split xs ys step other part other_part text other_text behind rest at there tails a.1 b.1 f g
+one_split (x ∷ xs) (y ∷ ys) step other part other_part text other_text after rest at there e a b f g =
+    let tails : xs ++ text_at step part text ∷ after ≡ ys ++ text_at other other_part other_text ∷ rest = cc in
+    one_split xs ys step other part other_part text other_text after rest at there tails a.1 b.1 f g
 
 pub one_first : {W : Type 0} (texts : List (TextAt W)) (step other : W) (part other_part : Part) (at there : Place)
     → IsFirstFaulty texts step part at → IsFirstFaulty texts other other_part there → Same step other part other_part at there
 one_first texts step other part other_part at there f g =
-    one_split f.before g.before step other part other_part f.text g.text f.behind g.behind at there (sym f.parts ∙ g.parts) f.fine g.fine f.faulty g.faulty
+    one_split f.before g.before step other part other_part f.text g.text f.after g.after at there (sym f.parts ∙ g.parts) f.fine g.fine f.faulty g.faulty

@@ -80,5 +80,5 @@ only_read set (Err sets.OutOfMemory) a trees is = tt
 
 pub only_fault : (set : SeqSet) (r : Result ReadSet SetFault) → AnswersSet set r → (spot : Spot) → IsFirstFault set spot → TellsSpot spot r
 only_fault set (Ok read) a spot f = not_both set (set_trees read) spot a f
-only_fault set (Err (sets.Syntax told)) a spot f = one_fault set told spot a f
+only_fault set (Err (sets.Syntax reported)) a spot f = one_fault set reported spot a f
 only_fault set (Err sets.OutOfMemory) a spot f = tt

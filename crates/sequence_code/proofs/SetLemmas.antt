@@ -29,7 +29,7 @@ use Rattle.sequence_code.specs.Order.{SetStep, enabled_steps, steps_texts, entry
 use Rattle.sequence_code.specs.Reading.{ReadsSteps, ReadsEntry, ReadsEntries}
 use Rattle.sequence_code.specs.Answers.{AnswersSet}
 use Rattle.sequence_code.specs.Outcomes.{IsFaultOf, IsSetFaultOf, spot_in}
-use Rattle.sequence_code.proofs.OrderLaws.{first_before, first_behind, first_moved, first_single}
+use Rattle.sequence_code.proofs.OrderLaws.{first_before, first_after, first_moved, first_single}
 use Rattle.sequence_code.proofs.SetLaws.{entry_fine, debugvars_fine}
 
 -- ---- the table
@@ -132,7 +132,7 @@ fault_among : (es : List SeqEntry) (i : ℕ) (e : SeqEntry) (ss : List SequenceT
 fault_among [] i e ss step part at lt before f = absurd (omega arith)
 fault_among (x ∷ es) zero e ss step part at lt before f = first_before (entry_texts x) (entries_texts es) step part at f
 fault_among (x ∷ es) (suc i) e ss step part at lt before f =
-    first_behind (entry_texts x) (entries_texts es) step part at (entry_fine x before.0.steps before.3.steps) (fault_among es i e before.1 step part at (omega arith) before.4 f)
+    first_after (entry_texts x) (entries_texts es) step part at (entry_fine x before.0.steps before.3.steps) (fault_among es i e before.1 step part at (omega arith) before.4 f)
 
 pub fault_first : (set : SeqSet) (fault : SetFault) → IsSetFaultOf (debugvars_texts set.debugvars) fault → IsSetFaultOf (set_texts set) fault
 fault_first set faults.OutOfMemory f = tt
@@ -142,9 +142,9 @@ pub fault_at : (set : SeqSet) (code : List StmtTree) (i : ℕ) (e : SeqEntry) (s
     → IsCodeOf set.debugvars code → ReadsEntries (take i set.entries) ss → IsSetFaultOf (entry_texts e) fault → IsSetFaultOf (set_texts set) fault
 fault_at set code i e ss faults.OutOfMemory lt at is before f = tt
 fault_at set code i e ss (faults.Syntax spot) lt at is before f =
-    first_behind (debugvars_texts set.debugvars) (entries_texts set.entries) (step_of spot) spot.part spot.place (debugvars_fine set.debugvars code is)
+    first_after (debugvars_texts set.debugvars) (entries_texts set.entries) (step_of spot) spot.part spot.place (debugvars_fine set.debugvars code is)
     (fault_among set.entries i e ss (step_of spot) spot.part spot.place lt before (subst (λ (x : SeqEntry). IsFirstFaulty (entry_texts x) (step_of spot) spot.part spot.place) at f))
 
-pub told : (set : SeqSet) (fault : SetFault) → IsSetFaultOf (set_texts set) fault → AnswersSet set (Err fault)
-told set faults.OutOfMemory f = tt
-told set (faults.Syntax spot) f = f
+pub reported : (set : SeqSet) (fault : SetFault) → IsSetFaultOf (set_texts set) fault → AnswersSet set (Err fault)
+reported set faults.OutOfMemory f = tt
+reported set (faults.Syntax spot) f = f

@@ -21,7 +21,7 @@ use Rattle.sequence_code.specs.declared.step_reader.StepFault.TheVariants as fau
 use Rattle.sequence_code.specs.Texts.{IsFaultyCondition}
 use Rattle.sequence_code.specs.Answers.{AnswersCode, AnswersCondition}
 use Rattle.sequence_code.specs.Outcomes.{ReadsStep, step_texts, at_part, IsUnder, IsFaultOf}
-use Rattle.sequence_code.proofs.OrderLaws.{AreFine, fine_both, fine_moved, first_before, first_behind, first_moved, first_single}
+use Rattle.sequence_code.proofs.OrderLaws.{AreFine, fine_both, fine_moved, first_before, first_after, first_moved, first_single}
 use Rattle.sequence_code.proofs.ReadingLaws.{cond_fine, repeat_fine, block_fine, control_fine, steps_fine}
 
 -- ---- the measure of the recursion
@@ -39,7 +39,7 @@ weight_below [] i s h = absurd (omega arith)
 weight_below (x ∷ ss) zero s h = omega (arith, weight_first x ss)
 weight_below (x ∷ ss) (suc i) s h = let lt : i < length ss = omega arith in omega (arith, weight_first x ss, weight_below ss i s lt)
 
--- ---- a step and the steps behind it
+-- ---- a step and the steps after it
 
 first_read : (s : Step) (ss : List Step) (steps : StepTrees) → ReadsSteps (steps_view (s ∷ ss)) steps → Begins (ReadsStep s) (λ more. ReadsSteps (steps_view ss) more) steps
 first_read (d.Block code atomic) ss steps is = is
@@ -94,7 +94,7 @@ fault_here (x ∷ items) n k zero s steps path part at e lt before f =
 fault_here (x ∷ items) n k (suc i) s steps path part at e lt before f =
     let b = first_read x (take i items) steps before in
     rw texts_first
-    (first_behind (under n (step_texts x)) (steps_texts (suc n) (steps_view items)) path part at
+    (first_after (under n (step_texts x)) (steps_texts (suc n) (steps_view items)) path part at
     (fine_moved (λ p. n ∷ p) (step_texts x) (step_fine x b.first b.reads_first))
     (fault_here items (suc n) k i s b.more path part at (omega (arith, e)) (omega arith) b.reads_more f))
 
@@ -111,11 +111,11 @@ fault_before : (xs ys : List StepText) (e : StepFault) → IsFaultOf xs e → Is
 fault_before xs ys faults.OutOfMemory f = tt
 fault_before xs ys (faults.Syntax e) f = first_before xs ys (reverse e.outward) e.part e.place f
 
-fault_behind : (xs ys : List StepText) (e : StepFault) → AreFine xs → IsFaultOf ys e → IsFaultOf (xs ++ ys) e
-fault_behind xs ys faults.OutOfMemory a f = tt
-fault_behind xs ys (faults.Syntax e) a f = first_behind xs ys (reverse e.outward) e.part e.place a f
+fault_after : (xs ys : List StepText) (e : StepFault) → AreFine xs → IsFaultOf ys e → IsFaultOf (xs ++ ys) e
+fault_after xs ys faults.OutOfMemory a f = tt
+fault_after xs ys (faults.Syntax e) a f = first_after xs ys (reverse e.outward) e.part e.place a f
 
-pub fault_under : (n : ℕ) (xs : List StepText) (e told : StepFault) → IsFaultOf xs e → IsUnder n e told → IsFaultOf (under n xs) told
+pub fault_under : (n : ℕ) (xs : List StepText) (e reported : StepFault) → IsFaultOf xs e → IsUnder n e reported → IsFaultOf (under n xs) reported
 fault_under n xs e faults.OutOfMemory f u = tt
 fault_under n xs e (faults.Syntax t) f u =
     let inner : IsFirstFaulty xs (reverse u.0.outward) u.0.part u.0.place = subst (λ (x : StepFault). IsFaultOf xs x) u.1 f in
@@ -133,12 +133,12 @@ fault_cond cond repeat inner e f =
 pub fault_repeat : (cond repeat : Option (List ℕ)) (inner : List StepText) (e : StepFault) (c : Option Tree) → MayBeCondition cond c
     → IsFaultOf (perhaps kinds.While repeat) e → IsFaultOf (control_texts cond repeat inner) e
 fault_repeat cond repeat inner e c is f =
-    fault_before (perhaps kinds.If cond ++ perhaps kinds.While repeat) inner e (fault_behind (perhaps kinds.If cond) (perhaps kinds.While repeat) e (cond_fine cond c is) f)
+    fault_before (perhaps kinds.If cond ++ perhaps kinds.While repeat) inner e (fault_after (perhaps kinds.If cond) (perhaps kinds.While repeat) e (cond_fine cond c is) f)
 
 pub fault_inner : (cond repeat : Option (List ℕ)) (inner : List StepText) (e : StepFault) (c r : Option Tree) → MayBeCondition cond c → MayBeCondition repeat r
     → IsFaultOf inner e → IsFaultOf (control_texts cond repeat inner) e
 fault_inner cond repeat inner e c r is was f =
-    fault_behind (perhaps kinds.If cond ++ perhaps kinds.While repeat) inner e
+    fault_after (perhaps kinds.If cond ++ perhaps kinds.While repeat) inner e
     (fine_both (perhaps kinds.If cond) (perhaps kinds.While repeat) (cond_fine cond c is) (repeat_fine repeat r was)) f
 
 -- ---- one text

@@ -67,20 +67,20 @@ module _ {X : Type 0} (R : List Lexeme → X → Type 0) (span : Span) (exact : 
   one_fault at there (too_deep ts cut i d is) (bad_token m other was) = absurd (gives_bad text (Ok ts) cut m other)
   one_fault at there (unexpected ts cut i u is) (unexpected us cut' j v was) =
       let same : us ≡ ts = one_list text us ts cut' cut in
-      let told : Unexpected at ≡ Unexpected (place_of ts j) = exact.unexpected ts (Err (Unexpected at)) (i, u, is) j (subst (λ (l : List Lexeme). IsUnexpectedFirst R span l j) same v) in
+      let reported : Unexpected at ≡ Unexpected (place_of ts j) = exact.unexpected ts (Err (Unexpected at)) (i, u, is) j (subst (λ (l : List Lexeme). IsUnexpectedFirst R span l j) same v) in
       let here : at ≡ place_of ts j = cc in
       here ∙ ap (λ (l : List Lexeme). place_of l j) (sym same) ∙ sym was
   one_fault at there (unexpected ts cut i u is) (too_deep us cut' j d was) =
       let same : us ≡ ts = one_list text us ts cut' cut in
-      let told : Unexpected at ≡ TooDeep (place_of ts j) = exact.too_deep ts (Err (Unexpected at)) (i, u, is) j (subst (λ (l : List Lexeme). IsDeepFirst R span l j) same d) in
+      let reported : Unexpected at ≡ TooDeep (place_of ts j) = exact.too_deep ts (Err (Unexpected at)) (i, u, is) j (subst (λ (l : List Lexeme). IsDeepFirst R span l j) same d) in
       cc
   one_fault at there (too_deep ts cut i d is) (unexpected us cut' j v was) =
       let same : us ≡ ts = one_list text us ts cut' cut in
-      let told : TooDeep at ≡ Unexpected (place_of ts j) = exact.unexpected ts (Err (TooDeep at)) (i, d, is) j (subst (λ (l : List Lexeme). IsUnexpectedFirst R span l j) same v) in
+      let reported : TooDeep at ≡ Unexpected (place_of ts j) = exact.unexpected ts (Err (TooDeep at)) (i, d, is) j (subst (λ (l : List Lexeme). IsUnexpectedFirst R span l j) same v) in
       cc
   one_fault at there (too_deep ts cut i d is) (too_deep us cut' j e was) =
       let same : us ≡ ts = one_list text us ts cut' cut in
-      let told : TooDeep at ≡ TooDeep (place_of ts j) = exact.too_deep ts (Err (TooDeep at)) (i, d, is) j (subst (λ (l : List Lexeme). IsDeepFirst R span l j) same e) in
+      let reported : TooDeep at ≡ TooDeep (place_of ts j) = exact.too_deep ts (Err (TooDeep at)) (i, d, is) j (subst (λ (l : List Lexeme). IsDeepFirst R span l j) same e) in
       let here : at ≡ place_of ts j = cc in
       here ∙ ap (λ (l : List Lexeme). place_of l j) (sym same) ∙ sym was
 
@@ -94,7 +94,7 @@ module _ {X : Type 0} (R : List Lexeme → X → Type 0) (span : Span) (exact : 
 
     pub only_fault : (r : Result V TextFault) → AnswersText view R span text r → (at : Place) → IsFaultyText R span text at → TellsPlace at r
     only_fault (Ok v) a at f = not_both (view v) at a f
-    only_fault (Err (texts.Syntax told)) a at f = one_fault told at a f
+    only_fault (Err (texts.Syntax reported)) a at f = one_fault reported at a f
     only_fault (Err texts.OutOfMemory) a at f = tt
 
     pub uncut : (e : TokenError) → Lexes text (Err e) → AnswersText view R span text (Err (token_fault e))

@@ -60,7 +60,7 @@ GivesValue view x (Err texts.OutOfMemory) = Unit {0}
 -- a fault at this place, unless memory ran out
 abbrev pub TellsPlace : {V : Type 0} → Place → Result V TextFault → Type 0
 TellsPlace at (Ok v) = ⊥
-TellsPlace at (Err (texts.Syntax told)) = told ≡ at
+TellsPlace at (Err (texts.Syntax reported)) = reported ≡ at
 TellsPlace at (Err texts.OutOfMemory) = Unit {0}
 
 -- ---- of a set
@@ -80,5 +80,5 @@ GivesSet trees (Err sets.OutOfMemory) = Unit {0}
 -- this fault, unless memory ran out
 abbrev pub TellsSpot : Spot → Result ReadSet SetFault → Type 0
 TellsSpot spot (Ok given) = ⊥
-TellsSpot spot (Err (sets.Syntax told)) = told ≡ spot
+TellsSpot spot (Err (sets.Syntax reported)) = reported ≡ spot
 TellsSpot spot (Err sets.OutOfMemory) = Unit {0}

@@ -43,8 +43,8 @@ IsFaulty kinds.Control text at = ⊥
 pub record IsFirstFaulty {W : Type 0} (texts : List (TextAt W)) (step : W) (part : Part) (at : Place) : Type 0 where
   pub before : List (TextAt W)
   pub text : List ℕ
-  pub behind : List (TextAt W)
-  pub parts : texts ≡ before ++ record { step = step; part = part; text = text } ∷ behind
+  pub after : List (TextAt W)
+  pub parts : texts ≡ before ++ record { step = step; part = part; text = text } ∷ after
   pub fine : AllByRecursion (λ t. IsFine t.part t.text) before
   pub faulty : IsFaulty part text at
 

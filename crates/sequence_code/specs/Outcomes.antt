@@ -50,8 +50,8 @@ at_part part texts.OutOfMemory = steps.OutOfMemory
 -- the fault in the step of this number, unless memory ran out
 abbrev pub IsUnder : ℕ → StepFault → StepFault → Type 0
 IsUnder number inner steps.OutOfMemory = Unit {0}
-IsUnder number inner (steps.Syntax told) = (f : FaultyText) × (inner ≡ steps.Syntax f)
-    × (told ≡ record { outward = f.outward ++ number ∷ []; part = f.part; place = f.place })
+IsUnder number inner (steps.Syntax reported) = (f : FaultyText) × (inner ≡ steps.Syntax f)
+    × (reported ≡ record { outward = f.outward ++ number ∷ []; part = f.part; place = f.place })
 
 -- the fault, in the sequence of this name
 abbrev pub spot_in : List ℕ → FaultyText → Spot

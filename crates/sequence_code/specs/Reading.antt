@@ -29,7 +29,7 @@ pub record ReadsControl (cond_text repeat_text : Option (List ℕ)) (timeout : O
   pub reads_repeat : MayBeCondition repeat_text repeat
   pub reads_inner : Inner inner
 
--- the first step meets `First`, and those behind it meet `More`
+-- the first step meets `First`, and those after it meet `More`
 pub record Begins (First : StepTree → Type 0) (More : StepTrees → Type 0) (steps : StepTrees) : Type 0 where
   pub first : StepTree
   pub more : StepTrees

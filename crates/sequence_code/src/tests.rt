@@ -11,11 +11,11 @@ use std::alloc::Global;
 use std::test::Fail;
 
 // A set of the debug variables, a disabled sequence, of which no text is read, and a sequence of a
-// control with an `if`, a `while` and a block inside, and of a block behind it.
+// control with an `if`, a `while` and a block inside, and of a block after it.
 fn set(alloc: Global, texts: [&str; 5]) -> Result<SeqSet, Fail>
     ensures { IfOk result (λ s. IsDistinct bytes_eq (map (λ e. e.name) s.entries)) }
 {
-    let [debugvars, cond, repeat, inside, behind] = texts;
+    let [debugvars, cond, repeat, inside, after] = texts;
     let text = format!(in alloc;
         r#"{{"families":[{{"Dfamily":"F","devices":[{{"Dname":"D","debugvars":"{debugvars}","sequences":[
         {{"name":"Off","disable":true,"steps":[{{"block":"("}}]}},
@@ -36,7 +36,7 @@ fn set(alloc: Global, texts: [&str; 5]) -> Result<SeqSet, Fail>
 }
 
 // The part, the first two numbers of the path, the line and the column of the fault.
-fn told(read: &Result<ReadSet, SetFault>) -> Option<(Part, Option<u64>, Option<u64>, u64, u64)> {
+fn reported(read: &Result<ReadSet, SetFault>) -> Option<(Part, Option<u64>, Option<u64>, u64, u64)> {
     match read {
         Err(SetFault::Syntax(spot)) => Some((
             spot.part,
@@ -50,7 +50,7 @@ fn told(read: &Result<ReadSet, SetFault>) -> Option<(Part, Option<u64>, Option<u
 }
 
 #[test]
-fn the_first_faulty_text_is_told(rt: HostRuntime) -> Result<(), Fail> {
+fn the_first_faulty_text_is_reported(rt: HostRuntime) -> Result<(), Fail> {
     let alloc = rt.alloc();
     let rows = [
         (
@@ -73,7 +73,7 @@ fn the_first_faulty_text_is_told(rt: HostRuntime) -> Result<(), Fail> {
     ];
     for (texts, spot) in rows {
         let set = set(alloc, texts)?;
-        assert_eq!(rt; told(&read_set(alloc, &set)), Some(spot));
+        assert_eq!(rt; reported(&read_set(alloc, &set)), Some(spot));
     }
     Ok(())
 }

@@ -175,26 +175,26 @@ covers_added ns (x ∷ cs) c h = (added_has ns x.sequence.name c.sequence.name h
 
 -- ---- all of them
 
-pub record Stands (cs ws : List Candidate) : Type 0 where
+pub record Holds (cs ws : List Candidate) : Type 0 where
   pub each : Every cs ws
   pub distinct : Distinct (names_of ws)
   pub covers : Covers (names_of ws) cs
 
-stands_then : (cs ws : List Candidate) (c : Candidate) → Stands cs ws → Stands (cs ++ c ∷ []) (with_candidate ws c)
-stands_then cs ws c h = record {
+holds_then : (cs ws : List Candidate) (c : Candidate) → Holds cs ws → Holds (cs ++ c ∷ []) (with_candidate ws c)
+holds_then cs ws c h = record {
   each = one_more cs ws c h.each h.distinct (NoneAbove-absent (names_of ws) cs c h.covers);
   distinct = rw (names-with_candidate ws c) (distinct_added (names_of ws) c.sequence.name h.distinct);
   covers = rw (names-with_candidate ws c) (covers_added (names_of ws) cs c h.covers);
 }
 
-stands_all : (done ws cs : List Candidate) → Stands done ws → Stands (done ++ cs) (with_all ws cs)
-stands_all done ws [] h = rw append-nil h
-stands_all done ws (c ∷ cs) h = rw (sym (append_assoc done (c ∷ []) cs)) (stands_all (done ++ c ∷ []) (with_candidate ws c) cs (stands_then done ws c h))
+holds_all : (done ws cs : List Candidate) → Holds done ws → Holds (done ++ cs) (with_all ws cs)
+holds_all done ws [] h = rw append-nil h
+holds_all done ws (c ∷ cs) h = rw (sym (append_assoc done (c ∷ []) cs)) (holds_all (done ++ c ∷ []) (with_candidate ws c) cs (holds_then done ws c h))
 
 pub effective-with_all : (cs : List Candidate) → AreWinners cs (with_all [] cs)
 effective-with_all cs =
-    let start : Stands [] [] = record { each = tt; distinct = tt; covers = tt } in
-    record { names = names-with_all [] cs; each = (stands_all [] [] cs start).each }
+    let start : Holds [] [] = record { each = tt; distinct = tt; covers = tt } in
+    record { names = names-with_all [] cs; each = (holds_all [] [] cs start).each }
 
 -- ---- no two entries have one name
 
@@ -213,5 +213,5 @@ entry_names (w ∷ ws) = ap (λ ns. w.sequence.name ∷ ns) (entry_names ws)
 
 pub distinct_entries : (cs : List Candidate) → IsDistinct bytes_eq (map (λ e. e.name) (map entry_of (with_all [] cs)))
 distinct_entries cs =
-    let start : Stands [] [] = record { each = tt; distinct = tt; covers = tt } in
-    rw entry_names (distinct_names (names_of (with_all [] cs)) (stands_all [] [] cs start).distinct)
+    let start : Holds [] [] = record { each = tt; distinct = tt; covers = tt } in
+    rw entry_names (distinct_names (names_of (with_all [] cs)) (holds_all [] [] cs start).distinct)

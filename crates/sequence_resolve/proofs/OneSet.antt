@@ -7,7 +7,7 @@ use Rattle.device_tree.specs.declared.pack.Pack.{Pack}
 use Rattle.sequence_resolve.specs.declared.entry.SeqSet.{SeqSet}
 use Rattle.sequence_resolve.specs.declared.fault.ResolveFault.{ResolveFault}
 use Rattle.sequence_resolve.specs.declared.fault.ResolveFault.TheVariants as faults
-use Rattle.sequence_resolve.specs.Places.{DevicePlace, named, wanted_variant}
+use Rattle.sequence_resolve.specs.Places.{DevicePlace, named, requested_variant}
 use Rattle.sequence_resolve.specs.Levels.{LevelAt, path_of, deepest}
 use Rattle.sequence_resolve.specs.Effective.{Candidate, NoneAbove, AllBelow, Wins, AreWinners, candidates, entry_of}
 use Rattle.sequence_resolve.specs.Resolving.{IsEffectiveSet, HasNone}
@@ -26,7 +26,7 @@ among_below : (before after : List Candidate) (v w : Candidate) → AllBelow (be
 among_below [] after v w h is = h.0 is
 among_below (c ∷ before) after v w h is = among_below before after v w h.1 is
 
--- a candidate that all of its name behind it stand below has none of them above or beside it
+-- a candidate that all of its name after it stand below has none of them above or beside it
 first_not_later : (before after rest : List Candidate) (v w : Candidate) → v.sequence.name ≡ w.sequence.name → rest ≡ before ++ w ∷ after → AllBelow rest v → (SameName v w → v.rank ≤ w.rank) → ⊥
 first_not_later before after rest v w same is below le =
     let later : w.rank < v.rank = among_below before after w v (subst (λ cs. AllBelow cs v) is below) (same_names w v (sym same)) in
@@ -94,8 +94,8 @@ pub one_set : (pack : Pack) (device : List ℕ) (variant pname : Option (List �
     → IsEffectiveSet pack device variant pname x → IsEffectiveSet pack device variant pname y → x ≡ y
 one_set pack device variant pname x y p q =
     let place : p.place ≡ q.place = one_place (named device pack) p.place q.place p.only q.only in
-    let wanted : wanted_variant variant q.place.device ≡ Some p.variant = subst (λ (at : DevicePlace). wanted_variant variant at.device ≡ Some p.variant) place p.wanted in
-    let same : p.variant ≡ q.variant = one_variant (wanted_variant variant q.place.device) p.variant q.variant wanted q.wanted in
+    let requested : requested_variant variant q.place.device ≡ Some p.variant = subst (λ (at : DevicePlace). requested_variant variant at.device ≡ Some p.variant) place p.requested in
+    let same : p.variant ≡ q.variant = one_variant (requested_variant variant q.place.device) p.variant q.variant requested q.requested in
     let path : path_of pack p.place p.variant ≡ path_of pack q.place q.variant = ap (λ at. path_of pack at p.variant) place ∙ ap (path_of pack q.place) same in
     set_of_path pname (path_of pack p.place p.variant) (path_of pack q.place q.variant) x y p.winners q.winners path p.greatest q.greatest p.entries q.entries p.debugvars q.debugvars
 
@@ -111,10 +111,10 @@ one_of_many : (places : List DevicePlace) (x : DevicePlace) → places ≡ x ∷
 one_of_many places x p many = let e : length places ≡ 1 = ap length p in omega arith
 
 no_variant : (pack : Pack) (device : List ℕ) (variant : Option (List ℕ)) (x y : DevicePlace) (found : Option Variant) → named device pack ≡ x ∷ [] → named device pack ≡ y ∷ []
-    → wanted_variant variant x.device ≡ Some found → wanted_variant variant y.device ≡ None → ⊥
+    → requested_variant variant x.device ≡ Some found → requested_variant variant y.device ≡ None → ⊥
 no_variant pack device variant x y found p q is none =
     let place : x ≡ y = one_place (named device pack) x y p q in
-    let here : wanted_variant variant y.device ≡ Some found = subst (λ (at : DevicePlace). wanted_variant variant at.device ≡ Some found) place is in
+    let here : requested_variant variant y.device ≡ Some found = subst (λ (at : DevicePlace). requested_variant variant at.device ≡ Some found) place is in
     cc
 
 -- where there is a set, no cause stands but want of memory
@@ -122,7 +122,7 @@ pub set_or_refusal : (pack : Pack) (device : List ℕ) (variant pname : Option (
     → IsEffectiveSet pack device variant pname set → HasNone pack device variant fault → fault ≡ faults.OutOfMemory
 set_or_refusal pack device variant pname set faults.NoDevice p none = absurd (none_named (named device pack) p.place p.only none)
 set_or_refusal pack device variant pname set faults.AmbiguousDevice p many = absurd (one_of_many (named device pack) p.place p.only many)
-set_or_refusal pack device variant pname set faults.NoVariant p none = absurd (no_variant pack device variant p.place none.0 p.variant p.only none.1 p.wanted none.2)
+set_or_refusal pack device variant pname set faults.NoVariant p none = absurd (no_variant pack device variant p.place none.0 p.variant p.only none.1 p.requested none.2)
 set_or_refusal pack device variant pname set faults.OutOfMemory p none = refl
 
 -- at most one cause stands besides want of memory

@@ -24,26 +24,26 @@ later_at None i e = absurd cc
 later_at (Some j) i e = (j, refl, (let same : suc j ≡ i = cc in sym same))
 
 -- the first winner has the name, or it stands among the others
-abbrev Stands : List ℕ → Winner → List Winner → ℕ → Bool → Type 0
-Stands name w ws i true = (has_name name (winner_view w) ≡ true) × (i ≡ 0)
-Stands name w ws i false = (has_name name (winner_view w) ≡ false) × ((j : ℕ) × (place_in name (seen ws) ≡ Some j) × (i ≡ suc j))
+abbrev Holds : List ℕ → Winner → List Winner → ℕ → Bool → Type 0
+Holds name w ws i true = (has_name name (winner_view w) ≡ true) × (i ≡ 0)
+Holds name w ws i false = (has_name name (winner_view w) ≡ false) × ((j : ℕ) × (place_in name (seen ws) ≡ Some j) × (i ≡ suc j))
 
-stands_at : (name : List ℕ) (w : Winner) (ws : List Winner) (i : ℕ) (b : Bool) → has_name name (winner_view w) ≡ b
-    → cond b (Some 0) (option_map (λ j. suc j) (place_in name (seen ws))) ≡ Some i → Stands name w ws i b
-stands_at name w ws i true is e = (is, first_at true (place_in name (seen ws)) i e refl)
-stands_at name w ws i false is e = (is, later_at (place_in name (seen ws)) i e)
+holds_at : (name : List ℕ) (w : Winner) (ws : List Winner) (i : ℕ) (b : Bool) → has_name name (winner_view w) ≡ b
+    → cond b (Some 0) (option_map (λ j. suc j) (place_in name (seen ws))) ≡ Some i → Holds name w ws i b
+holds_at name w ws i true is e = (is, first_at true (place_in name (seen ws)) i e refl)
+holds_at name w ws i false is e = (is, later_at (place_in name (seen ws)) i e)
 
-stands : (name : List ℕ) (w : Winner) (ws : List Winner) (i : ℕ) → place_in name (seen (w ∷ ws)) ≡ Some i → Stands name w ws i (has_name name (winner_view w))
-stands name w ws i e = stands_at name w ws i (has_name name (winner_view w)) refl e
+holds : (name : List ℕ) (w : Winner) (ws : List Winner) (i : ℕ) → place_in name (seen (w ∷ ws)) ≡ Some i → Holds name w ws i (has_name name (winner_view w))
+holds name w ws i e = holds_at name w ws i (has_name name (winner_view w)) refl e
 
-below_at : (name : List ℕ) (w : Winner) (ws : List Winner) (i : ℕ) (b : Bool) → Stands name w ws i b → ((j : ℕ) → place_in name (seen ws) ≡ Some j → j < length ws) → i < length (w ∷ ws)
+below_at : (name : List ℕ) (w : Winner) (ws : List Winner) (i : ℕ) (b : Bool) → Holds name w ws i b → ((j : ℕ) → place_in name (seen ws) ≡ Some j → j < length ws) → i < length (w ∷ ws)
 below_at name w ws i true h rest = omega (arith, h.1)
 below_at name w ws i false h rest = omega (arith, h.1.2, rest h.1.0 h.1.1)
 
 -- a place lies among the winners
 pub place_in-below : (name : List ℕ) (ws : List Winner) (i : ℕ) → place_in name (seen ws) ≡ Some i → i < length ws
 place_in-below name [] i e = absurd cc
-place_in-below name (w ∷ ws) i e = below_at name w ws i (has_name name (winner_view w)) (stands name w ws i e) (place_in-below name ws)
+place_in-below name (w ∷ ws) i e = below_at name w ws i (has_name name (winner_view w)) (holds name w ws i e) (place_in-below name ws)
 
 -- ---- in the place of a winner
 
@@ -58,7 +58,7 @@ kept_later : (b : Bool) (w : Winner) (xs ys : List Winner) → seen (cond b (w �
 kept_later true w xs ys = refl
 kept_later false w xs ys = refl
 
-there_at : (w : Winner) (ws : List Winner) (i : ℕ) (c d : Winner) (b : Bool) → Stands (name_of c) w ws i b
+there_at : (w : Winner) (ws : List Winner) (i : ℕ) (c d : Winner) (b : Bool) → Holds (name_of c) w ws i b
     → ((j : ℕ) → place_in (name_of c) (seen ws) ≡ Some j → seen (put_there ws j c d) ≡ with_candidate (seen ws) (winner_view c))
     → seen (put_there (w ∷ ws) i c d) ≡ with_candidate (seen (w ∷ ws)) (winner_view c)
 there_at w ws i c d true h rest = rw (h.1, h.0) (kept_first (nat_le w.rank c.rank) c w ws)
@@ -69,9 +69,9 @@ there_at w ws i c d false h rest =
 pub put_there-with_candidate : (ws : List Winner) (i : ℕ) (c d : Winner) → place_in (name_of c) (seen ws) ≡ Some i → seen (put_there ws i c d) ≡ with_candidate (seen ws) (winner_view c)
 put_there-with_candidate [] i c d e = absurd cc
 put_there-with_candidate (w ∷ ws) i c d e =
-    there_at w ws i c d (has_name (name_of c) (winner_view w)) (stands (name_of c) w ws i e) (λ j e'. put_there-with_candidate ws j c d e')
+    there_at w ws i c d (has_name (name_of c) (winner_view w)) (holds (name_of c) w ws i e) (λ j e'. put_there-with_candidate ws j c d e')
 
--- ---- behind the winners
+-- ---- after the winners
 
 abbrev Absent : List ℕ → List Winner → Type 0
 Absent name ws = place_in name (seen ws) ≡ None
@@ -97,7 +97,7 @@ itself : (xs : List ℕ) → bytes_eq xs xs ≡ true
 itself xs = (bytes_eq-Decides xs xs).1 refl
 
 -- a candidate in the place of a winner of its name changes no place
-moved_at : (w : Winner) (ws : List Winner) (i : ℕ) (c : Winner) (name : List ℕ) (b : Bool) → Stands (name_of c) w ws i b
+moved_at : (w : Winner) (ws : List Winner) (i : ℕ) (c : Winner) (name : List ℕ) (b : Bool) → Holds (name_of c) w ws i b
     → ((j : ℕ) → place_in (name_of c) (seen ws) ≡ Some j → place_in name (seen (slice_set ws j c)) ≡ place_in name (seen ws))
     → place_in name (seen (slice_set (w ∷ ws) i c)) ≡ place_in name (seen (w ∷ ws))
 moved_at w ws i c name true h rest =
@@ -108,7 +108,7 @@ moved_at w ws i c name false h rest =
 
 place_in-set : (ws : List Winner) (i : ℕ) (c : Winner) (name : List ℕ) → place_in (name_of c) (seen ws) ≡ Some i → place_in name (seen (slice_set ws i c)) ≡ place_in name (seen ws)
 place_in-set [] i c name e = absurd cc
-place_in-set (w ∷ ws) i c name e = moved_at w ws i c name (has_name (name_of c) (winner_view w)) (stands (name_of c) w ws i e) (λ j e'. place_in-set ws j c name e')
+place_in-set (w ∷ ws) i c name e = moved_at w ws i c name (has_name (name_of c) (winner_view w)) (holds (name_of c) w ws i e) (λ j e'. place_in-set ws j c name e')
 
 either_way : (b : Bool) (name : List ℕ) (xs ys : List Winner) → place_in name (seen xs) ≡ place_in name (seen ys) → place_in name (seen (cond b xs ys)) ≡ place_in name (seen ys)
 either_way true name xs ys e = e
@@ -117,7 +117,7 @@ either_way false name xs ys e = refl
 pub place_in-put_there : (ws : List Winner) (i : ℕ) (c d : Winner) (name : List ℕ) → place_in (name_of c) (seen ws) ≡ Some i → place_in name (seen (put_there ws i c d)) ≡ place_in name (seen ws)
 place_in-put_there ws i c d name e = either_way (nat_le (get_or ws i d).rank c.rank) name (slice_set ws i c) ws (place_in-set ws i c name e)
 
--- a name behind the winners has the last place, and the others keep theirs
+-- a name after the winners has the last place, and the others keep theirs
 apart : (x y z : List ℕ) → bytes_eq x y ≡ true → bytes_eq x z ≡ false → bytes_eq y z ≡ false
 apart x y z same h = subst (λ n. bytes_eq n z ≡ false) (same_text x y same) h
 
@@ -150,12 +150,12 @@ pub with_all-append : (ws xs ys : List Candidate) → with_all ws (xs ++ ys) ≡
 with_all-append ws [] ys = refl
 with_all-append ws (c ∷ xs) ys = with_all-append (with_candidate ws c) xs ys
 
-pub next_level : (wanted : Option (List ℕ)) (ws : List Candidate) (depth : ℕ) (levels : List LevelRef) (l : LevelRef) → depth < length levels → l ≡ get_or levels depth l
-    → with_all ws (candidates wanted depth (map level_view (drop depth levels)))
-    ≡ with_all (with_all ws (candidates_at wanted l.kind depth l.level.now.sequences)) (candidates wanted (depth + 1) (map level_view (drop (depth + 1) levels)))
-next_level wanted ws depth levels l lt is =
+pub next_level : (requested : Option (List ℕ)) (ws : List Candidate) (depth : ℕ) (levels : List LevelRef) (l : LevelRef) → depth < length levels → l ≡ get_or levels depth l
+    → with_all ws (candidates requested depth (map level_view (drop depth levels)))
+    ≡ with_all (with_all ws (candidates_at requested l.kind depth l.level.now.sequences)) (candidates requested (depth + 1) (map level_view (drop (depth + 1) levels)))
+next_level requested ws depth levels l lt is =
     let opened : drop depth levels ≡ l ∷ drop (depth + 1) levels = rw (add-one, drop-cons levels depth l) (ap (λ x. x ∷ drop (suc depth) levels) (sym is)) in
-    ap (λ ls. with_all ws (candidates wanted depth (map level_view ls))) opened
-    ∙ with_all-append ws (candidates_at wanted l.kind depth l.level.now.sequences) (candidates wanted (depth + 1) (map level_view (drop (depth + 1) levels)))
+    ap (λ ls. with_all ws (candidates requested depth (map level_view ls))) opened
+    ∙ with_all-append ws (candidates_at requested l.kind depth l.level.now.sequences) (candidates requested (depth + 1) (map level_view (drop (depth + 1) levels)))
 
 pub ruleset winning = (with_all-append)

@@ -16,11 +16,11 @@ pub record Candidate : Type 0 where
   pub kind : LevelKind
   pub sequence : SeqText
 
--- a sequence counts where its `Pname` is the wanted one, or where it has none
+-- a sequence counts where its `Pname` is the requested one, or where it has none
 abbrev pub counts_for : Option (List ℕ) → Option (List ℕ) → Bool
-counts_for wanted None = true
+counts_for requested None = true
 counts_for None (Some pname) = false
-counts_for (Some wanted) (Some pname) = bytes_eq wanted pname
+counts_for (Some requested) (Some pname) = bytes_eq requested pname
 
 -- a deeper level stands above, and at one level the sequence with a `Pname` above the one without
 abbrev pub rank_of : ℕ → SeqText → ℕ
@@ -28,14 +28,14 @@ rank_of depth s = 2 * depth + (if is_some s.pname then 1 else 0)
 
 -- the candidates of one level, in order
 abbrev pub candidates_at : Option (List ℕ) → LevelKind → ℕ → List SeqText → List Candidate
-candidates_at wanted kind depth [] = []
-candidates_at wanted kind depth (s ∷ ss) =
-    if counts_for wanted s.pname then record { rank = rank_of depth s; kind = kind; sequence = s } ∷ candidates_at wanted kind depth ss else candidates_at wanted kind depth ss
+candidates_at requested kind depth [] = []
+candidates_at requested kind depth (s ∷ ss) =
+    if counts_for requested s.pname then record { rank = rank_of depth s; kind = kind; sequence = s } ∷ candidates_at requested kind depth ss else candidates_at requested kind depth ss
 
 -- the candidates of the levels from this depth on
 abbrev pub candidates : Option (List ℕ) → ℕ → List LevelAt → List Candidate
-candidates wanted depth [] = []
-candidates wanted depth (l ∷ ls) = candidates_at wanted l.kind depth l.level.sequences ++ candidates wanted (depth + 1) ls
+candidates requested depth [] = []
+candidates requested depth (l ∷ ls) = candidates_at requested l.kind depth l.level.sequences ++ candidates requested (depth + 1) ls
 
 -- ---- the winners
 
@@ -59,7 +59,7 @@ abbrev pub AllBelow : List Candidate → Candidate → Type 0
 AllBelow [] w = Unit {0}
 AllBelow (c ∷ cs) w = (bytes_eq c.sequence.name w.sequence.name ≡ true → c.rank < w.rank) × AllBelow cs w
 
--- the last of the greatest of its name: none of them before it stands above it, and all of them behind it stand below it
+-- the last of the greatest of its name: none of them before it stands above it, and all of them after it stand below it
 pub record Wins (cs : List Candidate) (w : Candidate) : Type 0 where
   pub before : List Candidate
   pub after : List Candidate

@@ -32,7 +32,7 @@ is_named name place = bytes_eq name place.device.name
 abbrev pub named : List ℕ → Pack → List DevicePlace
 named name pack = filter (is_named name) (places_in pack.families)
 
--- the variant that is wanted, which may be none; `None` where the device has no variant of the name
-abbrev pub wanted_variant : Option (List ℕ) → Device → Option (Option Variant)
-wanted_variant None device = Some None
-wanted_variant (Some name) device = option_map (λ v. Some v) (find (λ v. bytes_eq name v.name) device.variants)
+-- the variant that is requested, which may be none; `None` where the device has no variant of the name
+abbrev pub requested_variant : Option (List ℕ) → Device → Option (Option Variant)
+requested_variant None device = Some None
+requested_variant (Some name) device = option_map (λ v. Some v) (find (λ v. bytes_eq name v.name) device.variants)

@@ -6,7 +6,7 @@ ghost use Rattle.std.specs.Option.{option_copied};
 ghost use Rattle.sequence_resolve.specs.declared.entry.SeqSet.{SeqSet};
 ghost use Rattle.sequence_resolve.specs.declared.fault.ResolveFault.{ResolveFault};
 ghost use Rattle.sequence_resolve.specs.declared.fault.ResolveFault.TheVariants as faults;
-ghost use Rattle.sequence_resolve.specs.Places.{wanted_variant};
+ghost use Rattle.sequence_resolve.specs.Places.{requested_variant};
 ghost use Rattle.sequence_resolve.specs.Levels.{path_of, deepest};
 ghost use Rattle.sequence_resolve.specs.Effective.{candidates, entry_of};
 ghost use Rattle.sequence_resolve.specs.Winners.{with_all};
@@ -50,11 +50,11 @@ fn entries_of(alloc: Global, winners: &[Winner]) -> Result<SeqEntries, OutOfMemo
     Ok(entries)
 }
 
-/// The variant that is wanted, which may be none. `None` where the device has no variant of the name.
-fn variant_of<'a>(device: &'a Device, wanted: Option<&str>) -> Option<Option<&'a Variant>>
-    ensures { option_map option_copied result ≡ wanted_variant (option_map (λ w. w.now) wanted.entry) device.now }
+/// The variant that is requested, which may be none. `None` where the device has no variant of the name.
+fn variant_of<'a>(device: &'a Device, requested: Option<&str>) -> Option<Option<&'a Variant>>
+    ensures { option_map option_copied result ≡ requested_variant (option_map (λ w. w.now) requested.entry) device.now }
 {
-    match wanted {
+    match requested {
         None => Some(None),
         Some(name) => match variant_named(device.variants.as_slice(), name) {
             Some(variant) => Some(Some(variant)),
@@ -82,11 +82,11 @@ fn set_of(
 }
 
 /// The sequences that hold for the device of the name `device`, for its variant of the name
-/// `variant` where one is wanted, and for the processor `pname` where one is wanted.
+/// `variant` where one is requested, and for the processor `pname` where one is requested.
 ///
 /// The levels go from the pack's `defaults` over family, subfamily and device to the variant. A
-/// sequence counts where its `Pname` is the wanted one or where it has none. Of each name the one at
-/// the deepest level holds, and at that level the one with the wanted `Pname` before the one
+/// sequence counts where its `Pname` is the requested one or where it has none. Of each name the one at
+/// the deepest level holds, and at that level the one with the requested `Pname` before the one
 /// without. A disabled one holds without steps. The names stand in the order in which they first
 /// appear along the levels. The debug variables are those of the deepest level that has that
 /// element alone.
@@ -94,7 +94,7 @@ fn set_of(
 /// `NoDevice` comes exactly where no device of the pack has the name, `AmbiguousDevice` exactly
 /// where two or more have it, `NoVariant` exactly where the one device has no variant of the name,
 /// `OutOfMemory` where memory is refused. Where a level has two sequences of one name and one
-/// `Pname`, which a pack that was read has not, the later one holds. So what is wanted of a pack
+/// `Pname`, which a pack that was read has not, the later one holds. So what is requested of a pack
 /// has one set at most, and that set is the answer, want of memory aside.
 pub fn effective(
     alloc: Global,

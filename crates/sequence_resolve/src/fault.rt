@@ -2,7 +2,7 @@
 use dap_base::OutOfMemory;
 use thiserror::Error;
 
-/// Why a pack has no set of sequences for what is wanted.
+/// Why a pack has no set of sequences for what is requested.
 #[derive(Debug, Drop, Error)]
 pub enum ResolveFault {
     /// No device of the pack has the name.

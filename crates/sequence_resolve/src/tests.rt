@@ -67,12 +67,12 @@ const PROCESSOR: &str = r#"{"defaults":{"sequences":[{"name":"B","Pname":"P2","s
       {"name":"A","steps":[{"block":"Write32(0x20000000, 2);"}]}]}]}]}"#;
 
 #[test]
-fn the_wanted_processor_comes_first(rt: HostRuntime) -> Result<(), Fail> {
+fn the_requested_processor_comes_first(rt: HostRuntime) -> Result<(), Fail> {
     let pack = pack(rt.alloc(), PROCESSOR)?;
-    let wanted = effective(rt.alloc(), &pack, "D1", None, Some("P1"))?;
-    assert_eq!(rt; wanted.entries.len(), 1);
+    let requested = effective(rt.alloc(), &pack, "D1", None, Some("P1"))?;
+    assert_eq!(rt; requested.entries.len(), 1);
     let first = ("A", LevelKind::Device, false, "Write32(0x20000000, 1);");
-    assert_eq!(rt; entry(&wanted, 0), Some(first));
+    assert_eq!(rt; entry(&requested, 0), Some(first));
     let any = effective(rt.alloc(), &pack, "D1", None, None)?;
     let second = ("A", LevelKind::Device, false, "Write32(0x20000000, 2);");
     assert_eq!(rt; entry(&any, 0), Some(second));

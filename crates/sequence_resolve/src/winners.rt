@@ -28,13 +28,13 @@ struct Winners<'a> {
     places: BTreeMap<String, usize>,
 }
 
-fn counts(wanted: Option<&str>, sequence: &SeqText) -> bool
-    ensures { result ≡ counts_for (option_map (λ w. w.now) wanted.entry) sequence.now.pname }
+fn counts(requested: Option<&str>, sequence: &SeqText) -> bool
+    ensures { result ≡ counts_for (option_map (λ w. w.now) requested.entry) sequence.now.pname }
 {
-    match (&sequence.pname, wanted) {
+    match (&sequence.pname, requested) {
         (None, _) => true,
         (Some(_), None) => false,
-        (Some(pname), Some(wanted)) => wanted == pname.as_str(),
+        (Some(pname), Some(requested)) => requested == pname.as_str(),
     }
 }
 
@@ -85,7 +85,7 @@ fn note_place(
     Ok(())
 }
 
-/// Puts the candidate behind the winners, as the first of its name.
+/// Puts the candidate after the winners, as the first of its name.
 fn put_last<'a>(
     alloc: Global,
     winners: &mut Winners<'a>,
@@ -126,16 +126,16 @@ fn put_level<'a>(
     winners: &mut Winners<'a>,
     level: LevelRef<'a>,
     depth: usize,
-    wanted: Option<&str>,
+    requested: Option<&str>,
 ) -> Result<(), OutOfMemory>
     requires knows { Knows winners.old.places (map winner_view winners.old.list.items) }
     requires few { depth < 8 }
     ensures ok { OnOk result (map winner_view winners.new.list.items ≡ with_all (map winner_view winners.old.list.items)
-        (candidates_at (option_map (λ w. w.now) wanted.entry) level.entry.kind depth level.entry.level.now.sequences)) }
+        (candidates_at (option_map (λ w. w.now) requested.entry) level.entry.kind depth level.entry.level.now.sequences)) }
     ensures knows { OnOk result (Knows winners.new.places (map winner_view winners.new.list.items)) }
 {
     for sequence in level.level.sequences.as_slice() {
-        if counts(wanted, sequence) {
+        if counts(requested, sequence) {
             put(alloc, winners, candidate_of(level.kind, depth, sequence))?;
         }
     }
@@ -146,17 +146,17 @@ fn put_level<'a>(
 pub fn winners_of<'a>(
     alloc: Global,
     levels: &[LevelRef<'a>],
-    wanted: Option<&str>,
+    requested: Option<&str>,
 ) -> Result<Vec<Winner<'a>>, OutOfMemory>
     requires { length levels.now ≤ 5 }
-    ensures { IfOk result (λ v. map winner_view v.items ≡ with_all [] (candidates (option_map (λ w. w.now) wanted.entry) 0 (map level_view levels.now))) }
+    ensures { IfOk result (λ v. map winner_view v.items ≡ with_all [] (candidates (option_map (λ w. w.now) requested.entry) 0 (map level_view levels.now))) }
 {
     let mut winners = Winners {
         list: Vec::new(alloc),
         places: BTreeMap::new(alloc),
     };
     for (depth, level) in levels.iter().enumerate() {
-        put_level(alloc, &mut winners, *level, depth, wanted)?;
+        put_level(alloc, &mut winners, *level, depth, requested)?;
     }
     Ok(winners.list)
 }

@@ -3,9 +3,9 @@ use Rattle.std.proofs.Common.{◌≡◌, List, [], ◌∷◌, ◌++◌, Option, 
 use Rattle.word_job.specs.Form.{◌>>=◌}
 
 -- the items before, and then those that are left, where there are
-abbrev pub behind : {A : Type 0} → List A → Option (List A) → Option (List A)
-behind earlier rest = option_map (λ others. earlier ++ others) rest
+abbrev pub after : {A : Type 0} → List A → Option (List A) → Option (List A)
+after earlier rest = option_map (λ others. earlier ++ others) rest
 
-pub one_more : {A : Type 0} (earlier : List A) (x : A) (rest : Option (List A)) → behind (earlier ++ x ∷ []) rest ≡ behind earlier (rest >>= λ others. Some (x ∷ others))
+pub one_more : {A : Type 0} (earlier : List A) (x : A) (rest : Option (List A)) → after (earlier ++ x ∷ []) rest ≡ after earlier (rest >>= λ others. Some (x ∷ others))
 one_more earlier x None = refl
 one_more earlier x (Some others) = ap Some (append_assoc earlier (x ∷ []) others)

@@ -1,4 +1,4 @@
--- Arguments of another number than the wanted one.
+-- Arguments of another number than the requested one.
 use Rattle.std.proofs.Common.{◌≡◌, ◌<◌, ◌≤◌, List, [], ◌∷◌, length, None, refl, arith}
 use Rattle.expr_grammar.specs.Tree.{arg_trees}
 use Rattle.expr_grammar.specs.declared.code.Arg.{Arg}

@@ -60,7 +60,7 @@ declaration other = None
 abbrev pub is_named : List ℕ → Variable → Bool
 is_named name variable = bytes_eq name variable.name
 
--- the variables, with those behind them that these statements declare, where no two have one name
+-- the variables, with those after them that these statements declare, where no two have one name
 unfoldable pub declared : List Variable → List StmtTree → Option (List Variable)
 declared earlier [] = Some earlier
 declared earlier (s ∷ more) = do
@@ -94,7 +94,7 @@ variables_of code = declared predefined code
 abbrev pub place_of : List Variable → List ℕ → Option ℕ
 place_of variables name = do
   place ← position (is_named name) variables
-  behind ← when (nat_le 7 place)
+  after ← when (nat_le 7 place)
   Some place
 
 -- `Write32(NUMBER, NUMBER)` to a word of the region; the second number is cut to 32 bits

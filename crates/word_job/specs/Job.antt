@@ -107,20 +107,20 @@ word_in region d = do
 abbrev pub is_at : ℕ → WordJob → Bool
 is_at address word = word.address == address
 
--- the words, with those behind them that these values are, where no two have one address
-unfoldable pub words_behind : RegionJob → List WordJob → Items → Option (List WordJob)
-words_behind region earlier no_items = Some earlier
-words_behind region earlier (item d ds) = do
+-- the words, with those after them that these values are, where no two have one address
+unfoldable pub words_after : RegionJob → List WordJob → Items → Option (List WordJob)
+words_after region earlier no_items = Some earlier
+words_after region earlier (item d ds) = do
   word ← word_in region d
   new ← when (not (list_any (is_at word.address) earlier))
-  words_behind region (earlier ++ word ∷ []) ds
+  words_after region (earlier ++ word ∷ []) ds
 
 -- a list of at most 65,536 words
 unfoldable pub words_in : RegionJob → Data → Option (List WordJob)
 words_in region d = do
   ds ← as_array d
   few ← when (nat_le (items_len ds) 65536)
-  words_behind region [] ds
+  words_after region [] ds
 
 -- the words of a member that may be absent
 abbrev pub words_or_none : RegionJob → Option Data → Option (List WordJob)

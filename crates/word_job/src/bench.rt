@@ -10,7 +10,7 @@ ghost use Rattle.target_machine.specs.declared.job.WordJob.{WordJob};
 ghost use Rattle.word_job.specs.Region.{lies_in};
 ghost use Rattle.word_job.specs.Form.{Gives};
 ghost use Rattle.word_job.specs.Sound.{IsLowRegion, AreWordsIn};
-ghost use Rattle.word_job.specs.Job.{is_ap_zero, region_in, word_in, words_behind, words_in, words_or_none, target_region, target_in, bench_target, bench_in, bench_of};
+ghost use Rattle.word_job.specs.Job.{is_ap_zero, region_in, word_in, words_after, words_in, words_or_none, target_region, target_in, bench_target, bench_in, bench_of};
 
 use crate::fit::Unfit;
 use crate::form::{has_only_keys, number_at, only_item_at};
@@ -96,9 +96,9 @@ fn word_of(region: RegionJob, value: &Value) -> Option<WordJob>
 }
 
 // Words of a region, no two of one address.
-#[tactic(auto, unfolding(crate::specs::Job::words_behind), using(crate::proofs::SoundLemmas::no_words))]
+#[tactic(auto, unfolding(crate::specs::Job::words_after), using(crate::proofs::SoundLemmas::no_words))]
 fn words_of_items(alloc: Global, region: RegionJob, values: &[Value]) -> Result<WordJobs, Unfit>
-    ensures words { Gives result (words_behind region [] (items_view values.now)) }
+    ensures words { Gives result (words_after region [] (items_view values.now)) }
     ensures sound { IfOk result (AreWordsIn region) }
     ensures count { IfOk result (λ words. length words ≡ length values.now) }
 {

@@ -98,7 +98,7 @@ impl Named {
         Ok(())
     }
 
-    /// Declares a variable behind the others. Answers false, and changes nothing, where its name is
+    /// Declares a variable after the others. Answers false, and changes nothing, where its name is
     /// taken.
     #[tactic(auto, using(crate::proofs::NamedLemmas::naming))]
     pub(crate) fn declare(

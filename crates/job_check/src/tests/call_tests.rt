@@ -88,7 +88,7 @@ fn push_call(alloc: Global, text: &mut String, from: u32, to: u32) -> Result<(),
     text.push_str(r#"\");"}]},"#)
 }
 
-// S0 calls S1, and so on up to a call of the last, which stands behind them with what follows it.
+// S0 calls S1, and so on up to a call of the last, which stands after them with what follows it.
 fn rising(alloc: Global, calls: u32, last: &str) -> Result<String, AllocError> {
     let mut text = String::new(alloc);
     for number in 0..calls {
@@ -98,7 +98,7 @@ fn rising(alloc: Global, calls: u32, last: &str) -> Result<String, AllocError> {
     Ok(text)
 }
 
-// S1 calls S0, S2 calls S1, and so on; S0 stands behind them.
+// S1 calls S0, S2 calls S1, and so on; S0 stands after them.
 fn falling(alloc: Global, calls: u32) -> Result<String, AllocError> {
     let mut text = String::new(alloc);
     for number in 0..calls {
@@ -191,7 +191,7 @@ fn chains_of_calls(rt: HostRuntime) -> Result<(), Fail> {
     Ok(())
 }
 
-// The first in the set's order is told, though the chain that begins at S33 is longer.
+// The first in the set's order is reported, though the chain that begins at S33 is longer.
 #[test]
 fn chains_in_the_other_order(rt: HostRuntime) -> Result<(), Fail> {
     for (calls, lines) in [

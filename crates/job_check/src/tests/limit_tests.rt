@@ -41,7 +41,7 @@ fn check_limits(
     Ok(())
 }
 
-// A semicolon stands behind each case.
+// A semicolon stands after each case.
 const TOKENS: [(&str, u32, &str, &str, &str); 13] = [
     ("1+", 255, "1", "", ONE_BLOCK),
     (

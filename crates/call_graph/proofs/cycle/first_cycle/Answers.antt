@@ -11,7 +11,7 @@ loop-node-preserved c =
       | then-is_marked+in_ok-call+in_default w ↦ rw w.in_default.is at w.in_ok-call.ensures
       | else-is_marked w ↦ λ call h.
           let marked = c.in_ok-candidates.ensures (spot_of c.loop-node.node call) h in
-          let told = rw c.as_slice.ensures.value at c.is_marked.ensures in
+          let reported = rw c.as_slice.ensures.value at c.is_marked.ensures in
           let no = w.if-is_marked.false in cc
     ])
 

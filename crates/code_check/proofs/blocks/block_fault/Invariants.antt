@@ -2,11 +2,11 @@ use Rattle.std.proofs.Common.{◌≡◌, take}
 use Rattle.expr_grammar.specs.Tree.{code_trees}
 use Rattle.code_check.specs.Order.{is_before}
 use Rattle.code_check.specs.First.{IsFirst}
-use Rattle.code_check.specs.BlockFaults.{names_behind_all, BlockFault}
+use Rattle.code_check.specs.BlockFaults.{names_after_all, BlockFault}
 use Rattle.code_check.proofs.blocks.block_fault.Given as goal
 
 abbrev pub invariant-loop-statement : goal.invariant-loop-statement
 invariant-loop-statement l = record {
   first : IsFirst is_before (BlockFault (record { visible = l.fn.names; sequences = l.sequences; in_debugvars = l.in_debugvars }) (code_trees (take l.statement-index l.code))) l.found;
-  names : l.names ≡ names_behind_all l.fn.names (code_trees (take l.statement-index l.code));
+  names : l.names ≡ names_after_all l.fn.names (code_trees (take l.statement-index l.code));
 }

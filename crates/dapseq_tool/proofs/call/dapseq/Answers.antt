@@ -10,11 +10,11 @@ use Rattle.dapseq_tool.proofs.CallLemmas.{success_run, answers_of}
 use Rattle.dapseq_tool.proofs.call.dapseq.Goals as goal
 
 pub returns-in-Ok-Run-clause-success : goal.returns-in-Ok-Run-clause-success
-returns-in-Ok-Run-clause-success g c = λ quiet told.
-    let old : Moment = moment g.S.Source.left g.S.Source.faults g.K.Sink.written g.K.Sink.faults g.B.Bench.told g.B.Bench.state c.args.source.now c.args.sink.now c.args.bench.now in
-    let new : Moment = moment g.S.Source.left g.S.Source.faults g.K.Sink.written g.K.Sink.faults g.B.Bench.told g.B.Bench.state c.ask.new.source c.run.new.sink c.run.new.bench in
+returns-in-Ok-Run-clause-success g c = λ quiet reported.
+    let old : Moment = moment g.S.Source.left g.S.Source.faults g.K.Sink.written g.K.Sink.faults g.B.Bench.reported g.B.Bench.state c.args.source.now c.args.sink.now c.args.bench.now in
+    let new : Moment = moment g.S.Source.left g.S.Source.faults g.K.Sink.written g.K.Sink.faults g.B.Bench.reported g.B.Bench.state c.ask.new.source c.run.new.sink c.run.new.bench in
     run_only c.args.words.now (g.S.Source.left c.args.source.now) c.in-Ok-Run.field-0 c.in-Ok-Run.job (Succeeds old new c.run.result) c.in-Ok-Run.field-0-is c.in-Ok-Run.ensures.asked
-    (success_run old new c.run.result c.in-Ok-Run.job c.run.ensures.done c.run.ensures.text c.run.ensures.write c.run.ensures.bench c.run.ensures.bad c.run.ensures.ends quiet told)
+    (success_run old new c.run.result c.in-Ok-Run.job c.run.ensures.done c.run.ensures.text c.run.ensures.write c.run.ensures.bench c.run.ensures.bad c.run.ensures.ends quiet reported)
 
 pub returns-in-Ok-Run-clause-outside : goal.returns-in-Ok-Run-clause-outside
 returns-in-Ok-Run-clause-outside g c =
@@ -35,7 +35,7 @@ returns-in-Ok-Run-clause-answer g c = λ read quiet memory.
 -- ---- an answer
 
 pub returns-in-Ok-Answer-clause-success : goal.returns-in-Ok-Answer-clause-success
-returns-in-Ok-Answer-clause-success g c = λ quiet told.
+returns-in-Ok-Answer-clause-success g c = λ quiet reported.
     no_run c.args.words.now (g.S.Source.left c.args.source.now) c.in-Ok-Answer.field-0 c.in-Ok-Answer.what _ c.in-Ok-Answer.field-0-is c.in-Ok-Answer.ensures.asked
 
 pub returns-in-Ok-Answer-clause-outside : goal.returns-in-Ok-Answer-clause-outside
@@ -48,8 +48,8 @@ returns-in-Ok-Answer-clause-lines g c = λ quiet.
 
 pub returns-in-Ok-Answer-clause-answer : goal.returns-in-Ok-Answer-clause-answer
 returns-in-Ok-Answer-clause-answer g c = λ read quiet memory.
-    let old : Moment = moment g.S.Source.left g.S.Source.faults g.K.Sink.written g.K.Sink.faults g.B.Bench.told g.B.Bench.state c.args.source.now c.args.sink.now c.args.bench.now in
-    let new : Moment = moment g.S.Source.left g.S.Source.faults g.K.Sink.written g.K.Sink.faults g.B.Bench.told g.B.Bench.state c.ask.new.source c.answer.new.sink c.args.bench.now in
+    let old : Moment = moment g.S.Source.left g.S.Source.faults g.K.Sink.written g.K.Sink.faults g.B.Bench.reported g.B.Bench.state c.args.source.now c.args.sink.now c.args.bench.now in
+    let new : Moment = moment g.S.Source.left g.S.Source.faults g.K.Sink.written g.K.Sink.faults g.B.Bench.reported g.B.Bench.state c.ask.new.source c.answer.new.sink c.args.bench.now in
     answer_only c.args.words.now (g.S.Source.left c.args.source.now) c.in-Ok-Answer.field-0 c.in-Ok-Answer.what (Answers old new c.answer.result) c.in-Ok-Answer.field-0-is c.in-Ok-Answer.ensures.asked
     (answers_of old new c.answer.result c.in-Ok-Answer.what c.answer.ensures.text c.answer.ensures.write c.answer.ensures.ends quiet memory)
 

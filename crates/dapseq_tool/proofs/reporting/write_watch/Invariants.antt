@@ -8,7 +8,7 @@ use Rattle.dapseq_tool.proofs.reporting.write_watch.Given as goal
 abbrev pub invariant-loop-item : goal.invariant-loop-item
 invariant-loop-item g l = record {
   text : IfSome (g.B.Bench.state l.fn.bench) (λ m. Appends (g.K.Sink.written l.fn.sink) (g.K.Sink.written l.sink) (watch_lines (target_of m.probe) (take l.item-index l.watch)));
-  same : IsAsBefore (seen g.B.Bench.told g.B.Bench.state l.fn.bench) (seen g.B.Bench.told g.B.Bench.state l.bench);
-  bench : (g.B.Bench.told l.bench).faults ≡ (g.B.Bench.told l.fn.bench).faults;
+  same : IsAsBefore (seen g.B.Bench.reported g.B.Bench.state l.fn.bench) (seen g.B.Bench.reported g.B.Bench.state l.bench);
+  bench : (g.B.Bench.reported l.bench).faults ≡ (g.B.Bench.reported l.fn.bench).faults;
   sink : g.K.Sink.faults l.sink ≡ g.K.Sink.faults l.fn.sink;
 }

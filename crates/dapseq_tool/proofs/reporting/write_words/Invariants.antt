@@ -8,7 +8,7 @@ use Rattle.dapseq_tool.proofs.reporting.write_words.Given as goal
 abbrev pub invariant-loop-number : goal.invariant-loop-number
 invariant-loop-number g l = record {
   text : IfSome (g.B.Bench.state l.fn.bench) (λ m. Appends (g.K.Sink.written l.fn.sink) (g.K.Sink.written l.sink) (word_lines (target_of m.probe) l.item.address l.number));
-  same : IsAsBefore (seen g.B.Bench.told g.B.Bench.state l.fn.bench) (seen g.B.Bench.told g.B.Bench.state l.bench);
-  bench : (g.B.Bench.told l.bench).faults ≡ (g.B.Bench.told l.fn.bench).faults;
+  same : IsAsBefore (seen g.B.Bench.reported g.B.Bench.state l.fn.bench) (seen g.B.Bench.reported g.B.Bench.state l.bench);
+  bench : (g.B.Bench.reported l.bench).faults ≡ (g.B.Bench.reported l.fn.bench).faults;
   sink : g.K.Sink.faults l.sink ≡ g.K.Sink.faults l.fn.sink;
 }

@@ -26,6 +26,6 @@ loop-statement-preserved g c =
       done = subst (λ vs. Steps (HaveRun c.args.job.now.region (length c.args.job.now.statements) (take (c.loop-statement.statement-index + 1) c.args.job.now.statements) c.args.values.now vs) (g.B.Bench.state c.args.bench.now) (g.B.Bench.state c.perform.new.bench)) (sym c.store.ensures.values) (goes_on_at c.args.job.now c.loop-statement.statement-index _ c.in-Ok.value c.args.values.now c.loop-statement.values (g.B.Bench.state c.args.bench.now) (g.B.Bench.state c.loop-statement.bench) (g.B.Bench.state c.perform.new.bench) c.requires.sound at c.loop-statement.invariant.done c.in-Ok.ensures.done);
       idle = c.in-Ok.ensures.open;
       length = c.store.ensures.length ∙ c.loop-statement.invariant.length;
-      exchanges = kept (g.B.Bench.told c.args.bench.now).exchanges (g.B.Bench.told c.loop-statement.bench).exchanges (g.B.Bench.told c.perform.new.bench).exchanges c.loop-statement.invariant.exchanges c.in-Ok.ensures.rose;
+      exchanges = kept (g.B.Bench.reported c.args.bench.now).exchanges (g.B.Bench.reported c.loop-statement.bench).exchanges (g.B.Bench.reported c.perform.new.bench).exchanges c.loop-statement.invariant.exchanges c.in-Ok.ensures.rose;
       bench = c.in-Ok.ensures.bench.else ∙ c.loop-statement.invariant.bench;
     }

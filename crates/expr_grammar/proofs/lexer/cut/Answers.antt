@@ -4,7 +4,7 @@ use Rattle.dap_base.specs.declared.text.Place.{Place}
 use Rattle.expr_grammar.specs.declared.front.Piece.{Piece}
 use Rattle.expr_grammar.specs.Front.{FrontIs, IsGapPiece, IsCut, piece_len}
 use Rattle.expr_grammar.specs.Lexeme.{lexeme, lexemes}
-use Rattle.expr_grammar.specs.Lexing.{Divides, IsTokenFront, place_at, place_behind, nothing}
+use Rattle.expr_grammar.specs.Lexing.{Divides, IsTokenFront, place_at, place_after, nothing}
 use Rattle.expr_grammar.proofs.Fronts.{boundary}
 use Rattle.expr_grammar.proofs.Division.{place_column}
 use Rattle.expr_grammar.proofs.LexTurn.{front_cut, turned, gap_kept, token_kept}
@@ -27,8 +27,8 @@ split_at-requires c =
     let f : FrontIs c.loop-rest.rest.now (Some c.in-Some.piece) = subst (FrontIs c.loop-rest.rest.now) c.in-Some.is c.front_piece.ensures in
     rw c.len.ensures (boundary c.loop-rest.rest.now (piece_len c.in-Some.piece) c.loop-rest.invariant.utf8 (front_cut c.loop-rest.rest.now c.in-Some.piece f))
 
-pub place_behind-next-requires-clause-column : goal.place_behind-next-requires-clause-column
-place_behind-next-requires-clause-column c =
+pub place_after-next-requires-clause-column : goal.place_after-next-requires-clause-column
+place_after-next-requires-clause-column c =
     let text = c.args.text.now in
     let rest = c.loop-rest.rest.now in
     let i = c.loop-rest.invariant in
@@ -45,13 +45,13 @@ loop-rest-preserved-in_ok-push c =
     let f : FrontIs rest (Some piece) = subst (FrontIs rest) c.in-Some.is c.front_piece.ensures in
     let cut = front_cut rest piece f in
     let front : c.split_at.result.0.now ≡ take (piece_len piece) rest = c.split_at.ensures.front ∙ ap (λ (k : ℕ). take k rest) c.len.ensures in
-    let behind : c.split_at.result.1.now ≡ drop (piece_len piece) rest = c.split_at.ensures.back ∙ ap (λ (k : ℕ). drop k rest) c.len.ensures in
-    let next = λ (before : List ℕ) (is : c.loop-rest.at ≡ place_behind before). let e : c.place_behind-next.result ≡ place_behind (before ++ c.split_at.result.0.now) = c.place_behind-next.ensures before is ∙ ap (λ (l : List ℕ). place_behind (before ++ l)) c.as_bytes.ensures.value in e in
-    let t = turned text rest c.split_at.result.1.now c.loop-rest.at c.place_behind-next.result (piece_len piece) c.split_at.result.0.now i.utf8 i.within i.back i.place cut front behind next in
+    let after : c.split_at.result.1.now ≡ drop (piece_len piece) rest = c.split_at.ensures.back ∙ ap (λ (k : ℕ). drop k rest) c.len.ensures in
+    let next = λ (before : List ℕ) (is : c.loop-rest.at ≡ place_after before). let e : c.place_after-next.result ≡ place_after (before ++ c.split_at.result.0.now) = c.place_after-next.ensures before is ∙ ap (λ (l : List ℕ). place_after (before ++ l)) c.as_bytes.ensures.value in e in
+    let t = turned text rest c.split_at.result.1.now c.loop-rest.at c.place_after-next.result (piece_len piece) c.split_at.result.0.now i.utf8 i.within i.back i.place cut front after next in
     let token : IsTokenFront c.in-Token.kind c.in-Token.field-1 rest × IsCut c.in-Token.field-1 rest = subst (λ (p : Piece). FrontIs rest (Some p)) c.in-Token.is f in
     let n : piece_len piece ≡ c.in-Token.field-1 = ap piece_len c.in-Token.is in
     let size : length c.split_at.result.0.now ≡ piece_len piece = ap length front ∙ length-take-le (piece_len piece) rest cut.within in
-    let d = token_kept text rest c.split_at.result.1.now c.place_behind-next.result c.loop-rest.at c.in-Token.kind (piece_len piece) c.split_at.result.0.now (lexemes c.loop-rest.items) t i.back
+    let d = token_kept text rest c.split_at.result.1.now c.place_after-next.result c.loop-rest.at c.in-Token.kind (piece_len piece) c.split_at.result.0.now (lexemes c.loop-rest.items) t i.back
     (subst (λ (k : ℕ). IsTokenFront c.in-Token.kind k rest) (sym n) token.0) front i.place size i.divides in
     let pushed = ap lexemes c.in_ok-push.ensures.ok ∙ map_push lexeme c.loop-rest.items _ in
     record { utf8 = t.utf8; within = t.within; back = t.back; divides = rw pushed d; place = t.place }
@@ -65,10 +65,10 @@ loop-rest-preserved c =
     let f : FrontIs rest (Some piece) = subst (FrontIs rest) c.in-Some.is c.front_piece.ensures in
     let cut = front_cut rest piece f in
     let front : c.split_at.result.0.now ≡ take (piece_len piece) rest = c.split_at.ensures.front ∙ ap (λ (k : ℕ). take k rest) c.len.ensures in
-    let behind : c.split_at.result.1.now ≡ drop (piece_len piece) rest = c.split_at.ensures.back ∙ ap (λ (k : ℕ). drop k rest) c.len.ensures in
-    let next = λ (before : List ℕ) (is : c.loop-rest.at ≡ place_behind before). let e : c.place_behind-next.result ≡ place_behind (before ++ c.split_at.result.0.now) = c.place_behind-next.ensures before is ∙ ap (λ (l : List ℕ). place_behind (before ++ l)) c.as_bytes.ensures.value in e in
-    let t = turned text rest c.split_at.result.1.now c.loop-rest.at c.place_behind-next.result (piece_len piece) c.split_at.result.0.now i.utf8 i.within i.back i.place cut front behind next in
+    let after : c.split_at.result.1.now ≡ drop (piece_len piece) rest = c.split_at.ensures.back ∙ ap (λ (k : ℕ). drop k rest) c.len.ensures in
+    let next = λ (before : List ℕ) (is : c.loop-rest.at ≡ place_after before). let e : c.place_after-next.result ≡ place_after (before ++ c.split_at.result.0.now) = c.place_after-next.ensures before is ∙ ap (λ (l : List ℕ). place_after (before ++ l)) c.as_bytes.ensures.value in e in
+    let t = turned text rest c.split_at.result.1.now c.loop-rest.at c.place_after-next.result (piece_len piece) c.split_at.result.0.now i.utf8 i.within i.back i.place cut front after next in
     let gap : IsGapPiece c.in_default-piece.field-0 rest × IsCut c.in_default-piece.field-0 rest = subst (λ (p : Piece). FrontIs rest (Some p)) c.in_default-piece.is f in
     let n : piece_len piece ≡ c.in_default-piece.field-0 = ap piece_len c.in_default-piece.is in
-    let d = gap_kept text rest c.split_at.result.1.now c.place_behind-next.result (piece_len piece) (lexemes c.loop-rest.items) t i.back (subst (λ (k : ℕ). IsGapPiece k rest) (sym n) gap.0) i.divides in
+    let d = gap_kept text rest c.split_at.result.1.now c.place_after-next.result (piece_len piece) (lexemes c.loop-rest.items) t i.back (subst (λ (k : ℕ). IsGapPiece k rest) (sym n) gap.0) i.divides in
     record { utf8 = t.utf8; within = t.within; back = t.back; divides = d; place = t.place }

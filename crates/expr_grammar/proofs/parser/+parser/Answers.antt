@@ -25,7 +25,7 @@ arguments-returns-in_err-arg-clause-reads t c =
 pub arguments-loop-after-preserved : goal.arguments-loop-after-preserved
 arguments-loop-after-preserved t c =
     let n = c.in-Some.ensures.tokens in (
-      turns.goes_on c.loop-after.args c.push-in-Some.new.self c.in_ok-arg.arg (lexemes c.loop-after.rest.now) (lexemes c.in-Some.after.now) (lexemes c.in_ok-arg.behind.now) n.mark (arguments read (lexemes c.args.tokens.now)) n.parts n.is
+      turns.goes_on c.loop-after.args c.push-in-Some.new.self c.in_ok-arg.arg (lexemes c.loop-after.rest.now) (lexemes c.in-Some.after.now) (lexemes c.in_ok-arg.later.now) n.mark (arguments read (lexemes c.args.tokens.now)) n.parts n.is
           c.in_ok-arg.ensures.reads c.in_ok-push-2.ensures.ok c.loop-after.invariant.0,
       omega (arith, c.in_ok-arg.ensures.shorter, c.in-Some.ensures.shorter, c.loop-after.invariant.1),
     )

@@ -11,12 +11,12 @@ pub read_fault-requires : goal.read_fault-requires
 read_fault-requires c = distinct_names c.args.set.now (set_trees c.in-Ok.read) c.in-Ok.ensures.answer c.requires
 
 pub returns-in-Some-clause-answer : goal.returns-in-Some-clause-answer
-returns-in-Some-clause-answer c = valid.rules (set_trees c.in-Ok.read) c.in-Ok.ensures.answer (rw c.in-Some.is at c.in_ok-told.ensures)
+returns-in-Some-clause-answer c = valid.rules (set_trees c.in-Ok.read) c.in-Ok.ensures.answer (rw c.in-Some.is at c.in_ok-reported.ensures)
 
 pub returns-in-Some-clause-only_valid : goal.returns-in-Some-clause-only_valid
 returns-in-Some-clause-only_valid c = λ trees reads sound. (
     let same = c.in-Ok.ensures.only_read trees reads in
-    not_sound (set_trees c.in-Ok.read) c.in-Some.told.kind c.in-Some.told.spot (subst IsSound (sym same) sound) (rw c.in-Some.is at c.in_ok-told.ensures))
+    not_sound (set_trees c.in-Ok.read) c.in-Some.reported.kind c.in-Some.reported.spot (subst IsSound (sym same) sound) (rw c.in-Some.is at c.in_ok-reported.ensures))
 
 pub returns-in-Err-Syntax-clause-only_fault : goal.returns-in-Err-Syntax-clause-only_fault
 returns-in-Err-Syntax-clause-only_fault c = λ kind spot fault. (
@@ -25,9 +25,9 @@ returns-in-Err-Syntax-clause-only_fault c = λ kind spot fault. (
 
 pub returns-in-Some-clause-only_fault : goal.returns-in-Some-clause-only_fault
 returns-in-Some-clause-only_fault c = λ kind spot fault. (
-    let told = valid.rules (set_trees c.in-Ok.read) c.in-Ok.ensures.answer (rw c.in-Some.is at c.in_ok-told.ensures) in
-    one_first_fault c.args.set.now c.in-Some.told.kind kind c.in-Some.told.spot spot told fault)
+    let reported = valid.rules (set_trees c.in-Ok.read) c.in-Ok.ensures.answer (rw c.in-Some.is at c.in_ok-reported.ensures) in
+    one_first_fault c.args.set.now c.in-Some.reported.kind kind c.in-Some.reported.spot spot reported fault)
 
 pub returns-in-None-clause-only_fault : goal.returns-in-None-clause-only_fault
 returns-in-None-clause-only_fault c = λ kind spot fault.
-    valid_or_faulty c.args.set.now kind spot (record { trees = set_trees c.in-Ok.read; reads = c.in-Ok.ensures.answer; sound = rw c.in-None.is at c.in_ok-told.ensures }) fault
+    valid_or_faulty c.args.set.now kind spot (record { trees = set_trees c.in-Ok.read; reads = c.in-Ok.ensures.answer; sound = rw c.in-None.is at c.in_ok-reported.ensures }) fault

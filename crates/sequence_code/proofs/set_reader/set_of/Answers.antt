@@ -4,13 +4,13 @@ use Rattle.sequence_code.specs.Trees.{SetTrees, steps_tree, with_sequence}
 use Rattle.sequence_code.specs.Texts.{IsCodeOf}
 use Rattle.sequence_code.specs.Reading.{ReadsEntries}
 use Rattle.sequence_code.specs.SetView.{set_trees}
-use Rattle.sequence_code.proofs.SetLemmas.{told, fault_first, fault_at, fresh, one_more}
+use Rattle.sequence_code.proofs.SetLemmas.{reported, fault_first, fault_at, fresh, one_more}
 use Rattle.sequence_code.proofs.set_reader.set_of.Goals as goal
 
 pub returns-in_err-debugvars : goal.returns-in_err-debugvars
 returns-in_err-debugvars c =
     let p = err_from_is_err_and c.from_residual.result c.from_residual.ensures.1 in
-    rw (p.1, p.2) (told c.args.set.now c.in_err-debugvars.field-0.0 (fault_first c.args.set.now c.in_err-debugvars.field-0.0 c.in_err-debugvars.ensures))
+    rw (p.1, p.2) (reported c.args.set.now c.in_err-debugvars.field-0.0 (fault_first c.args.set.now c.in_err-debugvars.field-0.0 c.in_err-debugvars.ensures))
 
 pub returns-in_err-steps : goal.returns-in_err-steps
 returns-in_err-steps c =
@@ -23,7 +23,7 @@ returns-in_err-steps c =
     let read = set_trees c.loop-entry.read in
     let p = err_from_is_err_and c.from_residual-in_err-steps.result c.from_residual-in_err-steps.ensures.1 in
     rw (p.1, p.2)
-    (told set fault (fault_at set read.debugvars i e read.sequences fault lt at c.loop-entry.invariant.debugvars c.loop-entry.invariant.sequences c.in_err-steps.ensures))
+    (reported set fault (fault_at set read.debugvars i e read.sequences fault lt at c.loop-entry.invariant.debugvars c.loop-entry.invariant.sequences c.in_err-steps.ensures))
 
 pub add_sequence-requires : goal.add_sequence-requires
 add_sequence-requires c =

@@ -7,5 +7,5 @@ use Rattle.sequence_code.proofs.step_reader.block_of.Goals as goal
 
 pub returns-in-Err : goal.returns-in-Err
 returns-in-Err c =
-    let told : IsFaultOf (block_texts c.as_str.result.now) (at_part kinds.Block c.in-Err.fault) = fault_block c.as_str.result.now c.in-Err.fault c.in-Err.ensures.answer in
-    rw c.own_fault.ensures (subst (λ (text : List ℕ). IsFaultOf (block_texts text) (at_part kinds.Block c.in-Err.fault)) c.as_str.ensures told)
+    let reported : IsFaultOf (block_texts c.as_str.result.now) (at_part kinds.Block c.in-Err.fault) = fault_block c.as_str.result.now c.in-Err.fault c.in-Err.ensures.answer in
+    rw c.own_fault.ensures (subst (λ (text : List ℕ). IsFaultOf (block_texts text) (at_part kinds.Block c.in-Err.fault)) c.as_str.ensures reported)

@@ -7,6 +7,6 @@ use Rattle.sequence_code.proofs.step_reader.condition_of.Goals as goal
 pub returns-in-Err : goal.returns-in-Err
 returns-in-Err c =
     let part = c.args.part in
-    let told : IsFaultOf (perhaps part (Some c.as_str.result.now)) (at_part part c.in-Err.fault) =
+    let reported : IsFaultOf (perhaps part (Some c.as_str.result.now)) (at_part part c.in-Err.fault) =
     fault_condition part c.as_str.result.now c.in-Err.fault c.requires c.in-Err.ensures.answer in
-    rw (c.own_fault.ensures, c.in-Some.is) (subst (λ (text : List ℕ). IsFaultOf (perhaps part (Some text)) (at_part part c.in-Err.fault)) c.as_str.ensures told)
+    rw (c.own_fault.ensures, c.in-Some.is) (subst (λ (text : List ℕ). IsFaultOf (perhaps part (Some text)) (at_part part c.in-Err.fault)) c.as_str.ensures reported)

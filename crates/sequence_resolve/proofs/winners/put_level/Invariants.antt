@@ -6,7 +6,7 @@ use Rattle.sequence_resolve.proofs.winners.put_level.Given as goal
 
 abbrev pub invariant-loop-sequence : goal.invariant-loop-sequence
 invariant-loop-sequence l =
-    let wanted = option_map (λ w. w.now) l.wanted in
-    (with_all (map winner_view l.winners.list.items) (candidates_at wanted l.level.kind l.depth (drop l.sequence-index l.sequence-items))
-    ≡ with_all (map winner_view l.fn.winners.list.items) (candidates_at wanted l.level.kind l.depth l.level.level.now.sequences))
+    let requested = option_map (λ w. w.now) l.requested in
+    (with_all (map winner_view l.winners.list.items) (candidates_at requested l.level.kind l.depth (drop l.sequence-index l.sequence-items))
+    ≡ with_all (map winner_view l.fn.winners.list.items) (candidates_at requested l.level.kind l.depth l.level.level.now.sequences))
     × Knows l.winners.places (map winner_view l.winners.list.items)

@@ -6,6 +6,6 @@ use Rattle.sequence_resolve.proofs.winners.winners_of.Given as goal
 
 abbrev pub invariant-loop-depth : goal.invariant-loop-depth
 invariant-loop-depth l =
-    let wanted = option_map (λ w. w.now) l.wanted in
-    (with_all (map winner_view l.winners.list.items) (candidates wanted l.depth (map level_view (drop l.depth l.levels))) ≡ with_all [] (candidates wanted 0 (map level_view l.levels)))
+    let requested = option_map (λ w. w.now) l.requested in
+    (with_all (map winner_view l.winners.list.items) (candidates requested l.depth (map level_view (drop l.depth l.levels))) ≡ with_all [] (candidates requested 0 (map level_view l.levels)))
     × Knows l.winners.places (map winner_view l.winners.list.items)

@@ -1,11 +1,11 @@
 use Rattle.std.proofs.Common.{arith}
 use Rattle.std.proofs.lemmas.Grind.{common_steps}
-use Rattle.word_job.specs.Job.{words_behind}
+use Rattle.word_job.specs.Job.{words_after}
 use Rattle.word_job.proofs.SoundLemmas.{more_words}
 use Rattle.word_job.proofs.bench.words_of_items.Goals as goal
 
 pub loop-value-preserved : goal.loop-value-preserved
-unfolding words_behind
+unfolding words_after
 loop-value-preserved c = record {
   read = grind (arith, common_steps);
   kept = λ address. grind (arith, common_steps, c.loop-value.invariant.kept address);
