@@ -31,8 +31,8 @@ pub fn first_cycle(alloc: Global, graph: &CallGraph) -> Result<Option<CallSpot>,
     Ok(None)
 }
 
-/// A mark for each node with a call in a cycle. Another node is marked only where the ranks are not
-/// those of components; it is then searched from in vain.
+// A mark for each node with a call in a cycle. Another node is marked only where the ranks are not
+// those of components; it is then searched from in vain.
 fn cycle_candidates(alloc: Global, graph: &CallGraph) -> Result<Vec<bool>, OutOfMemory>
     ensures { IfOk result (λ marks. MarksCycles graph.now marks.items) }
 {
@@ -48,7 +48,7 @@ fn cycle_candidates(alloc: Global, graph: &CallGraph) -> Result<Vec<bool>, OutOf
     level_callers(alloc, graph, ranks.as_slice())
 }
 
-/// The first call of the node that leads back to it.
+// The first call of the node that leads back to it.
 fn first_back(alloc: Global, graph: &CallGraph, node: usize) -> Result<Option<usize>, OutOfMemory>
     requires { node < length graph.now }
     ensures { IfOk result (FindsFirstIn (IsInCycle graph.now) node) }
@@ -62,9 +62,9 @@ fn first_back(alloc: Global, graph: &CallGraph, node: usize) -> Result<Option<us
     Ok(None)
 }
 
-/// Whether the target is reached from a node: whether it is that node, or calls lead to it. The nodes
-/// seen before don't reach the target and aren't gone through again; where this one doesn't either,
-/// it and what it leads to is seen.
+// Whether the target is reached from a node: whether it is that node, or calls lead to it. The nodes
+// seen before don't reach the target and aren't gone through again; where this one doesn't either,
+// it and what it leads to is seen.
 fn reaches(
     alloc: Global,
     graph: &CallGraph,

@@ -41,7 +41,7 @@ pub fn chain_beginnings(
     Ok(marks)
 }
 
-/// The first call of a marked node.
+// The first call of a marked node.
 fn first_into(graph: &CallGraph, marks: &[bool]) -> Option<CallSpot>
     ensures { FindsFirst (IsInto graph.now marks.now) result }
 {

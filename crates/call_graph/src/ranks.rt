@@ -35,8 +35,8 @@ fn walked(alloc: Global, graph: &CallGraph) -> Result<Walk, OutOfMemory> {
     Ok(walk)
 }
 
-/// As many steps as a walk takes at most: each node is begun at or passed over, come to along a call
-/// and left, and each call is gone along.
+// As many steps as a walk takes at most: each node is begun at or passed over, come to along a call
+// and left, and each call is gone along.
 fn steps(graph: &CallGraph) -> usize {
     let mut steps: usize = 0;
     for node in 0..graph.len() {

@@ -5,7 +5,7 @@ use crate::graph::CallGraph;
 use dap_base::OutOfMemory;
 use std::alloc::Global;
 
-/// How far the walk has come with a node.
+// How far the walk has come with a node.
 #[derive(Clone, Copy, Debug, PartialEq, Eq)]
 enum State {
     /// Not come to.
@@ -17,7 +17,7 @@ enum State {
     Complete(usize),
 }
 
-/// A node that the walk is in.
+// A node that the walk is in.
 #[derive(Clone, Copy, Debug)]
 struct Visit {
     node: usize,
@@ -122,7 +122,7 @@ impl Walk {
         self.path.push(visit).map_err(|_| OutOfMemory)
     }
 
-    /// Goes along a call. One to a node that is new is gone along again once that is left.
+    // Goes along a call. One to a node that is new is gone along again once that is left.
     fn follow(&mut self, visit: Visit, callee: usize) -> Result<(), OutOfMemory> {
         let state = self.state(callee);
         if state == State::New {
@@ -144,7 +144,7 @@ impl Walk {
         }
     }
 
-    /// Leaves a node. One that leads to no earlier open node is the first of its component.
+    // Leaves a node. One that leads to no earlier open node is the first of its component.
     fn leave(&mut self, visit: Visit) {
         if self.state(visit.node) == State::Open(visit.place) {
             self.completed = self.completed.saturating_add(1);
@@ -152,7 +152,7 @@ impl Walk {
         }
     }
 
-    /// Completes the component of the open nodes from this one on.
+    // Completes the component of the open nodes from this one on.
     fn complete(&mut self, first: usize) {
         for _ in 0..self.open.len() {
             if let Some(node) = self.open.pop() {

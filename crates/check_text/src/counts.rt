@@ -1,4 +1,4 @@
-// How many blocks and controls there are at all depths.
+//! How many blocks and controls there are at all depths.
 ghost use Rattle.std.specs.Prelude.{◌≡◌, ◌+◌, IfOk, if◌then◌else◌};
 ghost use Rattle.device_tree.specs.StepTree.{no_steps};
 ghost use Rattle.device_tree.specs.StepsView.{cons_step, steps_view};

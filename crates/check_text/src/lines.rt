@@ -1,4 +1,4 @@
-// The lines of the texts.
+//! The lines of the texts.
 ghost use Rattle.std.specs.Prelude.{◌≡◌, ◌++◌, codes, IfOk};
 ghost use Rattle.text_lines.specs.Shown.{shown};
 ghost use Rattle.check_text.specs.Words.{level_word, kind_word};

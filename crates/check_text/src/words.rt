@@ -1,4 +1,4 @@
-// The words of the texts.
+//! The words of the texts.
 ghost use Rattle.std.specs.Prelude.{◌≡◌};
 ghost use Rattle.check_text.specs.Words.{level_word, part_word, kind_word, disabled_word};
 

@@ -1,4 +1,4 @@
-// Writing the texts line by line.
+//! Writing the texts line by line.
 ghost use Rattle.std.specs.List.{flat_map};
 ghost use Rattle.dap_base.specs.Streams.{PutAppends};
 ghost use Rattle.text_lines.specs.Causes.{NamesFault};

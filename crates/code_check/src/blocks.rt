@@ -1,4 +1,4 @@
-// The first fault of statements.
+//! The first fault of statements.
 ghost use Rattle.std.specs.Prelude.{◌≡◌, map, IfOk, OnOk, true};
 ghost use Rattle.expr_grammar.specs.Tree.{stmt_tree, code_trees};
 ghost use Rattle.code_check.specs.Order.{is_before};
@@ -45,7 +45,7 @@ fn statement_fault(scope: Scope<'_>, statement: &Stmt) -> Option<CodeFault>
     }
 }
 
-/// Makes the name visible that the statement declares.
+// Makes the name visible that the statement declares.
 fn declare(alloc: Global, names: &mut Names, statement: &Stmt) -> Result<(), OutOfMemory>
     ensures { OnOk result (names.new ≡ names_after names.old (stmt_tree statement.now)) }
 {

@@ -1,4 +1,4 @@
-// The first fault of a call, what stands inside its arguments aside.
+//! The first fault of a call, what stands inside its arguments aside.
 ghost use Rattle.std.specs.Prelude.{◌≡◌, ◌↔◌, IsTrue, Some, false, slice_get};
 ghost use Rattle.std.specs.Option.{option_copied};
 ghost use Rattle.expr_grammar.specs.Tree.{arg_tree, arg_trees};
@@ -104,7 +104,7 @@ fn sequence_fault(scope: Scope<'_>, text: &TextArg) -> Option<CodeFault>
     fault_at(text.at, FaultKind::UndefinedSequence)
 }
 
-/// Whether the text is a format with this many conversions.
+// Whether the text is a format with this many conversions.
 fn is_format_of(count: usize, text: &str) -> bool
     ensures { IsTrue result ↔ IsFormatOf count text.now }
 {
@@ -124,7 +124,7 @@ fn format_fault(count: usize, text: &TextArg) -> Option<CodeFault>
     fault_at(text.at, FaultKind::FormatMismatch)
 }
 
-/// What the texts of `Sequence` and of `Message` say.
+// What the texts of `Sequence` and of `Message` say.
 fn texts_fault(scope: Scope<'_>, function: Function, args: &[Arg]) -> Option<CodeFault>
     ensures { IsFirst is_before (TextsFault (scope_view scope.entry) function (arg_trees args.now)) result }
 {

@@ -1,4 +1,4 @@
-// The first fault of an expression.
+//! The first fault of an expression.
 ghost use Rattle.std.specs.Prelude.{◌≡◌, map};
 ghost use Rattle.expr_grammar.specs.Tree.{tree, arg_tree, arg_trees};
 ghost use Rattle.code_check.specs.Order.{is_before};

@@ -1,4 +1,4 @@
-// Names that are found fast, and that stand in the order in which they came.
+//! Names that are found fast, and that stand in the order in which they came.
 ghost use Rattle.std.specs.Prelude.{◌≡◌, ◌<◌, [], IfOk, OnOk, OnErr, IfSome, is_some, position, length, take};
 ghost use Rattle.std.specs.Str.{bytes_eq};
 ghost use Rattle.code_check.specs.Names.{has_name, with_name, predefined};
@@ -8,7 +8,7 @@ use indexmap::IndexSet;
 use std::alloc::Global;
 use std::marker::Model;
 
-/// The names of the predefined variables, in their order.
+// The names of the predefined variables, in their order.
 const PREDEFINED: [&str; 7] = [
     "__protocol",
     "__connection",

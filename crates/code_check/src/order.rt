@@ -1,4 +1,4 @@
-// Which of two faults comes first.
+//! Which of two faults comes first.
 ghost use Rattle.std.specs.Prelude.{◌≡◌};
 ghost use Rattle.code_check.specs.Order as order;
 

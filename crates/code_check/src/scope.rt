@@ -1,4 +1,4 @@
-// What code sees.
+//! What code sees.
 use crate::names::Names;
 
 /// What code sees: the visible variables, the sequences of the set, and whether it is that of the

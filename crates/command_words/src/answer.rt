@@ -1,4 +1,4 @@
-// What the words ask for, and why they ask for nothing.
+//! What the words ask for, and why they ask for nothing.
 use dap_base::{NameText, OutOfMemory};
 use std::alloc::AllocError;
 

@@ -1,4 +1,4 @@
-// The command line as clap reads it.
+//! The command line as clap reads it.
 ghost use Rattle.std.specs.Prelude.{◌≡◌, ◌≢◌, IfOk, IfErr, map, false};
 ghost use Rattle.clap.specs.Words.{app_of, found_of, kind_of, rule_of};
 ghost use Rattle.command_words.specs.Line as spec;

@@ -1,4 +1,4 @@
-// The first word of a command.
+//! The first word of a command.
 ghost use Rattle.std.specs.Prelude.{◌≡◌, ◌≢◌, MatchOption};
 ghost use Rattle.command_words.specs.Table.{mode_text};
 

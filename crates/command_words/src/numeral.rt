@@ -1,4 +1,4 @@
-// The number of a generated job.
+//! The number of a generated job.
 ghost use Rattle.std.specs.Prelude.{◌≡◌, ℕ, MatchOption};
 ghost use Rattle.command_words.specs.Table.{IsShortNumber};
 

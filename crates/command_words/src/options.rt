@@ -1,4 +1,4 @@
-// The options of a command line, and the rows of options that a command may have.
+//! The options of a command line, and the rows of options that a command may have.
 ghost use Rattle.std.specs.Prelude.{◌≡◌, ◌≢◌, ℕ, List, None, Some, MatchOption};
 ghost use Rattle.command_words.specs.Table.{for_device, for_number, IsShortNumber};
 

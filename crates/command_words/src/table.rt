@@ -1,4 +1,4 @@
-// The modes with their options.
+//! The modes with their options.
 ghost use Rattle.std.specs.Prelude.{MatchOption};
 ghost use Rattle.command_words.specs.Table.{IsRow, mode_text};
 

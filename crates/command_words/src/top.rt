@@ -1,4 +1,4 @@
-// From the words to a command.
+//! From the words to a command.
 ghost use Rattle.std.specs.Prelude.{◌≡◌, ◌≢◌, IfOk, IfErr, MatchOption, MatchResult, Some, codes, map};
 ghost use Rattle.clap.specs.Words.{first_value, found_of};
 ghost use Rattle.command_words.specs.Table.{IsCommand, mode_text, options_by};

@@ -1,4 +1,4 @@
-// Register accesses, each by a packet of its own.
+//! Register accesses, each by a packet of its own.
 ghost use Rattle.std.specs.Prelude.{◌≡◌, ◌≢◌, ◌⊎◌, ⊤, ◌<◌, ◌≤◌, ◌^◌, [], ◌∷◌, true, false, length, take, Option, None, Some, IfOk, IfErr, OnOk, OnErr, IsErrOf};
 ghost use Rattle.std.specs.List.{All};
 ghost use Rattle.dap_base.specs.Causes.{Rose, HasCause};

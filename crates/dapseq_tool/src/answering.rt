@@ -1,4 +1,4 @@
-// What is written where no job runs.
+//! What is written where no job runs.
 ghost use Rattle.std.specs.Prelude.{◌≡◌, ◌⊎◌};
 ghost use Rattle.dap_base.specs.Streams.{PutAppends};
 ghost use Rattle.text_lines.specs.Causes.{NamesFault};

@@ -1,4 +1,4 @@
-// What a call is asked for.
+//! What a call is asked for.
 ghost use Rattle.std.specs.Prelude.{◌≡◌, ◌⊎◌, ◌≤◌, IsUtf8, None, Some, length, IfOk, OnOk, IfErr, IfSome, IsErrOf, option_map, MatchBool};
 ghost use Rattle.dap_base.specs.Causes.{Rose};
 ghost use Rattle.serde_json.specs.View.{view};

@@ -1,4 +1,4 @@
-// Register accesses in a row.
+//! Register accesses in a row.
 ghost use Rattle.std.specs.Prelude.{◌≡◌, [], ◌∷◌, IfOk, OnOk, OnErr, IsErrOf};
 ghost use Rattle.dap_base.specs.Causes.{Rose};
 ghost use Rattle.probe_core.specs.Bench.{Steps};

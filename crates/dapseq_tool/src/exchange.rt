@@ -1,4 +1,4 @@
-// One packet and its reply.
+//! One packet and its reply.
 ghost use Rattle.std.specs.Prelude.{◌≡◌, ◌⊎◌, ◌<◌, ◌≤◌, ◌↔◌, false, length, take, IfOk, OnOk, OnErr, IfErr};
 ghost use Rattle.dap_base.specs.Causes.{Rose, HasCause};
 ghost use Rattle.probe_core.specs.Bench.{Steps, sent, received, IsSame};

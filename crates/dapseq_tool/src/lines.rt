@@ -1,4 +1,4 @@
-// The lines of a report.
+//! The lines of a report.
 ghost use Rattle.std.specs.Prelude.{◌≡◌, ◌++◌, IfOk, codes, decimal};
 ghost use Rattle.text_lines.specs.Hex.{hex2, hex8, hex16};
 ghost use Rattle.dapseq_tool.specs.Lines.{bit_of, units_line, variable_line, dp_line, high_part, ap_line, lines_line, hex_address, place_part, word_line};

@@ -1,4 +1,4 @@
-// Reading a source to its end.
+//! Reading a source to its end.
 ghost use Rattle.std.specs.Prelude.{◌≡◌, ◌⊎◌, ◌≤◌, ◌<◌, length, IfOk, OnOk, IfErr, IfSome, IsErrOf};
 ghost use Rattle.std.specs.Io.KnownBytes.{IsAtEnd};
 ghost use Rattle.dap_base.specs.Causes.{Rose};
@@ -7,10 +7,10 @@ ghost use Rattle.dapseq_tool.specs.Asked.{limit};
 use dap_base::Source;
 use std::alloc::Global;
 
-/// The most bytes of a job.
+// The most bytes of a job.
 const LIMIT: usize = 16_777_216;
 
-/// How many bytes are asked of a source at once.
+// How many bytes are asked of a source at once.
 const CHUNK: usize = 4096;
 
 /// Why a source was not read to its end.

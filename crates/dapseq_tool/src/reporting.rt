@@ -1,4 +1,4 @@
-// Writing the report of a run.
+//! Writing the report of a run.
 ghost use Rattle.std.specs.Prelude.{◌≡◌, ◌≢◌, ◌+◌, ◌*◌, ◌^◌, ◌++◌, ◌<◌, [], ℕ, List, length, unwrap_or, IfOk, IfErr, IfSome, MatchResult};
 ghost use Rattle.std.specs.List.{All, zip};
 ghost use Rattle.dap_base.specs.Streams.{PutAppends};

@@ -1,4 +1,4 @@
-// A run of a block on a bench.
+//! A run of a block on a bench.
 ghost use Rattle.std.specs.Prelude.{◌≡◌, ◌≢◌, ◌*◌, length, map, None, IfOk, IfErr, IfSome, OnOk, OnErr, IsErrOf};
 ghost use Rattle.dap_base.specs.Causes.{Rose};
 ghost use Rattle.probe_core.specs.Bench.{Steps, fresh};

@@ -240,7 +240,7 @@ fn other_code_is_answered(rt: HostRuntime) -> Result<(), Fail> {
 
 const CHECK: [&str; 3] = ["check", "--device", "D1"];
 
-/// The sequences of a device that is checked, and the fault that is reported.
+// The sequences of a device that is checked, and the fault that is reported.
 const REFUSED: [(&str, &str); 6] = [
     (
         r#"{"name":"Main","steps":[{"control":[{"block":"x = 1;"}],"if":"0"}]}"#,

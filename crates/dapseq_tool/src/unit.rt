@@ -1,4 +1,4 @@
-// One statement of a block on a bench.
+//! One statement of a block on a bench.
 ghost use Rattle.std.specs.Prelude.{◌≡◌, ◌<◌, ◌^◌, [], ◌∷◌, IfOk, OnOk, OnErr, IsErrOf};
 ghost use Rattle.dap_base.specs.Causes.{Rose};
 ghost use Rattle.target_machine.specs.declared.job.RegionJob.{RegionJob};

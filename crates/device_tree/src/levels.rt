@@ -1,4 +1,4 @@
-// The levels of a pack, read from JSON.
+//! The levels of a pack, read from JSON.
 ghost use Rattle.std.specs.Prelude.{◌≡◌, codes, IfOk, Ok, string_bytes};
 ghost use Rattle.std.specs.Str.{bytes_eq};
 ghost use Rattle.serde_json.specs.View.{view};

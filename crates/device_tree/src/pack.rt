@@ -1,4 +1,4 @@
-// A pack: its levels and the sequences of each.
+//! A pack: its levels and the sequences of each.
 use crate::steps::Steps;
 use dap_base::{ItemList, NameText};
 

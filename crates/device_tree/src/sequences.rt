@@ -1,4 +1,4 @@
-// Sequences and the keys of a level, read from JSON.
+//! Sequences and the keys of a level, read from JSON.
 ghost use Rattle.std.specs.Prelude.{◌≡◌, ◌&&◌, IfOk, option_map, string_bytes};
 ghost use Rattle.std.specs.Str.{bytes_eq};
 ghost use Rattle.serde_json.specs.View.{view};

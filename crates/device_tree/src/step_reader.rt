@@ -1,4 +1,4 @@
-// Steps, read from JSON.
+//! Steps, read from JSON.
 ghost use Rattle.std.specs.Prelude.{◌≡◌, codes, option_map};
 ghost use Rattle.serde_json.specs.View.{view, items_view};
 ghost use Rattle.serde_json.specs.Find.{get};
@@ -24,7 +24,7 @@ const ANY_TIMEOUT: Number<u64> = Number {
     high: u64::MAX,
 };
 
-/// A step with the key `block`.
+// A step with the key `block`.
 #[tactic(auto, unfolding(crate::specs::StepsReading::block_step))]
 fn block_of(alloc: Global, value: &Value) -> Result<Step, JobFault>
     ensures { Gives result (block_step (view value.now)) }
@@ -36,7 +36,7 @@ fn block_of(alloc: Global, value: &Value) -> Result<Step, JobFault>
     Ok(Step::Block { code, atomic })
 }
 
-/// The steps inside a control.
+// The steps inside a control.
 #[cycle(step_reader)]
 fn inner_of(alloc: Global, value: &Value) -> Result<Steps, JobFault>
     ensures { Gives result (inner_steps (option_map steps_in (get (codes "control") (view value.now)))) }
@@ -50,7 +50,7 @@ fn inner_of(alloc: Global, value: &Value) -> Result<Steps, JobFault>
     }
 }
 
-/// A control, after the steps inside.
+// A control, after the steps inside.
 #[tactic(auto, unfolding(crate::specs::StepsReading::control_after))]
 fn control_of(alloc: Global, value: &Value, steps: Steps) -> Result<Step, JobFault>
     ensures { Gives result (control_after steps (view value.now)) }
@@ -67,7 +67,7 @@ fn control_of(alloc: Global, value: &Value, steps: Steps) -> Result<Step, JobFau
     })
 }
 
-/// A step without the key `block`.
+// A step without the key `block`.
 #[cycle(step_reader)]
 #[tactic(auto, unfolding(crate::specs::StepsReading::control_step))]
 fn control_step_of(alloc: Global, value: &Value) -> Result<Step, JobFault>
@@ -113,7 +113,7 @@ fn items_of(alloc: Global, values: &[Value]) -> Result<Steps, JobFault>
     Ok(steps)
 }
 
-/// The steps of a sequence or of a control.
+// The steps of a sequence or of a control.
 #[cycle(step_reader)]
 #[tactic(auto, using(crate::proofs::StepsOpen::opening))]
 fn steps_of(alloc: Global, value: &Value) -> Result<Steps, JobFault>

@@ -1,4 +1,4 @@
-// The steps of sequences.
+//! The steps of sequences.
 ghost use Rattle.std.specs.Prelude.{◌≡◌, OnOk, OnErr, slice_get};
 ghost use Rattle.std.specs.Option.{option_copied};
 ghost use Rattle.device_tree.specs.StepTree.{no_steps};

@@ -110,7 +110,7 @@ fn line_len(bytes: &[u8]) -> usize
     bytes.iter().take_while(|b| **b != b'\n').count()
 }
 
-/// The length of the comment that `/*` opens, up to the next `*/`.
+// The length of the comment that `/*` opens, up to the next `*/`.
 fn block_len(bytes: &[u8]) -> Option<usize>
     requires { 2 ≤ length bytes.now }
     ensures { ClosesFirst bytes.now result }
@@ -123,7 +123,7 @@ fn block_len(bytes: &[u8]) -> Option<usize>
     None
 }
 
-/// The length of a string after its opening quote, the closing one included.
+// The length of a string after its opening quote, the closing one included.
 fn string_end(bytes: &[u8]) -> Option<usize>
     ensures { result ≡ front.string_end false bytes.now }
 {
@@ -148,7 +148,7 @@ fn mark_len(bytes: &[u8]) -> usize
     }
 }
 
-/// Whether the text begins with `/` and this byte.
+// Whether the text begins with `/` and this byte.
 fn opens_comment(bytes: &[u8], second: u8) -> bool
     requires { 0 < second }
     ensures { result ≡ (slice_index bytes.now 0 == 47 && slice_index bytes.now 1 == second) }
@@ -156,7 +156,7 @@ fn opens_comment(bytes: &[u8], second: u8) -> bool
     bytes.len() > 1 && bytes[0] == b'/' && bytes[1] == second
 }
 
-/// A number: from its first digit to the last letter, digit or `_`.
+// A number: from its first digit to the last letter, digit or `_`.
 fn number_front(text: &str) -> Option<Piece>
     requires { spelling.is_decimal (slice_index text.now 0) ≡ true }
     ensures { FrontIs text.now result }
@@ -169,7 +169,7 @@ fn number_front(text: &str) -> Option<Piece>
     }
 }
 
-/// A name or the keyword.
+// A name or the keyword.
 fn word_front(text: &str) -> Piece
     requires { spelling.is_letter (slice_index text.now 0) ≡ true }
     ensures { FrontIs text.now (Some result) }
@@ -183,7 +183,7 @@ fn word_front(text: &str) -> Piece
     }
 }
 
-/// A string, from its opening quote.
+// A string, from its opening quote.
 fn string_front(bytes: &[u8]) -> Option<Piece>
     requires { slice_index bytes.now 0 ≡ 34 }
     ensures { FrontIs bytes.now result }
@@ -194,7 +194,7 @@ fn string_front(bytes: &[u8]) -> Option<Piece>
     }
 }
 
-/// A mark that begins with no letter.
+// A mark that begins with no letter.
 fn mark_front(bytes: &[u8]) -> Option<Piece>
     requires blank { lexing.is_blank (slice_index bytes.now 0) ≡ false }
     requires line { lexing.begins_line_comment bytes.now ≡ false }
@@ -212,7 +212,7 @@ fn mark_front(bytes: &[u8]) -> Option<Piece>
     }
 }
 
-/// A comment that `/*` opens.
+// A comment that `/*` opens.
 fn block_front(bytes: &[u8]) -> Option<Piece>
     requires { lexing.begins_block_comment bytes.now ≡ true }
     ensures { FrontIs bytes.now result }

@@ -23,7 +23,7 @@ pub fn tokens<'a>(alloc: Global, text: &'a str) -> Result<Tokens<'a>, TokenError
     cut(alloc, text)
 }
 
-/// The tokens of `text`, or its first bad place.
+// The tokens of `text`, or its first bad place.
 fn cut<'a>(alloc: Global, text: &'a str) -> Result<Tokens<'a>, TokenError>
     ensures { Lexes text.now result }
 {
@@ -50,7 +50,7 @@ fn cut<'a>(alloc: Global, text: &'a str) -> Result<Tokens<'a>, TokenError>
     Ok(Tokens::of_text(text, items))
 }
 
-/// The place after these bytes, where the first of them stands at this place.
+// The place after these bytes, where the first of them stands at this place.
 fn place_after(at: Place, bytes: &[u8]) -> Place
     requires line { at.line + length bytes.now < 2 ^ 64 }
     requires column { at.column + length bytes.now + 1 < 2 ^ 64 }

@@ -17,9 +17,9 @@ pub enum Span {
     Statement,
 }
 
-/// How many tokens may be counted together.
+// How many tokens may be counted together.
 const MAX_TOKENS: usize = 512;
-/// How many parentheses may be open at once.
+// How many parentheses may be open at once.
 const MAX_OPEN: usize = 64;
 
 /// How many tokens were counted, and how many parentheses among them.
@@ -31,7 +31,7 @@ pub struct Count {
 }
 
 impl Count {
-    /// Nothing was counted.
+    // Nothing was counted.
     fn nothing() -> Count
         ensures { result ≡ counting.nothing_counted }
     {
@@ -42,7 +42,7 @@ impl Count {
         }
     }
 
-    /// Whether there is no room for this token.
+    // Whether there is no room for this token.
     fn is_full(&self, token: &Token<'_>) -> bool
         ensures { result ≡ counting.is_full self.now (lexeme token.now) }
     {
@@ -50,7 +50,7 @@ impl Count {
             || (is_mark(token, "(") && self.opened.saturating_sub(self.closed) == MAX_OPEN)
     }
 
-    /// The count with this token, or from nothing after the end of a statement.
+    // The count with this token, or from nothing after the end of a statement.
     fn with_token(&self, token: &Token<'_>, span: Span) -> Count
         requires tokens { self.now.tokens < 512 }
         requires opened { self.now.opened ≤ 512 }

@@ -68,7 +68,7 @@ pub fn parse_code(alloc: Global, tokens: &Tokens<'_>) -> Result<Code, ParseError
     code_answer(alloc, tokens)
 }
 
-/// The expression, or the place where there is none.
+// The expression, or the place where there is none.
 fn expr_answer(alloc: Global, tokens: &Tokens<'_>) -> Result<Expr, ParseError>
     ensures { Answers tree ReadsExpr Text tokens.now result }
 {
@@ -77,7 +77,7 @@ fn expr_answer(alloc: Global, tokens: &Tokens<'_>) -> Result<Expr, ParseError>
     answer(expression(alloc, &all[..limit]), tokens, limit)
 }
 
-/// The statements, or the place where there are none.
+// The statements, or the place where there are none.
 fn code_answer(alloc: Global, tokens: &Tokens<'_>) -> Result<Code, ParseError>
     ensures { Answers code_trees ReadsCode Statement tokens.now result }
 {
@@ -86,7 +86,7 @@ fn code_answer(alloc: Global, tokens: &Tokens<'_>) -> Result<Code, ParseError>
     answer(code(alloc, &all[..limit]), tokens, limit)
 }
 
-/// An expression that all of the tokens are.
+// An expression that all of the tokens are.
 fn expression(alloc: Global, tokens: &[Token<'_>]) -> Result<Expr, Fault>
     ensures { Gives tree result (all_of (reading.whole reading.read) (lexemes tokens.now)) }
 {
@@ -97,7 +97,7 @@ fn expression(alloc: Global, tokens: &[Token<'_>]) -> Result<Expr, Fault>
     Ok(e)
 }
 
-/// Statements that all of the tokens are.
+// Statements that all of the tokens are.
 fn code(alloc: Global, tokens: &[Token<'_>]) -> Result<Code, Fault>
     ensures { Gives code_trees result
         (all_of (reading.statements reading.read) (lexemes tokens.now)) }
@@ -105,8 +105,8 @@ fn code(alloc: Global, tokens: &[Token<'_>]) -> Result<Code, Fault>
     statements(alloc, tokens)
 }
 
-/// The answer, from what was read of the tokens before the limit. A token at the limit is too deep, also
-/// where it is unexpected.
+// The answer, from what was read of the tokens before the limit. A token at the limit is too deep, also
+// where it is unexpected.
 fn answer<V: Drop>(
     outcome: Result<V, Fault>,
     tokens: &Tokens<'_>,

@@ -32,7 +32,7 @@ pub fn whole<'t, 'a>(
     }
 }
 
-/// What stands after a name: a value for it, or nothing of it.
+// What stands after a name: a value for it, or nothing of it.
 #[cycle(parser)]
 #[tactic(auto, using(crate::proofs::Fix::fixes))]
 fn assignment<'t, 'a>(
@@ -52,7 +52,7 @@ fn assignment<'t, 'a>(
     }
 }
 
-/// A choice between two values, or one value.
+// A choice between two values, or one value.
 #[cycle(parser)]
 #[tactic(auto, unfolding(crate::specs::Reading::choice, crate::specs::Reading::asked), using(crate::proofs::Fix::fixes))]
 fn choice<'t, 'a>(alloc: Global, tokens: &'t [Token<'a>]) -> Result<(Expr, &'t [Token<'a>]), Fault>
@@ -71,7 +71,7 @@ fn choice<'t, 'a>(alloc: Global, tokens: &'t [Token<'a>]) -> Result<(Expr, &'t [
     }
 }
 
-/// Operands joined by operators that bind at least so tightly, which group to the left.
+// Operands joined by operators that bind at least so tightly, which group to the left.
 #[cycle(parser)]
 #[tactic(auto, unfolding(crate::specs::Reading::at_level, crate::specs::Reading::climb), using(crate::proofs::Fix::fixes))]
 fn at_level<'t, 'a>(
@@ -94,7 +94,7 @@ fn at_level<'t, 'a>(
     Ok((left, rest))
 }
 
-/// An expression in parentheses, after the first of them.
+// An expression in parentheses, after the first of them.
 #[cycle(parser)]
 #[tactic(auto, using(crate::proofs::Fix::fixes))]
 fn grouped<'t, 'a>(alloc: Global, tokens: &'t [Token<'a>]) -> Result<(Expr, &'t [Token<'a>]), Fault>
@@ -106,7 +106,7 @@ fn grouped<'t, 'a>(alloc: Global, tokens: &'t [Token<'a>]) -> Result<(Expr, &'t 
     Ok((made::group(alloc, inner)?, rest))
 }
 
-/// A number, a name, an operator with its operand, or an expression in parentheses.
+// A number, a name, an operator with its operand, or an expression in parentheses.
 #[cycle(parser)]
 #[tactic(auto, unfolding(crate::specs::Reading::operand), using(crate::proofs::Fix::fixes))]
 fn operand<'t, 'a>(alloc: Global, tokens: &'t [Token<'a>]) -> Result<(Expr, &'t [Token<'a>]), Fault>
@@ -139,7 +139,7 @@ fn operand<'t, 'a>(alloc: Global, tokens: &'t [Token<'a>]) -> Result<(Expr, &'t 
     }
 }
 
-/// A name, or a call of it, after the name.
+// A name, or a call of it, after the name.
 #[cycle(parser)]
 #[tactic(auto, using(crate::proofs::Fix::fixes))]
 fn named<'t, 'a>(
@@ -156,7 +156,7 @@ fn named<'t, 'a>(
     }
 }
 
-/// A call, after its opening parenthesis.
+// A call, after its opening parenthesis.
 #[cycle(parser)]
 #[tactic(auto, using(crate::proofs::Fix::fixes))]
 fn called<'t, 'a>(
@@ -177,7 +177,7 @@ fn called<'t, 'a>(
     Ok((made::call(name, args), rest))
 }
 
-/// An argument, and the tokens after it.
+// An argument, and the tokens after it.
 #[cycle(parser)]
 #[tactic(auto, unfolding(crate::specs::Reading::argument), using(crate::proofs::Fix::fixes))]
 fn argument<'t, 'a>(alloc: Global, tokens: &'t [Token<'a>]) -> Result<(Arg, &'t [Token<'a>]), Fault>
@@ -199,7 +199,7 @@ fn argument<'t, 'a>(alloc: Global, tokens: &'t [Token<'a>]) -> Result<(Arg, &'t 
     }
 }
 
-/// One argument or more, and the tokens after the closing parenthesis.
+// One argument or more, and the tokens after the closing parenthesis.
 #[cycle(parser)]
 #[tactic(auto, unfolding(crate::specs::Reading::arguments), using(crate::proofs::Fix::fixes))]
 fn arguments<'t, 'a>(

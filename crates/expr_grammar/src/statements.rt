@@ -17,7 +17,7 @@ use crate::token::Token;
 use dap_base::Place;
 use std::alloc::Global;
 
-/// A declaration, after `__var`.
+// A declaration, after `__var`.
 #[tactic(auto, unfolding(crate::specs::Reading::declared))]
 fn declaration<'t, 'a>(
     alloc: Global,
@@ -33,7 +33,7 @@ fn declaration<'t, 'a>(
     Ok((made::declaration(name, value), rest))
 }
 
-/// An expression and its semicolon.
+// An expression and its semicolon.
 #[tactic(auto, unfolding(crate::specs::Reading::plain))]
 fn plain<'t, 'a>(
     alloc: Global,
@@ -48,7 +48,7 @@ fn plain<'t, 'a>(
     Ok((made::plain(at, value), rest))
 }
 
-/// A statement, and the tokens after it.
+// A statement, and the tokens after it.
 #[tactic(auto, unfolding(crate::specs::Reading::statement))]
 fn statement<'t, 'a>(
     alloc: Global,
@@ -69,7 +69,7 @@ fn statement<'t, 'a>(
     }
 }
 
-/// A statement and the tokens after it, or nothing where no token is left.
+// A statement and the tokens after it, or nothing where no token is left.
 #[tactic(auto, unfolding(crate::specs::Reading::statements))]
 fn next_statement<'t, 'a>(
     alloc: Global,

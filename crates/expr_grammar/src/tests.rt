@@ -6,7 +6,7 @@ use dap_base::Place;
 use std::alloc::{AllocError, Global};
 use std::test::*;
 
-/// What is asked of a text: its statements or one expression.
+// What is asked of a text: its statements or one expression.
 #[derive(Clone, Copy)]
 enum Goal {
     Code,
@@ -15,7 +15,7 @@ enum Goal {
 
 use Goal::{Code, Expr as Whole};
 
-/// What came of a text: how many statements, one expression, or the place of a fault.
+// What came of a text: how many statements, one expression, or the place of a fault.
 #[derive(Clone, Copy, Debug, PartialEq, Eq)]
 enum Came {
     Statements(usize),
@@ -52,7 +52,7 @@ fn outcome_of(alloc: Global, goal: Goal, text: &str) -> Came {
     }
 }
 
-/// Texts, what is asked of them, and what comes of it.
+// Texts, what is asked of them, and what comes of it.
 const TEXTS: [(Goal, &str, Came); 34] = [
     (Code, "a - ;", Came::Unexpected(1, 5)),
     (Code, "1x", Came::Bad(1, 1)),
@@ -105,7 +105,7 @@ fn texts(rt: HostRuntime) {
     }
 }
 
-/// `front`, then `count` times `1` joined by `+`, then `end`.
+// `front`, then `count` times `1` joined by `+`, then `end`.
 fn sum_of(alloc: Global, front: &str, count: usize, end: &str) -> Result<String, AllocError> {
     let mut text = String::from_str(alloc, front)?;
     text.push_str("1")?;
@@ -116,7 +116,7 @@ fn sum_of(alloc: Global, front: &str, count: usize, end: &str) -> Result<String,
     Ok(text)
 }
 
-/// `count` times the same text.
+// `count` times the same text.
 fn repeated(alloc: Global, text: &str, count: usize) -> Result<String, AllocError> {
     let mut all = String::new(alloc);
     for _ in 0..count {
@@ -184,7 +184,7 @@ fn trees(rt: HostRuntime) -> Result<(), Fail> {
 
 const CODE: &str = "__var x = ~(1);\n Message(0, \"a\\\"b\");";
 
-/// The statements of that code, as they are shown.
+// The statements of that code, as they are shown.
 const SHOWN: &str =
     "ItemList { items: [Declare(Name { text: NameText { text: \"x\" }, at: Place { line: 1, column: 7 } }, \
 Unary(Flip, Group(Number(1)))), Plain(Place { line: 2, column: 2 }, Call(Name { text: NameText { text: \"Message\" }, \
@@ -203,7 +203,7 @@ fn statements(rt: HostRuntime) -> Result<(), Fail> {
 
 const SPACED: &str = "a /* ** */ >=\n0x1F<<\"b\\\"\"// end";
 
-/// The tokens of that text: kind, text, offset, line and column.
+// The tokens of that text: kind, text, offset, line and column.
 const TOKENS: [(TokenKind, &str, usize, u64, u64); 5] = [
     (TokenKind::Name, "a", 0, 1, 1),
     (TokenKind::Mark, ">=", 11, 1, 12),
@@ -212,7 +212,7 @@ const TOKENS: [(TokenKind, &str, usize, u64, u64); 5] = [
     (TokenKind::Text, "\"b\\\"\"", 20, 2, 7),
 ];
 
-/// Whether the token has this kind and text, and stands at this offset and place.
+// Whether the token has this kind and text, and stands at this offset and place.
 fn is_token(token: &Token<'_>, kind: TokenKind, text: &str, start: usize, at: Place) -> bool {
     token.kind == kind && token.text == text && token.start == start && token.at == at
 }

@@ -1,4 +1,4 @@
-// Why the sequences of a job are refused.
+//! Why the sequences of a job are refused.
 use dap_base::OutOfMemory;
 use device_tree::JobFault;
 use seq_check::FaultKind;

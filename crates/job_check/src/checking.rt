@@ -1,4 +1,4 @@
-// From the bytes of a job to a valid set of sequences.
+//! From the bytes of a job to a valid set of sequences.
 ghost use Rattle.std.specs.Prelude.{◌≡◌, ℕ, List, Result, Option, IfOk, IfErr, map, option_map};
 ghost use Rattle.std.specs.List.{IsDistinct};
 ghost use Rattle.std.specs.Str.{bytes_eq};

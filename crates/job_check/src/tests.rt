@@ -1,4 +1,4 @@
-// What is written of whole jobs: the text of a valid set, or the line of the first refusal.
+//! What is written of whole jobs: the text of a valid set, or the line of the first refusal.
 mod block_tests;
 mod call_tests;
 mod control_tests;

@@ -1,4 +1,4 @@
-// The line of a refusal.
+//! The line of a refusal.
 ghost use Rattle.std.specs.Prelude.{◌≡◌, ◌++◌, codes, IfOk};
 ghost use Rattle.dap_base.specs.Streams.{PutAppends};
 ghost use Rattle.text_lines.specs.Causes.{NamesFault};

@@ -1,4 +1,4 @@
-// The simulated probe and its target: the member `bench`.
+//! The simulated probe and its target: the member `bench`.
 ghost use Rattle.serde_json.specs.View.{view};
 ghost use Rattle.json_form.specs.Faults.{Gives};
 ghost use Rattle.job_text.specs.TargetReading.{packet_size_in, packet_count_in, limits_in, bench_in};

@@ -1,4 +1,4 @@
-// A job, and why a text is none.
+//! A job, and why a text is none.
 use dap_base::ItemList;
 use device_tree::{JobFault, Pack};
 use probe_core::BenchJob;

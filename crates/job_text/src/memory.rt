@@ -1,4 +1,4 @@
-// The memory of a target: regions, words and scripts.
+//! The memory of a target: regions, words and scripts.
 ghost use Rattle.std.specs.Prelude.{◌≡◌, ℕ, ◌+◌, ◌^◌, ◌==◌, ◌||◌, nat_le, nat_lt, sum_by, IfOk};
 ghost use Rattle.std.specs.List.{list_any};
 ghost use Rattle.std.specs.Ordering.{nat_cmp};
@@ -20,10 +20,10 @@ use std::alloc::Global;
 use std::collections::BTreeSet;
 use target_machine::{RegionJob, ScriptJob, Values, WordJob};
 
-/// The bytes of all regions together are at most this many.
+// The bytes of all regions together are at most this many.
 const MEMORY_LIMIT: u64 = 4_194_304;
 
-/// A region ends at this address at most.
+// A region ends at this address at most.
 const MEMORY_END: u64 = 1 << 63;
 
 pub const ANY_ADDRESS: Number<u64> = Number {
@@ -57,7 +57,7 @@ impl Reader for AlignedAddress {
     }
 }
 
-/// Whether the regions and one more of this length are not too many bytes together.
+// Whether the regions and one more of this length are not too many bytes together.
 fn fits_after(earlier: &[RegionJob], length: u32) -> bool
     ensures { result ≡ nat_le (sum_by (λ r. r.length) earlier.now + length) 4194304 }
 {
@@ -83,7 +83,7 @@ fn is_length(earlier: &[RegionJob], address: u64, length: u32) -> bool
     length % 4 == 0 && ends_early(address, length) && fits_after(earlier, length)
 }
 
-/// Reads the length of a region, with its address and the regions before it in hand.
+// Reads the length of a region, with its address and the regions before it in hand.
 #[derive(Clone, Copy)]
 struct RegionLength<'a> {
     earlier: &'a [RegionJob],
@@ -198,7 +198,7 @@ fn is_in_one(address: u64, regions: &[RegionJob]) -> bool
         .any(|region| is_in(u128::from(address), region))
 }
 
-/// Reads the address of a word in one of the regions.
+// Reads the address of a word in one of the regions.
 #[derive(Clone, Copy)]
 struct WordAddress<'a> {
     regions: &'a [RegionJob],
@@ -263,7 +263,7 @@ const VALUES: ListOf<Each<Number<u32>>> = ListOf {
     item: Each { item: ANY_WORD },
 };
 
-/// Reads the values of a script, of which there is one at least.
+// Reads the values of a script, of which there is one at least.
 #[derive(Clone, Copy)]
 struct ValuesReader;
 
@@ -294,7 +294,7 @@ fn script_of(alloc: Global, regions: &[RegionJob], value: &Value) -> Result<Scri
     Ok(ScriptJob { address, values })
 }
 
-/// The addresses of the words.
+// The addresses of the words.
 #[tactic(auto, using(crate::proofs::KeyLemmas::seeing))]
 fn addresses_of(alloc: Global, words: &[WordJob]) -> Result<BTreeSet<u64>, OutOfMemory>
     ensures { IfOk result (λ seen. (key : ℕ) → contains nat_cmp seen key ≡ list_any (λ word. word.address == key) words.now) }

@@ -1,4 +1,4 @@
-// The path of a fault, as text.
+//! The path of a fault, as text.
 ghost use Rattle.std.specs.Prelude.{◌≡◌, ◌++◌, IfOk, OnOk};
 ghost use Rattle.std.specs.List.{flat_map};
 ghost use Rattle.job_text.specs.PathText.{escaped, step_text, path_bytes};

@@ -1,4 +1,4 @@
-// The whole job.
+//! The whole job.
 ghost use Rattle.std.specs.Prelude.{IfOk, IfErr};
 ghost use Rattle.serde_json.specs.View.{view};
 ghost use Rattle.json_form.specs.Faults.{Gives};

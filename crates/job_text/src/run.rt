@@ -1,4 +1,4 @@
-// How sequences are run: the member `run`.
+//! How sequences are run: the member `run`.
 ghost use Rattle.std.specs.Prelude.{◌≡◌, [], codes, map, IfOk};
 ghost use Rattle.serde_json.specs.View.{view};
 ghost use Rattle.json_form.specs.Faults.{Gives};
@@ -12,7 +12,7 @@ use serde_json::Value;
 use std::alloc::Global;
 use target_machine::{Settings, Variable, Variables};
 
-/// The names of the predefined variables, in their order.
+// The names of the predefined variables, in their order.
 const PREDEFINED: [&str; 7] = [
     "__protocol",
     "__connection",

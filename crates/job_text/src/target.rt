@@ -1,4 +1,4 @@
-// The simulated target.
+//! The simulated target.
 ghost use Rattle.std.specs.Prelude.{◌≡◌, ◌==◌};
 ghost use Rattle.serde_json.specs.View.{view};
 ghost use Rattle.json_form.specs.Faults.{Gives};
@@ -24,7 +24,7 @@ const ANY_BYTE: Number<u8> = Number {
 
 const AP_KEYS: [&str; 5] = ["ap", "idr", "base", "csw", "la"];
 
-/// Reads an access port.
+// Reads an access port.
 #[derive(Clone, Copy)]
 struct ApReader;
 
@@ -64,7 +64,7 @@ impl Keyed for ApReader {
     }
 }
 
-/// Reads a DPIDR, whose bit 0 is set.
+// Reads a DPIDR, whose bit 0 is set.
 #[derive(Clone, Copy)]
 struct Dpidr;
 
@@ -80,7 +80,7 @@ impl Reader for Dpidr {
     }
 }
 
-/// Reads the levels of the pins, without bits 4 and 6.
+// Reads the levels of the pins, without bits 4 and 6.
 #[derive(Clone, Copy)]
 struct Pins;
 
@@ -106,7 +106,7 @@ const EDGE: Choice = Choice {
     second: "carry",
 };
 
-/// How the debug port and the lines start.
+// How the debug port and the lines start.
 #[derive(Clone, Copy)]
 struct DebugPort {
     dpidr: u32,

@@ -1,4 +1,4 @@
-// What is said of jobs: their first faults, and what a job has where it is silent.
+//! What is said of jobs: their first faults, and what a job has where it is silent.
 mod bench_tests;
 mod pack_tests;
 mod run_tests;

@@ -1,4 +1,4 @@
-// The words to print at the end: the member `watch`.
+//! The words to print at the end: the member `watch`.
 ghost use Rattle.std.specs.Prelude.{◌≡◌, ℕ, ◌+◌, ◌*◌, ◌<◌, ◌≤◌, ◌^◌, true, false, IfSome, IfNone, find};
 ghost use Rattle.std.specs.Option.{option_copied};
 ghost use Rattle.serde_json.specs.View.{view};
@@ -26,7 +26,7 @@ fn region_at(regions: &[RegionJob], address: u128) -> Option<&RegionJob>
     regions.iter().find(|region| is_in(address, region))
 }
 
-/// How many words from the address on begin in the region.
+// How many words from the address on begin in the region.
 fn words_within(region: &RegionJob, address: u128) -> u64
     requires { holds address region.now ≡ true }
     ensures some { 0 < result }
@@ -38,7 +38,7 @@ fn words_within(region: &RegionJob, address: u128) -> u64
     (length - passed).div_ceil(4)
 }
 
-/// How many words from the address on lie in the region there. `None` where it lies in no region.
+// How many words from the address on lie in the region there. `None` where it lies in no region.
 fn words_from(regions: &[RegionJob], address: u128) -> Option<u64>
     ensures none { IfNone result (is_held regions.now address ≡ false) }
     ensures some { IfSome result (λ count. 0 < count) }
@@ -51,8 +51,8 @@ fn words_from(regions: &[RegionJob], address: u128) -> Option<u64>
     }
 }
 
-/// Whether each of so many words from the address on lies in a region. The regions are passed one
-/// after another, and not the words.
+// Whether each of so many words from the address on lies in a region. The regions are passed one
+// after another, and not the words.
 fn are_in(regions: &[RegionJob], address: u64, words: u32) -> bool
     ensures { result ≡ are_words_in regions.now address words }
 {
@@ -71,7 +71,7 @@ fn are_in(regions: &[RegionJob], address: u64, words: u32) -> bool
     true
 }
 
-/// Reads the number of words from an address on, each of which lies in a region.
+// Reads the number of words from an address on, each of which lies in a region.
 #[derive(Clone, Copy)]
 struct WordsFrom<'a> {
     regions: &'a [RegionJob],

@@ -1,4 +1,4 @@
-// Lists whose items are reported apart by a key, found in an ordered set.
+//! Lists whose items are reported apart by a key, found in an ordered set.
 ghost use Rattle.std.specs.Prelude.{◌≡◌, List, Bool, true, IfOk, OnErr, if◌then◌else◌};
 ghost use Rattle.std.specs.Ordering.{is_eq};
 ghost use Rattle.std.specs.List.{list_any};

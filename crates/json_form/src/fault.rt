@@ -1,4 +1,4 @@
-// Why a value is refused.
+//! Why a value is refused.
 use crate::path::Path;
 use dap_base::OutOfMemory;
 

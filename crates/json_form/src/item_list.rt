@@ -1,4 +1,4 @@
-// Lists, whose items are read one after another.
+//! Lists, whose items are read one after another.
 ghost use Rattle.std.specs.Prelude.{◌≡◌, [], length, Option};
 ghost use Rattle.serde_json.specs.View.{view, items_view};
 ghost use Rattle.json_form.specs.Faults.{Gives, at};

@@ -1,4 +1,4 @@
-// The keys that an object may have.
+//! The keys that an object may have.
 ghost use Rattle.std.specs.Prelude.{◌≡◌, map, bytes_eq};
 ghost use Rattle.std.specs.List.{list_any};
 ghost use Rattle.std.specs.Option.{option_copied};
@@ -26,7 +26,7 @@ fn is_known(name: &str, known: &[&str]) -> bool
     is_one_of(name, known)
 }
 
-/// The first name in byte order, which is the map's order, that is not known.
+// The first name in byte order, which is the map's order, that is not known.
 #[tactic(auto, using(crate::proofs::NameLemmas::naming))]
 fn first_unknown<'a>(members: &'a Map<String, Value>, known: &[&str]) -> Option<&'a str>
     ensures { option_copied result ≡ least_unknown (map (λ k. k.now) known.now) (names (members_view members.now.entries)) }

@@ -1,4 +1,4 @@
-// Texts, flags and choices.
+//! Texts, flags and choices.
 ghost use Rattle.std.specs.Prelude.{◌≡◌};
 ghost use Rattle.json_form.specs.Reading.{text, flag, choice};
 

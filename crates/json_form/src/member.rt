@@ -1,4 +1,4 @@
-// Members of objects.
+//! Members of objects.
 ghost use Rattle.std.specs.Prelude.{◌≡◌};
 ghost use Rattle.serde_json.specs.View.{view};
 ghost use Rattle.json_form.specs.Faults.{Gives, at};

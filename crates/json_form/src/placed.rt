@@ -1,4 +1,4 @@
-// Faults, seen from further out. A fault comes once a job, so a path is written anew at each level.
+//! Faults, seen from further out. A fault comes once a job, so a path is written anew at each level.
 ghost use Rattle.std.specs.Prelude.{◌≡◌, ◌∷◌, ◌++◌, [], ◌⊎◌, IfOk, IfSome};
 ghost use Rattle.json_form.specs.Faults.{fault_at};
 ghost use Rattle.json_form.specs.declared.path.PathStep.TheVariants.{Key, Index};
@@ -26,7 +26,7 @@ fn push_copies(alloc: Global, path: &mut Path, steps: &[PathStep]) -> Result<(),
     Ok(())
 }
 
-/// The path with a step before it. `None` where memory is refused.
+// The path with a step before it. `None` where memory is refused.
 fn preceded(alloc: Global, first: PathStep, path: &Path) -> Option<Path>
     ensures { IfSome result (λ longer. longer ≡ first ∷ path.now) }
 {
@@ -36,7 +36,7 @@ fn preceded(alloc: Global, first: PathStep, path: &Path) -> Option<Path>
     Some(longer)
 }
 
-/// The fault, seen from one step further out.
+// The fault, seen from one step further out.
 fn fault_under(alloc: Global, fault: JobFault, step: PathStep) -> JobFault
     ensures { (result ≡ fault_at step fault) ⊎ (result ≡ JobFault.OutOfMemory) }
 {

@@ -1,4 +1,4 @@
-// What reads one kind of value.
+//! What reads one kind of value.
 use crate::fault::JobFault;
 use serde_json::Value;
 use std::alloc::Global;

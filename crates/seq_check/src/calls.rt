@@ -1,4 +1,4 @@
-// The calls of sequences in a text.
+//! The calls of sequences in a text.
 ghost use Rattle.std.specs.Prelude.{◌≡◌, ◌++◌, OnOk, length, option_map};
 ghost use Rattle.expr_grammar.specs.Tree.{tree, arg_tree, arg_trees, stmt_tree, code_trees};
 ghost use Rattle.seq_check.specs.Calls.{number_of, own_calls, expr_calls, arg_calls, args_calls, statement_calls, block_calls, condition_calls};
@@ -25,7 +25,7 @@ fn number_of(names: &Names, name: &str) -> usize
     }
 }
 
-/// Appends the call that a call of a function is, if it is one of a sequence.
+// Appends the call that a call of a function is, if it is one of a sequence.
 fn push_own(
     names: &Names,
     called: &Name,
@@ -46,7 +46,7 @@ fn push_own(
     }
 }
 
-/// Appends the calls of an expression, in the order of the text.
+// Appends the calls of an expression, in the order of the text.
 #[cycle(calls)]
 fn push_expr(names: &Names, expr: &Expr, calls: &mut ItemList<TextCall>) -> Result<(), OutOfMemory>
     ensures { OnOk result (calls.new ≡ calls.old ++ expr_calls names.now (tree expr.now)) }

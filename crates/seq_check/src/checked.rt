@@ -1,4 +1,4 @@
-// A checked set, and why a set is not valid.
+//! A checked set, and why a set is not valid.
 ghost use Rattle.std.specs.Prelude.{◌≡◌, is_some, option_map};
 ghost use Rattle.expr_grammar.specs.Tree.{code_trees};
 ghost use Rattle.sequence_code.specs.Trees.{steps_tree, steps_named};

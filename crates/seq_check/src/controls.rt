@@ -1,4 +1,4 @@
-// The first fault of a control itself: of its form, and of its conditions.
+//! The first fault of a control itself: of its form, and of its conditions.
 ghost use Rattle.std.specs.Prelude.{◌≡◌, ◌≤◌, ◌<◌, Some, None, option_map};
 ghost use Rattle.expr_grammar.specs.Tree.{tree};
 ghost use Rattle.code_check.specs.Order.{is_before};
@@ -17,10 +17,10 @@ use sequence_code::Part;
 /// How many controls may stand around a control.
 pub const MOST_AROUND: u64 = 32;
 
-/// The longest timeout, in microseconds.
+// The longest timeout, in microseconds.
 const LONGEST_TIMEOUT: u64 = 60_000_000;
 
-/// A fault of what stands in no text.
+// A fault of what stands in no text.
 fn form_fault(kind: FaultKind) -> Option<CodeFault>
     ensures { result ≡ Some (record { place = no_place; kind = kind }) }
 {

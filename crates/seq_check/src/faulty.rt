@@ -1,4 +1,4 @@
-// Faults of steps.
+//! Faults of steps.
 ghost use Rattle.std.specs.Prelude.{◌≡◌, IfOk, option_map};
 ghost use Rattle.seq_check.specs.StepFaults.{under};
 ghost use Rattle.seq_check.specs.Views.{own_view, faulty_view};

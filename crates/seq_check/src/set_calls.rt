@@ -1,4 +1,4 @@
-// The calls among the sequences of a set.
+//! The calls among the sequences of a set.
 ghost use Rattle.std.specs.Prelude.{◌≡◌, ◌<◌, ℕ, IfOk, Some, map, option_map, length, slice_get, List};
 ghost use Rattle.sequence_code.specs.Trees.{steps_tree};
 ghost use Rattle.sequence_code.specs.SetView.{set_trees};
@@ -74,7 +74,7 @@ fn list_at(calls: &[StepCalls], node: usize) -> Option<&StepCalls>
     calls.get(node)
 }
 
-/// The call of a graph, where it stands in the calls of each sequence.
+// The call of a graph, where it stands in the calls of each sequence.
 fn call_at(calls: &[StepCalls], at: CallSpot) -> &StepCall
     requires { (callee : ℕ) × IsCallOf (map (λ cs. map (λ c. c.callee) cs) calls.now) at callee }
     ensures { (list : List StepCall) × (slice_get calls.now at.node ≡ Some list) × (slice_get list at.call ≡ Some result.now) }

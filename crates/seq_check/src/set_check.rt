@@ -1,4 +1,4 @@
-// The check of a whole set.
+//! The check of a whole set.
 ghost use Rattle.std.specs.Prelude.{◌≡◌, ℕ, IfOk, map, reverse, MatchOption};
 ghost use Rattle.std.specs.List.{IsDistinct};
 ghost use Rattle.std.specs.Str.{bytes_eq};
@@ -98,7 +98,7 @@ fn call_fault(
     Ok(None)
 }
 
-/// The first fault of a set that was read.
+// The first fault of a set that was read.
 fn read_fault(alloc: Global, set: &ReadSet) -> Result<Option<FirstFault>, OutOfMemory>
     requires { IsDistinct bytes_eq (names_of (set_trees set.now)) }
     ensures { IfOk result (λ r. MatchOption r (IsSound (set_trees set.now)) (λ t. IsFirstOf (set_trees set.now) t.kind t.spot)) }

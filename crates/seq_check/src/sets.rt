@@ -1,4 +1,4 @@
-// The first fault of a whole set, calls that lead back or too deep aside.
+//! The first fault of a whole set, calls that lead back or too deep aside.
 ghost use Rattle.std.specs.Prelude.{◌≡◌, ◌<◌, Some, true, false, IfOk, OnOk, IfNone, map, length, option_map, slice_get};
 ghost use Rattle.std.specs.List.{IsDistinct};
 ghost use Rattle.std.specs.Str.{bytes_eq};

@@ -1,4 +1,4 @@
-// The calls of sequences in steps.
+//! The calls of sequences in steps.
 ghost use Rattle.std.specs.Prelude.{◌≡◌, ◌++◌, ◌∷◌, [], IfOk, OnOk, option_map};
 ghost use Rattle.expr_grammar.specs.Tree.{tree, code_trees};
 ghost use Rattle.sequence_code.specs.declared.spot.Part.TheVariants as parts;
@@ -36,7 +36,7 @@ pub fn copy_path(alloc: Global, path: &[u64]) -> Result<StepPath, OutOfMemory>
     Ok(copy)
 }
 
-/// The path of a step inside the one at the path.
+// The path of a step inside the one at the path.
 fn inner_path(alloc: Global, path: &[u64], number: u64) -> Result<StepPath, OutOfMemory>
     ensures { IfOk result (λ inner. inner ≡ path.now ++ number ∷ []) }
 {
@@ -45,7 +45,7 @@ fn inner_path(alloc: Global, path: &[u64], number: u64) -> Result<StepPath, OutO
     Ok(inner)
 }
 
-/// Appends the calls of a text as those of a part of the step at the path.
+// Appends the calls of a text as those of a part of the step at the path.
 fn push_calls(
     alloc: Global,
     path: &[u64],

@@ -1,4 +1,4 @@
-// The first fault of steps.
+//! The first fault of steps.
 ghost use Rattle.std.specs.Prelude.{◌≡◌, ◌≤◌, false, IfOk, OnOk, IfNone, option_map};
 ghost use Rattle.expr_grammar.specs.Tree.{code_trees};
 ghost use Rattle.code_check.specs.BlockFaults.{names_after_all, BlockFault};

@@ -67,7 +67,7 @@ fn reported(checked: &Result<Checked, CheckFault>) -> Option<(FaultKind, Part, O
 
 use FaultKind::*;
 
-/// Debug variables, the code of a block, and the first fault: its kind, part, line and column.
+// Debug variables, the code of a block, and the first fault: its kind, part, line and column.
 const FAULTS: [(&str, &str, FaultKind, Part, u64, u64); 20] = [
     ("", "(", Syntax, Part::Block, 1, 2),
     ("", "1 + y;", UndefinedName, Part::Block, 1, 5),

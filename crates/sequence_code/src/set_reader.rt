@@ -43,7 +43,7 @@ impl From<OutOfMemory> for SetFault {
     }
 }
 
-/// The code of the debug variables.
+// The code of the debug variables.
 fn debugvars_of(alloc: Global, text: &NameText) -> Result<Code, SetFault>
     ensures { SetOutcome (λ code. IsCodeOf text.now (code_trees code)) (debugvars_texts text.now) result }
 {
@@ -80,7 +80,7 @@ fn spot_of(alloc: Global, name: &NameText, faulty: &FaultyText) -> Result<Spot, 
     })
 }
 
-/// The steps of a sequence, none where it is disabled.
+// The steps of a sequence, none where it is disabled.
 fn entry_steps(alloc: Global, entry: &SeqEntry) -> Result<CheckedSteps, SetFault>
     ensures { SetOutcome (λ steps. ReadsSteps (enabled_steps entry.now) (steps_tree steps)) (entry_texts entry.now) result }
 {

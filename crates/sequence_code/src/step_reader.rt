@@ -46,7 +46,7 @@ impl From<OutOfMemory> for StepFault {
     }
 }
 
-/// A fault in a text that a step has itself.
+// A fault in a text that a step has itself.
 fn own_fault(alloc: Global, fault: TextFault, part: Part) -> StepFault
     ensures { result ≡ at_part part fault }
 {
@@ -60,7 +60,7 @@ fn own_fault(alloc: Global, fault: TextFault, part: Part) -> StepFault
     }
 }
 
-/// A fault in the step of this number, seen from the list that the step stands in.
+// A fault in the step of this number, seen from the list that the step stands in.
 fn fault_under(fault: StepFault, number: u64) -> StepFault
     ensures { IsUnder number fault result }
 {
@@ -83,7 +83,7 @@ fn fault_under(fault: StepFault, number: u64) -> StepFault
     }
 }
 
-/// A block.
+// A block.
 fn block_of(alloc: Global, text: &NameText) -> Result<CheckedStep, StepFault>
     ensures { Outcome (λ step. ReadsBlock text.now (step_tree step)) (block_texts text.now) result }
 {
@@ -93,7 +93,7 @@ fn block_of(alloc: Global, text: &NameText) -> Result<CheckedStep, StepFault>
     }
 }
 
-/// A condition, where there is one.
+// A condition, where there is one.
 fn condition_of(
     alloc: Global,
     text: &Option<NameText>,
@@ -111,7 +111,7 @@ fn condition_of(
     }
 }
 
-/// A control: its `if`, its `while`, and then the steps inside.
+// A control: its `if`, its `while`, and then the steps inside.
 #[cycle(steps)]
 fn control_of(
     alloc: Global,
@@ -144,7 +144,7 @@ fn step_of(alloc: Global, step: &Step) -> Result<CheckedStep, StepFault>
     }
 }
 
-/// The step of a number.
+// The step of a number.
 #[cycle(steps)]
 fn numbered_step_of(alloc: Global, step: &Step, number: u64) -> Result<CheckedStep, StepFault>
     ensures { Outcome (λ checked. ReadsStep step.now (step_tree checked)) (under number (step_texts step.now)) result }

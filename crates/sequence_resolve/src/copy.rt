@@ -1,4 +1,4 @@
-// Copies of steps, which the set owns.
+//! Copies of steps, which the set owns.
 ghost use Rattle.std.specs.Prelude.{◌≡◌, IfOk};
 ghost use Rattle.device_tree.specs.StepsView.{steps_view};
 

@@ -1,4 +1,4 @@
-// The set of a device, variant and processor.
+//! The set of a device, variant and processor.
 ghost use Rattle.std.specs.Prelude.{◌≡◌, ◌≢◌, ◌⊎◌, [], IfOk, IfErr, MatchResult, IsErrAnd, map, option_map};
 ghost use Rattle.std.specs.List.{IsDistinct};
 ghost use Rattle.std.specs.Str.{bytes_eq};
@@ -50,7 +50,7 @@ fn entries_of(alloc: Global, winners: &[Winner]) -> Result<SeqEntries, OutOfMemo
     Ok(entries)
 }
 
-/// The variant that is requested, which may be none. `None` where the device has no variant of the name.
+// The variant that is requested, which may be none. `None` where the device has no variant of the name.
 fn variant_of<'a>(device: &'a Device, requested: Option<&str>) -> Option<Option<&'a Variant>>
     ensures { option_map option_copied result ≡ requested_variant (option_map (λ w. w.now) requested.entry) device.now }
 {

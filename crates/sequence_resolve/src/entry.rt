@@ -1,4 +1,4 @@
-// The set of sequences that hold for a device.
+//! The set of sequences that hold for a device.
 use dap_base::{ItemList, NameText};
 use device_tree::Steps;
 

@@ -1,4 +1,4 @@
-// Why a pack has no set of sequences for a device.
+//! Why a pack has no set of sequences for a device.
 use dap_base::OutOfMemory;
 use thiserror::Error;
 

@@ -1,4 +1,4 @@
-// The levels from the top of a pack down to a device or a variant.
+//! The levels from the top of a pack down to a device or a variant.
 ghost use Rattle.std.specs.Prelude.{◌≡◌, ◌≤◌, ◌++◌, ◌∷◌, [], IfOk, OnOk, option_map, map, length, unwrap_or};
 ghost use Rattle.std.specs.Option.{option_copied};
 ghost use Rattle.sequence_resolve.specs.Levels.{path_of, deepest};

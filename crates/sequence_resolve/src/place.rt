@@ -1,4 +1,4 @@
-// The one device of a name, and its variant.
+//! The one device of a name, and its variant.
 ghost use Rattle.std.specs.Prelude.{◌≡◌, ◌++◌, OnOk, None, option_map, map, filter, find};
 ghost use Rattle.std.specs.Str.{bytes_eq};
 ghost use Rattle.std.specs.Option.{option_copied};
@@ -19,7 +19,7 @@ pub struct Place<'a> {
     pub device: &'a Device,
 }
 
-/// Adds the devices of the name.
+// Adds the devices of the name.
 fn push_named<'a>(
     places: &mut Vec<Place<'a>>,
     family: &'a Family,
@@ -45,7 +45,7 @@ fn push_named<'a>(
     Ok(())
 }
 
-/// Adds the devices of the name in these subfamilies.
+// Adds the devices of the name in these subfamilies.
 #[tactic(auto, using(crate::proofs::PlaceLemmas::parts))]
 fn push_subs<'a>(
     places: &mut Vec<Place<'a>>,
@@ -62,7 +62,7 @@ fn push_subs<'a>(
     Ok(())
 }
 
-/// Adds the devices of the name in a family.
+// Adds the devices of the name in a family.
 #[tactic(auto, using(crate::proofs::PlaceLemmas::parts))]
 fn push_family<'a>(
     places: &mut Vec<Place<'a>>,
@@ -76,7 +76,7 @@ fn push_family<'a>(
     push_named(places, family, None, family.devices.as_slice(), name)
 }
 
-/// Adds the devices of the name in these families.
+// Adds the devices of the name in these families.
 #[tactic(auto, using(crate::proofs::PlaceLemmas::parts))]
 fn push_families<'a>(
     places: &mut Vec<Place<'a>>,
@@ -92,7 +92,7 @@ fn push_families<'a>(
     Ok(())
 }
 
-/// The only one of these places.
+// The only one of these places.
 fn only_place<'a>(places: &[Place<'a>]) -> Result<Place<'a>, ResolveFault>
     ensures { FindsOnly (map place_view places.now) result }
 {

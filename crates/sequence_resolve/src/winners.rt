@@ -1,4 +1,4 @@
-// The greatest candidate of each name.
+//! The greatest candidate of each name.
 ghost use Rattle.std.specs.Prelude.{◌≡◌, ℕ, ◌<◌, ◌≤◌, List, [], ◌∷◌, ◌++◌, Some, IfOk, OnOk, option_map, map, length, nat_le, slice_index_or, slice_set, if◌then◌else◌};
 ghost use Rattle.std.specs.Str.{bytes_eq};
 ghost use Rattle.std.specs.BTreeMap.{get_by_text};
@@ -21,7 +21,7 @@ pub struct Winner<'a> {
     pub sequence: &'a SeqText,
 }
 
-/// The winners so far, and the place of each name among them.
+// The winners so far, and the place of each name among them.
 #[derive(Drop)]
 struct Winners<'a> {
     list: Vec<Winner<'a>>,
@@ -50,7 +50,7 @@ fn candidate_of<'a>(kind: LevelKind, depth: usize, sequence: &'a SeqText) -> Win
     }
 }
 
-/// Puts the candidate into the place of the winner of its name, unless that stands above it.
+// Puts the candidate into the place of the winner of its name, unless that stands above it.
 fn put_over<'a>(list: &mut Vec<Winner<'a>>, place: usize, candidate: Winner<'a>)
     requires { place < length list.old.items }
     ensures { list.new.items ≡ (if nat_le (slice_index_or list.old.items place candidate.entry).rank candidate.entry.rank
@@ -67,7 +67,7 @@ fn place_of(places: &BTreeMap<String, usize>, name: &NameText) -> Option<usize>
     places.get(name.as_str()).copied()
 }
 
-/// Notes the place of a name.
+// Notes the place of a name.
 fn note_place(
     alloc: Global,
     places: &mut BTreeMap<String, usize>,
@@ -85,7 +85,7 @@ fn note_place(
     Ok(())
 }
 
-/// Puts the candidate after the winners, as the first of its name.
+// Puts the candidate after the winners, as the first of its name.
 fn put_last<'a>(
     alloc: Global,
     winners: &mut Winners<'a>,
@@ -103,7 +103,7 @@ fn put_last<'a>(
     Ok(())
 }
 
-/// Puts a candidate among the winners of those before it.
+// Puts a candidate among the winners of those before it.
 fn put<'a>(
     alloc: Global,
     winners: &mut Winners<'a>,
@@ -120,7 +120,7 @@ fn put<'a>(
     Ok(())
 }
 
-/// Puts the candidates of one level among the winners of those before them.
+// Puts the candidates of one level among the winners of those before them.
 fn put_level<'a>(
     alloc: Global,
     winners: &mut Winners<'a>,

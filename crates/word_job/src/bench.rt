@@ -1,4 +1,4 @@
-// The bench of a job.
+//! The bench of a job.
 ghost use Rattle.std.specs.Prelude.{◌≡◌, ◌≢◌, ◌+◌, ◌≤◌, ◌^◌, true, [], ◌∷◌, ◌++◌, List, OnOk, IfOk, IfSome, length, option_map, codes};
 ghost use Rattle.std.specs.List.{All, AllPairs};
 ghost use Rattle.serde_json.specs.Data.{Data};
@@ -35,7 +35,7 @@ pub const REGION_KEYS: [&str; 2] = ["address", "length"];
 /// The keys of a word.
 pub const WORD_KEYS: [&str; 2] = ["address", "value"];
 
-/// How many words a job may list.
+// How many words a job may list.
 const MOST_WORDS: usize = 65_536;
 
 // Whether a value is AP 0, with no other key.

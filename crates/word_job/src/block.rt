@@ -1,4 +1,4 @@
-// The statements of a block.
+//! The statements of a block.
 ghost use Rattle.std.specs.Prelude.{◌≡◌, ◌+◌, ◌^◌, ◌<◌, ◌≤◌, ℕ, true, length, IfOk, IfSome};
 ghost use Rattle.std.specs.List.{All};
 ghost use Rattle.expr_grammar.specs.Tree.{tree, arg_trees, code_trees};
@@ -16,10 +16,10 @@ use expr_grammar::{Args, Code, Expr, Name, Stmt};
 use std::alloc::Global;
 use target_machine::RegionJob;
 
-/// How many statements a block may hold.
+// How many statements a block may hold.
 const MOST_STATEMENTS: usize = 1000;
 
-/// How many variables are predefined.
+// How many variables are predefined.
 const PREDEFINED: usize = 7;
 
 // The place of a debugvar.

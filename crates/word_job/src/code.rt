@@ -1,4 +1,4 @@
-// The code that a text is.
+//! The code that a text is.
 ghost use Rattle.std.specs.Prelude.{◌≡◌, List, IfOk};
 ghost use Rattle.expr_grammar.specs.Tree.{StmtTree, code_trees};
 ghost use Rattle.word_job.specs.Code.{IsCodeOf};

@@ -1,4 +1,4 @@
-// The debugvars that code declares.
+//! The debugvars that code declares.
 ghost use Rattle.std.specs.Prelude.{◌≡◌, option_map};
 ghost use Rattle.expr_grammar.specs.Tree.{stmt_tree, code_trees};
 ghost use Rattle.word_job.specs.Form.{Gives};

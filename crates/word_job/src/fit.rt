@@ -1,4 +1,4 @@
-// Why no job is made of a value.
+//! Why no job is made of a value.
 use dap_base::OutOfMemory;
 
 /// Why a value gives no job that can be run.

@@ -1,4 +1,4 @@
-// Reading a JSON value by its form.
+//! Reading a JSON value by its form.
 ghost use Rattle.std.specs.Prelude.{◌≡◌, map, option_map};
 ghost use Rattle.std.specs.List.{list_any, list_all};
 ghost use Rattle.std.specs.Str.{bytes_eq};

@@ -1,4 +1,4 @@
-// The job of word accesses.
+//! The job of word accesses.
 ghost use Rattle.std.specs.Prelude.{◌≡◌, ◌≤◌, Some, None, length, IfOk, IsErrOf, option_map, codes};
 ghost use Rattle.serde_json.specs.Find.{get};
 ghost use Rattle.serde_json.specs.View.{view};

@@ -1,4 +1,4 @@
-// The number literals of code.
+//! The number literals of code.
 ghost use Rattle.std.specs.Prelude.{◌≡◌};
 ghost use Rattle.expr_grammar.specs.Tree.{tree, arg_tree, arg_trees};
 ghost use Rattle.word_job.specs.Code.{literal, argument, one_number, two_numbers};

@@ -1,4 +1,4 @@
-// Variables that are found by their names.
+//! Variables that are found by their names.
 ghost use Rattle.std.specs.Prelude.{◌≡◌, ◌<◌, ◌++◌, ◌∷◌, [], IfOk, IfSome, OnOk, OnErr, not, false, is_some, string_bytes, option_map, position, length, slice_get, if◌then◌else◌};
 ghost use Rattle.std.specs.List.{list_any};
 ghost use Rattle.target_machine.specs.declared.unit.Variable.{Variable};
@@ -9,7 +9,7 @@ use indexmap::IndexMap;
 use std::alloc::Global;
 use std::marker::Model;
 
-/// The names of the predefined variables, in their order.
+// The names of the predefined variables, in their order.
 const PREDEFINED: [&str; 7] = [
     "__protocol",
     "__connection",
@@ -37,7 +37,7 @@ impl Model for Named {
 }
 
 impl Named {
-    /// No variables.
+    // No variables.
     fn empty(alloc: Global) -> Named
         ensures { result ≡ [] }
     {

@@ -1,4 +1,4 @@
-// The code texts of a pack.
+//! The code texts of a pack.
 ghost use Rattle.std.specs.Prelude.{◌≡◌, option_map, codes};
 ghost use Rattle.serde_json.specs.View.{view};
 ghost use Rattle.word_job.specs.Job.{step_block, sequence_block, device_texts, family_texts, pack_texts, text_or_empty};

@@ -1,4 +1,4 @@
-// The words of a region of memory.
+//! The words of a region of memory.
 ghost use Rattle.std.specs.Prelude.{◌≡◌};
 ghost use Rattle.word_job.specs.Region.{lies_in};
 

@@ -1,4 +1,4 @@
-// What a block of a first run does.
+//! What a block of a first run does.
 use dap_base::ItemList;
 
 /// One statement of a block.

@@ -1,4 +1,4 @@
-// What a job watches.
+//! What a job watches.
 ghost use Rattle.std.specs.Prelude.{◌≡◌, ◌+◌, ◌≤◌, ◌^◌, IfOk, IfSome, option_map};
 ghost use Rattle.serde_json.specs.View.{view, items_view};
 ghost use Rattle.word_job.specs.Form.{Gives, each, list_of};
@@ -17,10 +17,10 @@ use target_machine::RegionJob;
 /// The keys of words that are watched.
 pub const WATCH_KEYS: [&str; 2] = ["address", "words"];
 
-/// How many items a watch may have.
+// How many items a watch may have.
 const MOST_ITEMS: usize = 1024;
 
-/// How many words an item may have.
+// How many words an item may have.
 const MOST_WORDS: u64 = 65_536;
 
 // Words in a row of a region.

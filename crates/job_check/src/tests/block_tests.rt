@@ -1,4 +1,4 @@
-// Faults of blocks: names, calls and formats.
+//! Faults of blocks: names, calls and formats.
 use super::{BLOCK, check};
 use std::test::Fail;
 

@@ -1,4 +1,4 @@
-// Calls that lead back, and calls too deep.
+//! Calls that lead back, and calls too deep.
 use super::{BLOCK, SEQUENCES, check, says};
 use std::alloc::{AllocError, Global};
 use std::test::Fail;
@@ -108,7 +108,7 @@ fn falling(alloc: Global, calls: u32) -> Result<String, AllocError> {
     Ok(text)
 }
 
-/// How many calls rise, the last sequences, and the line.
+// How many calls rise, the last sequences, and the line.
 const CHAINS: [(u32, &str, &str); 14] = [
     (
         32,

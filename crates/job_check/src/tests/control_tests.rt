@@ -1,4 +1,4 @@
-// Faults of controls: their form, their conditions, and what is visible in and after them.
+//! Faults of controls: their form, their conditions, and what is visible in and after them.
 use super::{STEPS, check};
 use std::test::Fail;
 

@@ -1,4 +1,4 @@
-// Faults of the debug variables. Main has the block `y;`, which is at fault where they are not.
+//! Faults of the debug variables. Main has the block `y;`, which is at fault where they are not.
 use super::{DEVICE, ONE_BLOCK, check};
 use std::test::Fail;
 

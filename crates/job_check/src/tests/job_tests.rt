@@ -1,4 +1,4 @@
-// Refusals of whole jobs, and which of two goes first.
+//! Refusals of whole jobs, and which of two goes first.
 use super::{DEVICE, FAMILIES, check, says_of, selection_of, written};
 use crate::{Unchecked, valid_set, write_refusal};
 use dap_base::MemorySink;

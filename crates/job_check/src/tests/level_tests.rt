@@ -1,4 +1,4 @@
-// From which level each sequence of the set comes, and whose debug variables hold.
+//! From which level each sequence of the set comes, and whose debug variables hold.
 use super::{FAMILIES, check, selection_of, written};
 use std::test::Fail;
 
@@ -25,7 +25,7 @@ const LEVELS: &str = r#"{"pack":{
      {"name":"D","Pname":"P","steps":[{"control":[]}]}]}]}]}]}]},
 "bench":{"packet_size":64,"packet_count":1,"target":{"aps":[],"memory":[]}}}"#;
 
-/// The variant and the processor that are requested, and the text.
+// The variant and the processor that are requested, and the text.
 const SELECTIONS: [(Option<&str>, Option<&str>, &str); 5] = [
     (
         None,

@@ -1,4 +1,4 @@
-// Tokens, parentheses and controls at their limits.
+//! Tokens, parentheses and controls at their limits.
 use super::{ONE_BLOCK, STEPS, joined, repeated, says};
 use std::alloc::{AllocError, Global};
 use std::process::Abort;

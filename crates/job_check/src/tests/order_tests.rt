@@ -1,4 +1,4 @@
-// Which of several faults of a set is the first.
+//! Which of several faults of a set is the first.
 use super::{DEVICE, SEQUENCES, STEPS, check};
 use std::test::Fail;
 

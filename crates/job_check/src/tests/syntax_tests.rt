@@ -1,4 +1,4 @@
-// Texts that are no code: tokens, trees, and the places in a text.
+//! Texts that are no code: tokens, trees, and the places in a text.
 use super::{BLOCK, check};
 use std::test::Fail;
 

@@ -1,4 +1,4 @@
-// Valid sets, and what is written of them.
+//! Valid sets, and what is written of them.
 use super::{BLOCK, DEVICE, ONE_BLOCK, SEQUENCES, STEPS, check, says};
 use std::test::Fail;
 

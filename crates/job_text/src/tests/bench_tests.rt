@@ -1,4 +1,4 @@
-// First faults of a bench.
+//! First faults of a bench.
 use super::check;
 use std::test::Fail;
 

@@ -1,4 +1,4 @@
-// First faults of a pack.
+//! First faults of a pack.
 use super::check;
 use std::test::Fail;
 

@@ -1,4 +1,4 @@
-// First faults of a job, its settings and its watched words.
+//! First faults of a job, its settings and its watched words.
 use super::check;
 use std::test::Fail;
 
