@@ -1,23 +1,14 @@
 //! Names that are found fast, and that stand in the order in which they came.
 ghost use Rattle.std.specs.Prelude.{◌≡◌, ◌<◌, [], IfOk, OnOk, OnErr, IfSome, is_some, position, length, take};
 ghost use Rattle.std.specs.Str.{bytes_eq};
-ghost use Rattle.code_check.specs.Names.{has_name, with_name, predefined};
+ghost use Rattle.function_table.specs.Variables.{predefined};
+ghost use Rattle.code_check.specs.Names.{has_name, with_name};
 
 use dap_base::OutOfMemory;
+use function_table::PREDEFINED;
 use indexmap::IndexSet;
 use std::alloc::Global;
 use std::marker::Model;
-
-// The names of the predefined variables, in their order.
-const PREDEFINED: [&str; 7] = [
-    "__protocol",
-    "__connection",
-    "__dp",
-    "__ap",
-    "__traceout",
-    "__errorcontrol",
-    "__Result",
-];
 
 /// Names, no two of them the same. Contracts see their list.
 #[derive(Drop)]

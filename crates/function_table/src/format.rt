@@ -42,8 +42,8 @@ pub enum FormatPiece {
 /// The number of conversions of `format`. `None` exactly where a `%` begins no piece, so that the
 /// format isn't a list of pieces. The format is gone through once, and no memory is taken.
 pub fn conversions(format: &str) -> Option<usize>
-    ensures found { IfSome result (λ count. (pieces : List FormatPiece) × AreFormatPieces pieces format.now × (count ≡ conversion_count pieces)) }
-    ensures every { (pieces : List FormatPiece) → AreFormatPieces pieces format.now → result ≡ Some (conversion_count pieces) }
+    ensures answer { IfSome result (λ count. (pieces : List FormatPiece) × AreFormatPieces pieces format.now × (count ≡ conversion_count pieces)) }
+    ensures only { (pieces : List FormatPiece) → AreFormatPieces pieces format.now → result ≡ Some (conversion_count pieces) }
 {
     let mut count = 0;
     let mut rest = format.as_bytes();
@@ -62,9 +62,10 @@ pub fn conversions(format: &str) -> Option<usize>
 /// The piece that `format` begins with, and the bytes after it. `None` exactly where `format` is
 /// empty or begins with a `%` that begins no piece.
 pub fn front_piece(format: &[u8]) -> Option<(FormatPiece, &[u8])>
-    ensures found { IfSome result (λ front. BeginsWith front.0 format.now front.1.now) }
-    ensures every { (piece : FormatPiece) (rest : List ℕ) → BeginsWith piece format.now rest
+    ensures answer { IfSome result (λ front. BeginsWith front.0 format.now front.1.now) }
+    ensures only { (piece : FormatPiece) (rest : List ℕ) → BeginsWith piece format.now rest
         → IsSomeAnd result (λ front. (front.0 ≡ piece) × (front.1.now ≡ rest)) }
+    ensures front { MatchOption result (front.front_of format.now ≡ None) (λ r. front.front_of format.now ≡ Some (r.0, r.1.now)) }
 {
     front(format)
 }

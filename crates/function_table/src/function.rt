@@ -1,9 +1,12 @@
 //! The functions that debug access sequences call.
 
-ghost use Rattle.std.specs.Prelude.{◌≡◌, ◌↔◌, IsTrue, Some};
+ghost use Rattle.std.specs.Prelude.{◌≡◌, ◌↔◌, false, true, IsTrue, Some};
 ghost use Rattle.function_table.specs.declared.function.Function.{Function};
 ghost use Rattle.function_table.specs.Functions.{name_of, parameters_of, has_more, Takes, kind_at, result_of};
 ghost use Rattle.function_table.specs.Lookup.{function_named};
+
+use ParameterKind::{Number, Text};
+use ResultKind::{Default, HaltsUnsupported, PinByte, Value, Zero};
 
 /// A function that a debug access sequence can call.
 #[derive(Clone, Copy, Debug, PartialEq, Eq)]
@@ -82,7 +85,8 @@ pub enum ResultKind {
 
 /// The function of this name, letter for letter. `None` exactly where no function has it.
 pub fn function_of(name: &str) -> Option<Function>
-    ensures { (f : Function) → (result ≡ Some f) ↔ (name.now ≡ name_of f) }
+    ensures answer { result ≡ function_named name.now }
+    ensures only { (f : Function) → (result ≡ Some f) ↔ (name.now ≡ name_of f) }
 {
     named(name)
 }
@@ -124,31 +128,7 @@ impl Function {
     pub fn name(self) -> &'static str
         ensures { result.now ≡ name_of self }
     {
-        match self {
-            Function::Read8 => "Read8",
-            Function::Read16 => "Read16",
-            Function::Read32 => "Read32",
-            Function::Read64 => "Read64",
-            Function::Write8 => "Write8",
-            Function::Write16 => "Write16",
-            Function::Write32 => "Write32",
-            Function::Write64 => "Write64",
-            Function::ReadAp => "ReadAP",
-            Function::WriteAp => "WriteAP",
-            Function::ReadDp => "ReadDP",
-            Function::WriteDp => "WriteDP",
-            Function::DapDelay => "DAP_Delay",
-            Function::DapSwjClock => "DAP_SWJ_Clock",
-            Function::DapWriteAbort => "DAP_WriteABORT",
-            Function::DapSwjPins => "DAP_SWJ_Pins",
-            Function::DapSwjSequence => "DAP_SWJ_Sequence",
-            Function::DapJtagSequence => "DAP_JTAG_Sequence",
-            Function::Sequence => "Sequence",
-            Function::Message => "Message",
-            Function::Query => "Query",
-            Function::QueryValue => "QueryValue",
-            Function::LoadDebugInfo => "LoadDebugInfo",
-        }
+        row_of(self).name
     }
 
     /// The kinds of the arguments that each call has, in order: 1 to 3 of them. For `Message` any
@@ -156,37 +136,7 @@ impl Function {
     pub fn parameters(self) -> &'static [ParameterKind]
         ensures { result.now ≡ parameters_of self }
     {
-        match self {
-            Function::Read8
-            | Function::Read16
-            | Function::Read32
-            | Function::Read64
-            | Function::ReadAp
-            | Function::ReadDp
-            | Function::DapDelay
-            | Function::DapSwjClock
-            | Function::DapWriteAbort => &[ParameterKind::Number],
-            Function::Write8
-            | Function::Write16
-            | Function::Write32
-            | Function::Write64
-            | Function::WriteAp
-            | Function::WriteDp
-            | Function::DapSwjSequence => &[ParameterKind::Number, ParameterKind::Number],
-            Function::DapSwjPins | Function::DapJtagSequence => &[
-                ParameterKind::Number,
-                ParameterKind::Number,
-                ParameterKind::Number,
-            ],
-            Function::Sequence | Function::LoadDebugInfo => &[ParameterKind::Text],
-            Function::Message => &[ParameterKind::Number, ParameterKind::Text],
-            Function::Query => &[
-                ParameterKind::Number,
-                ParameterKind::Text,
-                ParameterKind::Number,
-            ],
-            Function::QueryValue => &[ParameterKind::Text, ParameterKind::Number],
-        }
+        row_of(self).parameters
     }
 
     /// Whether further numbers may follow the arguments that each call has: for `Message` alone.
@@ -194,7 +144,7 @@ impl Function {
         ensures value { result ≡ has_more self }
         ensures only_message { IsTrue result ↔ (self ≡ Function.Message) }
     {
-        self == Function::Message
+        row_of(self).more
     }
 
     /// Whether a call may have this many arguments: as many as there are parameters, and for
@@ -210,7 +160,7 @@ impl Function {
         }
     }
 
-    /// The kind of the argument at `index`, counted from 0. `None` exactly past the last; `Message`
+    /// The kind of the argument at `index`, counted from 0. `None` exactly after the last; `Message`
     /// has a number at each index from 2 on.
     pub fn kind_at(self, index: usize) -> Option<ParameterKind>
         ensures { result ≡ kind_at self index }
@@ -226,29 +176,79 @@ impl Function {
     pub fn result(self) -> ResultKind
         ensures { result ≡ result_of self }
     {
-        match self {
-            Function::Read8
-            | Function::Read16
-            | Function::Read32
-            | Function::Read64
-            | Function::ReadAp
-            | Function::ReadDp => ResultKind::Value,
-            Function::Write8
-            | Function::Write16
-            | Function::Write32
-            | Function::Write64
-            | Function::WriteAp
-            | Function::WriteDp
-            | Function::DapDelay
-            | Function::DapSwjClock
-            | Function::DapWriteAbort
-            | Function::DapSwjSequence
-            | Function::Sequence
-            | Function::Message
-            | Function::LoadDebugInfo => ResultKind::Zero,
-            Function::DapSwjPins => ResultKind::PinByte,
-            Function::DapJtagSequence => ResultKind::HaltsUnsupported,
-            Function::Query | Function::QueryValue => ResultKind::Default,
-        }
+        row_of(self).result
+    }
+}
+
+// A row of the table.
+#[derive(Clone, Copy, Debug)]
+struct Row {
+    name: &'static str,
+    parameters: &'static [ParameterKind],
+    more: bool,
+    result: ResultKind,
+}
+
+// The row of a function.
+fn row_of(function: Function) -> Row
+    ensures name { result.name.now ≡ name_of function }
+    ensures parameters { result.parameters.now ≡ parameters_of function }
+    ensures more { result.more ≡ has_more function }
+    ensures result { result.result ≡ result_of function }
+{
+    match function {
+        Function::Read8 => fixed("Read8", &[Number], Value),
+        Function::Read16 => fixed("Read16", &[Number], Value),
+        Function::Read32 => fixed("Read32", &[Number], Value),
+        Function::Read64 => fixed("Read64", &[Number], Value),
+        Function::Write8 => fixed("Write8", &[Number, Number], Zero),
+        Function::Write16 => fixed("Write16", &[Number, Number], Zero),
+        Function::Write32 => fixed("Write32", &[Number, Number], Zero),
+        Function::Write64 => fixed("Write64", &[Number, Number], Zero),
+        Function::ReadAp => fixed("ReadAP", &[Number], Value),
+        Function::WriteAp => fixed("WriteAP", &[Number, Number], Zero),
+        Function::ReadDp => fixed("ReadDP", &[Number], Value),
+        Function::WriteDp => fixed("WriteDP", &[Number, Number], Zero),
+        Function::DapDelay => fixed("DAP_Delay", &[Number], Zero),
+        Function::DapSwjClock => fixed("DAP_SWJ_Clock", &[Number], Zero),
+        Function::DapWriteAbort => fixed("DAP_WriteABORT", &[Number], Zero),
+        Function::DapSwjPins => fixed("DAP_SWJ_Pins", &[Number, Number, Number], PinByte),
+        Function::DapSwjSequence => fixed("DAP_SWJ_Sequence", &[Number, Number], Zero),
+        Function::DapJtagSequence => fixed("DAP_JTAG_Sequence", &[Number; 3], HaltsUnsupported),
+        Function::Sequence => fixed("Sequence", &[Text], Zero),
+        Function::Message => variadic("Message", &[Number, Text], Zero),
+        Function::Query => fixed("Query", &[Number, Text, Number], Default),
+        Function::QueryValue => fixed("QueryValue", &[Text, Number], Default),
+        Function::LoadDebugInfo => fixed("LoadDebugInfo", &[Text], Zero),
+    }
+}
+
+// The row of a function whose calls have as many arguments as there are parameters.
+fn fixed(name: &'static str, parameters: &'static [ParameterKind], kind: ResultKind) -> Row
+    ensures name { result.name.now ≡ name.now }
+    ensures parameters { result.parameters.now ≡ parameters.now }
+    ensures more { result.more ≡ false }
+    ensures result { result.result ≡ kind }
+{
+    Row {
+        name,
+        parameters,
+        more: false,
+        result: kind,
+    }
+}
+
+// The row of a function whose calls may have any number of further numbers.
+fn variadic(name: &'static str, parameters: &'static [ParameterKind], kind: ResultKind) -> Row
+    ensures name { result.name.now ≡ name.now }
+    ensures parameters { result.parameters.now ≡ parameters.now }
+    ensures more { result.more ≡ true }
+    ensures result { result.result ≡ kind }
+{
+    Row {
+        name,
+        parameters,
+        more: true,
+        result: kind,
     }
 }

@@ -14,7 +14,7 @@ use Rattle.call_graph.specs.declared.graph.CallSpot.{CallSpot}
 use Rattle.call_graph.specs.Spots as graph
 use Rattle.code_check.specs.declared.fault.FaultKind.{FaultKind}
 use Rattle.code_check.specs.declared.fault.FaultKind.TheVariants as k
-use Rattle.code_check.specs.Names.{predefined}
+use Rattle.function_table.specs.Variables.{predefined}
 use Rattle.code_check.specs.First.{IsFirst}
 use Rattle.code_check.specs.BlockFaults.{names_after_all, BlockFault}
 use Rattle.seq_check.specs.declared.faulty.HeldFault.{HeldFault}

@@ -2,7 +2,7 @@
 use Rattle.std.specs.Prelude.{◌≡◌, ℕ, suc, nat_lt, ◌&&◌, ◌||◌, not, Bool, true, false, List, [], ◌∷◌, map}
 use Rattle.sequence_code.specs.declared.spot.Part.TheVariants as parts
 use Rattle.sequence_code.specs.Trees.{StepTrees, SetTrees}
-use Rattle.code_check.specs.Names.{predefined}
+use Rattle.function_table.specs.Variables.{predefined}
 use Rattle.code_check.specs.First.{Nowhere, InEither}
 use Rattle.code_check.specs.ExprFaults.{Scope}
 use Rattle.code_check.specs.BlockFaults.{names_after_all, BlockFault}

@@ -3,6 +3,7 @@ use Rattle.function_table.proofs.format.front_piece.Goals as goal
 
 pub returns : goal.returns
 returns c = record {
-  found = answer_found c.args.format.now c.front.result c.front.ensures;
-  every = answer_every c.args.format.now c.front.result c.front.ensures;
+  answer = answer_found c.args.format.now c.front.result c.front.ensures;
+  only = answer_every c.args.format.now c.front.result c.front.ensures;
+  front = c.front.ensures;
 }

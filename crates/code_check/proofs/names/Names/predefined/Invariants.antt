@@ -1,5 +1,5 @@
 use Rattle.std.proofs.Common.{◌≡◌, take}
-use Rattle.code_check.specs.Names.{predefined}
+use Rattle.function_table.specs.Variables.{predefined}
 use Rattle.code_check.proofs.names.Names.predefined.Given as goal
 
 abbrev pub invariant-loop-name : goal.invariant-loop-name

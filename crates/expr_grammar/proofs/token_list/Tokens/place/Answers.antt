@@ -15,7 +15,7 @@ overflow_add-result c =
     let tokens = c.as_slice-tokens.result.now in
     let some : length tokens ≢ 0 = false-eqb (length tokens) 0 (sym c.if-is_empty.false ∙ c.is_empty.ensures) in
     let are : AreTokensOf c.self.inside.text.now (lexemes tokens) = subst (AreTokensOf c.self.inside.text.now) (ap lexemes (sym c.as_slice-tokens.ensures)) c.self.invariant in
-    omega (arith, c.self.reported.1, fits c.self.inside.text.now tokens (length tokens - 1) (record { kind = kinds.Number; text = record { ref_ptr = (0, 0); now = [] }; start = 0; at = record { line = 0; column = 0 } }) are (omega (arith, some)))
+    omega (arith, c.self.told.1, fits c.self.inside.text.now tokens (length tokens - 1) (record { kind = kinds.Number; text = record { ref_ptr = (0, 0); now = [] }; start = 0; at = record { line = 0; column = 0 } }) are (omega (arith, some)))
 
 pub returns : goal.returns
 returns c =

@@ -1,0 +1,7 @@
+-- The variables that each debug access sequence has without a declaration.
+use Rattle.std.specs.Prelude.{ℕ, List, [], ◌∷◌, codes}
+
+-- the names of the predefined variables, in their order
+abbrev pub predefined : List (List ℕ)
+predefined =
+    codes "__protocol" ∷ codes "__connection" ∷ codes "__dp" ∷ codes "__ap" ∷ codes "__traceout" ∷ codes "__errorcontrol" ∷ codes "__Result" ∷ []
