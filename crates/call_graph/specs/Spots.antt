@@ -1,7 +1,6 @@
 -- Single calls of a graph, by the node that they stand in and their place there.
-use Rattle.std.specs.Prelude.{◌≡◌, ℕ, ◌-◌, ◌<◌, ◌⊎◌, List, Option, Some, MatchOption, slice_get}
+use Rattle.std.specs.Prelude.{◌≡◌, ℕ, ◌<◌, ◌⊎◌, List, Option, Some, MatchOption, slice_get}
 use Rattle.call_graph.specs.declared.graph.CallSpot.{CallSpot}
-use Rattle.call_graph.specs.declared.depth.TheConstants.{TOO_DEEP}
 use Rattle.call_graph.specs.Graph.{callees_of, Leads, BeginsChain}
 
 -- the call at the spot is one of w
@@ -14,11 +13,11 @@ pub record IsInCycle (graph : List (List ℕ)) (spot : CallSpot) : Type 0 where
   pub is_call : IsCallOf graph spot callee
   pub back : (callee ≡ spot.node) ⊎ Leads graph callee spot.node
 
--- the call begins, with the node that it stands in, a chain of `TOO_DEEP` nodes
+-- the call begins, with the node that it stands in, a chain of 33 nodes
 pub record IsDeep (graph : List (List ℕ)) (spot : CallSpot) : Type 0 where
   pub callee : ℕ
   pub is_call : IsCallOf graph spot callee
-  pub chain : BeginsChain graph callee (TOO_DEEP - 1)
+  pub chain : BeginsChain graph callee 32
 
 -- the call stands in an earlier node, or earlier in the same
 abbrev pub IsBefore : CallSpot → CallSpot → Type 0

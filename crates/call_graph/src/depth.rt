@@ -1,4 +1,4 @@
-//! Chains of calls of more than so many nodes.
+//! Chains of 33 nodes.
 
 ghost use Rattle.std.specs.Prelude.{◌≡◌, ◌↔◌, ◌≤◌, ℕ, true, IfOk};
 ghost use Rattle.call_graph.specs.Graph.{BeginsChain};
@@ -14,8 +14,8 @@ use std::alloc::Global;
 pub const TOO_DEEP: usize = 33;
 
 /// The first call, by node and then by place, that begins, with the node that it stands in, a chain
-/// of `TOO_DEEP` nodes, each of which calls the next. `None` exactly where no call does.
-/// `OutOfMemory` where memory is refused. The calls are gone through `TOO_DEEP` times.
+/// of 33 nodes, each of which calls the next. `None` exactly where no call does.
+/// `OutOfMemory` where memory is refused. The calls are gone through 32 times.
 pub fn first_deep(alloc: Global, graph: &CallGraph) -> Result<Option<CallSpot>, OutOfMemory>
     ensures { IfOk result (FindsFirst (IsDeep graph.now)) }
 {
