@@ -77,16 +77,19 @@ select_stored = 0xFF00_00FF
 
 -- ---- the registers of a MEM-AP, by bank (bits 7:4) and address (bits 3:2)
 
+-- CSW, in bank 0
 abbrev pub csw_register : ℕ
 csw_register = 0x00
 
+-- TAR, in bank 0
 abbrev pub tar_register : ℕ
 tar_register = 0x04
 
--- the upper word of TAR
+-- the upper word of TAR, in bank 0
 abbrev pub tar_high_register : ℕ
 tar_high_register = 0x08
 
+-- DRW, in bank 0
 abbrev pub drw_register : ℕ
 drw_register = 0x0C
 
@@ -94,12 +97,15 @@ drw_register = 0x0C
 abbrev pub bd_bank : ℕ
 bd_bank = 1
 
+-- CFG, in bank F
 abbrev pub cfg_register : ℕ
 cfg_register = 0xF4
 
+-- BASE, in bank F
 abbrev pub base_register : ℕ
 base_register = 0xF8
 
+-- IDR, in bank F
 abbrev pub idr_register : ℕ
 idr_register = 0xFC
 

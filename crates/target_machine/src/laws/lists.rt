@@ -1,0 +1,35 @@
+//! Lists of actions.
+ghost use Rattle.std.specs.Prelude.{◌≡◌, List, [], ◌∷◌, ◌++◌, true, false};
+ghost use Rattle.target_machine.specs.Laws.{Alike};
+ghost use Rattle.target_machine.specs.Lists.{PassTo, SpareRdbuff, SparesRdbuff, after};
+ghost use Rattle.target_machine.specs.Plain.{Action, acted, in_order, is_fault, issued};
+ghost use Rattle.target_machine.specs.State.{Agree, TargetState};
+
+/// The target after two lists is that after the second from that after the first.
+pub fn lists_join()
+    ensures after { (t : TargetState) (xs ys : List Action) → after t (xs ++ ys) ≡ after (after t xs) ys }
+    ensures pass { (t u v : TargetState) (xs ys : List Action) → PassTo t xs u → PassTo u ys v → PassTo t (xs ++ ys) v }
+{}
+
+/// Actions of which none faults: the target after them, and what a further action answers.
+pub fn passing_lists()
+    ensures after { (t u : TargetState) (xs : List Action) → PassTo t xs u → after t xs ≡ u }
+    ensures last { (t u : TargetState) (xs : List Action) (a : Action) → PassTo t xs u → in_order t (xs ++ a ∷ []) ≡ acted u a }
+    ensures fault { (t u : TargetState) (xs : List Action) (a : Action) (ys : List Action) → PassTo t xs u → is_fault (acted u a).outcome ≡ true
+        → in_order t (xs ++ a ∷ ys) ≡ acted u a }
+{}
+
+/// The actions that are issued lead to the target of the actions in order; where none faults they are all.
+pub fn what_is_issued()
+    ensures after { (t : TargetState) (xs : List Action) → after t (issued t xs) ≡ (in_order t xs).next }
+    ensures all { (t : TargetState) (xs : List Action) → is_fault (in_order t xs).outcome ≡ false → issued t xs ≡ xs }
+    ensures pass { (t : TargetState) (xs : List Action) → is_fault (in_order t xs).outcome ≡ false → PassTo t xs (in_order t xs).next }
+{}
+
+/// Actions that do not ask for RDBUFF do the same on targets that agree, and leave targets that agree.
+pub fn lists_on_targets_that_agree()
+    ensures one { (t u : TargetState) (a : Action) → Agree t u → SparesRdbuff a → Alike (acted t a) (acted u a) }
+    ensures in_order { (t u : TargetState) (xs : List Action) → Agree t u → SpareRdbuff xs → Alike (in_order t xs) (in_order u xs) }
+    ensures issued { (t u : TargetState) (xs : List Action) → Agree t u → SpareRdbuff xs → issued t xs ≡ issued u xs }
+    ensures after { (t u : TargetState) (xs : List Action) → Agree t u → SpareRdbuff xs → Agree (after t xs) (after u xs) }
+{}
