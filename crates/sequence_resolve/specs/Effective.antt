@@ -1,4 +1,4 @@
--- The sequences that hold for a device: of each name the greatest candidate, and of equals the last.
+-- The sequences that apply to a device: of each name the greatest candidate, and of equals the last.
 use Rattle.std.specs.Prelude.{◌≡◌, ℕ, ◌+◌, ◌*◌, ◌<◌, ◌≤◌, Bool, true, false, List, [], ◌∷◌, ◌++◌, map, Option, Some, None, is_some, if◌then◌else◌}
 use Rattle.std.specs.List.{AllByRecursion}
 use Rattle.std.specs.Str.{bytes_eq}

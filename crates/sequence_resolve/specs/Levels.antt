@@ -8,21 +8,24 @@ use Rattle.sequence_resolve.specs.declared.entry.LevelKind.{LevelKind}
 use Rattle.sequence_resolve.specs.declared.entry.LevelKind.TheVariants as kinds
 use Rattle.sequence_resolve.specs.Places.{DevicePlace}
 
+-- a level, and which kind it is
 pub record LevelAt : Type 0 where
   pub kind : LevelKind
   pub level : Level
 
+-- a list of one level
 abbrev pub one : LevelKind → Level → List LevelAt
 one kind level = record { kind = kind; level = level } ∷ []
 
-abbrev pub perhaps : {A : Type 0} → (A → List LevelAt) → Option A → List LevelAt
-perhaps levels o = option_map_or levels o []
+-- the levels of what is there
+abbrev pub levels_if_some : {A : Type 0} → (A → List LevelAt) → Option A → List LevelAt
+levels_if_some levels o = option_map_or levels o []
 
 -- the path: defaults, family, subfamily, device, variant
 abbrev pub path_of : Pack → DevicePlace → Option Variant → List LevelAt
 path_of pack place variant =
-    (((perhaps (one kinds.Defaults) pack.defaults ++ one kinds.Family place.family.level) ++ perhaps (λ s. one kinds.SubFamily s.level) place.sub_family)
-    ++ one kinds.Device place.device.level) ++ perhaps (λ v. one kinds.Variant v.level) variant
+    (((levels_if_some (one kinds.Defaults) pack.defaults ++ one kinds.Family place.family.level) ++ levels_if_some (λ s. one kinds.SubFamily s.level) place.sub_family)
+    ++ one kinds.Device place.device.level) ++ levels_if_some (λ v. one kinds.Variant v.level) variant
 
 -- the `debugvars` of the deepest level that has some, and else `found`
 abbrev pub deepest : List ℕ → List LevelAt → List ℕ

@@ -7,15 +7,18 @@ use Rattle.device_tree.specs.declared.pack.SubFamily.{SubFamily}
 use Rattle.device_tree.specs.declared.pack.Family.{Family}
 use Rattle.device_tree.specs.declared.pack.Pack.{Pack}
 
+-- a device, and the family and subfamily around it
 pub record DevicePlace : Type 0 where
   pub family : Family
   pub sub_family : Option SubFamily
   pub device : Device
 
+-- these devices, each with the same levels around it
 abbrev pub places_of : Family → Option SubFamily → List Device → List DevicePlace
 places_of family sub [] = []
 places_of family sub (d ∷ ds) = record { family = family; sub_family = sub; device = d } ∷ places_of family sub ds
 
+-- the devices of these subfamilies
 abbrev pub places_in_subs : Family → List SubFamily → List DevicePlace
 places_in_subs family [] = []
 places_in_subs family (s ∷ ss) = places_of family (Some s) s.devices ++ places_in_subs family ss
@@ -25,6 +28,7 @@ abbrev pub places_in : List Family → List DevicePlace
 places_in [] = []
 places_in (f ∷ fs) = (places_in_subs f f.sub_families ++ places_of f None f.devices) ++ places_in fs
 
+-- whether the device has the name
 abbrev pub is_named : List ℕ → DevicePlace → Bool
 is_named name place = bytes_eq name place.device.name
 

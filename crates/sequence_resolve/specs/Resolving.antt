@@ -5,7 +5,7 @@ use Rattle.device_tree.specs.declared.pack.Pack.{Pack}
 use Rattle.sequence_resolve.specs.declared.entry.SeqSet.{SeqSet}
 use Rattle.sequence_resolve.specs.declared.fault.ResolveFault.{ResolveFault}
 use Rattle.sequence_resolve.specs.declared.fault.ResolveFault.TheVariants as faults
-use Rattle.sequence_resolve.specs.declared.place.Place.{Place}
+use Rattle.sequence_resolve.specs.declared.place.DevicePlace as code
 use Rattle.sequence_resolve.specs.Places.{DevicePlace, named, requested_variant}
 use Rattle.sequence_resolve.specs.Levels.{path_of, deepest}
 use Rattle.sequence_resolve.specs.Effective.{Candidate, candidates, AreWinners, entry_of}
@@ -31,7 +31,7 @@ HasNone pack device variant_name faults.NoVariant = (place : DevicePlace) × (na
 HasNone pack device variant_name faults.OutOfMemory = Unit {0}
 
 -- the only one of the places, or why there is none
-abbrev pub FindsOnly : List DevicePlace → Result Place ResolveFault → Type 0
+abbrev pub FindsOnly : List DevicePlace → Result code.DevicePlace ResolveFault → Type 0
 FindsOnly places (Ok place) = places ≡ place_view place ∷ []
 FindsOnly places (Err faults.NoDevice) = places ≡ []
 FindsOnly places (Err faults.AmbiguousDevice) = 1 < length places

@@ -1,4 +1,4 @@
--- Candidates, put among the winners one after another.
+-- Candidates, put among the winners one after another: what private contracts cite.
 use Rattle.std.specs.Prelude.{◌≡◌, ℕ, suc, Bool, nat_le, List, [], ◌∷◌, Option, Some, None, option_map, if◌then◌else◌}
 use Rattle.std.specs.Str.{bytes_eq}
 use Rattle.std.specs.BTreeMap.{BTreeMap, get_by_text}
@@ -6,6 +6,7 @@ use Rattle.std.specs.Prelude.{String}
 use Rattle.std.specs.declared.alloc.Global.{Global}
 use Rattle.sequence_resolve.specs.Effective.{Candidate}
 
+-- whether the candidate has the name
 abbrev pub has_name : List ℕ → Candidate → Bool
 has_name name c = bytes_eq name c.sequence.name
 
@@ -14,6 +15,7 @@ abbrev pub with_candidate : List Candidate → Candidate → List Candidate
 with_candidate [] c = c ∷ []
 with_candidate (w ∷ ws) c = if has_name c.sequence.name w then (if nat_le w.rank c.rank then c else w) ∷ ws else w ∷ with_candidate ws c
 
+-- with each of the candidates, in order
 abbrev pub with_all : List Candidate → List Candidate → List Candidate
 with_all ws [] = ws
 with_all ws (c ∷ cs) = with_all (with_candidate ws c) cs

@@ -17,7 +17,7 @@ use crate::copy::{copy_steps, copy_text};
 use crate::entry::{SeqEntries, SeqEntry, SeqSet};
 use crate::fault::ResolveFault;
 use crate::levels::{debugvars_of, levels_of};
-use crate::place::{Place, place_of_device, variant_named};
+use crate::place::{DevicePlace, place_of_device, variant_named};
 use crate::winners::{Winner, winners_of};
 use dap_base::{ItemList, OutOfMemory};
 use device_tree::{Device, Pack, Steps, Variant};
@@ -66,7 +66,7 @@ fn variant_of<'a>(device: &'a Device, requested: Option<&str>) -> Option<Option<
 fn set_of(
     alloc: Global,
     pack: &Pack,
-    place: &Place,
+    place: &DevicePlace,
     variant: Option<&Variant>,
     pname: Option<&str>,
 ) -> Result<SeqSet, OutOfMemory>
@@ -81,21 +81,21 @@ fn set_of(
     Ok(SeqSet { entries, debugvars })
 }
 
-/// The sequences that hold for the device of the name `device`, for its variant of the name
+/// The sequences that apply to the device of the name `device`, for its variant of the name
 /// `variant` where one is requested, and for the processor `pname` where one is requested.
 ///
 /// The levels go from the pack's `defaults` over family, subfamily and device to the variant. A
 /// sequence counts where its `Pname` is the requested one or where it has none. Of each name the one at
-/// the deepest level holds, and at that level the one with the requested `Pname` before the one
-/// without. A disabled one holds without steps. The names stand in the order in which they first
+/// the deepest level applies, and at that level the one with the requested `Pname` before the one
+/// without. A disabled one applies without steps. The names stand in the order in which they first
 /// appear along the levels. The debug variables are those of the deepest level that has that
 /// element alone.
 ///
 /// `NoDevice` comes exactly where no device of the pack has the name, `AmbiguousDevice` exactly
 /// where two or more have it, `NoVariant` exactly where the one device has no variant of the name,
 /// `OutOfMemory` where memory is refused. Where a level has two sequences of one name and one
-/// `Pname`, which a pack that was read has not, the later one holds. So what is requested of a pack
-/// has one set at most, and that set is the answer, want of memory aside.
+/// `Pname`, which a pack that was read has not, the later one applies. So what is requested of a
+/// pack has one set at most, and that set is the answer unless memory is refused.
 pub fn effective(
     alloc: Global,
     pack: &Pack,
@@ -103,12 +103,12 @@ pub fn effective(
     variant: Option<&str>,
     pname: Option<&str>,
 ) -> Result<SeqSet, ResolveFault>
-    ensures set { IfOk result (IsEffectiveSet pack.now device.now (option_map (λ w. w.now) variant.entry) (option_map (λ w. w.now) pname.entry)) }
-    ensures none { IfErr result (HasNone pack.now device.now (option_map (λ w. w.now) variant.entry)) }
+    ensures answer { IfOk result (IsEffectiveSet pack.now device.now (option_map (λ w. w.now) variant.entry) (option_map (λ w. w.now) pname.entry)) }
+    ensures answer_fault { IfErr result (HasNone pack.now device.now (option_map (λ w. w.now) variant.entry)) }
     ensures only { (set : SeqSet)
         → IsEffectiveSet pack.now device.now (option_map (λ w. w.now) variant.entry) (option_map (λ w. w.now) pname.entry) set
         → MatchResult result (λ s. s ≡ set) (λ e. e ≡ faults.OutOfMemory) }
-    ensures only_none { (fault : ResolveFault)
+    ensures only_fault { (fault : ResolveFault)
         → HasNone pack.now device.now (option_map (λ w. w.now) variant.entry) fault → fault ≢ faults.OutOfMemory
         → IsErrAnd result (λ e. (e ≡ fault) ⊎ (e ≡ faults.OutOfMemory)) }
     ensures distinct { IfOk result (λ set. IsDistinct bytes_eq (map (λ e. e.name) set.entries)) }

@@ -1,4 +1,4 @@
-//! The set of sequences that hold for a device.
+//! The set of sequences that apply to a device.
 use dap_base::{ItemList, NameText};
 use device_tree::Steps;
 
@@ -12,7 +12,7 @@ pub enum LevelKind {
     Variant,
 }
 
-/// A sequence that holds.
+/// A sequence that applies.
 #[derive(Debug, Drop)]
 pub struct SeqEntry {
     /// Its name, which no other entry of the set has.
@@ -28,7 +28,7 @@ pub struct SeqEntry {
 /// The sequences of a set, in the order in which their names first appear along the levels.
 pub type SeqEntries = ItemList<SeqEntry>;
 
-/// The sequences that hold for a device, and the code of its debug variables.
+/// The sequences that apply to a device, and the code of its debug variables.
 #[derive(Debug, Drop)]
 pub struct SeqSet {
     pub entries: SeqEntries,

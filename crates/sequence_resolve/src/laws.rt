@@ -18,13 +18,13 @@ pub fn one_set()
         → IsEffectiveSet pack device variant pname x → IsEffectiveSet pack device variant pname y → x ≡ y }
 {}
 
-/// Where a pack has an effective set, nothing but want of memory says that it has none.
+/// Where a pack has an effective set, nothing but refused memory says that it has none.
 pub fn set_or_refusal()
     ensures { (pack : Pack) (device : List ℕ) (variant pname : Option (List ℕ)) (set : SeqSet) (fault : ResolveFault)
         → IsEffectiveSet pack device variant pname set → HasNone pack device variant fault → fault ≡ faults.OutOfMemory }
 {}
 
-/// A pack has no set for one cause at most, want of memory aside.
+/// A pack has no set for one cause at most, apart from refused memory.
 pub fn one_refusal()
     ensures { (pack : Pack) (device : List ℕ) (variant : Option (List ℕ)) (x y : ResolveFault)
         → HasNone pack device variant x → HasNone pack device variant y

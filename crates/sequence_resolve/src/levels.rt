@@ -6,7 +6,7 @@ ghost use Rattle.sequence_resolve.specs.Views.{place_view, level_view};
 
 use crate::copy::copy_text;
 use crate::entry::LevelKind;
-use crate::place::Place;
+use crate::place::DevicePlace;
 use dap_base::{NameText, OutOfMemory};
 use device_tree::{Level, Pack, Variant};
 use std::alloc::Global;
@@ -35,7 +35,7 @@ fn push_level<'a>(
 pub fn levels_of<'a>(
     alloc: Global,
     pack: &'a Pack,
-    place: &Place<'a>,
+    place: &DevicePlace<'a>,
     variant: Option<&'a Variant>,
 ) -> Result<Vec<LevelRef<'a>>, OutOfMemory>
     ensures path { IfOk result (λ v. map level_view v.items ≡ path_of pack.now (place_view place.now) (option_map (λ v. v.now) variant.entry)) }

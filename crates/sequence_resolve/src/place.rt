@@ -13,7 +13,7 @@ use std::alloc::Global;
 
 /// A device and the levels around it.
 #[derive(Clone, Copy)]
-pub struct Place<'a> {
+pub struct DevicePlace<'a> {
     pub family: &'a Family,
     pub sub_family: Option<&'a SubFamily>,
     pub device: &'a Device,
@@ -21,7 +21,7 @@ pub struct Place<'a> {
 
 // Adds the devices of the name.
 fn push_named<'a>(
-    places: &mut Vec<Place<'a>>,
+    places: &mut Vec<DevicePlace<'a>>,
     family: &'a Family,
     sub_family: Option<&'a SubFamily>,
     devices: &'a [Device],
@@ -32,7 +32,7 @@ fn push_named<'a>(
 {
     for device in devices {
         if name == device.name.as_str() {
-            let place = Place {
+            let place = DevicePlace {
                 family,
                 sub_family,
                 device,
@@ -48,7 +48,7 @@ fn push_named<'a>(
 // Adds the devices of the name in these subfamilies.
 #[tactic(auto, using(crate::proofs::PlaceLemmas::parts))]
 fn push_subs<'a>(
-    places: &mut Vec<Place<'a>>,
+    places: &mut Vec<DevicePlace<'a>>,
     family: &'a Family,
     subs: &'a [SubFamily],
     name: &str,
@@ -65,7 +65,7 @@ fn push_subs<'a>(
 // Adds the devices of the name in a family.
 #[tactic(auto, using(crate::proofs::PlaceLemmas::parts))]
 fn push_family<'a>(
-    places: &mut Vec<Place<'a>>,
+    places: &mut Vec<DevicePlace<'a>>,
     family: &'a Family,
     name: &str,
 ) -> Result<(), OutOfMemory>
@@ -79,7 +79,7 @@ fn push_family<'a>(
 // Adds the devices of the name in these families.
 #[tactic(auto, using(crate::proofs::PlaceLemmas::parts))]
 fn push_families<'a>(
-    places: &mut Vec<Place<'a>>,
+    places: &mut Vec<DevicePlace<'a>>,
     families: &'a [Family],
     name: &str,
 ) -> Result<(), OutOfMemory>
@@ -93,7 +93,7 @@ fn push_families<'a>(
 }
 
 // The only one of these places.
-fn only_place<'a>(places: &[Place<'a>]) -> Result<Place<'a>, ResolveFault>
+fn only_place<'a>(places: &[DevicePlace<'a>]) -> Result<DevicePlace<'a>, ResolveFault>
     ensures { FindsOnly (map place_view places.now) result }
 {
     match places {
@@ -108,7 +108,7 @@ pub fn place_of_device<'a>(
     alloc: Global,
     pack: &'a Pack,
     name: &str,
-) -> Result<Place<'a>, ResolveFault>
+) -> Result<DevicePlace<'a>, ResolveFault>
     ensures { FindsOnly (named name.now pack.now) result }
 {
     let mut places = Vec::new(alloc);

@@ -7,8 +7,8 @@ use Rattle.sequence_resolve.proofs.Greatest.{effective-with_all, distinct_entrie
 use Rattle.sequence_resolve.proofs.OneSet.{one_set}
 use Rattle.sequence_resolve.proofs.effective_set.effective.Goals as goal
 
-pub returns-clause-set : goal.returns-clause-set
-returns-clause-set c =
+pub returns-clause-answer : goal.returns-clause-answer
+returns-clause-answer c =
     let place = place_view c.in_ok-place.place in
     let variant = option_map (λ v. v.now) c.in-Some.variant in
     let found = candidates (option_map (λ w. w.now) c.args.pname) 0 (path_of c.args.pack.now place variant) in
@@ -26,7 +26,7 @@ returns-clause-set c =
 pub returns-clause-only : goal.returns-clause-only
 returns-clause-only c = λ set is.
     one_set c.args.pack.now c.args.device.now (option_map (λ w. w.now) c.args.variant) (option_map (λ w. w.now) c.args.pname) c.in_ok-set_of.field-0 set
-    (returns-clause-set c) is
+    (returns-clause-answer c) is
 
 pub returns-clause-distinct : goal.returns-clause-distinct
 returns-clause-distinct c =
