@@ -5,7 +5,7 @@ use Rattle.expr_grammar.specs.declared.code.Arg.{Arg}
 use Rattle.expr_grammar.specs.declared.code.Stmt.{Stmt}
 use Rattle.expr_grammar.specs.Tree.{ArgTree, args_of, arg_tree, arg_trees, StmtTree, stmt_tree, code_trees}
 use Rattle.sequence_code.specs.declared.steps.CheckedStep.{CheckedStep}
-use Rattle.sequence_code.specs.Trees.{StepTree, steps_of, step_tree, steps_tree}
+use Rattle.sequence_code.specs.Trees.{CodeStep, steps_of, step_tree, steps_tree}
 use Rattle.code_check.proofs.ArgLemmas.{arg_trees-take}
 use Rattle.seq_check.specs.Calls.{arg_calls, args_calls, statement_calls, block_calls, step_calls, steps_calls}
 use Rattle.seq_check.proofs.StepLemmas.{steps_tree-take, fronts, fronts-length}
@@ -34,7 +34,7 @@ block_calls_more names xs i x h =
     ap (λ ys. block_calls names (code_trees ys)) (take_more xs i x h) ∙ ap (block_calls names) (map-append stmt_tree (take i xs) (get_or xs i x ∷ []))
     ∙ block_calls-append names (code_trees (take i xs)) (stmt_tree (get_or xs i x))
 
-steps_calls-append : (names : List (List ℕ)) (path : List ℕ) (n : ℕ) (front : List StepTree) (s : StepTree)
+steps_calls-append : (names : List (List ℕ)) (path : List ℕ) (n : ℕ) (front : List CodeStep) (s : CodeStep)
     → steps_calls names path n (steps_of (front ++ s ∷ [])) ≡ steps_calls names path n (steps_of front) ++ step_calls names (path ++ (n + length front) ∷ []) s
 steps_calls-append names path n [] s =
     let e : n ≡ n + 0 = omega arith in

@@ -1,5 +1,4 @@
 pub mod FirstLemmas
-pub mod PathLemmas
 pub mod ControlLemmas
 pub mod NameLemmas
 pub mod StepLemmas

@@ -3,7 +3,7 @@ use Rattle.std.proofs.Common.{◌≡◌, ◌∙◌, sym, ap, ℕ, Bool, true, fa
 use Rattle.std.proofs.lemmas.List.{append-nil}
 use Rattle.std.proofs.Math.Seq.{take-append_seam}
 use Rattle.expr_grammar.specs.Tree.{StmtTree, Empty, Declare, Plain}
-use Rattle.sequence_code.specs.Trees.{StepTree, Block, Control, StepTrees, NoSteps, MoreSteps}
+use Rattle.sequence_code.specs.Trees.{CodeStep, Block, Control, CodeSteps, NoSteps, MoreSteps}
 use Rattle.code_check.specs.Names.{has_name}
 use Rattle.code_check.specs.BlockFaults.{names_after, names_after_all}
 use Rattle.seq_check.specs.declared.faulty.FaultyStep.{FaultyStep}
@@ -33,11 +33,11 @@ after_all : (names : List (List ℕ)) (code : List StmtTree) → Begins names (n
 after_all names [] = same names
 after_all names (st ∷ code) = onwards names (names_after names st) (names_after_all (names_after names st) code) (after names st) (after_all (names_after names st) code)
 
-after_step : (names : List (List ℕ)) (step : StepTree) → Begins names (names_after_step names step)
+after_step : (names : List (List ℕ)) (step : CodeStep) → Begins names (names_after_step names step)
 after_step names (Block code) = after_all names code
 after_step names (Control cond repeat timeout steps) = same names
 
-after_steps : (names : List (List ℕ)) (steps : StepTrees) → Begins names (names_after_steps names steps)
+after_steps : (names : List (List ℕ)) (steps : CodeSteps) → Begins names (names_after_steps names steps)
 after_steps names NoSteps = same names
 after_steps names (MoreSteps step more) =
     onwards names (names_after_step names step) (names_after_steps (names_after_step names step) more) (after_step names step) (after_steps (names_after_step names step) more)
@@ -46,10 +46,10 @@ cut : (names more : List (List ℕ)) → Begins names more → take (length name
 cut names more h = ap (take (length names)) h.parts ∙ take-append_seam names h.rest
 
 -- cut back to their number, the names after steps are those from before
-pub take-names_after_steps : (names : List (List ℕ)) (steps : StepTrees) → take (length names) (names_after_steps names steps) ≡ names
+pub take-names_after_steps : (names : List (List ℕ)) (steps : CodeSteps) → take (length names) (names_after_steps names steps) ≡ names
 take-names_after_steps names steps = cut names (names_after_steps names steps) (after_steps names steps)
 
-pub cut_answer : (o : Option FaultyStep) (names more new : List (List ℕ)) (n : ℕ) (steps : StepTrees) → new ≡ take n more → n ≡ length names
+pub cut_answer : (o : Option FaultyStep) (names more new : List (List ℕ)) (n : ℕ) (steps : CodeSteps) → new ≡ take n more → n ≡ length names
     → IfNone o (more ≡ names_after_steps names steps) → IfNone o (new ≡ names)
 cut_answer None names more new n steps e is h = rw (e, is, h) (take-names_after_steps names steps)
 cut_answer (Some f) names more new n steps e is h = tt

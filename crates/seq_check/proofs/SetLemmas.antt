@@ -7,7 +7,7 @@ use Rattle.std.proofs.lemmas.List.{append-nil}
 use Rattle.std.specs.List.{IsDistinct, AllByRecursion}
 use Rattle.dap_base.specs.declared.text.OutOfMemory.{OutOfMemory}
 use Rattle.sequence_code.specs.declared.spot.Part.TheVariants as parts
-use Rattle.sequence_code.specs.Trees.{StepTrees, SetTrees}
+use Rattle.sequence_code.specs.Trees.{CodeSteps, SetTrees}
 use Rattle.code_check.specs.Names.{has_name, with_name}
 use Rattle.code_check.specs.First.{IsFirst, InEither, here, there}
 use Rattle.code_check.specs.ExprFaults.{Scope}
@@ -97,7 +97,7 @@ pub record IsFrom (n : ℕ) (holder : Holder) : Type 0 where
   pub is : holder ≡ holders.Sequence number
   pub least : n ≤ number
 
-from_there : (s : Scope) (n : ℕ) (more : List StepTrees) (f : SetFault) → FaultInSequences s n more f → IsFrom n f.holder
+from_there : (s : Scope) (n : ℕ) (more : List CodeSteps) (f : SetFault) → FaultInSequences s n more f → IsFrom n f.holder
 from_there s n [] f h = elim h [ ]
 from_there s n (x ∷ more) f h = elim h [
   | here p ↦ record { number = n; is = p.holder_is; least = omega arith }
@@ -114,34 +114,34 @@ above n k h = grind (arith, nat_tests)
 below : (n k : ℕ) → suc n ≤ k → nat_lt n k ≡ true
 below n k h = grind (arith, nat_tests)
 
-sequences_order : (s : Scope) (n : ℕ) (P : StepFault → Type 0) (more : List StepTrees) (p q : SetFault) → Of (holders.Sequence n) P p → FaultInSequences s (suc n) more q → is_set_before q p ≡ false
+sequences_order : (s : Scope) (n : ℕ) (P : StepFault → Type 0) (more : List CodeSteps) (p q : SetFault) → Of (holders.Sequence n) P p → FaultInSequences s (suc n) more q → is_set_before q p ≡ false
 sequences_order s n P more p q h j =
     let r = from_there s (suc n) more q j in
     after_holder q p (holders.Sequence r.number) (holders.Sequence n) r.is h.holder_is (above n r.number r.least) (below n r.number r.least)
 
-debugvars_order : (s : Scope) (n : ℕ) (P : StepFault → Type 0) (more : List StepTrees) (p q : SetFault) → Of holders.Debugvars P p → FaultInSequences s n more q → is_set_before q p ≡ false
+debugvars_order : (s : Scope) (n : ℕ) (P : StepFault → Type 0) (more : List CodeSteps) (p q : SetFault) → Of holders.Debugvars P p → FaultInSequences s n more q → is_set_before q p ≡ false
 debugvars_order s n P more p q h j = (let r = from_there s n more q j in after_holder q p (holders.Sequence r.number) holders.Debugvars r.is h.holder_is refl refl)
 
 -- ---- the first fault
 
 -- what is the first fault from this sequence on is that of all sequences
-abbrev pub Onward : Scope → ℕ → List StepTrees → SetFault → Type 0
+abbrev pub Onward : Scope → ℕ → List CodeSteps → SetFault → Type 0
 Onward s i all = FaultInSequences s i (drop i all)
 
-abbrev pub Carries : Scope → ℕ → List StepTrees → Type 0
+abbrev pub Carries : Scope → ℕ → List CodeSteps → Type 0
 Carries s i all = (r : Option SetFault) → IsFirst is_set_before (Onward s i all) r → IsFirst is_set_before (FaultInSequences s 0 all) r
 
 -- a fault of the sequence with this number, or of a later one
-opened : (s : Scope) (i : ℕ) (all : List StepTrees) (steps : StepTrees) (r : Option SetFault) → slice_get all i ≡ Some steps
+opened : (s : Scope) (i : ℕ) (all : List CodeSteps) (steps : CodeSteps) (r : Option SetFault) → slice_get all i ≡ Some steps
     → IsFirst is_set_before (InEither (Of (holders.Sequence i) (FaultInSteps s 0 0 steps)) (Onward s (i + 1) all)) r → IsFirst is_set_before (Onward s i all) r
 opened s i all steps r at h =
     rw (drop-at all i steps at) (subst (λ n. IsFirst is_set_before (InEither (Of (holders.Sequence i) (FaultInSteps s 0 0 steps)) (FaultInSequences s n (drop (i + 1) all))) r) (add-one i) h)
 
-pub carries_on : (s : Scope) (i : ℕ) (all : List StepTrees) (steps : StepTrees) → slice_get all i ≡ Some steps → Carries s i all
+pub carries_on : (s : Scope) (i : ℕ) (all : List CodeSteps) (steps : CodeSteps) → slice_get all i ≡ Some steps → Carries s i all
     → IsFirst is_step_before (FaultInSteps s 0 0 steps) None → Carries s (i + 1) all
 carries_on s i all steps at before none = λ r h. before r (opened s i all steps r at (first_there is_set_before _ _ r (first_held (holders.Sequence i) (FaultInSteps s 0 0 steps) None none) h))
 
-pub found_there : (s : Scope) (i : ℕ) (all : List StepTrees) (steps : StepTrees) (f : StepFault) → slice_get all i ≡ Some steps → Carries s i all
+pub found_there : (s : Scope) (i : ℕ) (all : List CodeSteps) (steps : CodeSteps) (f : StepFault) → slice_get all i ≡ Some steps → Carries s i all
     → IsFirst is_step_before (FaultInSteps s 0 0 steps) (Some f) → IsFirst is_set_before (FaultInSequences s 0 all) (Some (held (holders.Sequence i) f))
 found_there s i all steps f at before found =
     let r = Some (held (holders.Sequence i) f) in
@@ -149,7 +149,7 @@ found_there s i all steps f at before found =
     λ p q u v. sequences_order s i (FaultInSteps s 0 0 steps) (drop (i + 1) all) p q u (subst (λ m. FaultInSequences s m (drop (i + 1) all) q) (add-one i) v) in
     before r (opened s i all steps r at (first_here is_set_before _ _ (held (holders.Sequence i) f) order (first_held (holders.Sequence i) (FaultInSteps s 0 0 steps) (Some f) found)))
 
-pub none_at_end : (s : Scope) (n : ℕ) (all : List StepTrees) → length all ≤ n → Carries s n all → IsFirst is_set_before (FaultInSequences s 0 all) None
+pub none_at_end : (s : Scope) (n : ℕ) (all : List CodeSteps) → length all ≤ n → Carries s n all → IsFirst is_set_before (FaultInSequences s 0 all) None
 none_at_end s n all e before = before None (rw (drop-past all n e) (first_of_none is_set_before))
 
 -- ---- the debug variables, and then the sequences

@@ -10,7 +10,7 @@ use Rattle.sequence_code.specs.declared.steps.CheckedStep.{CheckedStep}
 use Rattle.sequence_code.specs.declared.steps.CheckedStep.TheVariants as c
 use Rattle.sequence_code.specs.declared.steps.CheckedStep.TheOpen.{CheckedStep-F}
 use Rattle.sequence_code.specs.declared.steps.CheckedStep.TheFolds.{fold-roll-CheckedStep}
-use Rattle.sequence_code.specs.Trees.{StepTree, Block, Control, StepTrees, NoSteps, MoreSteps, steps_of, checked_step, step_tree, steps_tree}
+use Rattle.sequence_code.specs.Trees.{CodeStep, Block, Control, CodeSteps, NoSteps, MoreSteps, steps_of, checked_step, step_tree, steps_tree}
 use Rattle.code_check.specs.declared.fault.CodeFault.{CodeFault}
 use Rattle.code_check.specs.First.{IsFirst, InEither, here, there}
 use Rattle.code_check.specs.ExprFaults.{Scope}
@@ -24,11 +24,11 @@ use Rattle.seq_check.proofs.FirstLemmas.{first_of_none, first_of_same, first_her
 -- ---- what each form of step is as a tree
 
 pub step_tree-Block : (code : List Stmt) → step_tree (c.Block code) ≡ Block (code_trees code)
-step_tree-Block code = ap step_tree (sym (c.rolls-Block code)) ∙ fold-roll-CheckedStep StepTree checked_step (CheckedStep-F.Block code)
+step_tree-Block code = ap step_tree (sym (c.rolls-Block code)) ∙ fold-roll-CheckedStep CodeStep checked_step (CheckedStep-F.Block code)
 
 pub step_tree-Control : (cond repeat : Option Expr) (timeout : Option ℕ) (steps : List CheckedStep)
     → step_tree (c.Control cond repeat timeout steps) ≡ Control (option_map tree cond) (option_map tree repeat) timeout (steps_tree steps)
-step_tree-Control cond repeat timeout steps = ap step_tree (sym (c.rolls-Control cond repeat timeout steps)) ∙ fold-roll-CheckedStep StepTree checked_step (CheckedStep-F.Control cond repeat timeout steps)
+step_tree-Control cond repeat timeout steps = ap step_tree (sym (c.rolls-Control cond repeat timeout steps)) ∙ fold-roll-CheckedStep CodeStep checked_step (CheckedStep-F.Control cond repeat timeout steps)
 
 -- ---- the order of steps
 
@@ -39,7 +39,7 @@ record Numbered (from : ℕ) (path : List ℕ) : Type 0 where
   pub parts : path ≡ number ∷ rest
   pub least : from ≤ number
 
-numbered : (s : Scope) (around n : ℕ) (steps : StepTrees) (f : StepFault) → FaultInSteps s around n steps f → Numbered n f.path
+numbered : (s : Scope) (around n : ℕ) (steps : CodeSteps) (f : StepFault) → FaultInSteps s around n steps f → Numbered n f.path
 numbered s around n NoSteps f h = elim h [ ]
 numbered s around n (MoreSteps step more) f h = elim h [
   | here p ↦ record { number = n; rest = p.inner.path; parts = ap (λ x. x.path) p.is; least = omega arith }
@@ -66,7 +66,7 @@ later_path : (n : ℕ) (P : StepFault → Type 0) (p q : StepFault) → Under n 
 later_path n P p q h r = after_path q.path p.path r.rest h.inner.path n r.number q.part p.part q.fault p.fault r.parts (ap (λ x. x.path) h.is) r.least
 
 -- none of the later steps is before an earlier one
-steps_order : (s : Scope) (around n : ℕ) (P : StepFault → Type 0) (more : StepTrees) (p q : StepFault) → Under n P p → FaultInSteps s around (suc n) more q → is_step_before q p ≡ false
+steps_order : (s : Scope) (around n : ℕ) (P : StepFault → Type 0) (more : CodeSteps) (p q : StepFault) → Under n P p → FaultInSteps s around (suc n) more q → is_step_before q p ≡ false
 steps_order s around n P more p q h k = later_path n P p q h (numbered s around (suc n) more q k)
 
 inner_path : (a b p : List ℕ) (j : ℕ) (x y : Part) (f g : CodeFault) → a ≡ j ∷ p → b ≡ [] → before_by a b x y f g ≡ false
@@ -76,7 +76,7 @@ own_path : (s : Scope) (around : ℕ) (cond repeat : Option Tree) (timeout : Opt
 own_path s around cond repeat timeout p h = elim h [ here u ↦ u.own | there v ↦ elim v [ here w ↦ w.own | there w ↦ w.own ] ]
 
 -- no step inside a control is before the control itself
-inner_order : (s : Scope) (around : ℕ) (cond repeat : Option Tree) (timeout : Option ℕ) (steps : StepTrees) (p q : StepFault)
+inner_order : (s : Scope) (around : ℕ) (cond repeat : Option Tree) (timeout : Option ℕ) (steps : CodeSteps) (p q : StepFault)
     → OwnFault s around cond repeat timeout p → FaultInSteps s (suc around) 0 steps q → is_step_before q p ≡ false
 inner_order s around cond repeat timeout steps p q h k =
     let r = numbered s (suc around) 0 steps q k in
@@ -84,11 +84,11 @@ inner_order s around cond repeat timeout steps p q h k =
 
 -- ---- a control, and what it holds
 
-pub control_own : (s : Scope) (around : ℕ) (cond repeat : Option Tree) (timeout : Option ℕ) (steps : StepTrees) (f : StepFault)
+pub control_own : (s : Scope) (around : ℕ) (cond repeat : Option Tree) (timeout : Option ℕ) (steps : CodeSteps) (f : StepFault)
     → IsFirst is_step_before (OwnFault s around cond repeat timeout) (Some f) → IsFirst is_step_before (FaultInStep s around (Control cond repeat timeout steps)) (Some f)
 control_own s around cond repeat timeout steps f h = first_here is_step_before _ _ f (inner_order s around cond repeat timeout steps) h
 
-pub control_inner : (s : Scope) (around : ℕ) (cond repeat : Option Tree) (timeout : Option ℕ) (steps : StepTrees) (r : Option StepFault)
+pub control_inner : (s : Scope) (around : ℕ) (cond repeat : Option Tree) (timeout : Option ℕ) (steps : CodeSteps) (r : Option StepFault)
     → IsFirst is_step_before (OwnFault s around cond repeat timeout) None → IsFirst is_step_before (FaultInSteps s (suc around) 0 steps) r
     → IsFirst is_step_before (FaultInStep s around (Control cond repeat timeout steps)) r
 control_inner s around cond repeat timeout steps r h k = first_there is_step_before _ _ r h k
@@ -107,10 +107,10 @@ under_order n f g = rw (below_itself n, same_number n) refl
 first_under : (n : ℕ) (P : StepFault → Type 0) (r : Option StepFault) → IsFirst is_step_before P r → IsFirst is_step_before (Under n P) (option_map (under n) r)
 first_under n P r h = first_mapped is_step_before is_step_before (under n) P (Under n P) r (under_order n) (λ f p. record { inner = f; holds = p; is = refl }) (λ g u. (u.inner, u.holds, u.is)) h
 
-abbrev after : Scope → List StepTree → Scope
+abbrev after : Scope → List CodeStep → Scope
 after s front = seeing s (names_after_steps s.visible (steps_of front))
 
-split_to : (s : Scope) (around n : ℕ) (front back : List StepTree) (f : StepFault)
+split_to : (s : Scope) (around n : ℕ) (front back : List CodeStep) (f : StepFault)
     → InEither (FaultInSteps s around n (steps_of front)) (FaultInSteps (after s front) around (n + length front) (steps_of back)) f → FaultInSteps s around n (steps_of (front ++ back)) f
 split_to s around n [] back f h = let e : n + 0 ≡ n = omega arith in elim h [ here p ↦ elim p [ ] | there q ↦ subst (λ m. FaultInSteps s around m (steps_of back) f) e q ]
 split_to s around n (x ∷ front) back f h =
@@ -121,7 +121,7 @@ split_to s around n (x ∷ front) back f h =
       | there q ↦ there (split_to s' around (suc n) front back f (there (subst (λ m. FaultInSteps (after s' front) around m (steps_of back) f) e q)))
     ]
 
-split_from : (s : Scope) (around n : ℕ) (front back : List StepTree) (f : StepFault)
+split_from : (s : Scope) (around n : ℕ) (front back : List CodeStep) (f : StepFault)
     → FaultInSteps s around n (steps_of (front ++ back)) f → InEither (FaultInSteps s around n (steps_of front)) (FaultInSteps (after s front) around (n + length front) (steps_of back)) f
 split_from s around n [] back f h = let e : n ≡ n + 0 = omega arith in there (subst (λ m. FaultInSteps s around m (steps_of back) f) e h)
 split_from s around n (x ∷ front) back f h =
@@ -133,7 +133,7 @@ split_from s around n (x ∷ front) back f h =
     ]
 
 -- none in the steps before, and this one in the next step
-found_in : (s : Scope) (around n : ℕ) (front : List StepTree) (step : StepTree) (back : List StepTree) (f : StepFault) → n ≡ length front
+found_in : (s : Scope) (around n : ℕ) (front : List CodeStep) (step : CodeStep) (back : List CodeStep) (f : StepFault) → n ≡ length front
     → IsFirst is_step_before (FaultInSteps s around 0 (steps_of front)) None → IsFirst is_step_before (FaultInStep (after s front) around step) (Some f)
     → IsFirst is_step_before (FaultInSteps s around 0 (steps_of (front ++ step ∷ back))) (Some (under n f))
 found_in s around n front step back f is none found =
@@ -144,19 +144,19 @@ found_in s around n front step back f is none found =
     first_of_same is_step_before _ _ (Some (under n f)) (split_to s around 0 front (step ∷ back)) (split_from s around 0 front (step ∷ back))
     (first_there is_step_before _ _ (Some (under n f)) none (subst (λ m. IsFirst is_step_before (Later m) (Some (under n f))) e here_it))
 
-none_in : (s : Scope) (around : ℕ) (front : List StepTree) (step : StepTree) → IsFirst is_step_before (FaultInSteps s around 0 (steps_of front)) None
+none_in : (s : Scope) (around : ℕ) (front : List CodeStep) (step : CodeStep) → IsFirst is_step_before (FaultInSteps s around 0 (steps_of front)) None
     → IsFirst is_step_before (FaultInStep (after s front) around step) None → IsFirst is_step_before (FaultInSteps s around 0 (steps_of (front ++ step ∷ []))) None
 none_in s around front step none none' =
     first_of_same is_step_before _ _ None (split_to s around 0 front (step ∷ [])) (split_from s around 0 front (step ∷ []))
     (first_there is_step_before _ _ None none (first_there is_step_before _ _ None (first_under (0 + length front) (FaultInStep (after s front) around step) None none') (first_of_none is_step_before)))
 
-names_after_steps-append : (names : List (List ℕ)) (front : List StepTree) (step : StepTree) → names_after_steps names (steps_of (front ++ step ∷ [])) ≡ names_after_step (names_after_steps names (steps_of front)) step
+names_after_steps-append : (names : List (List ℕ)) (front : List CodeStep) (step : CodeStep) → names_after_steps names (steps_of (front ++ step ∷ [])) ≡ names_after_step (names_after_steps names (steps_of front)) step
 names_after_steps-append names [] step = refl
 names_after_steps-append names (x ∷ front) step = names_after_steps-append (names_after_step names x) front step
 
 -- ---- in a list of steps
 
-abbrev pub fronts : List CheckedStep → ℕ → List StepTree
+abbrev pub fronts : List CheckedStep → ℕ → List CodeStep
 fronts xs i = map step_tree (take i xs)
 
 pub steps_tree-take : (xs : List CheckedStep) (i : ℕ) (x : CheckedStep) → i < length xs → steps_tree (take (i + 1) xs) ≡ steps_of (fronts xs i ++ step_tree (get_or xs i x) ∷ [])
@@ -188,7 +188,7 @@ names_more names xs i x h = ap (names_after_steps names) (steps_tree-take xs i x
 
 -- ---- as answers
 
-pub inner_answer : (s : Scope) (around n : ℕ) (cond repeat : Option Tree) (timeout : Option ℕ) (steps : StepTrees) (r : Result (Option FaultyStep) OutOfMemory) → n ≡ suc around
+pub inner_answer : (s : Scope) (around n : ℕ) (cond repeat : Option Tree) (timeout : Option ℕ) (steps : CodeSteps) (r : Result (Option FaultyStep) OutOfMemory) → n ≡ suc around
     → IsFirst is_step_before (OwnFault s around cond repeat timeout) None → IfOk r (λ o. IsFirst is_step_before (FaultInSteps s n 0 steps) (option_map faulty_view o))
     → IfOk r (λ o. IsFirst is_step_before (FaultInStep s around (Control cond repeat timeout steps)) (option_map faulty_view o))
 inner_answer s around n cond repeat timeout steps (Err e) is own inner = tt

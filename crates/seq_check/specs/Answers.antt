@@ -28,7 +28,7 @@ GivesTrees trees (Err (faults.Fault kind spot)) = ⊥
 GivesTrees trees (Err faults.OutOfMemory) = Unit {0}
 
 -- this fault, unless memory ran out
-abbrev pub TellsFault : FaultKind → Spot → Result Checked CheckFault → Type 0
-TellsFault kind spot (Ok checked) = ⊥
-TellsFault kind spot (Err (faults.Fault reported_kind reported)) = (reported_kind ≡ kind) × (reported ≡ spot)
-TellsFault kind spot (Err faults.OutOfMemory) = Unit {0}
+abbrev pub ReportsFault : FaultKind → Spot → Result Checked CheckFault → Type 0
+ReportsFault kind spot (Ok checked) = ⊥
+ReportsFault kind spot (Err (faults.Fault reported_kind reported)) = (reported_kind ≡ kind) × (reported ≡ spot)
+ReportsFault kind spot (Err faults.OutOfMemory) = Unit {0}

@@ -6,7 +6,7 @@ use Rattle.expr_grammar.specs.declared.code.TextArg as string
 use Rattle.expr_grammar.specs.Tree.{Tree, Number, Named, Group, Unary, Binary, Cond, Assign, Call, ArgTree, ExprArg, TextArg, ArgTrees, NoArgs, MoreArgs, StmtTree, Empty, Declare, Plain}
 use Rattle.sequence_code.specs.declared.spot.Part.{Part}
 use Rattle.sequence_code.specs.declared.spot.Part.TheVariants as parts
-use Rattle.sequence_code.specs.Trees.{StepTree, Block, Control, StepTrees, NoSteps, MoreSteps, SetTrees}
+use Rattle.sequence_code.specs.Trees.{CodeStep, Block, Control, CodeSteps, NoSteps, MoreSteps, SetTrees}
 use Rattle.code_check.specs.ExprFaults.{text_at}
 use Rattle.seq_check.specs.declared.calls.TextCall.{TextCall}
 use Rattle.seq_check.specs.declared.step_calls.StepCall.{StepCall}
@@ -65,20 +65,20 @@ calls_at path part calls = map (λ c. record { path = path; part = part; place =
 
 abbrev mutual
   -- in the step at the path
-  pub step_calls : List (List ℕ) → List ℕ → StepTree → List StepCall
+  pub step_calls : List (List ℕ) → List ℕ → CodeStep → List StepCall
   step_calls names path (Block code) = calls_at path parts.Block (block_calls names code)
   step_calls names path (Control cond repeat timeout steps) =
       calls_at path parts.If (condition_calls names cond) ++ (calls_at path parts.While (condition_calls names repeat) ++ steps_calls names path 0 steps)
 
   -- in the steps inside the one at the path, the first of which has this number
-  pub steps_calls : List (List ℕ) → List ℕ → ℕ → StepTrees → List StepCall
+  pub steps_calls : List (List ℕ) → List ℕ → ℕ → CodeSteps → List StepCall
   steps_calls names path number NoSteps = []
   steps_calls names path number (MoreSteps step more) = step_calls names (path ++ number ∷ []) step ++ steps_calls names path (suc number) more
 
 -- ---- in a set
 
 -- the calls of a sequence
-abbrev pub sequence_calls : List (List ℕ) → StepTrees → List StepCall
+abbrev pub sequence_calls : List (List ℕ) → CodeSteps → List StepCall
 sequence_calls names steps = steps_calls names [] 0 steps
 
 -- the calls of each sequence

@@ -1,7 +1,7 @@
 -- The faults that stand in the texts and the controls of a set.
 use Rattle.std.specs.Prelude.{◌≡◌, ℕ, suc, nat_lt, ◌&&◌, ◌||◌, not, Bool, true, false, List, [], ◌∷◌, map}
 use Rattle.sequence_code.specs.declared.spot.Part.TheVariants as parts
-use Rattle.sequence_code.specs.Trees.{StepTrees, SetTrees}
+use Rattle.sequence_code.specs.Trees.{CodeSteps, SetTrees}
 use Rattle.function_table.specs.Variables.{predefined}
 use Rattle.code_check.specs.First.{Nowhere, InEither}
 use Rattle.code_check.specs.ExprFaults.{Scope}
@@ -43,7 +43,7 @@ abbrev pub sequences_scope : SetTrees → Scope
 sequences_scope set = record { visible = names_after_all predefined set.debugvars; sequences = names_of set; in_debugvars = false }
 
 -- in the steps of sequences, the first of which has this number
-abbrev pub FaultInSequences : Scope → ℕ → List StepTrees → SetFault → Type 0
+abbrev pub FaultInSequences : Scope → ℕ → List CodeSteps → SetFault → Type 0
 FaultInSequences s number [] = Nowhere
 FaultInSequences s number (steps ∷ more) = InEither (Of (holders.Sequence number) (FaultInSteps s 0 0 steps)) (FaultInSequences s (suc number) more)
 

@@ -1,5 +1,5 @@
 -- What the code's faults stand for.
-use Rattle.std.specs.Prelude.{[], reverse}
+use Rattle.std.specs.Prelude.{[]}
 use Rattle.seq_check.specs.declared.faulty.PartFault.{PartFault}
 use Rattle.seq_check.specs.declared.faulty.FaultyStep.{FaultyStep}
 use Rattle.seq_check.specs.declared.faulty.HeldFault.{HeldFault}
@@ -12,7 +12,7 @@ own_view f = record { path = []; part = f.part; fault = f.fault }
 
 -- a fault of a step, or of one inside it
 abbrev pub faulty_view : FaultyStep → StepFault
-faulty_view f = record { path = reverse f.outward; part = f.own.part; fault = f.own.fault }
+faulty_view f = record { path = f.path; part = f.own.part; fault = f.own.fault }
 
 -- a fault of a set
 abbrev pub held_view : HeldFault → SetFault

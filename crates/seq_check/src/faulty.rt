@@ -4,8 +4,8 @@ ghost use Rattle.seq_check.specs.StepFaults.{under};
 ghost use Rattle.seq_check.specs.Views.{own_view, faulty_view};
 
 use code_check::CodeFault;
-use dap_base::{ItemList, OutOfMemory};
-use sequence_code::Part;
+use dap_base::OutOfMemory;
+use sequence_code::{OutwardPath, Part};
 use std::alloc::Global;
 
 /// A fault, and the part of a step that has it.
@@ -15,11 +15,11 @@ pub struct PartFault {
     pub fault: CodeFault,
 }
 
-/// A fault of a step, and the way out to the list of steps that was looked through.
+/// A fault of a step, seen from the list of steps that was gone through.
 #[derive(Debug, Drop)]
 pub struct FaultyStep {
-    /// The numbers of the steps that lead to that step, the innermost first.
-    pub outward: ItemList<u64>,
+    /// The path to that step.
+    pub path: OutwardPath,
     /// The fault of the step itself.
     pub own: PartFault,
 }
@@ -41,21 +41,20 @@ pub struct HeldFault {
 }
 
 /// The fault of a step itself, seen from that step.
-pub fn own(alloc: Global, fault: PartFault) -> FaultyStep
+pub fn at_own_step(alloc: Global, fault: PartFault) -> FaultyStep
     ensures { faulty_view result ≡ own_view fault }
 {
     FaultyStep {
-        outward: ItemList::new(alloc),
+        path: OutwardPath::new(alloc),
         own: fault,
     }
 }
 
 /// The same fault, seen from the list in which the step has this number.
-#[tactic(auto, using(crate::proofs::PathLemmas::outwards))]
-pub fn within(mut faulty: FaultyStep, number: u64) -> Result<FaultyStep, OutOfMemory>
+pub fn from_list(mut faulty: FaultyStep, number: u64) -> Result<FaultyStep, OutOfMemory>
     ensures { IfOk result (λ f. faulty_view f ≡ under number (faulty_view faulty)) }
 {
-    faulty.outward.push(number)?;
+    faulty.path.push(number)?;
     Ok(faulty)
 }
 

@@ -1,5 +1,5 @@
 //! The check of a whole set.
-ghost use Rattle.std.specs.Prelude.{◌≡◌, ℕ, IfOk, map, reverse, MatchOption};
+ghost use Rattle.std.specs.Prelude.{◌≡◌, ℕ, IfOk, map, MatchOption};
 ghost use Rattle.std.specs.List.{IsDistinct};
 ghost use Rattle.std.specs.Str.{bytes_eq};
 ghost use Rattle.sequence_code.specs.declared.spot.Spot.{Spot};
@@ -10,7 +10,7 @@ ghost use Rattle.code_check.specs.declared.fault.FaultKind.{FaultKind};
 ghost use Rattle.seq_check.specs.SetFaults.{names_of};
 ghost use Rattle.seq_check.specs.Views.{held_view};
 ghost use Rattle.seq_check.specs.Valid.{CallsAreSound, IsFirstCallFault, holder_name, spot_of, IsSound, IsFirstOf, IsFirstFaultOf};
-ghost use Rattle.seq_check.specs.Answers.{AnswersCheck, GivesTrees, TellsFault};
+ghost use Rattle.seq_check.specs.Answers.{AnswersCheck, GivesTrees, ReportsFault};
 
 use crate::checked::{CheckFault, Checked};
 use crate::faulty::{HeldFault, Holder};
@@ -18,8 +18,8 @@ use crate::set_calls::{call_spot, graph_of, set_calls};
 use crate::sets::{sequence_names, set_fault};
 use call_graph::{first_cycle, first_deep};
 use code_check::{FaultKind, Names};
-use dap_base::{ItemList, NameText, OutOfMemory};
-use sequence_code::{ReadSet, SetFault, Spot, StepPath, read_set};
+use dap_base::{NameText, OutOfMemory};
+use sequence_code::{ReadSet, SetFault, Spot, read_set};
 use sequence_resolve::SeqSet;
 use std::alloc::Global;
 
@@ -30,7 +30,7 @@ pub struct FirstFault {
     pub spot: Spot,
 }
 
-fn reported(kind: FaultKind, spot: Spot) -> FirstFault
+fn first_fault(kind: FaultKind, spot: Spot) -> FirstFault
     ensures kind { result.kind ≡ kind }
     ensures spot { result.spot ≡ spot }
 {
@@ -53,28 +53,18 @@ fn holder_name(
     }
 }
 
-fn path_of(alloc: Global, outward: &[u64]) -> Result<StepPath, OutOfMemory>
-    ensures { IfOk result (λ path. path ≡ reverse outward.now) }
-{
-    let mut path = ItemList::new(alloc);
-    for number in outward.iter().rev().copied() {
-        path.push(number)?;
-    }
-    Ok(path)
-}
-
-fn fault_reported(alloc: Global, set: &ReadSet, held: &HeldFault) -> Result<FirstFault, OutOfMemory>
+fn named_fault(alloc: Global, set: &ReadSet, held: &HeldFault) -> Result<FirstFault, OutOfMemory>
     ensures kind { IfOk result (λ t. t.kind ≡ (held_view held.now).fault.fault.kind) }
     ensures spot { IfOk result (λ t. t.spot ≡ spot_of (set_trees set.now) (held_view held.now)) }
 {
     let own = held.faulty.own;
     let spot = Spot {
         sequence: holder_name(alloc, set, held.holder)?,
-        path: path_of(alloc, held.faulty.outward.as_slice())?,
+        path: held.faulty.path.to_path(alloc)?,
         part: own.part,
         place: own.fault.place,
     };
-    Ok(reported(own.fault.kind, spot))
+    Ok(first_fault(own.fault.kind, spot))
 }
 
 fn call_fault(
@@ -89,11 +79,11 @@ fn call_fault(
     let graph = graph_of(alloc, calls.as_slice())?;
     if let Some(at) = first_cycle(alloc, &graph)? {
         let spot = call_spot(alloc, set, calls.as_slice(), at)?;
-        return Ok(Some(reported(FaultKind::CallCycle, spot)));
+        return Ok(Some(first_fault(FaultKind::CallCycle, spot)));
     }
     if let Some(at) = first_deep(alloc, &graph)? {
         let spot = call_spot(alloc, set, calls.as_slice(), at)?;
-        return Ok(Some(reported(FaultKind::CallsTooDeep, spot)));
+        return Ok(Some(first_fault(FaultKind::CallsTooDeep, spot)));
     }
     Ok(None)
 }
@@ -105,7 +95,7 @@ fn read_fault(alloc: Global, set: &ReadSet) -> Result<Option<FirstFault>, OutOfM
 {
     let sequences = sequence_names(alloc, set)?;
     if let Some(held) = set_fault(alloc, set, &sequences)? {
-        return Ok(Some(fault_reported(alloc, set, &held)?));
+        return Ok(Some(named_fault(alloc, set, &held)?));
     }
     call_fault(alloc, set, &sequences)
 }
@@ -125,8 +115,8 @@ fn read_fault(alloc: Global, set: &ReadSet) -> Result<Option<FirstFault>, OutOfM
 pub fn check(alloc: Global, set: &SeqSet) -> Result<Checked, CheckFault>
     requires { IsDistinct bytes_eq (map (λ e. e.name) set.now.entries) }
     ensures answer { AnswersCheck set.now result }
-    ensures only_valid { (trees : SetTrees) → ReadsSet set.now trees → IsSound trees → GivesTrees trees result }
-    ensures only_fault { (kind : FaultKind) (spot : Spot) → IsFirstFaultOf set.now kind spot → TellsFault kind spot result }
+    ensures only { (trees : SetTrees) → ReadsSet set.now trees → IsSound trees → GivesTrees trees result }
+    ensures only_fault { (kind : FaultKind) (spot : Spot) → IsFirstFaultOf set.now kind spot → ReportsFault kind spot result }
 {
     let read = match read_set(alloc, set) {
         Ok(read) => read,

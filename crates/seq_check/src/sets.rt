@@ -13,7 +13,7 @@ ghost use Rattle.seq_check.specs.StepFaults.{At};
 ghost use Rattle.seq_check.specs.SetFaults.{is_set_before, Of, names_of, FaultInSequences, FaultInSet};
 ghost use Rattle.seq_check.specs.Views.{held_view};
 
-use crate::faulty::{HeldFault, Holder, in_part, own};
+use crate::faulty::{HeldFault, Holder, at_own_step, in_part};
 use crate::steps::inner_fault;
 use code_check::{Names, block_fault};
 use dap_base::OutOfMemory;
@@ -66,7 +66,7 @@ fn debugvars_fault(
     match in_part(Part::Debugvars, fault) {
         Some(fault) => Ok(Some(HeldFault {
             holder: Holder::Debugvars,
-            faulty: own(alloc, fault),
+            faulty: at_own_step(alloc, fault),
         })),
         None => Ok(None),
     }

@@ -9,7 +9,7 @@ ghost use Rattle.seq_check.specs.StepFaults.{is_step_before, names_after_step, n
 ghost use Rattle.seq_check.specs.Views.{faulty_view};
 
 use crate::controls::own_fault;
-use crate::faulty::{FaultyStep, in_part, own, within};
+use crate::faulty::{FaultyStep, at_own_step, from_list, in_part};
 use code_check::{Names, Scope, block_fault};
 use dap_base::OutOfMemory;
 use expr_grammar::Stmt;
@@ -27,7 +27,7 @@ fn block_step_fault(
 {
     let fault = block_fault(alloc, names, sequences, false, code)?;
     match in_part(Part::Block, fault) {
-        Some(fault) => Ok(Some(own(alloc, fault))),
+        Some(fault) => Ok(Some(at_own_step(alloc, fault))),
         None => Ok(None),
     }
 }
@@ -57,7 +57,7 @@ fn step_fault(
                 in_debugvars: false,
             };
             if let Some(fault) = own_fault(scope, around, cond, repeat, *timeout) {
-                return Ok(Some(own(alloc, fault)));
+                return Ok(Some(at_own_step(alloc, fault)));
             }
             inner_fault(alloc, names, sequences, around + 1, steps.as_slice())
         }
@@ -98,7 +98,7 @@ pub fn steps_fault(
 {
     for (number, step) in steps.iter().enumerate() {
         if let Some(faulty) = step_fault(alloc, names, sequences, around, step)? {
-            return Ok(Some(within(faulty, number as u64)?));
+            return Ok(Some(from_list(faulty, number as u64)?));
         }
     }
     Ok(None)

@@ -52,7 +52,9 @@ fn set(alloc: Global, debugvars: &str, timeout: Option<u64>, code: &str) -> Resu
 }
 
 // The kind, the part, the first number of the path, the line and the column of the fault.
-fn reported(checked: &Result<Checked, CheckFault>) -> Option<(FaultKind, Part, Option<u64>, u64, u64)> {
+fn reported(
+    checked: &Result<Checked, CheckFault>,
+) -> Option<(FaultKind, Part, Option<u64>, u64, u64)> {
     match checked {
         Err(CheckFault::Fault(kind, spot)) => Some((
             *kind,

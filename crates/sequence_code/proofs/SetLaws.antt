@@ -9,19 +9,19 @@ use Rattle.sequence_code.specs.declared.spot.Spot.{Spot}
 use Rattle.sequence_code.specs.declared.set.ReadSet.{ReadSet}
 use Rattle.sequence_code.specs.declared.set_reader.SetFault.{SetFault}
 use Rattle.sequence_code.specs.declared.set_reader.SetFault.TheVariants as sets
-use Rattle.sequence_code.specs.Trees.{StepTrees, SequenceTrees, SetTrees}
+use Rattle.sequence_code.specs.Trees.{CodeSteps, SequenceTrees, SetTrees}
 use Rattle.sequence_code.specs.Order.{enabled_steps, steps_texts, entry_texts, entries_texts, debugvars_texts, set_texts, step_of, IsFirstFault}
 use Rattle.sequence_code.specs.Reading.{ReadsSteps, ReadsEntry, ReadsEntries, ReadsSet}
 use Rattle.sequence_code.specs.Texts.{IsCodeOf}
 use Rattle.sequence_code.specs.SetView.{set_trees}
-use Rattle.sequence_code.specs.Answers.{AnswersSet, GivesSet, TellsSpot}
+use Rattle.sequence_code.specs.Answers.{AnswersSet, GivesSet, ReportsSpot}
 use Rattle.sequence_code.proofs.TextLaws.{one_value, exact_code}
 use Rattle.sequence_code.proofs.OrderLaws.{AreFine, fine_both, fine_moved, fine_not_faulty, Same, one_first}
 use Rattle.sequence_code.proofs.ReadingLaws.{steps_fine, one_steps}
 
 -- ---- what is read is fine
 
-pub entry_fine : (e : SeqEntry) (steps : StepTrees) → ReadsSteps (enabled_steps e) steps → AreFine (entry_texts e)
+pub entry_fine : (e : SeqEntry) (steps : CodeSteps) → ReadsSteps (enabled_steps e) steps → AreFine (entry_texts e)
 entry_fine e steps is = fine_moved (λ path. record { sequence = Some e.name; path = path }) (steps_texts 0 (enabled_steps e)) (steps_fine (enabled_steps e) 0 steps is)
 
 entries_fine : (es : List SeqEntry) (ss : List SequenceTrees) → ReadsEntries es ss → AreFine (entries_texts es)
@@ -78,7 +78,7 @@ only_read set (Ok read) a trees is = one_set set (set_trees read) trees a is
 only_read set (Err (sets.Syntax spot)) a trees is = not_both set trees spot is a
 only_read set (Err sets.OutOfMemory) a trees is = tt
 
-pub only_fault : (set : SeqSet) (r : Result ReadSet SetFault) → AnswersSet set r → (spot : Spot) → IsFirstFault set spot → TellsSpot spot r
+pub only_fault : (set : SeqSet) (r : Result ReadSet SetFault) → AnswersSet set r → (spot : Spot) → IsFirstFault set spot → ReportsSpot spot r
 only_fault set (Ok read) a spot f = not_both set (set_trees read) spot a f
 only_fault set (Err (sets.Syntax reported)) a spot f = one_fault set reported spot a f
 only_fault set (Err sets.OutOfMemory) a spot f = tt

@@ -1,5 +1,5 @@
 -- Sequences read one after another, and looked up by their names.
-use Rattle.std.proofs.Common.{◌≡◌, ◌∙◌, sym, subst, ap, refl, ℕ, zero, suc, ◌+◌, ◌<◌, Bool, true, false, cond, List, [], ◌∷◌, ◌++◌, map, take, length, get_or, reverse, Option, None, Some, is_some, option_map, Err, Bor, String, Global, bytes_eq, string_bytes, arith, true≢false}
+use Rattle.std.proofs.Common.{◌≡◌, ◌∙◌, sym, subst, ap, refl, ℕ, zero, suc, ◌+◌, ◌<◌, Bool, true, false, cond, List, [], ◌∷◌, ◌++◌, map, take, length, get_or, Option, None, Some, is_some, option_map, Err, Bor, String, Global, bytes_eq, string_bytes, arith, true≢false}
 use Rattle.std.proofs.lemmas.List.{map-append, take_more}
 use Rattle.std.proofs.lemmas.Slice.Eq.{bytes_eq-Decides}
 use Rattle.std.specs.List.{IsDistinct, AllByRecursion}
@@ -22,7 +22,7 @@ use Rattle.sequence_code.specs.declared.step_reader.FaultyText.{FaultyText}
 use Rattle.sequence_code.specs.declared.step_reader.StepFault.TheVariants as step_faults
 use Rattle.sequence_code.specs.declared.set_reader.SetFault.{SetFault}
 use Rattle.sequence_code.specs.declared.set_reader.SetFault.TheVariants as faults
-use Rattle.sequence_code.specs.Trees.{StepTrees, SequenceTrees, steps_tree, steps_named}
+use Rattle.sequence_code.specs.Trees.{CodeSteps, SequenceTrees, steps_tree, steps_named}
 use Rattle.sequence_code.specs.SetView.{entry_view}
 use Rattle.sequence_code.specs.Texts.{IsCodeOf, IsFaultyCode}
 use Rattle.sequence_code.specs.Order.{SetStep, enabled_steps, steps_texts, entry_texts, entries_texts, debugvars_texts, set_texts, step_of, IsFirstFaulty}
@@ -112,7 +112,7 @@ entries_more [] ss e s before is = (s, [], ap (λ xs. xs ++ s ∷ []) before, is
 entries_more (x ∷ es) ss e s before is =
     (before.0, before.1 ++ s ∷ [], ap (λ xs. xs ++ s ∷ []) before.2, before.3, entries_more es before.1 e s before.4 is)
 
-pub one_more : (es : List SeqEntry) (i : ℕ) (e : SeqEntry) (ss : List SequenceTrees) (steps : StepTrees) → i < length es → e ≡ get_or es i e → ReadsEntries (take i es) ss
+pub one_more : (es : List SeqEntry) (i : ℕ) (e : SeqEntry) (ss : List SequenceTrees) (steps : CodeSteps) → i < length es → e ≡ get_or es i e → ReadsEntries (take i es) ss
     → ReadsSteps (enabled_steps e) steps → ReadsEntries (take (i + 1) es) (ss ++ record { name = e.name; steps = steps } ∷ [])
 one_more es i e ss steps lt at before is =
     let grown : take (i + 1) es ≡ take i es ++ e ∷ [] = take_more es i e lt ∙ ap (λ x. take i es ++ x ∷ []) (sym at) in
@@ -125,7 +125,7 @@ fault_debugvars text at f = first_single (record { sequence = None; path = [] })
 
 pub fault_entry : (e : SeqEntry) (f : FaultyText) → e.disabled ≡ false → IsFaultOf (steps_texts 0 e.steps) (step_faults.Syntax f) → IsSetFaultOf (entry_texts e) (faults.Syntax (spot_in e.name f))
 fault_entry e f on is =
-    rw on (first_moved (λ path. record { sequence = Some e.name; path = path }) (steps_texts 0 e.steps) (reverse f.outward) f.part f.place is)
+    rw on (first_moved (λ path. record { sequence = Some e.name; path = path }) (steps_texts 0 e.steps) f.path f.part f.place is)
 
 fault_among : (es : List SeqEntry) (i : ℕ) (e : SeqEntry) (ss : List SequenceTrees) (step : SetStep) (part : Part) (at : Place) → i < length es → ReadsEntries (take i es) ss
     → IsFirstFaulty (entry_texts (get_or es i e)) step part at → IsFirstFaulty (entries_texts es) step part at

@@ -1,6 +1,6 @@
 -- Steps read one after another.
-use Rattle.std.proofs.Common.{◌≡◌, ◌∙◌, sym, subst, ap, refl, ℕ, zero, suc, ◌+◌, ◌*◌, ◌<◌, ◌≤◌, List, [], ◌∷◌, ◌++◌, map, take, length, get_or, reverse, Option, Some, Err, ◌⊎◌, inl, inr, arith}
-use Rattle.std.proofs.lemmas.List.{map-append, take_more, reverse-append}
+use Rattle.std.proofs.Common.{◌≡◌, ◌∙◌, sym, subst, ap, refl, ℕ, zero, suc, ◌+◌, ◌*◌, ◌<◌, ◌≤◌, List, [], ◌∷◌, ◌++◌, map, take, length, get_or, Option, Some, Err, ◌⊎◌, inl, inr, arith}
+use Rattle.std.proofs.lemmas.List.{map-append, take_more}
 use Rattle.dap_base.specs.declared.text.Place.{Place}
 use Rattle.expr_grammar.specs.Tree.{Tree}
 use Rattle.device_tree.specs.StepTree.{tree_size}
@@ -10,8 +10,8 @@ use Rattle.device_tree.specs.declared.steps.Step.TheVariants as d
 use Rattle.sequence_code.specs.declared.spot.Part.{Part}
 use Rattle.sequence_code.specs.declared.spot.Part.TheVariants as kinds
 use Rattle.sequence_code.specs.declared.steps.CheckedStep.{CheckedStep}
-use Rattle.sequence_code.specs.Trees.{StepTree, StepTrees, NoSteps, MoreSteps, steps_of, step_tree, steps_tree}
-use Rattle.sequence_code.specs.Order.{StepText, IsFaulty, IsFirstFaulty, perhaps, block_texts, control_texts, under, steps_texts}
+use Rattle.sequence_code.specs.Trees.{CodeStep, CodeSteps, NoSteps, MoreSteps, steps_of, step_tree, steps_tree}
+use Rattle.sequence_code.specs.Order.{StepText, IsFaulty, IsFirstFaulty, text_if_some, block_texts, control_texts, under, steps_texts}
 use Rattle.sequence_code.specs.Reading.{MayBeCondition, Begins, ReadsSteps}
 use Rattle.sequence_code.specs.declared.text.TextFault.{TextFault}
 use Rattle.sequence_code.specs.declared.text.TextFault.TheVariants as texts
@@ -41,11 +41,11 @@ weight_below (x ∷ ss) (suc i) s h = let lt : i < length ss = omega arith in om
 
 -- ---- a step and the steps after it
 
-first_read : (s : Step) (ss : List Step) (steps : StepTrees) → ReadsSteps (steps_view (s ∷ ss)) steps → Begins (ReadsStep s) (λ more. ReadsSteps (steps_view ss) more) steps
+first_read : (s : Step) (ss : List Step) (steps : CodeSteps) → ReadsSteps (steps_view (s ∷ ss)) steps → Begins (ReadsStep s) (λ more. ReadsSteps (steps_view ss) more) steps
 first_read (d.Block code atomic) ss steps is = is
 first_read (d.Control cond repeat timeout inner) ss steps is = is
 
-read_first : (s : Step) (ss : List Step) (steps : StepTrees) → Begins (ReadsStep s) (λ more. ReadsSteps (steps_view ss) more) steps → ReadsSteps (steps_view (s ∷ ss)) steps
+read_first : (s : Step) (ss : List Step) (steps : CodeSteps) → Begins (ReadsStep s) (λ more. ReadsSteps (steps_view ss) more) steps → ReadsSteps (steps_view (s ∷ ss)) steps
 read_first (d.Block code atomic) ss steps is = is
 read_first (d.Control cond repeat timeout inner) ss steps is = is
 
@@ -53,14 +53,14 @@ texts_first : (s : Step) (ss : List Step) (n : ℕ) → steps_texts n (steps_vie
 texts_first (d.Block code atomic) ss n = refl
 texts_first (d.Control cond repeat timeout inner) ss n = refl
 
-step_fine : (s : Step) (step : StepTree) → ReadsStep s step → AreFine (step_texts s)
+step_fine : (s : Step) (step : CodeStep) → ReadsStep s step → AreFine (step_texts s)
 step_fine (d.Block code atomic) step is = block_fine code step is
 step_fine (d.Control cond repeat timeout inner) step is =
     control_fine cond repeat timeout (λ own. ReadsSteps inner own) (steps_texts 0 inner) step (λ own r. steps_fine inner 0 own r) is
 
 -- ---- one step more
 
-read_more : (ss : List Step) (ts : List StepTree) (s : Step) (t : StepTree) → ReadsSteps (steps_view ss) (steps_of ts) → ReadsStep s t
+read_more : (ss : List Step) (ts : List CodeStep) (s : Step) (t : CodeStep) → ReadsSteps (steps_view ss) (steps_of ts) → ReadsStep s t
     → ReadsSteps (steps_view (ss ++ s ∷ [])) (steps_of (ts ++ t ∷ []))
 read_more [] [] s t before is = read_first s [] (MoreSteps t NoSteps) (record { first = t; more = NoSteps; parts = refl; reads_first = is; reads_more = refl })
 read_more [] (u ∷ us) s t before is = absurd cc
@@ -73,9 +73,9 @@ read_more (x ∷ xs) (u ∷ us) s t before is =
     let whole : MoreSteps u (steps_of us) ≡ MoreSteps b.first b.more = b.parts in
     let head : b.first ≡ u = cc in
     let tail : b.more ≡ steps_of us = cc in
-    let rest : ReadsSteps (steps_view xs) (steps_of us) = subst (λ (m : StepTrees). ReadsSteps (steps_view xs) m) tail b.reads_more in
+    let rest : ReadsSteps (steps_view xs) (steps_of us) = subst (λ (m : CodeSteps). ReadsSteps (steps_view xs) m) tail b.reads_more in
     read_first x (xs ++ s ∷ []) (MoreSteps u (steps_of (us ++ t ∷ [])))
-    (record { first = u; more = steps_of (us ++ t ∷ []); parts = refl; reads_first = subst (λ (v : StepTree). ReadsStep x v) head b.reads_first; reads_more = read_more xs us s t rest is })
+    (record { first = u; more = steps_of (us ++ t ∷ []); parts = refl; reads_first = subst (λ (v : CodeStep). ReadsStep x v) head b.reads_first; reads_more = read_more xs us s t rest is })
 
 pub one_more : (items : List Step) (i : ℕ) (s : Step) (done : List CheckedStep) (c : CheckedStep) → i < length items → s ≡ get_or items i s
     → ReadsSteps (steps_view (take i items)) (steps_tree done) → ReadsStep s (step_tree c) → ReadsSteps (steps_view (take (i + 1) items)) (steps_tree (done ++ c ∷ []))
@@ -85,7 +85,7 @@ one_more items i s done c lt at before is =
 
 -- ---- the first fault of several steps
 
-fault_here : (items : List Step) (n k i : ℕ) (s : Step) (steps : StepTrees) (path : List ℕ) (part : Part) (at : Place) → k ≡ n + i → i < length items
+fault_here : (items : List Step) (n k i : ℕ) (s : Step) (steps : CodeSteps) (path : List ℕ) (part : Part) (at : Place) → k ≡ n + i → i < length items
     → ReadsSteps (steps_view (take i items)) steps → IsFirstFaulty (under k (step_texts (get_or items i s))) path part at → IsFirstFaulty (steps_texts n (steps_view items)) path part at
 fault_here [] n k i s steps path part at e lt before f = absurd (omega arith)
 fault_here (x ∷ items) n k zero s steps path part at e lt before f =
@@ -102,44 +102,42 @@ pub fault_at : (items : List Step) (i : ℕ) (s : Step) (done : List CheckedStep
     → ReadsSteps (steps_view (take i items)) (steps_tree done) → IsFaultOf (under i (step_texts s)) e → IsFaultOf (steps_texts 0 (steps_view items)) e
 fault_at items i s done faults.OutOfMemory lt is before f = tt
 fault_at items i s done (faults.Syntax e) lt is before f =
-    fault_here items 0 i i s (steps_tree done) (reverse e.outward) e.part e.place (omega arith) lt before
-    (subst (λ (x : Step). IsFirstFaulty (under i (step_texts x)) (reverse e.outward) e.part e.place) is f)
+    fault_here items 0 i i s (steps_tree done) e.path e.part e.place (omega arith) lt before
+    (subst (λ (x : Step). IsFirstFaulty (under i (step_texts x)) e.path e.part e.place) is f)
 
 -- ---- a fault seen from further out
 
 fault_before : (xs ys : List StepText) (e : StepFault) → IsFaultOf xs e → IsFaultOf (xs ++ ys) e
 fault_before xs ys faults.OutOfMemory f = tt
-fault_before xs ys (faults.Syntax e) f = first_before xs ys (reverse e.outward) e.part e.place f
+fault_before xs ys (faults.Syntax e) f = first_before xs ys e.path e.part e.place f
 
 fault_after : (xs ys : List StepText) (e : StepFault) → AreFine xs → IsFaultOf ys e → IsFaultOf (xs ++ ys) e
 fault_after xs ys faults.OutOfMemory a f = tt
-fault_after xs ys (faults.Syntax e) a f = first_after xs ys (reverse e.outward) e.part e.place a f
+fault_after xs ys (faults.Syntax e) a f = first_after xs ys e.path e.part e.place a f
 
 pub fault_under : (n : ℕ) (xs : List StepText) (e reported : StepFault) → IsFaultOf xs e → IsUnder n e reported → IsFaultOf (under n xs) reported
 fault_under n xs e faults.OutOfMemory f u = tt
 fault_under n xs e (faults.Syntax t) f u =
-    let inner : IsFirstFaulty xs (reverse u.0.outward) u.0.part u.0.place = subst (λ (x : StepFault). IsFaultOf xs x) u.1 f in
-    let path : n ∷ reverse u.0.outward ≡ reverse (u.0.outward ++ n ∷ []) = sym (reverse-append u.0.outward (n ∷ [])) in
-    let out : IsFirstFaulty (under n xs) (n ∷ reverse u.0.outward) u.0.part u.0.place = first_moved (λ p. n ∷ p) xs (reverse u.0.outward) u.0.part u.0.place inner in
-    let named : IsFirstFaulty (under n xs) (reverse (u.0.outward ++ n ∷ [])) u.0.part u.0.place = subst (λ (p : List ℕ). IsFirstFaulty (under n xs) p u.0.part u.0.place) path out in
-    subst (λ (x : FaultyText). IsFirstFaulty (under n xs) (reverse x.outward) x.part x.place) (sym u.2) named
+    let inner : IsFirstFaulty xs u.0.path u.0.part u.0.place = subst (λ (x : StepFault). IsFaultOf xs x) u.1 f in
+    let out : IsFirstFaulty (under n xs) (n ∷ u.0.path) u.0.part u.0.place = first_moved (λ p. n ∷ p) xs u.0.path u.0.part u.0.place inner in
+    subst (λ (x : FaultyText). IsFirstFaulty (under n xs) x.path x.part x.place) (sym u.2) out
 
 -- ---- the parts of a control
 
-pub fault_cond : (cond repeat : Option (List ℕ)) (inner : List StepText) (e : StepFault) → IsFaultOf (perhaps kinds.If cond) e → IsFaultOf (control_texts cond repeat inner) e
+pub fault_cond : (cond repeat : Option (List ℕ)) (inner : List StepText) (e : StepFault) → IsFaultOf (text_if_some kinds.If cond) e → IsFaultOf (control_texts cond repeat inner) e
 fault_cond cond repeat inner e f =
-    fault_before (perhaps kinds.If cond ++ perhaps kinds.While repeat) inner e (fault_before (perhaps kinds.If cond) (perhaps kinds.While repeat) e f)
+    fault_before (text_if_some kinds.If cond ++ text_if_some kinds.While repeat) inner e (fault_before (text_if_some kinds.If cond) (text_if_some kinds.While repeat) e f)
 
 pub fault_repeat : (cond repeat : Option (List ℕ)) (inner : List StepText) (e : StepFault) (c : Option Tree) → MayBeCondition cond c
-    → IsFaultOf (perhaps kinds.While repeat) e → IsFaultOf (control_texts cond repeat inner) e
+    → IsFaultOf (text_if_some kinds.While repeat) e → IsFaultOf (control_texts cond repeat inner) e
 fault_repeat cond repeat inner e c is f =
-    fault_before (perhaps kinds.If cond ++ perhaps kinds.While repeat) inner e (fault_after (perhaps kinds.If cond) (perhaps kinds.While repeat) e (cond_fine cond c is) f)
+    fault_before (text_if_some kinds.If cond ++ text_if_some kinds.While repeat) inner e (fault_after (text_if_some kinds.If cond) (text_if_some kinds.While repeat) e (cond_fine cond c is) f)
 
 pub fault_inner : (cond repeat : Option (List ℕ)) (inner : List StepText) (e : StepFault) (c r : Option Tree) → MayBeCondition cond c → MayBeCondition repeat r
     → IsFaultOf inner e → IsFaultOf (control_texts cond repeat inner) e
 fault_inner cond repeat inner e c r is was f =
-    fault_after (perhaps kinds.If cond ++ perhaps kinds.While repeat) inner e
-    (fine_both (perhaps kinds.If cond) (perhaps kinds.While repeat) (cond_fine cond c is) (repeat_fine repeat r was)) f
+    fault_after (text_if_some kinds.If cond ++ text_if_some kinds.While repeat) inner e
+    (fine_both (text_if_some kinds.If cond) (text_if_some kinds.While repeat) (cond_fine cond c is) (repeat_fine repeat r was)) f
 
 -- ---- one text
 
@@ -152,6 +150,6 @@ condition_at part text at (inl is) f = subst (λ (p : Part). IsFaulty p text at)
 condition_at part text at (inr is) f = subst (λ (p : Part). IsFaulty p text at) (sym is) f
 
 pub fault_condition : (part : Part) (text : List ℕ) (e : TextFault) → (part ≡ kinds.If) ⊎ (part ≡ kinds.While) → AnswersCondition text (Err e)
-    → IsFaultOf (perhaps part (Some text)) (at_part part e)
+    → IsFaultOf (text_if_some part (Some text)) (at_part part e)
 fault_condition part text (texts.Syntax at) which f = first_single [] part text at (condition_at part text at which f)
 fault_condition part text texts.OutOfMemory which f = tt

@@ -20,7 +20,7 @@ use Rattle.expr_grammar.proofs.Whole as parser
 use Rattle.sequence_code.specs.declared.text.TextFault.{TextFault}
 use Rattle.sequence_code.specs.declared.text.TextFault.TheVariants as texts
 use Rattle.sequence_code.specs.Texts.{IsTextOf, IsFaultyText, bad_token, unexpected, too_deep}
-use Rattle.sequence_code.specs.Answers.{AnswersText, GivesValue, TellsPlace, token_fault, parse_fault}
+use Rattle.sequence_code.specs.Answers.{AnswersText, GivesValue, ReportsPlace, token_fault, parse_fault}
 
 -- no other answer of a parser is one
 pub record IsExact {X : Type 0} (R : List Lexeme → X → Type 0) (span : Span) : Type 0 where
@@ -92,7 +92,7 @@ module _ {X : Type 0} (R : List Lexeme → X → Type 0) (span : Span) (exact : 
     only_value (Err (texts.Syntax at)) a x is = not_both x at is a
     only_value (Err texts.OutOfMemory) a x is = tt
 
-    pub only_fault : (r : Result V TextFault) → AnswersText view R span text r → (at : Place) → IsFaultyText R span text at → TellsPlace at r
+    pub only_fault : (r : Result V TextFault) → AnswersText view R span text r → (at : Place) → IsFaultyText R span text at → ReportsPlace at r
     only_fault (Ok v) a at f = not_both (view v) at a f
     only_fault (Err (texts.Syntax reported)) a at f = one_fault reported at a f
     only_fault (Err texts.OutOfMemory) a at f = tt

@@ -58,10 +58,10 @@ GivesValue view x (Err (texts.Syntax at)) = ⊥
 GivesValue view x (Err texts.OutOfMemory) = Unit {0}
 
 -- a fault at this place, unless memory ran out
-abbrev pub TellsPlace : {V : Type 0} → Place → Result V TextFault → Type 0
-TellsPlace at (Ok v) = ⊥
-TellsPlace at (Err (texts.Syntax reported)) = reported ≡ at
-TellsPlace at (Err texts.OutOfMemory) = Unit {0}
+abbrev pub ReportsPlace : {V : Type 0} → Place → Result V TextFault → Type 0
+ReportsPlace at (Ok v) = ⊥
+ReportsPlace at (Err (texts.Syntax reported)) = reported ≡ at
+ReportsPlace at (Err texts.OutOfMemory) = Unit {0}
 
 -- ---- of a set
 
@@ -78,7 +78,7 @@ GivesSet trees (Err (sets.Syntax spot)) = ⊥
 GivesSet trees (Err sets.OutOfMemory) = Unit {0}
 
 -- this fault, unless memory ran out
-abbrev pub TellsSpot : Spot → Result ReadSet SetFault → Type 0
-TellsSpot spot (Ok given) = ⊥
-TellsSpot spot (Err (sets.Syntax reported)) = reported ≡ spot
-TellsSpot spot (Err sets.OutOfMemory) = Unit {0}
+abbrev pub ReportsSpot : Spot → Result ReadSet SetFault → Type 0
+ReportsSpot spot (Ok given) = ⊥
+ReportsSpot spot (Err (sets.Syntax reported)) = reported ≡ spot
+ReportsSpot spot (Err sets.OutOfMemory) = Unit {0}

@@ -57,8 +57,8 @@ StepText = TextAt (List ℕ)
 abbrev pub own : Part → List ℕ → StepText
 own part text = record { step = []; part = part; text = text }
 
-abbrev pub perhaps : Part → Option (List ℕ) → List StepText
-perhaps part text = option_map_or (λ t. own part t ∷ []) text []
+abbrev pub text_if_some : Part → Option (List ℕ) → List StepText
+text_if_some part text = option_map_or (λ t. own part t ∷ []) text []
 
 -- a block has its code
 abbrev pub block_texts : List ℕ → List StepText
@@ -66,7 +66,7 @@ block_texts code = own kinds.Block code ∷ []
 
 -- a control has its `if`, its `while`, and then the texts of the steps inside
 abbrev pub control_texts : Option (List ℕ) → Option (List ℕ) → List StepText → List StepText
-control_texts cond repeat inner = (perhaps kinds.If cond ++ perhaps kinds.While repeat) ++ inner
+control_texts cond repeat inner = (text_if_some kinds.If cond ++ text_if_some kinds.While repeat) ++ inner
 
 -- the texts of a step, seen from the list in which it has the number n
 abbrev pub under : ℕ → List StepText → List StepText

@@ -1,5 +1,5 @@
 -- What the readers of steps answer: what private contracts cite.
-use Rattle.std.specs.Prelude.{◌≡◌, ℕ, List, [], ◌∷◌, ◌++◌, reverse, Some, Result, Ok, Err}
+use Rattle.std.specs.Prelude.{◌≡◌, ℕ, List, [], ◌∷◌, Some, Result, Ok, Err}
 use Rattle.device_tree.specs.declared.steps.Step as device
 use Rattle.sequence_code.specs.declared.spot.Part.{Part}
 use Rattle.sequence_code.specs.declared.spot.Spot.{Spot}
@@ -10,13 +10,13 @@ use Rattle.sequence_code.specs.declared.step_reader.StepFault.{StepFault}
 use Rattle.sequence_code.specs.declared.step_reader.StepFault.TheVariants as steps
 use Rattle.sequence_code.specs.declared.set_reader.SetFault.{SetFault}
 use Rattle.sequence_code.specs.declared.set_reader.SetFault.TheVariants as sets
-use Rattle.sequence_code.specs.Trees.{StepTree}
+use Rattle.sequence_code.specs.Trees.{CodeStep}
 use Rattle.sequence_code.specs.Order.{StepText, TextAt, SetStep, step_of, block_texts, control_texts, steps_texts, IsFirstFaulty}
 use Rattle.sequence_code.specs.Reading.{ReadsBlock, ReadsControl, ReadsSteps}
 
 -- the fault is the first of these texts that is faulty
 abbrev pub IsFaultOf : List StepText → StepFault → Type 0
-IsFaultOf all (steps.Syntax f) = IsFirstFaulty all (reverse f.outward) f.part f.place
+IsFaultOf all (steps.Syntax f) = IsFirstFaulty all f.path f.part f.place
 IsFaultOf all steps.OutOfMemory = Unit {0}
 
 abbrev pub IsSetFaultOf : List (TextAt SetStep) → SetFault → Type 0
@@ -34,7 +34,7 @@ module _ {V : Type 0} (Given : V → Type 0) where
   SetOutcome all (Err fault) = IsSetFaultOf all fault
 
 -- one step
-abbrev pub ReadsStep : device.Step → StepTree → Type 0
+abbrev pub ReadsStep : device.Step → CodeStep → Type 0
 ReadsStep (device.TheVariants.Block code atomic) = ReadsBlock code
 ReadsStep (device.TheVariants.Control cond repeat timeout inner) = ReadsControl cond repeat timeout (λ own. ReadsSteps inner own)
 
@@ -44,15 +44,15 @@ step_texts (device.TheVariants.Control cond repeat timeout inner) = control_text
 
 -- the fault of a text that the step has itself
 abbrev pub at_part : Part → TextFault → StepFault
-at_part part (texts.Syntax at) = steps.Syntax (record { outward = []; part = part; place = at })
+at_part part (texts.Syntax at) = steps.Syntax (record { path = []; part = part; place = at })
 at_part part texts.OutOfMemory = steps.OutOfMemory
 
 -- the fault in the step of this number, unless memory ran out
 abbrev pub IsUnder : ℕ → StepFault → StepFault → Type 0
 IsUnder number inner steps.OutOfMemory = Unit {0}
 IsUnder number inner (steps.Syntax reported) = (f : FaultyText) × (inner ≡ steps.Syntax f)
-    × (reported ≡ record { outward = f.outward ++ number ∷ []; part = f.part; place = f.place })
+    × (reported ≡ record { path = number ∷ f.path; part = f.part; place = f.place })
 
 -- the fault, in the sequence of this name
 abbrev pub spot_in : List ℕ → FaultyText → Spot
-spot_in name f = record { sequence = Some name; path = reverse f.outward; part = f.part; place = f.place }
+spot_in name f = record { sequence = Some name; path = f.path; part = f.part; place = f.place }

@@ -12,7 +12,7 @@ mod text;
 
 pub use set::ReadSet;
 pub use set_reader::{SetFault, read_set};
-pub use spot::{Part, Spot, StepPath};
+pub use spot::{OutwardPath, Part, Spot, StepPath};
 pub use steps::{CheckedStep, CheckedSteps};
 pub use text::{TextFault, read_code, read_condition};
 

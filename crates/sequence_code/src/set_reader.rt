@@ -1,6 +1,6 @@
 //! The texts of a set, read in order up to the first that is faulty.
 
-ghost use Rattle.std.specs.Prelude.{◌≡◌, IfOk, OnOk, None, map, reverse};
+ghost use Rattle.std.specs.Prelude.{◌≡◌, IfOk, OnOk, None, map};
 ghost use Rattle.std.specs.List.{IsDistinct};
 ghost use Rattle.std.specs.Str.{bytes_eq};
 ghost use Rattle.expr_grammar.specs.Tree.{code_trees};
@@ -10,7 +10,7 @@ ghost use Rattle.sequence_code.specs.Order.{IsFirstFault, enabled_steps, entry_t
 ghost use Rattle.sequence_code.specs.Texts.{IsCodeOf};
 ghost use Rattle.sequence_code.specs.Reading.{ReadsSet, ReadsSteps};
 ghost use Rattle.sequence_code.specs.SetView.{set_trees};
-ghost use Rattle.sequence_code.specs.Answers.{AnswersSet, GivesSet, TellsSpot};
+ghost use Rattle.sequence_code.specs.Answers.{AnswersSet, GivesSet, ReportsSpot};
 ghost use Rattle.sequence_code.specs.Outcomes.{SetOutcome, spot_in};
 
 use crate::set::ReadSet;
@@ -59,22 +59,12 @@ fn debugvars_of(alloc: Global, text: &NameText) -> Result<Code, SetFault>
     }
 }
 
-fn path_of(alloc: Global, outward: &[u64]) -> Result<StepPath, OutOfMemory>
-    ensures { IfOk result (λ path. path ≡ reverse outward.now) }
-{
-    let mut path = ItemList::new(alloc);
-    for number in outward.iter().rev().copied() {
-        path.push(number)?;
-    }
-    Ok(path)
-}
-
 fn spot_of(alloc: Global, name: &NameText, faulty: &FaultyText) -> Result<Spot, OutOfMemory>
     ensures { IfOk result (λ spot. spot ≡ spot_in name.now faulty.now) }
 {
     Ok(Spot {
         sequence: Some(NameText::new(alloc, name.as_str())?),
-        path: path_of(alloc, faulty.outward.as_slice())?,
+        path: faulty.path.to_path(alloc)?,
         part: faulty.part,
         place: faulty.place,
     })
@@ -135,8 +125,8 @@ fn set_of(alloc: Global, set: &SeqSet) -> Result<ReadSet, SetFault>
 pub fn read_set(alloc: Global, set: &SeqSet) -> Result<ReadSet, SetFault>
     requires { IsDistinct bytes_eq (map (λ e. e.name) set.now.entries) }
     ensures answer { AnswersSet set.now result }
-    ensures only_read { (trees : SetTrees) → ReadsSet set.now trees → GivesSet trees result }
-    ensures only_fault { (spot : Spot) → IsFirstFault set.now spot → TellsSpot spot result }
+    ensures only { (trees : SetTrees) → ReadsSet set.now trees → GivesSet trees result }
+    ensures only_fault { (spot : Spot) → IsFirstFault set.now spot → ReportsSpot spot result }
 {
     set_of(alloc, set)
 }

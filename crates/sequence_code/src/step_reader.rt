@@ -5,12 +5,12 @@ ghost use Rattle.device_tree.specs.StepsView.{steps_view};
 ghost use Rattle.expr_grammar.specs.Tree.{tree};
 ghost use Rattle.sequence_code.specs.declared.spot.Part.TheVariants as kinds;
 ghost use Rattle.sequence_code.specs.Trees.{step_tree, steps_tree};
-ghost use Rattle.sequence_code.specs.Order.{perhaps, block_texts, control_texts, under, steps_texts};
+ghost use Rattle.sequence_code.specs.Order.{text_if_some, block_texts, control_texts, under, steps_texts};
 ghost use Rattle.sequence_code.specs.Reading.{MayBeCondition, ReadsBlock, ReadsControl, ReadsSteps};
 ghost use Rattle.sequence_code.specs.Outcomes.{Outcome, ReadsStep, step_texts, at_part, IsUnder};
 
 use crate::made;
-use crate::spot::Part;
+use crate::spot::{OutwardPath, Part};
 use crate::steps::{CheckedStep, CheckedSteps};
 use crate::text::{TextFault, read_code, read_condition};
 use dap_base::{ItemList, NameText, OutOfMemory, Place};
@@ -21,9 +21,8 @@ use std::alloc::Global;
 /// The first faulty text of steps.
 #[derive(Debug, Drop)]
 pub struct FaultyText {
-    /// The numbers, from 0, of the steps that lead to the step that has it, the innermost first: the
-    /// path grows at its end while a fault is handed out through the controls around it.
-    pub outward: ItemList<u64>,
+    /// The path to the step that has it.
+    pub path: OutwardPath,
     pub part: Part,
     pub place: Place,
 }
@@ -52,7 +51,7 @@ fn own_fault(alloc: Global, fault: TextFault, part: Part) -> StepFault
 {
     match fault {
         TextFault::Syntax(place) => StepFault::Syntax(FaultyText {
-            outward: ItemList::new(alloc),
+            path: OutwardPath::new(alloc),
             part,
             place,
         }),
@@ -67,16 +66,12 @@ fn fault_under(fault: StepFault, number: u64) -> StepFault
     match fault {
         StepFault::Syntax(
             FaultyText {
-                mut outward,
+                mut path,
                 part,
                 place,
             },
-        ) => match outward.push(number) {
-            Ok(()) => StepFault::Syntax(FaultyText {
-                outward,
-                part,
-                place,
-            }),
+        ) => match path.push(number) {
+            Ok(()) => StepFault::Syntax(FaultyText { path, part, place }),
             Err(_) => StepFault::OutOfMemory,
         },
         StepFault::OutOfMemory => StepFault::OutOfMemory,
@@ -100,7 +95,7 @@ fn condition_of(
     part: Part,
 ) -> Result<Option<Expr>, StepFault>
     requires { (part ≡ kinds.If) ⊎ (part ≡ kinds.While) }
-    ensures { Outcome (λ condition. MayBeCondition text.now (option_map tree condition)) (perhaps part text.now) result }
+    ensures { Outcome (λ condition. MayBeCondition text.now (option_map tree condition)) (text_if_some part text.now) result }
 {
     match text {
         Some(text) => match read_condition(alloc, text.as_str()) {

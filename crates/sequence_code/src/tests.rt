@@ -36,7 +36,9 @@ fn set(alloc: Global, texts: [&str; 5]) -> Result<SeqSet, Fail>
 }
 
 // The part, the first two numbers of the path, the line and the column of the fault.
-fn reported(read: &Result<ReadSet, SetFault>) -> Option<(Part, Option<u64>, Option<u64>, u64, u64)> {
+fn reported(
+    read: &Result<ReadSet, SetFault>,
+) -> Option<(Part, Option<u64>, Option<u64>, u64, u64)> {
     match read {
         Err(SetFault::Syntax(spot)) => Some((
             spot.part,

@@ -4,7 +4,7 @@ ghost use Rattle.std.specs.Prelude.{List};
 ghost use Rattle.dap_base.specs.declared.text.Place.{Place};
 ghost use Rattle.expr_grammar.specs.Tree.{Tree, tree, StmtTree, code_trees};
 ghost use Rattle.sequence_code.specs.Texts.{IsCodeOf, IsConditionOf, IsFaultyCode, IsFaultyCondition};
-ghost use Rattle.sequence_code.specs.Answers.{AnswersCode, AnswersCondition, GivesValue, TellsPlace};
+ghost use Rattle.sequence_code.specs.Answers.{AnswersCode, AnswersCondition, GivesValue, ReportsPlace};
 
 use dap_base::Place;
 use expr_grammar::{Code, Expr, ParseError, TokenError, parse_code, parse_expr, tokens};
@@ -54,8 +54,8 @@ impl From<ParseError> for TextFault {
 /// past the last token where the end is missing. `OutOfMemory` where memory is refused.
 pub fn read_code(alloc: Global, text: &str) -> Result<Code, TextFault>
     ensures answer { AnswersCode text.now result }
-    ensures only_code { (code : List StmtTree) → IsCodeOf text.now code → GivesValue code_trees code result }
-    ensures only_fault { (at : Place) → IsFaultyCode text.now at → TellsPlace at result }
+    ensures only { (code : List StmtTree) → IsCodeOf text.now code → GivesValue code_trees code result }
+    ensures only_fault { (at : Place) → IsFaultyCode text.now at → ReportsPlace at result }
 {
     code_of(alloc, text)
 }
@@ -66,8 +66,8 @@ pub fn read_code(alloc: Global, text: &str) -> Result<Code, TextFault>
 /// [`read_code`]. `OutOfMemory` where memory is refused.
 pub fn read_condition(alloc: Global, text: &str) -> Result<Expr, TextFault>
     ensures answer { AnswersCondition text.now result }
-    ensures only_condition { (e : Tree) → IsConditionOf text.now e → GivesValue tree e result }
-    ensures only_fault { (at : Place) → IsFaultyCondition text.now at → TellsPlace at result }
+    ensures only { (e : Tree) → IsConditionOf text.now e → GivesValue tree e result }
+    ensures only_fault { (at : Place) → IsFaultyCondition text.now at → ReportsPlace at result }
 {
     condition_of(alloc, text)
 }

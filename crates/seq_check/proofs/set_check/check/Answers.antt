@@ -13,9 +13,9 @@ read_fault-requires c = distinct_names c.args.set.now (set_trees c.in-Ok.read) c
 pub returns-in-Some-clause-answer : goal.returns-in-Some-clause-answer
 returns-in-Some-clause-answer c = valid.rules (set_trees c.in-Ok.read) c.in-Ok.ensures.answer (rw c.in-Some.is at c.in_ok-reported.ensures)
 
-pub returns-in-Some-clause-only_valid : goal.returns-in-Some-clause-only_valid
-returns-in-Some-clause-only_valid c = λ trees reads sound. (
-    let same = c.in-Ok.ensures.only_read trees reads in
+pub returns-in-Some-clause-only : goal.returns-in-Some-clause-only
+returns-in-Some-clause-only c = λ trees reads sound. (
+    let same = c.in-Ok.ensures.only trees reads in
     not_sound (set_trees c.in-Ok.read) c.in-Some.reported.kind c.in-Some.reported.spot (subst IsSound (sym same) sound) (rw c.in-Some.is at c.in_ok-reported.ensures))
 
 pub returns-in-Err-Syntax-clause-only_fault : goal.returns-in-Err-Syntax-clause-only_fault

@@ -5,7 +5,7 @@ use Rattle.seq_check.proofs.CheckLemmas.{rules_answer, none_holds}
 use Rattle.seq_check.proofs.set_check.read_fault.Goals as goal
 
 pub returns-in-Some : goal.returns-in-Some
-returns-in-Some c = valid.in_texts (held_view c.in-Some.held) (rw c.in-Some.is at c.in_ok-held.ensures) c.in_ok-fault_reported.ensures.kind c.in_ok-fault_reported.ensures.spot
+returns-in-Some c = valid.in_texts (held_view c.in-Some.held) (rw c.in-Some.is at c.in_ok-held.ensures) c.in_ok-named_fault.ensures.kind c.in_ok-named_fault.ensures.spot
 
 pub returns : goal.returns
 returns c =

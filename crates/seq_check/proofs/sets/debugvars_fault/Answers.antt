@@ -15,4 +15,4 @@ pub returns-in-Some-clause-first : goal.returns-in-Some-clause-first
 returns-in-Some-clause-first c =
     let P = BlockFault (record { visible = c.args.names.now; sequences = c.args.sequences.now; in_debugvars = true }) (code_trees c.args.code.now) in
     let h = first_in_part parts.Debugvars P c.in_ok-fault.fault c.in_part.result c.in_part.ensures c.in_ok-fault.ensures.first in
-    subst (λ v. IsFirst is_set_before (Of holders.Debugvars (At parts.Debugvars P)) (Some (held holders.Debugvars v))) (sym c.own.ensures) (first_held holders.Debugvars (At parts.Debugvars P) (Some (own_view c.in-Some.fault)) (rw c.in-Some.is at h))
+    subst (λ v. IsFirst is_set_before (Of holders.Debugvars (At parts.Debugvars P)) (Some (held holders.Debugvars v))) (sym c.at_own_step.ensures) (first_held holders.Debugvars (At parts.Debugvars P) (Some (own_view c.in-Some.fault)) (rw c.in-Some.is at h))

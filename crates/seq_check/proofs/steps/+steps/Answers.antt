@@ -15,7 +15,7 @@ pub step_fault-returns-in-Some-clause-first : goal.step_fault-returns-in-Some-cl
 step_fault-returns-in-Some-clause-first t c =
     let a = c.in-Control in
     let s : Scope = record { visible = c.args.names.now; sequences = c.args.sequences.now; in_debugvars = false } in
-    rw (a.is, step_tree-Control a.cond a.repeat a.timeout a.steps, c.own.ensures)
+    rw (a.is, step_tree-Control a.cond a.repeat a.timeout a.steps, c.at_own_step.ensures)
     (control_own s c.args.around (option_map tree a.cond) (option_map tree a.repeat) a.timeout (steps_tree a.steps) (own_view c.in-Some.fault) c.in-Some.ensures.first)
 
 pub step_fault-returns-in_default-clause-first : goal.step_fault-returns-in_default-clause-first
@@ -31,7 +31,7 @@ steps_fault-returns-in-Some-clause-first t c =
     let s : Scope = record { visible = c.args.names.now; sequences = c.args.sequences.now; in_debugvars = false } in
     let inv = c.loop-number.invariant in
     let found = rw c.in-Some.is at c.in_ok-faulty.ensures.first in
-    rw c.in_ok-within.ensures
+    rw c.in_ok-from_list.ensures
     (step_found s c.args.around c.args.steps.now c.loop-number.number c.index-steps-number.result (faulty_view c.in-Some.faulty) c.loop-number-test.true inv.none (rw (← inv.names, ← c.index-steps-number.is) found))
 
 pub steps_fault-loop-number-preserved : goal.steps_fault-loop-number-preserved

@@ -1,5 +1,5 @@
 use Rattle.std.proofs.Common.{List, ℕ, subst, Some}
-use Rattle.sequence_code.specs.Order.{perhaps}
+use Rattle.sequence_code.specs.Order.{text_if_some}
 use Rattle.sequence_code.specs.Outcomes.{IsFaultOf, at_part}
 use Rattle.sequence_code.proofs.StepLemmas.{fault_condition}
 use Rattle.sequence_code.proofs.step_reader.condition_of.Goals as goal
@@ -7,6 +7,6 @@ use Rattle.sequence_code.proofs.step_reader.condition_of.Goals as goal
 pub returns-in-Err : goal.returns-in-Err
 returns-in-Err c =
     let part = c.args.part in
-    let reported : IsFaultOf (perhaps part (Some c.as_str.result.now)) (at_part part c.in-Err.fault) =
+    let reported : IsFaultOf (text_if_some part (Some c.as_str.result.now)) (at_part part c.in-Err.fault) =
     fault_condition part c.as_str.result.now c.in-Err.fault c.requires c.in-Err.ensures.answer in
-    rw (c.own_fault.ensures, c.in-Some.is) (subst (λ (text : List ℕ). IsFaultOf (perhaps part (Some text)) (at_part part c.in-Err.fault)) c.as_str.ensures reported)
+    rw (c.own_fault.ensures, c.in-Some.is) (subst (λ (text : List ℕ). IsFaultOf (text_if_some part (Some text)) (at_part part c.in-Err.fault)) c.as_str.ensures reported)

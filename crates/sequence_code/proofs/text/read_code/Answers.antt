@@ -4,8 +4,8 @@ use Rattle.expr_grammar.specs.Tree.{code_trees}
 use Rattle.sequence_code.proofs.TextLaws.{exact_code, only_value, only_fault}
 use Rattle.sequence_code.proofs.text.read_code.Goals as goal
 
-pub returns-clause-only_code : goal.returns-clause-only_code
-returns-clause-only_code c = λ code is. only_value ReadsCode spans.Statement exact_code c.args.text.now code_trees c.code_of.result c.code_of.ensures code is
+pub returns-clause-only : goal.returns-clause-only
+returns-clause-only c = λ code is. only_value ReadsCode spans.Statement exact_code c.args.text.now code_trees c.code_of.result c.code_of.ensures code is
 
 pub returns-clause-only_fault : goal.returns-clause-only_fault
 returns-clause-only_fault c = λ at is. only_fault ReadsCode spans.Statement exact_code c.args.text.now code_trees c.code_of.result c.code_of.ensures at is
