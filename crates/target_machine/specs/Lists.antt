@@ -1,9 +1,12 @@
 -- Lists of actions.
-use Rattle.std.specs.Prelude.{◌≡◌, false, List, [], ◌∷◌, fold}
+use Rattle.std.specs.Prelude.{◌≡◌, ℕ, false, List, [], ◌∷◌, fold}
+use Rattle.std.specs.FinMap as map
 use Rattle.std.specs.List.{AllByRecursion}
+use Rattle.std.specs.Ordering.{nat_cmp}
 use Rattle.target_machine.specs.Attempt.{gives_rdbuff}
 use Rattle.target_machine.specs.Plain.{Action, Makes, Polls, Commands, acted, is_fault}
 use Rattle.target_machine.specs.State.{TargetState}
+use Rattle.target_machine.specs.declared.ap.ApState.{ApState}
 
 -- the target after these actions, each of which is made whatever the ones before it answered
 abbrev pub after : TargetState → List Action → TargetState
@@ -22,3 +25,13 @@ SparesRdbuff (Commands c) = Unit {0}
 
 abbrev pub SpareRdbuff : List Action → Type 0
 SpareRdbuff actions = AllByRecursion SparesRdbuff actions
+
+-- the target with another RDBUFF and other APs
+abbrev pub with_ports : TargetState → ℕ → map.FinMap nat_cmp ApState → TargetState
+with_ports t rdbuff aps = record t { rdbuff = rdbuff; aps = aps }
+
+-- the action is no access of an AP, and does not ask for RDBUFF
+abbrev pub SparesAps : Action → Type 0
+SparesAps (Makes a) = (a.ap ≡ false) × (gives_rdbuff a ≡ false)
+SparesAps (Polls mask requested turns) = Unit {0}
+SparesAps (Commands c) = Unit {0}

@@ -147,9 +147,13 @@ whole_word = 0xFFFF_FFFF
 
 -- ---- the pins of DAP_SWJ_Pins
 
--- the pins that the probe drives (bits 0, 1, 2, 5 and 7); bit 3 is TDO, an input, and bits 4 and 6 are none
+-- the pins that the probe drives (bits 7, 5, 2, 1 and 0); TDO (bit 3) is an input
 abbrev pub driven_pins : ℕ
 driven_pins = 0xA7
+
+-- bits 6 and 4, which are no pins
+abbrev pub no_pins : ℕ
+no_pins = 0x50
 
 -- nRESET (bit 7)
 abbrev pub nreset : ℕ

@@ -9,7 +9,10 @@ pub use accesses::{
     an_access_keeps, an_access_of_one_ap, an_access_of_the_dp, csw_keeps_stored_bits,
     faults_set_stickyerr, rdbuff_decides_nothing,
 };
-pub use lists::{lists_join, lists_on_targets_that_agree, passing_lists, what_is_issued};
+pub use lists::{
+    lists_join, lists_on_targets_that_agree, passing_lists, the_dp_acts_beside_the_aps,
+    what_is_issued,
+};
 pub use ranges::{
     accesses_stay_in_range, actions_stay_in_range, lines_stay_in_range, start_is_in_range,
 };

@@ -76,7 +76,9 @@ pub const CFG_LA: u32 = 0x2;
 /// All lanes of a word.
 pub const WHOLE_WORD: u32 = 0xFFFF_FFFF;
 
-/// The pins that the probe drives: bits 0, 1, 2, 5 and 7.
+/// The pins that the probe drives: bits 7, 5, 2, 1 and 0.
 pub const DRIVEN_PINS: u8 = 0xA7;
+/// Bits 6 and 4, which are no pins.
+pub const NO_PINS: u8 = 0x50;
 /// nRESET, bit 7 of the pins.
 pub const NRESET: u8 = 0x80;

@@ -1,9 +1,12 @@
 //! Lists of actions.
-ghost use Rattle.std.specs.Prelude.{◌≡◌, List, [], ◌∷◌, ◌++◌, true, false};
+ghost use Rattle.std.specs.Prelude.{◌≡◌, ℕ, List, [], ◌∷◌, ◌++◌, true, false};
+ghost use Rattle.std.specs.FinMap as map;
+ghost use Rattle.std.specs.Ordering.{nat_cmp};
 ghost use Rattle.target_machine.specs.Laws.{Alike};
-ghost use Rattle.target_machine.specs.Lists.{PassTo, SpareRdbuff, SparesRdbuff, after};
+ghost use Rattle.target_machine.specs.Lists.{PassTo, SpareRdbuff, SparesAps, SparesRdbuff, after, with_ports};
 ghost use Rattle.target_machine.specs.Plain.{Action, acted, in_order, is_fault, issued};
 ghost use Rattle.target_machine.specs.State.{Agree, TargetState};
+ghost use Rattle.target_machine.specs.declared.ap.ApState.{ApState};
 
 /// The target after two lists is that after the second from that after the first.
 pub fn lists_join()
@@ -32,4 +35,11 @@ pub fn lists_on_targets_that_agree()
     ensures in_order { (t u : TargetState) (xs : List Action) → Agree t u → SpareRdbuff xs → Alike (in_order t xs) (in_order u xs) }
     ensures issued { (t u : TargetState) (xs : List Action) → Agree t u → SpareRdbuff xs → issued t xs ≡ issued u xs }
     ensures after { (t u : TargetState) (xs : List Action) → Agree t u → SpareRdbuff xs → Agree (after t xs) (after u xs) }
+{}
+
+/// An action that is no access of an AP and does not ask for RDBUFF does the same whatever RDBUFF and the APs are, and
+/// leaves both.
+pub fn the_dp_acts_beside_the_aps()
+    ensures { (t : TargetState) (rdbuff : ℕ) (aps : map.FinMap nat_cmp ApState) (action : Action) → SparesAps action
+        → acted (with_ports t rdbuff aps) action ≡ record { outcome = (acted t action).outcome; next = with_ports (acted t action).next rdbuff aps } }
 {}

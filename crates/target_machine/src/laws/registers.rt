@@ -46,5 +46,6 @@ pub fn bits_are_named()
     ensures cfg_la { CFG_LA ≡ named.cfg_la }
     ensures whole_word { WHOLE_WORD ≡ named.whole_word }
     ensures driven_pins { DRIVEN_PINS ≡ named.driven_pins }
+    ensures no_pins { NO_PINS ≡ named.no_pins }
     ensures nreset { NRESET ≡ named.nreset }
 {}
