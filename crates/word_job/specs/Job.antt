@@ -1,5 +1,5 @@
 -- The job of word accesses: one sequence of one device, one block of word writes and reads, one region, AP 0.
-use Rattle.std.specs.Prelude.{◌≡◌, ℕ, ◌+◌, ◌-◌, ◌*◌, ◌%◌, ◌^◌, ◌&&◌, ◌==◌, nat_le, not, Bool, true, false, List, [], ◌∷◌, ◌++◌, map, Option, Some, None, codes}
+use Rattle.std.specs.Prelude.{◌≡◌, ℕ, ◌+◌, ◌-◌, ◌*◌, ◌%◌, ◌^◌, ◌&&◌, ◌==◌, nat_le, not, Bool, true, false, List, [], ◌∷◌, ◌++◌, Option, Some, None, codes}
 use Rattle.std.specs.Option.{option_map_or}
 use Rattle.std.specs.List.{list_any}
 use Rattle.std.specs.Str.{bytes_eq}
@@ -11,11 +11,7 @@ use Rattle.target_machine.specs.declared.job.RegionJob.{RegionJob}
 use Rattle.target_machine.specs.declared.job.WordJob.{WordJob}
 use Rattle.word_job.specs.declared.job.RunJob.{RunJob}
 use Rattle.word_job.specs.declared.job.WatchItem.{WatchItem}
-use Rattle.word_job.specs.declared.pack.TheConstants.{PACK_KEYS, FAMILY_KEYS, DEVICE_KEYS, SEQUENCE_KEYS, STEP_KEYS}
-use Rattle.word_job.specs.declared.bench.TheConstants.{BENCH_KEYS, TARGET_KEYS, AP_KEYS, REGION_KEYS, WORD_KEYS}
 use Rattle.word_job.specs.declared.bench.Memories.{Memories}
-use Rattle.word_job.specs.declared.watch.TheConstants.{WATCH_KEYS}
-use Rattle.word_job.specs.declared.job.TheConstants.{JOB_KEYS}
 use Rattle.word_job.specs.Code.{IsCodeOf, statements_of, variables_of}
 use Rattle.word_job.specs.Region.{lies_in}
 use Rattle.word_job.specs.Form.{◌>>=◌, when, has_only, text_at, num_at, one_at, items_len, list_of}
@@ -25,14 +21,14 @@ use Rattle.word_job.specs.Form.{◌>>=◌, when, has_only, text_at, num_at, one_
 -- a step with a block
 unfoldable pub step_block : Data → Option (List ℕ)
 step_block d = do
-  known ← when (has_only (map (λ k. k.now) STEP_KEYS) d)
+  known ← when (has_only (codes "block" ∷ []) d)
   block ← get (codes "block") d
   as_str block
 
 -- the block of the one step of a sequence of this name
 unfoldable pub sequence_block : List ℕ → Data → Option (List ℕ)
 sequence_block name d = do
-  known ← when (has_only (map (λ k. k.now) SEQUENCE_KEYS) d)
+  known ← when (has_only (codes "name" ∷ codes "steps" ∷ []) d)
   named ← text_at (codes "name") d
   same ← when (bytes_eq named name)
   step ← one_at (codes "steps") d
@@ -51,7 +47,7 @@ text_or_empty (Some d) = as_str d
 -- a device of this name with one sequence of that name
 unfoldable pub device_texts : List ℕ → List ℕ → Data → Option Texts
 device_texts device sequence d = do
-  known ← when (has_only (map (λ k. k.now) DEVICE_KEYS) d)
+  known ← when (has_only (codes "Dname" ∷ codes "debugvars" ∷ codes "sequences" ∷ []) d)
   named ← text_at (codes "Dname") d
   same ← when (bytes_eq named device)
   debugvars ← text_or_empty (get (codes "debugvars") d)
@@ -62,7 +58,7 @@ device_texts device sequence d = do
 -- a family of one device
 unfoldable pub family_texts : List ℕ → List ℕ → Data → Option Texts
 family_texts device sequence d = do
-  known ← when (has_only (map (λ k. k.now) FAMILY_KEYS) d)
+  known ← when (has_only (codes "Dfamily" ∷ codes "devices" ∷ []) d)
   named ← text_at (codes "Dfamily") d
   one ← one_at (codes "devices") d
   device_texts device sequence one
@@ -70,7 +66,7 @@ family_texts device sequence d = do
 -- a pack of one family
 unfoldable pub pack_texts : List ℕ → List ℕ → Data → Option Texts
 pack_texts device sequence d = do
-  known ← when (has_only (map (λ k. k.now) PACK_KEYS) d)
+  known ← when (has_only (codes "families" ∷ []) d)
   one ← one_at (codes "families") d
   family_texts device sequence one
 
@@ -78,7 +74,7 @@ pack_texts device sequence d = do
 
 -- the AP 0, with no other key
 unfoldable pub is_ap_zero : Data → Bool
-is_ap_zero d = has_only (map (λ k. k.now) AP_KEYS) d && option_map_or (λ n. n == 0) (num_at (codes "ap") d) false
+is_ap_zero d = has_only (codes "ap" ∷ []) d && option_map_or (λ n. n == 0) (num_at (codes "ap") d) false
 
 -- whole words below 2^32, at most 4,194,304 bytes
 abbrev pub is_region : ℕ → ℕ → Bool
@@ -87,7 +83,7 @@ is_region address length = (address % 4 == 0) && (length % 4 == 0) && nat_le 4 l
 -- a region of memory that is read and written
 unfoldable pub region_in : Data → Option RegionJob
 region_in d = do
-  known ← when (has_only (map (λ k. k.now) REGION_KEYS) d)
+  known ← when (has_only (codes "address" ∷ codes "length" ∷ []) d)
   address ← num_at (codes "address") d
   length ← num_at (codes "length") d
   whole ← when (is_region address length)
@@ -96,7 +92,7 @@ region_in d = do
 -- a word of the region and its value
 unfoldable pub word_in : RegionJob → Data → Option WordJob
 word_in region d = do
-  known ← when (has_only (map (λ k. k.now) WORD_KEYS) d)
+  known ← when (has_only (codes "address" ∷ codes "value" ∷ []) d)
   address ← num_at (codes "address") d
   inside ← when (lies_in region address)
   value ← num_at (codes "value") d
@@ -130,7 +126,7 @@ words_or_none region (Some d) = words_in region d
 -- the region of a powered target with AP 0 and one region
 abbrev pub target_region : Data → Option RegionJob
 target_region d = do
-  known ← when (has_only (map (λ k. k.now) TARGET_KEYS) d)
+  known ← when (has_only (codes "powered" ∷ codes "aps" ∷ codes "memory" ∷ codes "words" ∷ []) d)
   powered ← get (codes "powered") d >>= as_bool
   up ← when powered
   ap ← one_at (codes "aps") d
@@ -147,7 +143,7 @@ target_in d = do
 -- the target of a bench with packet size 64 and packet count 1
 abbrev pub bench_target : Data → Option Data
 bench_target d = do
-  known ← when (has_only (map (λ k. k.now) BENCH_KEYS) d)
+  known ← when (has_only (codes "packet_size" ∷ codes "packet_count" ∷ codes "target" ∷ []) d)
   size ← num_at (codes "packet_size") d
   least ← when (size == 64)
   count ← num_at (codes "packet_count") d
@@ -186,7 +182,7 @@ are_words_of region address words = lies_in region address && nat_le 1 words && 
 
 unfoldable pub watch_item_in : RegionJob → Data → Option WatchItem
 watch_item_in region d = do
-  known ← when (has_only (map (λ k. k.now) WATCH_KEYS) d)
+  known ← when (has_only (codes "address" ∷ codes "words" ∷ []) d)
   address ← num_at (codes "address") d
   words ← num_at (codes "words") d
   inside ← when (are_words_of region address words)
@@ -213,7 +209,7 @@ pub record Frame : Type 0 where
 
 unfoldable pub frame_in : List ℕ → List ℕ → Data → Option Frame
 frame_in device sequence d = do
-  known ← when (has_only (map (λ k. k.now) JOB_KEYS) d)
+  known ← when (has_only (codes "pack" ∷ codes "bench" ∷ codes "watch" ∷ []) d)
   texts ← pack_at device sequence d
   memories ← bench_at d
   watch ← watch_or_none memories.region (get (codes "watch") d)
