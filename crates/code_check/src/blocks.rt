@@ -1,5 +1,5 @@
 //! The first fault of statements.
-ghost use Rattle.std.specs.Prelude.{◌≡◌, map, IfOk, OnOk, true};
+ghost use Rattle.std.specs.Prelude.{◌≡◌, ℕ, map, take, IfOk, OnErr, OnOk, true};
 ghost use Rattle.expr_grammar.specs.Tree.{stmt_tree, code_trees};
 ghost use Rattle.code_check.specs.Order.{is_before};
 ghost use Rattle.code_check.specs.First.{IsFirst, FaultWhere};
@@ -47,7 +47,8 @@ fn statement_fault(scope: Scope<'_>, statement: &Stmt) -> Option<CodeFault>
 
 // Makes the name visible that the statement declares.
 fn declare(alloc: Global, names: &mut Names, statement: &Stmt) -> Result<(), OutOfMemory>
-    ensures { OnOk result (names.new ≡ names_after names.old (stmt_tree statement.now)) }
+    ensures ok { OnOk result (names.new ≡ names_after names.old (stmt_tree statement.now)) }
+    ensures err { OnErr result (names.new ≡ names.old) }
 {
     match statement {
         Stmt::Declare(name, _) => names.add(alloc, name.text.as_str()),
@@ -55,7 +56,9 @@ fn declare(alloc: Global, names: &mut Names, statement: &Stmt) -> Result<(), Out
     }
 }
 
-/// The first fault of statements that see `names`, to which the names are added that they declare.
+/// The first fault of statements that see `names`, to which the names are added that they declare. `None`
+/// exactly where they have no fault. `OutOfMemory` where memory is refused; `names` then has the names that
+/// some of the first statements declare, after those from before.
 pub fn block_fault(
     alloc: Global,
     names: &mut Names,
@@ -65,6 +68,7 @@ pub fn block_fault(
 ) -> Result<Option<CodeFault>, OutOfMemory>
     ensures first { IfOk result (IsFirst is_before (BlockFault (record { visible = names.old; sequences = sequences.now; in_debugvars = in_debugvars }) (code_trees code.now))) }
     ensures names { OnOk result (names.new ≡ names_after_all names.old (code_trees code.now)) }
+    ensures refused { OnErr result ((count : ℕ) × (names.new ≡ names_after_all names.old (code_trees (take count code.now)))) }
 {
     let mut found = None;
     for statement in code {

@@ -162,7 +162,7 @@ fn function_fault(scope: Scope<'_>, name: &Name, args: &[Arg]) -> Option<CodeFau
     }
 }
 
-/// The first fault of a call, what stands inside its arguments aside.
+/// The first fault of a call, except those inside its arguments.
 pub fn call_fault(scope: Scope<'_>, name: &Name, args: &[Arg]) -> Option<CodeFault>
     ensures { IsFirst is_before (CallFault (scope_view scope.entry) name.now (arg_trees args.now)) result }
 {
