@@ -8,7 +8,7 @@ use Rattle.dap_messages.specs.Requests.{kind, takes_word, word_if}
 use Rattle.dap_base.specs.Bits.{has_bit}
 use Rattle.target_machine.specs.Attempt.{attempt}
 use Rattle.dap_transfer.specs.Wires.{access_of}
-use Rattle.probe_core.specs.Bench.{BenchState, Steps}
+use Rattle.probe_core.specs.Bench.{BenchState, StepsTo}
 use Rattle.probe_core.specs.Probe.{target_of}
 use Rattle.dapseq_tool.specs.Exchange.{IsOne, IsIdle, HasAnswered, packet_of, reply_value}
 use Rattle.dapseq_tool.specs.Progress.{CanDo, IsAmid, IsAccessed, actions_of}
@@ -33,22 +33,26 @@ write_packet r one is = rw (packet_by r one) (rw is refl)
 abbrev Answers : Request → List ℕ → BenchState → BenchState → Type 0
 Answers r reply m o = IsIdle m → HasAnswered (packet_of r) reply m o
 
-pub accessed_reported : (r : Request) (reply : List ℕ) (value : ℕ) (a b : Option BenchState) → IsOne r → reply_value (has_bit r.byte 2) reply ≡ Some value → Steps (Answers r reply) a b → Steps (λ m n. CanDo 1 m → IsAccessed r value m n) a b
-accessed_reported r reply value None b one is has = tt
+pub accessed_reported : (r : Request) (reply : List ℕ) (value : ℕ) (a b : Option BenchState) → IsOne r → reply_value (has_bit r.byte 2) reply ≡ Some value → StepsTo (Answers r reply) a b → StepsTo (λ m n. CanDo 1 m → IsAccessed r value m n) a b
+accessed_reported r reply value None None one is has = tt
+accessed_reported r reply value None (Some n) one is has = absurd has
 accessed_reported r reply value (Some m) None one is has = absurd has
 accessed_reported r reply value (Some m) (Some n) one is has = λ can. accessed r reply value m n one can (has can.idle) is
 
-pub failed_reported : (r : Request) (a b : Option BenchState) → IsOne r → Steps (λ m o. IsIdle m → IsExecuted (packet_of r) m o) a b → Steps (λ m n. CanDo 1 m → IsAmid (actions_of (r ∷ [])) m n) a b
-failed_reported r None b one has = tt
+pub failed_reported : (r : Request) (a b : Option BenchState) → IsOne r → StepsTo (λ m o. IsIdle m → IsExecuted (packet_of r) m o) a b → StepsTo (λ m n. CanDo 1 m → IsAmid (actions_of (r ∷ [])) m n) a b
+failed_reported r None None one has = tt
+failed_reported r None (Some n) one has = absurd has
 failed_reported r (Some m) None one has = absurd has
 failed_reported r (Some m) (Some n) one has = λ can. amid_one r m n one can (has can.idle)
 
-pub refused_reported : (r : Request) (reply : List ℕ) (a b : Option BenchState) → IsOne r → Steps (Answers r reply) a b → Steps (λ m n. CanDo 1 m → IsAmid (actions_of (r ∷ [])) m n) a b
-refused_reported r reply None b one has = tt
+pub refused_reported : (r : Request) (reply : List ℕ) (a b : Option BenchState) → IsOne r → StepsTo (Answers r reply) a b → StepsTo (λ m n. CanDo 1 m → IsAmid (actions_of (r ∷ [])) m n) a b
+refused_reported r reply None None one has = tt
+refused_reported r reply None (Some n) one has = absurd has
 refused_reported r reply (Some m) None one has = absurd has
 refused_reported r reply (Some m) (Some n) one has = λ can. amid_one r m n one can (inr (has can.idle).executor)
 
-pub bad_reported : (r : Request) (reply : List ℕ) (a b : Option BenchState) → IsOne r → reply_value (has_bit r.byte 2) reply ≡ None → Steps (Answers r reply) a b → Steps (λ m n. CanDo 1 m → (target_of m.probe).sticky ≡ false → (attempt (target_of m.probe) (access_of r)).next.sticky ≡ false → ⊥) a b
-bad_reported r reply None b one is has = tt
+pub bad_reported : (r : Request) (reply : List ℕ) (a b : Option BenchState) → IsOne r → reply_value (has_bit r.byte 2) reply ≡ None → StepsTo (Answers r reply) a b → StepsTo (λ m n. CanDo 1 m → (target_of m.probe).sticky ≡ false → (attempt (target_of m.probe) (access_of r)).next.sticky ≡ false → ⊥) a b
+bad_reported r reply None None one is has = tt
+bad_reported r reply None (Some n) one is has = absurd has
 bad_reported r reply (Some m) None one is has = absurd has
 bad_reported r reply (Some m) (Some n) one is has = λ can clear after. never_bad r reply m n one can.idle (has can.idle) is clear after

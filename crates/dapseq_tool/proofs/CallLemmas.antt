@@ -6,7 +6,7 @@ use Rattle.std.specs.Prelude.{◌≢◌, IfSome, IsSome}
 use Rattle.dap_base.specs.Causes.{IsQuiet, Rose}
 use Rattle.dap_base.specs.Streams.{AppendsPrefix, PutAppends}
 use Rattle.target_machine.specs.State.{TargetState}
-use Rattle.probe_core.specs.Bench.{BenchState, Steps}
+use Rattle.probe_core.specs.Bench.{BenchState, StepsTo}
 use Rattle.probe_core.specs.Probe.{target_of}
 use Rattle.dapseq_tool.specs.Blocks.{IsPartDone, IsRunDone}
 use Rattle.dapseq_tool.specs.Headline.{Moment, IsQuietCall, Succeeds, Answers}
@@ -23,7 +23,7 @@ report_is job values t same there = ap (λ (v : List ℕ). done_text job v t) sa
 
 -- what was put of the lines of a run that is done was put of its report
 pub put_run : {E : Type 0} (job : RunJob) (lent values : List ℕ) (old new : Option (List ℕ)) (result : Result (Unit {0}) E) (a b : Option BenchState)
-    → Steps (λ m n. IsRunDone job n) a b → IfSome a (λ m. values ≡ (outcome job).values) → lent ≡ values
+    → StepsTo (λ m n. IsRunDone job n) a b → IfSome a (λ m. values ≡ (outcome job).values) → lent ≡ values
     → IfSome b (λ n. PutAppends old new result (done_text job lent (target_of n.probe))) → IfSome a (λ m. PutAppends old new result (report job))
 put_run job lent values old new result None b done same is_lent put = tt
 put_run job lent values old new result (Some m) None done same is_lent put = absurd done
@@ -31,18 +31,19 @@ put_run job lent values old new result (Some m) (Some n) done same is_lent put =
     subst (PutAppends old new result) (report_is job lent (target_of n.probe) (is_lent ∙ same) done.target) put
 
 -- a run that is done is a part of itself
-pub done_is_part : (job : RunJob) (a b c : Option BenchState) → Steps (λ m n. IsRunDone job n) a b → c ≡ b → Steps (IsPartDone job) a c
-done_is_part job None b c done same = tt
+pub done_is_part : (job : RunJob) (a b c : Option BenchState) → StepsTo (λ m n. IsRunDone job n) a b → c ≡ b → StepsTo (IsPartDone job) a c
+done_is_part job None None c done same = subst (StepsTo (IsPartDone job) None) (sym same) tt
+done_is_part job None (Some n) c done same = absurd done
 done_is_part job (Some m) None c done same = absurd done
 done_is_part job (Some m) (Some n) c done same =
-    subst (Steps (IsPartDone job) (Some m)) (sym same) (inr (record {
+    subst (StepsTo (IsPartDone job) (Some m)) (sym same) (inr (record {
       most = omega (arith, done.work);
       target = done.accesses ∙ ap (target_after job) (sym done.work);
     }))
 
 -- a run that is done stays so where the state stays
-pub done_stays : (job : RunJob) (a b c : Option BenchState) → Steps (λ m n. IsRunDone job n) a b → c ≡ b → Steps (λ m n. IsRunDone job n) a c
-done_stays job a b c done same = subst (Steps (λ m n. IsRunDone job n) a) (sym same) done
+pub done_stays : (job : RunJob) (a b c : Option BenchState) → StepsTo (λ m n. IsRunDone job n) a b → c ≡ b → StepsTo (λ m n. IsRunDone job n) a c
+done_stays job a b c done same = subst (StepsTo (λ m n. IsRunDone job n) a) (sym same) done
 
 -- a whole piece is a part of it from the front
 pub put_prefix : {E : Type 0} (old new : Option (List ℕ)) (result : Result (Unit {0}) E) (piece : List ℕ) → PutAppends old new result piece → AppendsPrefix old new piece
@@ -51,7 +52,7 @@ put_prefix old new (Err e) piece put = put
 
 -- the same as a part of the report
 pub lines_run : {E : Type 0} (job : RunJob) (lent values : List ℕ) (old new : Option (List ℕ)) (result : Result (Unit {0}) E) (a b : Option BenchState)
-    → Steps (λ m n. IsRunDone job n) a b → IfSome a (λ m. values ≡ (outcome job).values) → lent ≡ values
+    → StepsTo (λ m n. IsRunDone job n) a b → IfSome a (λ m. values ≡ (outcome job).values) → lent ≡ values
     → IfSome b (λ n. PutAppends old new result (done_text job lent (target_of n.probe))) → IfSome a (λ m. AppendsPrefix old new (report job))
 lines_run job lent values old new result a b done same is_lent put = prefixed a (put_run job lent values old new result a b done same is_lent put)
   where
@@ -73,7 +74,7 @@ no_rise before now quiet rose = let same = quiet.same in let below = quiet.below
 
 -- a run that nothing outside disturbs comes to its end
 pub success_run : (old new : Moment) (end : Status) (job : RunJob)
-    → (end ≡ status.Done → Steps (λ m n. IsRunDone job n) old.state new.state)
+    → (end ≡ status.Done → StepsTo (λ m n. IsRunDone job n) old.state new.state)
     → (end ≡ status.Done → IfSome old.state (λ m. Appends old.written new.written (report job)))
     → (end ≡ status.WriteFault → Rose old.sink_faults new.sink_faults)
     → (end ≡ status.BenchFault → Rose old.reported.faults new.reported.faults)

@@ -7,18 +7,21 @@ use Rattle.target_machine.specs.Plain.{Action, Makes, acted}
 use Rattle.dap_messages.specs.declared.request.Request.{Request}
 use Rattle.dap_transfer.specs.Laws.{value_now}
 use Rattle.dap_transfer.specs.Wires.{access_of}
-use Rattle.probe_core.specs.Bench.{BenchState, Steps}
+use Rattle.probe_core.specs.Bench.{BenchState, StepsTo}
 use Rattle.probe_core.specs.Probe.{target_of, work_of}
 use Rattle.dapseq_tool.specs.Progress.{after_actions, actions_of, IsClear, IsAfter, IsAmid, CanDo, AreAccessed, IsAccessed, CannotFail}
 
-pub steps_then : {A B C : BenchState → BenchState → Type 0} → ((m n o : BenchState) → A m n → B n o → C m o) → (a b c : Option BenchState) → Steps A a b → Steps B b c → Steps C a c
-steps_then f None b c s t = tt
+pub steps_then : {A B C : BenchState → BenchState → Type 0} → ((m n o : BenchState) → A m n → B n o → C m o) → (a b c : Option BenchState) → StepsTo A a b → StepsTo B b c → StepsTo C a c
+steps_then f None None None s t = tt
+steps_then f None None (Some o) s t = absurd t
+steps_then f None (Some n) c s t = absurd s
 steps_then f (Some m) None c s t = absurd s
 steps_then f (Some m) (Some n) None s t = absurd t
 steps_then f (Some m) (Some n) (Some o) s t = f m n o s t
 
-pub steps_map : {A B : BenchState → BenchState → Type 0} → ((m n : BenchState) → A m n → B m n) → (a b : Option BenchState) → Steps A a b → Steps B a b
-steps_map f None b s = tt
+pub steps_map : {A B : BenchState → BenchState → Type 0} → ((m n : BenchState) → A m n → B m n) → (a b : Option BenchState) → StepsTo A a b → StepsTo B a b
+steps_map f None None s = tt
+steps_map f None (Some n) s = absurd s
 steps_map f (Some m) None s = absurd s
 steps_map f (Some m) (Some n) s = f m n s
 
@@ -73,7 +76,7 @@ clear_then r rs t clear = λ k. clear (suc k)
 
 -- ---- by what a bench tells
 
-pub done_then : (r : Request) (first : List Request) (last : Request) (u v : ℕ) (a b c : Option BenchState) → Steps (λ m n. CanDo 1 m → IsAccessed r u m n) a b → Steps (λ m n. CanDo (length (first ++ last ∷ [])) m → AreAccessed first last v m n) b c → Steps (λ m n. CanDo (suc (length (first ++ last ∷ []))) m → AreAccessed (r ∷ first) last v m n) a c
+pub done_then : (r : Request) (first : List Request) (last : Request) (u v : ℕ) (a b c : Option BenchState) → StepsTo (λ m n. CanDo 1 m → IsAccessed r u m n) a b → StepsTo (λ m n. CanDo (length (first ++ last ∷ [])) m → AreAccessed first last v m n) b c → StepsTo (λ m n. CanDo (suc (length (first ++ last ∷ []))) m → AreAccessed (r ∷ first) last v m n) a c
 done_then r first last u v a b c s t = steps_then
     (λ m n o one more can.
     let k : ℕ = length (first ++ last ∷ []) in
@@ -85,24 +88,24 @@ done_then r first last u v a b c s t = steps_then
     })
     a b c s t
 
-pub part_then : (r : Request) (rs : List Request) (u : ℕ) (a b c : Option BenchState) → Steps (λ m n. CanDo 1 m → IsAccessed r u m n) a b → Steps (λ m n. CanDo (length rs) m → IsAmid (actions_of rs) m n) b c → Steps (λ m n. CanDo (suc (length rs)) m → IsAmid (actions_of (r ∷ rs)) m n) a c
+pub part_then : (r : Request) (rs : List Request) (u : ℕ) (a b c : Option BenchState) → StepsTo (λ m n. CanDo 1 m → IsAccessed r u m n) a b → StepsTo (λ m n. CanDo (length rs) m → IsAmid (actions_of rs) m n) b c → StepsTo (λ m n. CanDo (suc (length rs)) m → IsAmid (actions_of (r ∷ rs)) m n) a c
 part_then r rs u a b c s t = steps_then
     (λ m n o one more can.
     let front : IsAfter (actions_of (r ∷ [])) m n = (one (can_first (length rs) m can)).after in
     amid_then r rs m n o front (more (can_then (length rs) r m n can front)))
     a b c s t
 
-pub part_first : (r : Request) (rs : List Request) (a b : Option BenchState) → Steps (λ m n. CanDo 1 m → IsAmid (actions_of (r ∷ [])) m n) a b → Steps (λ m n. CanDo (suc (length rs)) m → IsAmid (actions_of (r ∷ rs)) m n) a b
+pub part_first : (r : Request) (rs : List Request) (a b : Option BenchState) → StepsTo (λ m n. CanDo 1 m → IsAmid (actions_of (r ∷ [])) m n) a b → StepsTo (λ m n. CanDo (suc (length rs)) m → IsAmid (actions_of (r ∷ rs)) m n) a b
 part_first r rs a b s = steps_map (λ m n one can. amid_first r rs m n (one (can_first (length rs) m can))) a b s
 
-pub never_then : (r : Request) (rs : List Request) (u : ℕ) (a b c : Option BenchState) → Steps (λ m n. CanDo 1 m → IsAccessed r u m n) a b → Steps (CannotFail rs) b c → Steps (CannotFail (r ∷ rs)) a c
+pub never_then : (r : Request) (rs : List Request) (u : ℕ) (a b c : Option BenchState) → StepsTo (λ m n. CanDo 1 m → IsAccessed r u m n) a b → StepsTo (CannotFail rs) b c → StepsTo (CannotFail (r ∷ rs)) a c
 never_then r rs u a b c s t = steps_then
     (λ m n o one more can clear.
     let front : IsAfter (actions_of (r ∷ [])) m n = (one (can_first (length rs) m can)).after in
     more (can_then (length rs) r m n can front) (subst (λ t. IsClear t (actions_of rs)) (sym front.target) (clear_then r rs (target_of m.probe) clear)))
     a b c s t
 
-pub never_first : (r : Request) (rs : List Request) (a b : Option BenchState) → Steps (λ m n. CanDo 1 m → (target_of m.probe).sticky ≡ false → (attempt (target_of m.probe) (access_of r)).next.sticky ≡ false → ⊥) a b → Steps (CannotFail (r ∷ rs)) a b
+pub never_first : (r : Request) (rs : List Request) (a b : Option BenchState) → StepsTo (λ m n. CanDo 1 m → (target_of m.probe).sticky ≡ false → (attempt (target_of m.probe) (access_of r)).next.sticky ≡ false → ⊥) a b → StepsTo (CannotFail (r ∷ rs)) a b
 never_first r rs a b s = steps_map (λ m n one can clear. one (can_first (length rs) m can) (clear 0) (clear_first r rs (target_of m.probe) clear)) a b s
 
 pub rose_then : (a b c : ℕ) → Rose a b → Rose b c → Rose a c

@@ -1,6 +1,6 @@
 -- A packet that is executed at once, and its reply.
 use Rattle.std.proofs.Common.{◌≡◌, ◌⊎◌, inl, inr, ℕ, List, [], ◌∷◌, false, Option, None, Some, refl, ap, ◌∙◌, slice_get, drop, subst}
-use Rattle.probe_core.specs.Bench.{BenchState, Steps, served, HandsOut}
+use Rattle.probe_core.specs.Bench.{BenchState, StepsTo, served, HandsOut}
 use Rattle.probe_core.specs.Packet.{answered, accepted}
 use Rattle.probe_core.specs.Probe.{ProbeState, is_queued}
 use Rattle.dapseq_tool.specs.Exchange.{IsIdle, HasAnswered}
@@ -31,8 +31,10 @@ answers_one packet reply m n o plain idle sent out =
     }
 
 -- the same of what a bench tells, where it does
-pub answers : (packet reply : List ℕ) (a b c : Option BenchState) → is_queued packet ≡ false → Steps (λ m n. n ≡ served m packet) a b → Steps (HandsOut reply) b c → Steps (λ m o. IsIdle m → HasAnswered packet reply m o) a c
-answers packet reply None b c plain first second = tt
+pub answers : (packet reply : List ℕ) (a b c : Option BenchState) → is_queued packet ≡ false → StepsTo (λ m n. n ≡ served m packet) a b → StepsTo (HandsOut reply) b c → StepsTo (λ m o. IsIdle m → HasAnswered packet reply m o) a c
+answers packet reply None None None plain first second = tt
+answers packet reply None None (Some o) plain first second = absurd second
+answers packet reply None (Some n) c plain first second = absurd first
 answers packet reply (Some m) None c plain first second = absurd first
 answers packet reply (Some m) (Some n) None plain first second = absurd second
 answers packet reply (Some m) (Some n) (Some o) plain first second = λ idle. answers_one packet reply m n o plain idle first second
@@ -41,8 +43,10 @@ abbrev pub IsExecuted : List ℕ → BenchState → BenchState → Type 0
 IsExecuted packet m o = (o.probe.executor ≡ m.probe.executor) ⊎ (o.probe.executor ≡ (answered m.probe.executor packet).next)
 
 -- a packet that was taken and whose reply was not
-pub taken : (packet : List ℕ) (a b c : Option BenchState) → is_queued packet ≡ false → Steps (λ m n. n ≡ served m packet) a b → c ≡ b → Steps (λ m o. IsIdle m → IsExecuted packet m o) a c
-taken packet None b c plain first same = tt
+pub taken : (packet : List ℕ) (a b c : Option BenchState) → is_queued packet ≡ false → StepsTo (λ m n. n ≡ served m packet) a b → c ≡ b → StepsTo (λ m o. IsIdle m → IsExecuted packet m o) a c
+taken packet None None None plain first same = tt
+taken packet None None (Some o) plain first same = cc
+taken packet None (Some n) c plain first same = absurd first
 taken packet (Some m) None c plain first same = absurd first
 taken packet (Some m) (Some n) None plain first same = cc
 taken packet (Some m) (Some n) (Some o) plain first same = λ idle.
@@ -52,7 +56,8 @@ taken packet (Some m) (Some n) (Some o) plain first same = λ idle.
     inr (ap (λ (b : BenchState). b.probe.executor) one ∙ ap (λ (p : ProbeState). p.executor) ran)
 
 -- a packet that was not taken
-pub not_taken : (packet : List ℕ) (a b : Option BenchState) → b ≡ a → Steps (λ m o. IsIdle m → IsExecuted packet m o) a b
-not_taken packet None b same = tt
+pub not_taken : (packet : List ℕ) (a b : Option BenchState) → b ≡ a → StepsTo (λ m o. IsIdle m → IsExecuted packet m o) a b
+not_taken packet None None same = tt
+not_taken packet None (Some n) same = cc
 not_taken packet (Some m) None same = cc
 not_taken packet (Some m) (Some n) same = λ idle. let one : n ≡ m = cc in inl (ap (λ (b : BenchState). b.probe.executor) one)

@@ -6,7 +6,7 @@ use Rattle.target_machine.specs.declared.job.RegionJob.{RegionJob}
 use Rattle.dap_base.specs.Bits.{has_bit}
 use Rattle.dap_transfer.specs.Laws.{value_now}
 use Rattle.dap_transfer.specs.Wires.{access_of}
-use Rattle.probe_core.specs.Bench.{BenchState, Steps}
+use Rattle.probe_core.specs.Bench.{BenchState, StepsTo}
 use Rattle.probe_core.specs.Probe.{target_of, work_of}
 use Rattle.dapseq_tool.specs.Meaning.{statement_done}
 use Rattle.dapseq_tool.specs.Progress.{after_actions, actions_of, IsClear, IsAfter, IsAmid, CanDo, AreAccessed, CannotFail}
@@ -27,7 +27,7 @@ can_back m n can is = record { idle = is.idle; room = let r = can.room in let w 
 csw_same : (u : ℕ) (region : RegionJob) (s : Statement) (m n : BenchState) (f : UnitFacts region (target_of m.probe) s) → AreAccessed (select_request ∷ []) csw_request u m n → u ≡ f.csw
 csw_same u region s m n f is = is.value_is refl (subst (λ k. k < 2 ^ 32) (sym f.csw_is) f.small) ∙ f.csw_is
 
-pub perform_done : (s : Statement) (u v : ℕ) (a b c : Option BenchState) → Steps (Front u) a b → Steps (λ m n. CanDo 3 m → AreAccessed (size_request u ∷ tar_request (address_of s) ∷ []) (drw_request s) v m n) b c → (region : RegionJob) → IsPlaced region s → Steps (λ m n. CanRun region 5 m → IsStatementDone s v m n) a c
+pub perform_done : (s : Statement) (u v : ℕ) (a b c : Option BenchState) → StepsTo (Front u) a b → StepsTo (λ m n. CanDo 3 m → AreAccessed (size_request u ∷ tar_request (address_of s) ∷ []) (drw_request s) v m n) b c → (region : RegionJob) → IsPlaced region s → StepsTo (λ m n. CanRun region 5 m → IsStatementDone s v m n) a c
 perform_done s u v a b c x y region placed = steps_then
     (λ m n o first more can.
     let f : UnitFacts region (target_of m.probe) s = unit_facts region (target_of m.probe) s can.ready placed in
@@ -49,7 +49,7 @@ amid_front csw s t u (suc zero) few is = is
 amid_front csw s t u (suc (suc zero)) few is = is
 amid_front csw s t u (suc (suc (suc k))) few is = let no : ⊥ = omega (arith, few) in absurd no
 
-pub perform_part_first : (s : Statement) (a b : Option BenchState) → Steps (λ m n. CanDo 2 m → IsAmid (actions_of front) m n) a b → (region : RegionJob) → IsPlaced region s → Steps (λ m n. CanRun region 5 m → IsAmid (statement_done (target_of m.probe) s).actions m n) a b
+pub perform_part_first : (s : Statement) (a b : Option BenchState) → StepsTo (λ m n. CanDo 2 m → IsAmid (actions_of front) m n) a b → (region : RegionJob) → IsPlaced region s → StepsTo (λ m n. CanRun region 5 m → IsAmid (statement_done (target_of m.probe) s).actions m n) a b
 perform_part_first s a b x region placed = steps_map
     (λ m n part can.
     let f : UnitFacts region (target_of m.probe) s = unit_facts region (target_of m.probe) s can.ready placed in
@@ -62,7 +62,7 @@ perform_part_first s a b x region placed = steps_map
     }))
     a b x
 
-pub perform_part_then : (s : Statement) (u : ℕ) (a b c : Option BenchState) → Steps (Front u) a b → Steps (λ m n. CanDo 3 m → IsAmid (actions_of (back u s)) m n) b c → (region : RegionJob) → IsPlaced region s → Steps (λ m n. CanRun region 5 m → IsAmid (statement_done (target_of m.probe) s).actions m n) a c
+pub perform_part_then : (s : Statement) (u : ℕ) (a b c : Option BenchState) → StepsTo (Front u) a b → StepsTo (λ m n. CanDo 3 m → IsAmid (actions_of (back u s)) m n) b c → (region : RegionJob) → IsPlaced region s → StepsTo (λ m n. CanRun region 5 m → IsAmid (statement_done (target_of m.probe) s).actions m n) a c
 perform_part_then s u a b c x y region placed = steps_then
     (λ m n o first more can.
     let f : UnitFacts region (target_of m.probe) s = unit_facts region (target_of m.probe) s can.ready placed in
@@ -85,14 +85,14 @@ clear_front csw s t clear (suc zero) = clear 1
 clear_front csw s t clear (suc (suc zero)) = clear 2
 clear_front csw s t clear (suc (suc (suc k))) = clear 2
 
-pub perform_never_first : (s : Statement) (a b : Option BenchState) → Steps (CannotFail front) a b → (region : RegionJob) → IsPlaced region s → Steps (λ m n. CanRun region 5 m → ⊥) a b
+pub perform_never_first : (s : Statement) (a b : Option BenchState) → StepsTo (CannotFail front) a b → (region : RegionJob) → IsPlaced region s → StepsTo (λ m n. CanRun region 5 m → ⊥) a b
 perform_never_first s a b x region placed = steps_map
     (λ m n no can.
     let f : UnitFacts region (target_of m.probe) s = unit_facts region (target_of m.probe) s can.ready placed in
     no (can_front m can.can) (clear_front f.csw s (target_of m.probe) f.clear))
     a b x
 
-pub perform_never_then : (s : Statement) (u : ℕ) (a b c : Option BenchState) → Steps (Front u) a b → Steps (CannotFail (back u s)) b c → (region : RegionJob) → IsPlaced region s → Steps (λ m n. CanRun region 5 m → ⊥) a c
+pub perform_never_then : (s : Statement) (u : ℕ) (a b c : Option BenchState) → StepsTo (Front u) a b → StepsTo (CannotFail (back u s)) b c → (region : RegionJob) → IsPlaced region s → StepsTo (λ m n. CanRun region 5 m → ⊥) a c
 perform_never_then s u a b c x y region placed = steps_then
     (λ m n o first no can.
     let f : UnitFacts region (target_of m.probe) s = unit_facts region (target_of m.probe) s can.ready placed in

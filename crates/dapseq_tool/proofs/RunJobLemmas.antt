@@ -2,7 +2,7 @@
 use Rattle.std.proofs.Common.{◌≡◌, inl, inr, ◌∙◌, ℕ, ◌+◌, ◌-◌, ◌*◌, List, length, take, Option, None, Some, IfSome, refl, sym, ap, subst, arith}
 use Rattle.std.proofs.Math.Seq.{take-length}
 use Rattle.target_machine.specs.Start.{start}
-use Rattle.probe_core.specs.Bench.{BenchState, Steps, fresh}
+use Rattle.probe_core.specs.Bench.{BenchState, StepsTo, fresh}
 use Rattle.probe_core.specs.Probe.{target_of, work_of}
 use Rattle.probe_core.specs.declared.job.BenchJob.{BenchJob}
 use Rattle.dapseq_tool.specs.Blocks.{AreDone, HaveRun, IsAmidBlock, IsPartDone, IsRunDone}
@@ -24,7 +24,7 @@ can_run job n sound is = subst (CanRun job.region (5 * length job.statements)) (
   ready = subst (λ (b : BenchJob). IsReady job.region (start b.target)) (sym sound.bench) (start_ready job.region job.bench.target.words sound.region);
 })
 
-pub run_done : (job : RunJob) (after : List ℕ) (a b c : Option BenchState) → IsSoundRun job → Steps (λ m n. n ≡ fresh job.bench) a b → Steps (HaveRun job.region (length job.statements) job.statements (first_values job) after) b c → Steps (λ m n. IsRunDone job n) a c
+pub run_done : (job : RunJob) (after : List ℕ) (a b c : Option BenchState) → IsSoundRun job → StepsTo (λ m n. n ≡ fresh job.bench) a b → StepsTo (HaveRun job.region (length job.statements) job.statements (first_values job) after) b c → StepsTo (λ m n. IsRunDone job n) a c
 unfolding outcome
 run_done job after a b c sound loaded done = steps_then
     (λ m n o is more.
@@ -38,7 +38,7 @@ run_done job after a b c sound loaded done = steps_then
     })
     a b c loaded done
 
-pub run_values : (job : RunJob) (after : List ℕ) (a b c : Option BenchState) → IsSoundRun job → Steps (λ m n. n ≡ fresh job.bench) a b → Steps (HaveRun job.region (length job.statements) job.statements (first_values job) after) b c → IfSome a (λ m. after ≡ (outcome job).values)
+pub run_values : (job : RunJob) (after : List ℕ) (a b c : Option BenchState) → IsSoundRun job → StepsTo (λ m n. n ≡ fresh job.bench) a b → StepsTo (HaveRun job.region (length job.statements) job.statements (first_values job) after) b c → IfSome a (λ m. after ≡ (outcome job).values)
 unfolding outcome
 run_values job after None b c sound loaded done = tt
 run_values job after (Some m) None c sound loaded done = absurd loaded
@@ -46,7 +46,7 @@ run_values job after (Some m) (Some n) None sound loaded done = absurd done
 run_values job after (Some m) (Some n) (Some o) sound loaded done =
     (done (can_run job n sound loaded)).values ∙ ap (λ (s : BenchState). (ran (target_of s.probe) (first_values job) job.statements).values) loaded
 
-pub run_part : (job : RunJob) (a b c : Option BenchState) → IsSoundRun job → Steps (λ m n. n ≡ fresh job.bench) a b → Steps (IsAmidBlock job.region job.statements (first_values job)) b c → Steps (IsPartDone job) a c
+pub run_part : (job : RunJob) (a b c : Option BenchState) → IsSoundRun job → StepsTo (λ m n. n ≡ fresh job.bench) a b → StepsTo (IsAmidBlock job.region job.statements (first_values job)) b c → StepsTo (IsPartDone job) a c
 unfolding outcome
 run_part job a b c sound loaded part = steps_then
     (λ m n o is amid.
@@ -61,12 +61,12 @@ run_part job a b c sound loaded part = steps_then
     }))
     a b c loaded part
 
-pub run_never : (job : RunJob) (a b c : Option BenchState) → IsSoundRun job → Steps (λ m n. n ≡ fresh job.bench) a b → Steps (λ m n. CanRun job.region (5 * length job.statements) m → ⊥) b c → a ≡ None
+pub run_never : (job : RunJob) (a b c : Option BenchState) → IsSoundRun job → StepsTo (λ m n. n ≡ fresh job.bench) a b → StepsTo (λ m n. CanRun job.region (5 * length job.statements) m → ⊥) b c → a ≡ None
 run_never job None b c sound loaded never = refl
 run_never job (Some m) None c sound loaded never = absurd loaded
 run_never job (Some m) (Some n) None sound loaded never = absurd never
 run_never job (Some m) (Some n) (Some o) sound loaded never = absurd (never (can_run job n sound loaded))
 
-pub run_same : (job : RunJob) (a b : Option BenchState) → b ≡ a → Steps (IsPartDone job) a b
-run_same job None b is = tt
-run_same job (Some m) b is = subst (Steps (IsPartDone job) (Some m)) (sym is) (inl refl)
+pub run_same : (job : RunJob) (a b : Option BenchState) → b ≡ a → StepsTo (IsPartDone job) a b
+run_same job None b is = subst (StepsTo (IsPartDone job) None) (sym is) tt
+run_same job (Some m) b is = subst (StepsTo (IsPartDone job) (Some m)) (sym is) (inl refl)

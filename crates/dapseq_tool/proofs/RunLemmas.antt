@@ -5,7 +5,7 @@ use Rattle.target_machine.specs.State.{TargetState}
 use Rattle.target_machine.specs.Plain.{Action, acted}
 use Rattle.target_machine.specs.declared.job.RegionJob.{RegionJob}
 use Rattle.target_machine.specs.declared.unit.Variable.{Variable}
-use Rattle.probe_core.specs.Bench.{BenchState, Steps}
+use Rattle.probe_core.specs.Bench.{BenchState, StepsTo}
 use Rattle.probe_core.specs.Probe.{target_of, work_of}
 use Rattle.dapseq_tool.specs.Meaning.{Now, after, now_of, ran, statement_done, value_of, stored}
 use Rattle.dapseq_tool.specs.Progress.{after_actions, IsAmid}
@@ -131,21 +131,21 @@ none_done region count before m can = record {
 
 -- ---- by what a bench tells
 
-pub begins : (region : RegionJob) (count : ℕ) (before : List ℕ) (a : Option BenchState) → Steps (HaveRun region count [] before before) a a
+pub begins : (region : RegionJob) (count : ℕ) (before : List ℕ) (a : Option BenchState) → StepsTo (HaveRun region count [] before before) a a
 begins region count before None = tt
 begins region count before (Some m) = λ can. none_done region (5 * count) before m can
 
-pub goes_on : (region : RegionJob) (count : ℕ) (ss : List Statement) (s : Statement) (v : ℕ) (before after : List ℕ) (a b c : Option BenchState) → IsPlaced region s → length ss < count → Steps (HaveRun region count ss before after) a b → Steps (λ m n. CanRun region 5 m → IsStatementDone s v m n) b c → Steps (HaveRun region count (ss ++ s ∷ []) before (stored s v after)) a c
+pub goes_on : (region : RegionJob) (count : ℕ) (ss : List Statement) (s : Statement) (v : ℕ) (before after : List ℕ) (a b c : Option BenchState) → IsPlaced region s → length ss < count → StepsTo (HaveRun region count ss before after) a b → StepsTo (λ m n. CanRun region 5 m → IsStatementDone s v m n) b c → StepsTo (HaveRun region count (ss ++ s ∷ []) before (stored s v after)) a c
 goes_on region count ss s v before after a b c placed few x y = steps_then
     (λ m n o is more can. done_more region (5 * count) ss s v before after m n o placed (omega (arith, few)) can (is can) more)
     a b c x y
 
-pub stops : (region : RegionJob) (ss : List Statement) (s : Statement) (rest : List Statement) (before after : List ℕ) (a b c : Option BenchState) → Steps (HaveRun region (length (ss ++ s ∷ rest)) ss before after) a b → Steps (λ m n. CanRun region 5 m → IsAmid (statement_done (target_of m.probe) s).actions m n) b c → Steps (IsAmidBlock region (ss ++ s ∷ rest) before) a c
+pub stops : (region : RegionJob) (ss : List Statement) (s : Statement) (rest : List Statement) (before after : List ℕ) (a b c : Option BenchState) → StepsTo (HaveRun region (length (ss ++ s ∷ rest)) ss before after) a b → StepsTo (λ m n. CanRun region 5 m → IsAmid (statement_done (target_of m.probe) s).actions m n) b c → StepsTo (IsAmidBlock region (ss ++ s ∷ rest) before) a c
 stops region ss s rest before after a b c x y = steps_then
     (λ m n o is part can. let l = length_both ss (s ∷ rest) in part_more region (5 * length (ss ++ s ∷ rest)) ss s rest before after m n o (omega (arith, l)) can (is can) part)
     a b c x y
 
-pub never_stops : (region : RegionJob) (count : ℕ) (ss : List Statement) (before after : List ℕ) (a b c : Option BenchState) → length ss < count → Steps (HaveRun region count ss before after) a b → Steps (λ m n. CanRun region 5 m → ⊥) b c → Steps (λ m n. CanRun region (5 * count) m → ⊥) a c
+pub never_stops : (region : RegionJob) (count : ℕ) (ss : List Statement) (before after : List ℕ) (a b c : Option BenchState) → length ss < count → StepsTo (HaveRun region count ss before after) a b → StepsTo (λ m n. CanRun region 5 m → ⊥) b c → StepsTo (λ m n. CanRun region (5 * count) m → ⊥) a c
 never_stops region count ss before after a b c few x y = steps_then
     (λ m n o is no can. no (room_for (5 * count) 0 region ss before after m n can (is can) (omega (arith, few))))
     a b c x y
@@ -198,24 +198,24 @@ take_length [] i x is = cc
 take_length (y ∷ xs) zero x is = omega arith
 take_length (y ∷ xs) (suc i) x is = let e = take_length xs i x is in omega (arith, e)
 
-pub goes_on_at : (job : RunJob) (i : ℕ) (s : Statement) (v : ℕ) (before after : List ℕ) (a b c : Option BenchState) → IsSoundRun job → slice_get job.statements i ≡ Some s → Steps (HaveRun job.region (length job.statements) (take i job.statements) before after) a b → ((region : RegionJob) → IsPlaced region s → Steps (λ m n. CanRun region 5 m → IsStatementDone s v m n) b c) → Steps (HaveRun job.region (length job.statements) (take (i + 1) job.statements) before (stored s v after)) a c
+pub goes_on_at : (job : RunJob) (i : ℕ) (s : Statement) (v : ℕ) (before after : List ℕ) (a b c : Option BenchState) → IsSoundRun job → slice_get job.statements i ≡ Some s → StepsTo (HaveRun job.region (length job.statements) (take i job.statements) before after) a b → ((region : RegionJob) → IsPlaced region s → StepsTo (λ m n. CanRun region 5 m → IsStatementDone s v m n) b c) → StepsTo (HaveRun job.region (length job.statements) (take (i + 1) job.statements) before (stored s v after)) a c
 goes_on_at job i s v before after a b c sound at done more =
     let ss : List Statement = job.statements in
     let put : IsPlaced job.region s = placed job.region (length job.variables) s sound.region (all_at (IsStatementOf job.region (length job.variables)) ss i s sound.statements at) in
-    subst (λ xs. Steps (HaveRun job.region (length ss) xs before (stored s v after)) a c) (sym (take-at ss i s at))
+    subst (λ xs. StepsTo (HaveRun job.region (length ss) xs before (stored s v after)) a c) (sym (take-at ss i s at))
     (goes_on job.region (length ss) (take i ss) s v before after a b c put (take_length ss i s at) done (more job.region put))
 
-pub stops_at : (job : RunJob) (i : ℕ) (s : Statement) (before after : List ℕ) (a b c : Option BenchState) → IsSoundRun job → slice_get job.statements i ≡ Some s → Steps (HaveRun job.region (length job.statements) (take i job.statements) before after) a b → ((region : RegionJob) → IsPlaced region s → Steps (λ m n. CanRun region 5 m → IsAmid (statement_done (target_of m.probe) s).actions m n) b c) → Steps (IsAmidBlock job.region job.statements before) a c
+pub stops_at : (job : RunJob) (i : ℕ) (s : Statement) (before after : List ℕ) (a b c : Option BenchState) → IsSoundRun job → slice_get job.statements i ≡ Some s → StepsTo (HaveRun job.region (length job.statements) (take i job.statements) before after) a b → ((region : RegionJob) → IsPlaced region s → StepsTo (λ m n. CanRun region 5 m → IsAmid (statement_done (target_of m.probe) s).actions m n) b c) → StepsTo (IsAmidBlock job.region job.statements before) a c
 stops_at job i s before after a b c sound at done part =
     let ss : List Statement = job.statements in
     let put : IsPlaced job.region s = placed job.region (length job.variables) s sound.region (all_at (IsStatementOf job.region (length job.variables)) ss i s sound.statements at) in
     let whole : take i ss ++ s ∷ drop (suc i) ss ≡ ss = split_at ss i s at in
-    subst (λ xs. Steps (IsAmidBlock job.region xs before) a c) whole
+    subst (λ xs. StepsTo (IsAmidBlock job.region xs before) a c) whole
     (stops job.region (take i ss) s (drop (suc i) ss) before after a b c
-    (subst (λ xs. Steps (HaveRun job.region (length xs) (take i ss) before after) a b) (sym whole) done)
+    (subst (λ xs. StepsTo (HaveRun job.region (length xs) (take i ss) before after) a b) (sym whole) done)
     (part job.region put))
 
-pub never_stops_at : (job : RunJob) (i : ℕ) (s : Statement) (before after : List ℕ) (a b c : Option BenchState) → IsSoundRun job → slice_get job.statements i ≡ Some s → Steps (HaveRun job.region (length job.statements) (take i job.statements) before after) a b → ((region : RegionJob) → IsPlaced region s → Steps (λ m n. CanRun region 5 m → ⊥) b c) → Steps (λ m n. CanRun job.region (5 * length job.statements) m → ⊥) a c
+pub never_stops_at : (job : RunJob) (i : ℕ) (s : Statement) (before after : List ℕ) (a b c : Option BenchState) → IsSoundRun job → slice_get job.statements i ≡ Some s → StepsTo (HaveRun job.region (length job.statements) (take i job.statements) before after) a b → ((region : RegionJob) → IsPlaced region s → StepsTo (λ m n. CanRun region 5 m → ⊥) b c) → StepsTo (λ m n. CanRun job.region (5 * length job.statements) m → ⊥) a c
 never_stops_at job i s before after a b c sound at done never =
     let ss : List Statement = job.statements in
     let put : IsPlaced job.region s = placed job.region (length job.variables) s sound.region (all_at (IsStatementOf job.region (length job.variables)) ss i s sound.statements at) in

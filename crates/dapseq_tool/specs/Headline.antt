@@ -3,7 +3,7 @@ use Rattle.std.specs.Prelude.{◌≡◌, ◌≢◌, ◌⊎◌, ℕ, List, Option
 use Rattle.std.specs.Io.KnownBytes.{Appends}
 use Rattle.dap_base.specs.Causes.{IsQuiet, Rose}
 use Rattle.dap_base.specs.Streams.{AppendsPrefix}
-use Rattle.probe_core.specs.Bench.{Reported, BenchState, Steps}
+use Rattle.probe_core.specs.Bench.{Reported, BenchState, StepsTo}
 use Rattle.dapseq_tool.specs.Asked.{Asks, IfRun, UnlessRun}
 use Rattle.dapseq_tool.specs.Blocks.{IsPartDone, IsRunDone}
 use Rattle.dapseq_tool.specs.Exchange.{IsBadExchange}
@@ -45,7 +45,7 @@ pub record IsQuietCall (old new : Moment) (end : Status) : Type 0 where
 
 -- the target and the probe's work, the text and the status are those of the run
 pub record Succeeds (old new : Moment) (end : Status) (job : RunJob) : Type 0 where
-  pub state : Steps (λ m n. IsRunDone job n) old.state new.state
+  pub state : StepsTo (λ m n. IsRunDone job n) old.state new.state
   pub text : Appends old.written new.written (report job)
   pub status : end ≡ status.Done
 
@@ -56,7 +56,7 @@ Success words old new end =
 
 -- whatever failed outside, the bench is as it was or after the first accesses of the run, as many as its probe's work
 abbrev pub Outside : List (List ℕ) → Moment → Moment → Type 0
-Outside words old new = IfSome old.left (λ bytes. IfRun words bytes (λ job. Steps (IsPartDone job) old.state new.state))
+Outside words old new = IfSome old.left (λ bytes. IfRun words bytes (λ job. StepsTo (IsPartDone job) old.state new.state))
 
 -- unless the source failed, what is written of a run is a part of its report from the front
 abbrev pub Lines : List (List ℕ) → Moment → Moment → Type 0

@@ -5,7 +5,7 @@ ghost use Rattle.dap_base.specs.Causes.{Rose, HasCause};
 ghost use Rattle.target_machine.specs.Attempt.{attempt};
 ghost use Rattle.dap_base.specs.Bits.{has_bit};
 ghost use Rattle.dap_transfer.specs.Wires.{access_of};
-ghost use Rattle.probe_core.specs.Bench.{Steps, sent, received};
+ghost use Rattle.probe_core.specs.Bench.{StepsTo, sent, received};
 ghost use Rattle.probe_core.specs.Packet.{answered};
 ghost use Rattle.probe_core.specs.Probe.{target_of};
 ghost use Rattle.text_lines.specs.Causes.{NamesFault};
@@ -43,8 +43,8 @@ fn send_request<B: Bench>(request: Request, out: &mut [u8], bench: &mut B) -> Re
     requires room { length out.old ≡ 1024 }
     ensures bound { IfOk result (λ n. n ≤ length out.new) }
     ensures reported { IfOk result (λ n. B.reported bench.new ≡ received (sent (B.reported bench.old) (packet_of request)) (take n out.new)) }
-    ensures state { IfOk result (λ n. Steps (λ m o. IsIdle m → HasAnswered (packet_of request) (take n out.new) m o) (B.state bench.old) (B.state bench.new)) }
-    ensures failed { OnErr result (Steps (λ m o. IsIdle m → (o.probe.executor ≡ m.probe.executor) ⊎ (o.probe.executor ≡ (answered m.probe.executor (packet_of request)).next)) (B.state bench.old) (B.state bench.new)) }
+    ensures state { IfOk result (λ n. StepsTo (λ m o. IsIdle m → HasAnswered (packet_of request) (take n out.new) m o) (B.state bench.old) (B.state bench.new)) }
+    ensures failed { OnErr result (StepsTo (λ m o. IsIdle m → (o.probe.executor ≡ m.probe.executor) ⊎ (o.probe.executor ≡ (answered m.probe.executor (packet_of request)).next)) (B.state bench.old) (B.state bench.new)) }
     ensures cause { HasCause (B.reported bench.old).faults (B.reported bench.new).faults result }
 {
     if is_read(request.byte) {
@@ -75,9 +75,9 @@ fn value_in(is_read: bool, reply: &[u8]) -> Option<u32>
 pub fn access<B: Bench>(request: Request, bench: &mut B) -> Result<u32, RunEnd>
     requires open { IsOpen (B.reported bench.old) }
     requires one { IsOne request }
-    ensures done { IfOk result (λ v. Steps (λ m n. CanDo 1 m → IsAccessed request v m n) (B.state bench.old) (B.state bench.new)) }
-    ensures part { OnErr result (Steps (λ m n. CanDo 1 m → IsAmid (actions_of (request ∷ [])) m n) (B.state bench.old) (B.state bench.new)) }
-    ensures never { IsErrOf result RunEnd.ReplyBad → Steps (λ m n. CanDo 1 m → (target_of m.probe).sticky ≡ false → (attempt (target_of m.probe) (access_of request)).next.sticky ≡ false → ⊥) (B.state bench.old) (B.state bench.new) }
+    ensures done { IfOk result (λ v. StepsTo (λ m n. CanDo 1 m → IsAccessed request v m n) (B.state bench.old) (B.state bench.new)) }
+    ensures part { OnErr result (StepsTo (λ m n. CanDo 1 m → IsAmid (actions_of (request ∷ [])) m n) (B.state bench.old) (B.state bench.new)) }
+    ensures never { IsErrOf result RunEnd.ReplyBad → StepsTo (λ m n. CanDo 1 m → (target_of m.probe).sticky ≡ false → (attempt (target_of m.probe) (access_of request)).next.sticky ≡ false → ⊥) (B.state bench.old) (B.state bench.new) }
     ensures bad { IsErrOf result RunEnd.ReplyBad → IsBadExchange (B.reported bench.new).last }
     ensures begun { IsErrOf result RunEnd.ReplyBad → Rose (B.reported bench.old).exchanges (B.reported bench.new).exchanges }
     ensures open { OnOk result (IsOpen (B.reported bench.new)) }

@@ -7,7 +7,7 @@ ghost use Rattle.dapseq_tool.specs.Headline.{moment, Success, Outside, Lines, An
 ghost use Rattle.dapseq_tool.specs.Report.{report, answer_text, answer_status, fault_text};
 ghost use Rattle.word_job.specs.Sound.{IsSoundRun};
 ghost use Rattle.dap_base.specs.Streams.{AppendsPrefix};
-ghost use Rattle.probe_core.specs.Bench.{Steps};
+ghost use Rattle.probe_core.specs.Bench.{StepsTo};
 ghost use Rattle.dapseq_tool.specs.Blocks.{IsPartDone, IsRunDone};
 ghost use Rattle.dapseq_tool.specs.Exchange.{IsBadExchange};
 
@@ -42,9 +42,9 @@ fn answer<K: Sink>(alloc: Global, answer: &Answer, sink: &mut K) -> Status
 // Runs a job, and writes its report.
 fn run<K: Sink, B: Bench>(alloc: Global, job: &RunJob, sink: &mut K, bench: &mut B) -> Status
     requires { IsSoundRun job.now }
-    ensures done { result ≡ Status.Done → Steps (λ m n. IsRunDone job.now n) (B.state bench.old) (B.state bench.new) }
+    ensures done { result ≡ Status.Done → StepsTo (λ m n. IsRunDone job.now n) (B.state bench.old) (B.state bench.new) }
     ensures text { result ≡ Status.Done → IfSome (B.state bench.old) (λ m. Appends (K.written sink.old) (K.written sink.new) (report job.now)) }
-    ensures part { Steps (IsPartDone job.now) (B.state bench.old) (B.state bench.new) }
+    ensures part { StepsTo (IsPartDone job.now) (B.state bench.old) (B.state bench.new) }
     ensures lines { IfSome (B.state bench.old) (λ m. AppendsPrefix (K.written sink.old) (K.written sink.new) (report job.now)) }
     ensures write { result ≡ Status.WriteFault → Rose (K.faults sink.old) (K.faults sink.new) }
     ensures bench { result ≡ Status.BenchFault → Rose (B.reported bench.old).faults (B.reported bench.new).faults }

@@ -1,7 +1,7 @@
 //! Register accesses in a row.
 ghost use Rattle.std.specs.Prelude.{◌≡◌, [], ◌∷◌, IfOk, OnOk, OnErr, IsErrOf};
 ghost use Rattle.dap_base.specs.Causes.{Rose};
-ghost use Rattle.probe_core.specs.Bench.{Steps};
+ghost use Rattle.probe_core.specs.Bench.{StepsTo};
 ghost use Rattle.text_lines.specs.Causes.{NamesFault};
 ghost use Rattle.dapseq_tool.specs.Exchange.{IsOpen, IsOne, IsBadExchange};
 ghost use Rattle.dapseq_tool.specs.Progress.{CanDo, IsAmid, AreAccessed, CannotFail, actions_of};
@@ -16,9 +16,9 @@ pub fn two<B: Bench>(first: Request, last: Request, bench: &mut B) -> Result<u32
     requires open { IsOpen (B.reported bench.old) }
     requires first { IsOne first }
     requires last { IsOne last }
-    ensures done { IfOk result (λ v. Steps (λ m n. CanDo 2 m → AreAccessed (first ∷ []) last v m n) (B.state bench.old) (B.state bench.new)) }
-    ensures part { OnErr result (Steps (λ m n. CanDo 2 m → IsAmid (actions_of (first ∷ last ∷ [])) m n) (B.state bench.old) (B.state bench.new)) }
-    ensures never { IsErrOf result RunEnd.ReplyBad → Steps (CannotFail (first ∷ last ∷ [])) (B.state bench.old) (B.state bench.new) }
+    ensures done { IfOk result (λ v. StepsTo (λ m n. CanDo 2 m → AreAccessed (first ∷ []) last v m n) (B.state bench.old) (B.state bench.new)) }
+    ensures part { OnErr result (StepsTo (λ m n. CanDo 2 m → IsAmid (actions_of (first ∷ last ∷ [])) m n) (B.state bench.old) (B.state bench.new)) }
+    ensures never { IsErrOf result RunEnd.ReplyBad → StepsTo (CannotFail (first ∷ last ∷ [])) (B.state bench.old) (B.state bench.new) }
     ensures bad { IsErrOf result RunEnd.ReplyBad → IsBadExchange (B.reported bench.new).last }
     ensures begun { IsErrOf result RunEnd.ReplyBad → Rose (B.reported bench.old).exchanges (B.reported bench.new).exchanges }
     ensures open { OnOk result (IsOpen (B.reported bench.new)) }
@@ -43,9 +43,9 @@ pub fn three<B: Bench>(
     requires first { IsOne first }
     requires second { IsOne second }
     requires last { IsOne last }
-    ensures done { IfOk result (λ v. Steps (λ m n. CanDo 3 m → AreAccessed (first ∷ second ∷ []) last v m n) (B.state bench.old) (B.state bench.new)) }
-    ensures part { OnErr result (Steps (λ m n. CanDo 3 m → IsAmid (actions_of (first ∷ second ∷ last ∷ [])) m n) (B.state bench.old) (B.state bench.new)) }
-    ensures never { IsErrOf result RunEnd.ReplyBad → Steps (CannotFail (first ∷ second ∷ last ∷ [])) (B.state bench.old) (B.state bench.new) }
+    ensures done { IfOk result (λ v. StepsTo (λ m n. CanDo 3 m → AreAccessed (first ∷ second ∷ []) last v m n) (B.state bench.old) (B.state bench.new)) }
+    ensures part { OnErr result (StepsTo (λ m n. CanDo 3 m → IsAmid (actions_of (first ∷ second ∷ last ∷ [])) m n) (B.state bench.old) (B.state bench.new)) }
+    ensures never { IsErrOf result RunEnd.ReplyBad → StepsTo (CannotFail (first ∷ second ∷ last ∷ [])) (B.state bench.old) (B.state bench.new) }
     ensures bad { IsErrOf result RunEnd.ReplyBad → IsBadExchange (B.reported bench.new).last }
     ensures begun { IsErrOf result RunEnd.ReplyBad → Rose (B.reported bench.old).exchanges (B.reported bench.new).exchanges }
     ensures open { OnOk result (IsOpen (B.reported bench.new)) }

@@ -1,7 +1,7 @@
 //! One packet and its reply.
 ghost use Rattle.std.specs.Prelude.{◌≡◌, ◌⊎◌, ◌<◌, ◌≤◌, ◌↔◌, false, length, take, IfOk, OnOk, OnErr, IfErr};
 ghost use Rattle.dap_base.specs.Causes.{Rose, HasCause};
-ghost use Rattle.probe_core.specs.Bench.{Steps, sent, received, IsSame};
+ghost use Rattle.probe_core.specs.Bench.{StepsTo, sent, received, IsSame};
 ghost use Rattle.probe_core.specs.Packet.{answered};
 ghost use Rattle.probe_core.specs.Probe.{is_queued};
 ghost use Rattle.text_lines.specs.Causes.{NamesFault};
@@ -20,8 +20,8 @@ pub fn exchange<B: Bench>(packet: &[u8], out: &mut [u8], bench: &mut B) -> Resul
     requires room { length out.old ≡ 1024 }
     ensures bound { IfOk result (λ n. n ≤ length out.new) }
     ensures reported { IfOk result (λ n. B.reported bench.new ≡ received (sent (B.reported bench.old) packet.now) (take n out.new)) }
-    ensures state { IfOk result (λ n. Steps (λ m o. IsIdle m → HasAnswered packet.now (take n out.new) m o) (B.state bench.old) (B.state bench.new)) }
-    ensures failed { OnErr result (Steps (λ m o. IsIdle m → (o.probe.executor ≡ m.probe.executor) ⊎ (o.probe.executor ≡ (answered m.probe.executor packet.now).next)) (B.state bench.old) (B.state bench.new)) }
+    ensures state { IfOk result (λ n. StepsTo (λ m o. IsIdle m → HasAnswered packet.now (take n out.new) m o) (B.state bench.old) (B.state bench.new)) }
+    ensures failed { OnErr result (StepsTo (λ m o. IsIdle m → (o.probe.executor ≡ m.probe.executor) ⊎ (o.probe.executor ≡ (answered m.probe.executor packet.now).next)) (B.state bench.old) (B.state bench.new)) }
     ensures cause { HasCause (B.reported bench.old).faults (B.reported bench.new).faults result }
 {
     match bench.send(packet) {

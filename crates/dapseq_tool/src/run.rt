@@ -1,7 +1,7 @@
 //! A run of a block on a bench.
 ghost use Rattle.std.specs.Prelude.{◌≡◌, ◌≢◌, ◌*◌, length, map, None, IfOk, IfErr, IfSome, OnOk, OnErr, IsErrOf};
 ghost use Rattle.dap_base.specs.Causes.{Rose};
-ghost use Rattle.probe_core.specs.Bench.{Steps, fresh};
+ghost use Rattle.probe_core.specs.Bench.{StepsTo, fresh};
 ghost use Rattle.dapseq_tool.specs.Blocks.{HaveRun, IsAmidBlock, IsPartDone, IsRunDone};
 ghost use Rattle.text_lines.specs.Causes.{NamesFault};
 ghost use Rattle.dapseq_tool.specs.Exchange.{IsOpen, IsBadExchange};
@@ -47,9 +47,9 @@ fn run_block<B: Bench>(job: &RunJob, values: &mut [u64], bench: &mut B) -> Resul
     requires sound { IsSoundRun job.now }
     requires open { IsOpen (B.reported bench.old) }
     requires values { length values.old ≡ length job.now.variables }
-    ensures done { OnOk result (Steps (HaveRun job.now.region (length job.now.statements) job.now.statements values.old values.new) (B.state bench.old) (B.state bench.new)) }
-    ensures part { OnErr result (Steps (IsAmidBlock job.now.region job.now.statements values.old) (B.state bench.old) (B.state bench.new)) }
-    ensures never { IsErrOf result RunEnd.ReplyBad → Steps (λ m n. CanRun job.now.region (5 * length job.now.statements) m → ⊥) (B.state bench.old) (B.state bench.new) }
+    ensures done { OnOk result (StepsTo (HaveRun job.now.region (length job.now.statements) job.now.statements values.old values.new) (B.state bench.old) (B.state bench.new)) }
+    ensures part { OnErr result (StepsTo (IsAmidBlock job.now.region job.now.statements values.old) (B.state bench.old) (B.state bench.new)) }
+    ensures never { IsErrOf result RunEnd.ReplyBad → StepsTo (λ m n. CanRun job.now.region (5 * length job.now.statements) m → ⊥) (B.state bench.old) (B.state bench.new) }
     ensures bad { IsErrOf result RunEnd.ReplyBad → IsBadExchange (B.reported bench.new).last }
     ensures begun { IsErrOf result RunEnd.ReplyBad → Rose (B.reported bench.old).exchanges (B.reported bench.new).exchanges }
     ensures length { length values.new ≡ length values.old }
@@ -68,7 +68,7 @@ fn run_block<B: Bench>(job: &RunJob, values: &mut [u64], bench: &mut B) -> Resul
 fn load<B: Bench>(alloc: Global, job: &RunJob, bench: &mut B) -> Result<(), RunEnd>
     requires { IsSoundRun job.now }
     ensures open { OnOk result (IsOpen (B.reported bench.new)) }
-    ensures state { OnOk result (Steps (λ m n. n ≡ fresh job.now.bench) (B.state bench.old) (B.state bench.new)) }
+    ensures state { OnOk result (StepsTo (λ m n. n ≡ fresh job.now.bench) (B.state bench.old) (B.state bench.new)) }
     ensures same { OnErr result (B.state bench.new ≡ B.state bench.old) }
     ensures bad { IfErr result (λ e. e ≢ RunEnd.ReplyBad) }
     ensures exchanges { (B.reported bench.new).exchanges ≡ (B.reported bench.old).exchanges }
@@ -91,9 +91,9 @@ fn run_loaded<B: Bench>(
 ) -> Result<(), RunEnd>
     requires sound { IsSoundRun job.now }
     requires values { values.old ≡ first_values job.now }
-    ensures done { OnOk result (Steps (λ m n. IsRunDone job.now n) (B.state bench.old) (B.state bench.new)) }
+    ensures done { OnOk result (StepsTo (λ m n. IsRunDone job.now n) (B.state bench.old) (B.state bench.new)) }
     ensures values { OnOk result (IfSome (B.state bench.old) (λ m. values.new ≡ (outcome job.now).values)) }
-    ensures part { OnErr result (Steps (IsPartDone job.now) (B.state bench.old) (B.state bench.new)) }
+    ensures part { OnErr result (StepsTo (IsPartDone job.now) (B.state bench.old) (B.state bench.new)) }
     ensures never { IsErrOf result RunEnd.ReplyBad → B.state bench.old ≡ None }
     ensures bad { IsErrOf result RunEnd.ReplyBad → IsBadExchange (B.reported bench.new).last }
     ensures begun { IsErrOf result RunEnd.ReplyBad → Rose (B.reported bench.old).exchanges (B.reported bench.new).exchanges }
@@ -109,9 +109,9 @@ fn run_loaded<B: Bench>(
 /// Runs a job: loads its bench, and does its statements. Answers the values of the variables.
 pub fn run_job<B: Bench>(alloc: Global, job: &RunJob, bench: &mut B) -> Result<Vec<u64>, RunEnd>
     requires { IsSoundRun job.now }
-    ensures done { OnOk result (Steps (λ m n. IsRunDone job.now n) (B.state bench.old) (B.state bench.new)) }
+    ensures done { OnOk result (StepsTo (λ m n. IsRunDone job.now n) (B.state bench.old) (B.state bench.new)) }
     ensures values { IfOk result (λ values. IfSome (B.state bench.old) (λ m. values.items ≡ (outcome job.now).values)) }
-    ensures part { OnErr result (Steps (IsPartDone job.now) (B.state bench.old) (B.state bench.new)) }
+    ensures part { OnErr result (StepsTo (IsPartDone job.now) (B.state bench.old) (B.state bench.new)) }
     ensures never { IsErrOf result RunEnd.ReplyBad → B.state bench.old ≡ None }
     ensures bad { IsErrOf result RunEnd.ReplyBad → IsBadExchange (B.reported bench.new).last }
     ensures begun { IsErrOf result RunEnd.ReplyBad → Rose (B.reported bench.old).exchanges (B.reported bench.new).exchanges }

@@ -2,7 +2,7 @@
 ghost use Rattle.std.specs.Prelude.{◌≡◌, ◌<◌, ◌^◌, [], ◌∷◌, IfOk, OnOk, OnErr, IsErrOf};
 ghost use Rattle.dap_base.specs.Causes.{Rose};
 ghost use Rattle.target_machine.specs.declared.job.RegionJob.{RegionJob};
-ghost use Rattle.probe_core.specs.Bench.{Steps};
+ghost use Rattle.probe_core.specs.Bench.{StepsTo};
 ghost use Rattle.probe_core.specs.Probe.{target_of};
 ghost use Rattle.text_lines.specs.Causes.{NamesFault};
 ghost use Rattle.dapseq_tool.specs.Exchange.{IsOpen, IsOne, IsBadExchange};
@@ -87,9 +87,9 @@ fn drw(statement: Statement) -> Request
 // Makes the accesses up to the read of CSW.
 fn access_csw<B: Bench>(bench: &mut B) -> Result<u32, RunEnd>
     requires open { IsOpen (B.reported bench.old) }
-    ensures done { IfOk result (λ u. Steps (λ m n. CanDo 2 m → AreAccessed (select_request ∷ []) csw_request u m n) (B.state bench.old) (B.state bench.new)) }
-    ensures part { OnErr result (Steps (λ m n. CanDo 2 m → IsAmid (actions_of front) m n) (B.state bench.old) (B.state bench.new)) }
-    ensures never { IsErrOf result RunEnd.ReplyBad → Steps (CannotFail front) (B.state bench.old) (B.state bench.new) }
+    ensures done { IfOk result (λ u. StepsTo (λ m n. CanDo 2 m → AreAccessed (select_request ∷ []) csw_request u m n) (B.state bench.old) (B.state bench.new)) }
+    ensures part { OnErr result (StepsTo (λ m n. CanDo 2 m → IsAmid (actions_of front) m n) (B.state bench.old) (B.state bench.new)) }
+    ensures never { IsErrOf result RunEnd.ReplyBad → StepsTo (CannotFail front) (B.state bench.old) (B.state bench.new) }
     ensures bad { IsErrOf result RunEnd.ReplyBad → IsBadExchange (B.reported bench.new).last }
     ensures begun { IsErrOf result RunEnd.ReplyBad → Rose (B.reported bench.old).exchanges (B.reported bench.new).exchanges }
     ensures open { OnOk result (IsOpen (B.reported bench.new)) }
@@ -102,9 +102,9 @@ fn access_csw<B: Bench>(bench: &mut B) -> Result<u32, RunEnd>
 // Makes the accesses after the read of CSW.
 fn access_word<B: Bench>(statement: Statement, csw: u32, bench: &mut B) -> Result<u32, RunEnd>
     requires open { IsOpen (B.reported bench.old) }
-    ensures done { IfOk result (λ v. Steps (λ m n. CanDo 3 m → AreAccessed (size_request csw ∷ tar_request (address_of statement) ∷ []) (drw_request statement) v m n) (B.state bench.old) (B.state bench.new)) }
-    ensures part { OnErr result (Steps (λ m n. CanDo 3 m → IsAmid (actions_of (back csw statement)) m n) (B.state bench.old) (B.state bench.new)) }
-    ensures never { IsErrOf result RunEnd.ReplyBad → Steps (CannotFail (back csw statement)) (B.state bench.old) (B.state bench.new) }
+    ensures done { IfOk result (λ v. StepsTo (λ m n. CanDo 3 m → AreAccessed (size_request csw ∷ tar_request (address_of statement) ∷ []) (drw_request statement) v m n) (B.state bench.old) (B.state bench.new)) }
+    ensures part { OnErr result (StepsTo (λ m n. CanDo 3 m → IsAmid (actions_of (back csw statement)) m n) (B.state bench.old) (B.state bench.new)) }
+    ensures never { IsErrOf result RunEnd.ReplyBad → StepsTo (CannotFail (back csw statement)) (B.state bench.old) (B.state bench.new) }
     ensures bad { IsErrOf result RunEnd.ReplyBad → IsBadExchange (B.reported bench.new).last }
     ensures begun { IsErrOf result RunEnd.ReplyBad → Rose (B.reported bench.old).exchanges (B.reported bench.new).exchanges }
     ensures open { OnOk result (IsOpen (B.reported bench.new)) }
@@ -118,9 +118,9 @@ fn access_word<B: Bench>(statement: Statement, csw: u32, bench: &mut B) -> Resul
 #[tactic(auto, using(crate::proofs::PerformLemmas::perform_done, crate::proofs::PerformLemmas::perform_part_first, crate::proofs::PerformLemmas::perform_part_then, crate::proofs::PerformLemmas::perform_never_first, crate::proofs::PerformLemmas::perform_never_then, crate::proofs::ChainLemmas::rose_then))]
 pub fn perform<B: Bench>(statement: Statement, bench: &mut B) -> Result<u32, RunEnd>
     requires open { IsOpen (B.reported bench.old) }
-    ensures done { IfOk result (λ v. (region : RegionJob) → IsPlaced region statement → Steps (λ m n. CanRun region 5 m → IsStatementDone statement v m n) (B.state bench.old) (B.state bench.new)) }
-    ensures part { OnErr result ((region : RegionJob) → IsPlaced region statement → Steps (λ m n. CanRun region 5 m → IsAmid (statement_done (target_of m.probe) statement).actions m n) (B.state bench.old) (B.state bench.new)) }
-    ensures never { IsErrOf result RunEnd.ReplyBad → (region : RegionJob) → IsPlaced region statement → Steps (λ m n. CanRun region 5 m → ⊥) (B.state bench.old) (B.state bench.new) }
+    ensures done { IfOk result (λ v. (region : RegionJob) → IsPlaced region statement → StepsTo (λ m n. CanRun region 5 m → IsStatementDone statement v m n) (B.state bench.old) (B.state bench.new)) }
+    ensures part { OnErr result ((region : RegionJob) → IsPlaced region statement → StepsTo (λ m n. CanRun region 5 m → IsAmid (statement_done (target_of m.probe) statement).actions m n) (B.state bench.old) (B.state bench.new)) }
+    ensures never { IsErrOf result RunEnd.ReplyBad → (region : RegionJob) → IsPlaced region statement → StepsTo (λ m n. CanRun region 5 m → ⊥) (B.state bench.old) (B.state bench.new) }
     ensures bad { IsErrOf result RunEnd.ReplyBad → IsBadExchange (B.reported bench.new).last }
     ensures begun { IsErrOf result RunEnd.ReplyBad → Rose (B.reported bench.old).exchanges (B.reported bench.new).exchanges }
     ensures open { OnOk result (IsOpen (B.reported bench.new)) }

@@ -1,7 +1,7 @@
 -- The run that is asked for is the one that was made.
 use Rattle.std.specs.Prelude.{IfSome}
 use Rattle.dap_base.specs.Streams.{AppendsPrefix}
-use Rattle.probe_core.specs.Bench.{Steps}
+use Rattle.probe_core.specs.Bench.{StepsTo}
 use Rattle.dapseq_tool.specs.Blocks.{IsPartDone}
 use Rattle.dapseq_tool.specs.Headline.{Moment, moment, Succeeds, Answers}
 use Rattle.dapseq_tool.specs.Report.{report, answer_text}
@@ -18,7 +18,7 @@ returns-in-Ok-Run-clause-success g c = λ quiet reported.
 
 pub returns-in-Ok-Run-clause-outside : goal.returns-in-Ok-Run-clause-outside
 returns-in-Ok-Run-clause-outside g c =
-    run_only c.args.words.now (g.S.Source.left c.args.source.now) c.in-Ok-Run.field-0 c.in-Ok-Run.job (λ job. Steps (IsPartDone job) (g.B.Bench.state c.args.bench.now) (g.B.Bench.state c.run.new.bench)) c.in-Ok-Run.field-0-is c.in-Ok-Run.ensures.asked c.run.ensures.part
+    run_only c.args.words.now (g.S.Source.left c.args.source.now) c.in-Ok-Run.field-0 c.in-Ok-Run.job (λ job. StepsTo (IsPartDone job) (g.B.Bench.state c.args.bench.now) (g.B.Bench.state c.run.new.bench)) c.in-Ok-Run.field-0-is c.in-Ok-Run.ensures.asked c.run.ensures.part
 
 pub returns-in-Ok-Run-clause-lines : goal.returns-in-Ok-Run-clause-lines
 returns-in-Ok-Run-clause-lines g c = λ quiet.

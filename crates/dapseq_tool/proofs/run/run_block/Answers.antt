@@ -1,7 +1,7 @@
 use Rattle.std.proofs.Common.{◌≡◌, ◌∙◌, ◌+◌, List, Some, get_or, slice_get, length, take, sym, subst}
 use Rattle.word_job.specs.declared.statement.Statement.{Statement}
 use Rattle.word_job.specs.declared.statement.Statement.TheVariants.{Write}
-use Rattle.probe_core.specs.Bench.{Steps}
+use Rattle.probe_core.specs.Bench.{StepsTo}
 use Rattle.dapseq_tool.specs.Blocks.{HaveRun}
 use Rattle.dapseq_tool.proofs.RowLemmas.{slice_get-in}
 use Rattle.dapseq_tool.proofs.RunLemmas.{goes_on_at, stops_at, kept}
@@ -23,7 +23,7 @@ loop-statement-preserved g c =
     let at : slice_get c.args.job.now.statements c.loop-statement.statement-index ≡ Some (get_or items c.loop-statement.statement-index nothing) =
     subst (λ xs. slice_get xs c.loop-statement.statement-index ≡ Some (get_or items c.loop-statement.statement-index nothing)) c.as_slice-statement-items.ensures (slice_get-in items c.loop-statement.statement-index nothing c.loop-statement-test.true) in
     record {
-      done = subst (λ vs. Steps (HaveRun c.args.job.now.region (length c.args.job.now.statements) (take (c.loop-statement.statement-index + 1) c.args.job.now.statements) c.args.values.now vs) (g.B.Bench.state c.args.bench.now) (g.B.Bench.state c.perform.new.bench)) (sym c.store.ensures.values) (goes_on_at c.args.job.now c.loop-statement.statement-index _ c.in-Ok.value c.args.values.now c.loop-statement.values (g.B.Bench.state c.args.bench.now) (g.B.Bench.state c.loop-statement.bench) (g.B.Bench.state c.perform.new.bench) c.requires.sound at c.loop-statement.invariant.done c.in-Ok.ensures.done);
+      done = subst (λ vs. StepsTo (HaveRun c.args.job.now.region (length c.args.job.now.statements) (take (c.loop-statement.statement-index + 1) c.args.job.now.statements) c.args.values.now vs) (g.B.Bench.state c.args.bench.now) (g.B.Bench.state c.perform.new.bench)) (sym c.store.ensures.values) (goes_on_at c.args.job.now c.loop-statement.statement-index _ c.in-Ok.value c.args.values.now c.loop-statement.values (g.B.Bench.state c.args.bench.now) (g.B.Bench.state c.loop-statement.bench) (g.B.Bench.state c.perform.new.bench) c.requires.sound at c.loop-statement.invariant.done c.in-Ok.ensures.done);
       idle = c.in-Ok.ensures.open;
       length = c.store.ensures.length ∙ c.loop-statement.invariant.length;
       exchanges = kept (g.B.Bench.reported c.args.bench.now).exchanges (g.B.Bench.reported c.loop-statement.bench).exchanges (g.B.Bench.reported c.perform.new.bench).exchanges c.loop-statement.invariant.exchanges c.in-Ok.ensures.rose;

@@ -1,0 +1,72 @@
+-- What a bench reports stays in range.
+use Rattle.std.proofs.Common.{◌≡◌, ℕ, ◌+◌, ◌<◌, ◌==◌, Bool, true, false, cond, List, [], ◌∷◌, ◌++◌, length, length-append, refl, ap, ◌∙◌, arith}
+use Rattle.probe_core.specs.Bench.{CanSend, Exchange, Reported, last_with, loaded, received, sent}
+use Rattle.probe_core.specs.Probe.{is_queued}
+use Rattle.probe_core.specs.Ranges.{AreLimits, IsBenchJob}
+use Rattle.probe_core.specs.Reports.{AreInRange, IsInRange}
+use Rattle.probe_core.specs.declared.job.BenchJob.{BenchJob}
+use Rattle.probe_core.specs.declared.job.Limits.{Limits}
+
+pub one_more : (xs : List (List ℕ)) (x : List ℕ) → length (xs ++ x ∷ []) ≡ length xs + 1
+one_more xs x = length-append xs (x ∷ [])
+
+-- the exchange after a packet that begins one, or goes on with the last
+abbrev exchange_as : Bool → Exchange → List ℕ → Exchange
+exchange_as z last packet = cond z (record { packets = packet ∷ []; replies = [] }) (record { packets = last.packets ++ packet ∷ []; replies = last.replies })
+
+packets_as : (z : Bool) (r : Reported) (packet : List ℕ) → z ≡ (r.held == 0) → IsInRange r → length (exchange_as z r.last packet).packets ≡ r.held + 1
+packets_as true r packet is range = grind arith
+packets_as false r packet is range =
+    let held : 0 < r.held = grind arith in one_more r.last.packets packet ∙ ap (λ n. n + 1) (range.all_held held)
+
+replies_as : (z : Bool) (r : Reported) (packet : List ℕ) → z ≡ (r.held == 0) → IsInRange r → length (exchange_as z r.last packet).replies ≡ 0
+replies_as true r packet is range = refl
+replies_as false r packet is range = let held : 0 < r.held = grind arith in range.none_replied held
+
+in_range_as : (q : Bool) (limits : Limits) (held waiting : ℕ) (last : Exchange) → AreLimits limits → held < limits.packet_count → waiting ≡ 0 → (q ≡ true → held + 1 < limits.packet_count)
+    → length last.packets ≡ held + 1 → length last.replies ≡ 0 → AreInRange limits (cond q (held + 1) 0) (cond q waiting (held + 1)) last
+in_range_as true limits held waiting last range few none room packets replies = record {
+  limits_in_range = range;
+  few_held = room refl;
+  few_packets = omega (arith, few, packets);
+  few_replies = omega (arith, none, replies);
+  none_waits = λ _. none;
+  all_held = λ _. packets;
+  none_replied = λ _. replies;
+}
+in_range_as false limits held waiting last range few none room packets replies = record {
+  limits_in_range = range;
+  few_held = omega (arith, few);
+  few_packets = omega (arith, few, packets);
+  few_replies = omega (arith, few, replies);
+  none_waits = λ h. absurd (omega (arith, h));
+  all_held = λ h. absurd (omega (arith, h));
+  none_replied = λ _. replies;
+}
+
+pub loaded_in_range : (r : Reported) (job : BenchJob) → IsBenchJob job → IsInRange (loaded r job)
+loaded_in_range r job range = record {
+  limits_in_range = range.limits;
+  few_held = (let low = range.limits.count_low in omega (arith, low));
+  few_packets = (let low = range.limits.count_low in omega (arith, low));
+  few_replies = (let low = range.limits.count_low in omega (arith, low));
+  none_waits = λ _. refl;
+  all_held = λ _. refl;
+  none_replied = λ _. refl;
+}
+
+pub sent_in_range : (r : Reported) (packet : List ℕ) → CanSend r packet → IsInRange r → IsInRange (sent r packet)
+sent_in_range r packet can range =
+    in_range_as (is_queued packet) r.limits r.held r.waiting (last_with r packet) range.limits_in_range range.few_held can.none_waits can.room
+    (packets_as (r.held == 0) r packet refl range) (replies_as (r.held == 0) r packet refl range)
+
+pub received_in_range : (r : Reported) (reply : List ℕ) → 0 < r.waiting → IsInRange r → IsInRange (received r reply)
+received_in_range r reply waits range = record {
+  limits_in_range = range.limits_in_range;
+  few_held = range.few_held;
+  few_packets = range.few_packets;
+  few_replies = (let few = range.few_replies in omega (arith, few, waits, one_more r.last.replies reply));
+  none_waits = λ h. absurd (let none = range.none_waits h in omega (arith, none, waits));
+  all_held = range.all_held;
+  none_replied = λ h. absurd (let none = range.none_waits h in omega (arith, none, waits));
+}
