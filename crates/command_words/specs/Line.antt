@@ -22,7 +22,7 @@ the_rules =
 unfoldable pub command_line : App
 command_line = on_top (λ s. record s { no_binary_name = true; rules = the_rules }) (new_app (codes "dapseq"))
 
--- clap finds no fault with the words: it refuses them only for want of memory
+-- clap finds no fault with the words: it refuses them only where memory is refused
 unfoldable pub IsTaken : List Text → Type 0
 IsTaken words = fault_of command_line words ≡ []
 

@@ -3,7 +3,7 @@ use Rattle.std.specs.Prelude.{◌≡◌, ℕ, ◌^◌, ◌<◌, ◌≤◌, List,
 use Rattle.std.specs.Str.Parse.{IsNumeral, digits_value}
 use Rattle.command_words.specs.declared.answer.Command.{Command}
 use Rattle.command_words.specs.declared.answer.Command.TheVariants.{Check, Run, Trace, Gen}
-use Rattle.command_words.specs.declared.answer.Selection.{Selection}
+use Rattle.sequence_resolve.specs.declared.selection.Selection.{Selection}
 use Rattle.command_words.specs.declared.mode.Mode.{Mode}
 use Rattle.command_words.specs.declared.mode.Mode.TheVariants as mode
 use Rattle.command_words.specs.declared.options.Options.{Options}

@@ -1,14 +1,7 @@
 //! What the words ask for, and why they ask for nothing.
 use dap_base::{NameText, OutOfMemory};
+use sequence_resolve::Selection;
 use std::alloc::AllocError;
-
-/// Which device of the pack is meant, and which of its variants and processors, where one is.
-#[derive(Debug, Drop)]
-pub struct Selection {
-    pub device: NameText,
-    pub variant: Option<NameText>,
-    pub pname: Option<NameText>,
-}
 
 /// What the words ask for. A program that has not built one of these yet matches on it.
 #[derive(Debug, Drop)]

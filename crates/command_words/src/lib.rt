@@ -9,7 +9,7 @@ mod options;
 mod table;
 mod top;
 
-pub use answer::{Command, Selection, WordsError};
+pub use answer::{Command, WordsError};
 pub use top::command_of;
 
 #[cfg(test)]

@@ -2,9 +2,9 @@
 ghost use Rattle.std.specs.Prelude.{◌≡◌, ◌≢◌, ℕ, List, None, Some, MatchOption};
 ghost use Rattle.command_words.specs.Table.{for_device, for_number, IsShortNumber};
 
-use crate::answer::Selection;
 use crate::numeral::short_number;
 use dap_base::NameText;
+use sequence_resolve::Selection;
 
 /// The value of each option that was given.
 #[derive(Drop)]

@@ -1,5 +1,6 @@
-use crate::{Command, Selection, WordsError, command_of};
+use crate::{Command, WordsError, command_of};
 use dap_base::{NameText, OutOfMemory, Words};
+use sequence_resolve::Selection;
 use std::alloc::{AllocError, Global};
 use std::test::Fail;
 

@@ -4,7 +4,7 @@ use Rattle.std.specs.Prelude.{IfSome, IfOk, MatchBool}
 use Rattle.serde_json.specs.Data.{Data}
 use Rattle.command_words.specs.declared.answer.Command.{Command}
 use Rattle.command_words.specs.declared.answer.Command.TheVariants as commands
-use Rattle.command_words.specs.declared.answer.Selection.{Selection}
+use Rattle.sequence_resolve.specs.declared.selection.Selection.{Selection}
 use Rattle.command_words.specs.Table.{IsCommand}
 use Rattle.command_words.proofs.TableLemmas.{one_command}
 use Rattle.sequence_resolve.specs.declared.entry.SeqSet.{SeqSet}

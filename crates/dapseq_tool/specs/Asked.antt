@@ -5,7 +5,7 @@ use Rattle.serde_json.specs.Data.{Data}
 use Rattle.serde_json.specs.Read.{read}
 use Rattle.command_words.specs.declared.answer.Command.{Command}
 use Rattle.command_words.specs.declared.answer.Command.TheVariants as commands
-use Rattle.command_words.specs.declared.answer.Selection.{Selection}
+use Rattle.sequence_resolve.specs.declared.selection.Selection.{Selection}
 use Rattle.command_words.specs.Table.{IsCommand}
 use Rattle.sequence_resolve.specs.declared.entry.SeqSet.{SeqSet}
 use Rattle.job_check.specs.declared.answer.Refusal.{Refusal}

@@ -8,8 +8,8 @@ use Rattle.target_machine.specs.declared.image.ImageAsk.TheVariants as ask
 use Rattle.target_machine.specs.declared.image.ImagePart.{ImagePart}
 use Rattle.target_machine.specs.declared.image.ImagePart.TheVariants as part
 use Rattle.target_machine.specs.declared.unit.Variable.{Variable}
-use Rattle.check_text.specs.Lines.{check_text}
-use Rattle.job_check.specs.Lines.{refusal_line}
+use Rattle.check_lines.specs.CheckLines.{check_text}
+use Rattle.check_lines.specs.RefusalLines.{refusal_line, too_long_line, not_built_line, usage_line}
 use Rattle.dapseq_tool.specs.declared.asking.Answer.{Answer}
 use Rattle.dapseq_tool.specs.declared.asking.Answer.TheVariants as answers
 use Rattle.word_job.specs.declared.job.RunJob.{RunJob}
@@ -83,9 +83,9 @@ report job = done_text job (outcome job).values (outcome job).target
 
 -- what is written where no job runs
 abbrev pub answer_text : Answer → List ℕ
-answer_text answers.Usage = codes "usage dapseq MODE [--device NAME] [--variant NAME] [--pname NAME] [--sequence NAME] [--number N]\n"
-answer_text answers.TooLong = codes "refused TooLong\n"
-answer_text answers.NotBuilt = codes "refused NotBuilt\n"
+answer_text answers.Usage = usage_line
+answer_text answers.TooLong = too_long_line
+answer_text answers.NotBuilt = not_built_line
 answer_text (answers.Refused refusal) = refusal_line refusal
 answer_text (answers.CheckOk set) = check_text set
 

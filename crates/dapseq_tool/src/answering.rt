@@ -6,14 +6,10 @@ ghost use Rattle.dapseq_tool.specs.Report.{answer_text, answer_status};
 
 use crate::asking::Answer;
 use crate::status::Status;
-use check_text::write_check;
+use check_lines::{write_check, write_not_built, write_refusal, write_too_long, write_usage};
 use dap_base::Sink;
-use job_check::write_refusal;
 use std::alloc::Global;
-use text_lines::{TextError, put_text};
-
-const USAGE: &[u8] =
-    b"usage dapseq MODE [--device NAME] [--variant NAME] [--pname NAME] [--sequence NAME] [--number N]\n";
+use text_lines::TextError;
 
 /// The status of an answer that is written.
 pub fn status_of(answer: &Answer) -> Status
@@ -33,9 +29,9 @@ pub fn write_answer<K: Sink>(alloc: Global, answer: &Answer, sink: &mut K) -> Re
     ensures sink { NamesFault TextError.Failed (K.faults sink.old) (K.faults sink.new) result }
 {
     match answer {
-        Answer::Usage => put_text(USAGE, sink),
-        Answer::TooLong => put_text(b"refused TooLong\n", sink),
-        Answer::NotBuilt => put_text(b"refused NotBuilt\n", sink),
+        Answer::Usage => write_usage(sink),
+        Answer::TooLong => write_too_long(sink),
+        Answer::NotBuilt => write_not_built(sink),
         Answer::Refused(refusal) => write_refusal(alloc, refusal, sink),
         Answer::CheckOk(set) => write_check(alloc, set, sink),
     }

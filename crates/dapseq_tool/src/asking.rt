@@ -7,10 +7,10 @@ ghost use Rattle.dapseq_tool.specs.Asked.{limit, text_value, IsBuilt, IsUsage, I
 ghost use Rattle.word_job.specs.Sound.{IsSoundRun};
 
 use crate::reading::{Unread, read_all};
-use command_words::{Command, Selection, WordsError, command_of};
+use command_words::{Command, WordsError, command_of};
 use dap_base::{NameText, OutOfMemory, Source, Words};
-use job_check::{Refusal, Unchecked, valid_set};
-use sequence_resolve::SeqSet;
+use job_check::{CheckRefusal, Refusal, ValidSet, valid_set};
+use sequence_resolve::{Selection, SeqSet};
 use serde_json::Value;
 use std::alloc::Global;
 use word_job::{RunJob, Unfit, job_of};
@@ -106,9 +106,9 @@ fn asked_of_check(alloc: Global, selection: &Selection, bytes: &[u8]) -> Result<
     ensures no_run { IfOk result (λ what. OnRun what (λ job. ⊥)) }
 {
     match valid_set(alloc, bytes, selection) {
-        Ok(set) => Ok(Asked::Answer(Answer::CheckOk(set))),
-        Err(Unchecked::Refused(refusal)) => Ok(Asked::Answer(Answer::Refused(refusal))),
-        Err(Unchecked::OutOfMemory) => Err(OutOfMemory),
+        Ok(ValidSet { set, .. }) => Ok(Asked::Answer(Answer::CheckOk(set))),
+        Err(CheckRefusal::Refused(refusal)) => Ok(Asked::Answer(Answer::Refused(refusal))),
+        Err(CheckRefusal::OutOfMemory) => Err(OutOfMemory),
     }
 }
 

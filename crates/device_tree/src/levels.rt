@@ -170,7 +170,7 @@ impl Reader for FamilyReader {
 
 const PACK_KEYS: [&str; 2] = ["defaults", "families"];
 
-/// Reads a pack, as `pack_of` does but for the key at the head of a fault's path.
+/// Reads a pack, as `pack_of` does except for the key at the head of a fault's path.
 #[derive(Clone, Copy)]
 pub struct PackReader;
 

@@ -80,7 +80,7 @@ pub type Families = ItemList<Family>;
 /// A pack: the level above all families, and the families.
 #[derive(Debug, Drop)]
 pub struct Pack {
-    /// The level that stands above the families, where the pack has one.
+    /// The level above the families, where the pack has one.
     pub defaults: Option<Level>,
     pub families: Families,
 }

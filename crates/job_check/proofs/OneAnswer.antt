@@ -3,7 +3,7 @@ use Rattle.std.proofs.Common.{◌≡◌, ◌∙◌, ℕ, List, Some, Result, Ok,
 use Rattle.serde_json.specs.Data.{Data}
 use Rattle.json_form.specs.declared.fault.JobFault.{JobFault}
 use Rattle.device_tree.specs.declared.pack.Pack.{Pack}
-use Rattle.command_words.specs.declared.answer.Selection.{Selection}
+use Rattle.sequence_resolve.specs.declared.selection.Selection.{Selection}
 use Rattle.sequence_resolve.specs.declared.entry.SeqSet.{SeqSet}
 use Rattle.sequence_resolve.specs.declared.fault.ResolveFault.{ResolveFault}
 use Rattle.sequence_resolve.specs.declared.fault.ResolveFault.TheVariants as resolving
@@ -17,8 +17,9 @@ use Rattle.job_text.specs.Answers.{IsTextOf, Describes}
 use Rattle.job_text.proofs.JobLaws.{job_reads}
 use Rattle.job_check.specs.declared.answer.Refusal.{Refusal}
 use Rattle.job_check.specs.declared.answer.Refusal.TheVariants as refusals
-use Rattle.job_check.specs.declared.answer.Unchecked.{Unchecked}
-use Rattle.job_check.specs.declared.answer.Unchecked.TheVariants as ends
+use Rattle.job_check.specs.declared.answer.ValidSet.{ValidSet}
+use Rattle.job_check.specs.declared.answer.CheckRefusal.{CheckRefusal}
+use Rattle.job_check.specs.declared.answer.CheckRefusal.TheVariants as ends
 use Rattle.job_check.specs.Answers.{NoJob, NoSet, NoValid, AnswersSet, valid, not_valid, AnswersPack, resolved, not_resolved, IsAnswer, described, not_described, AnswersJob, Gives}
 
 abbrev Answer : Type 0
@@ -166,7 +167,7 @@ one_answer bytes s x y p q = elim p [
 -- ---- what a call answers
 
 -- the answer is what is answered, unless memory is refused
-pub only : (bytes : List ℕ) (s : Selection) (r : Result SeqSet Unchecked) → AnswersJob bytes s r → (answer : Answer) → IsAnswer bytes s answer → Gives answer r
-only bytes s (Ok found) given answer is = one_answer bytes s answer (Ok found) is given
+pub only : (bytes : List ℕ) (s : Selection) (r : Result ValidSet CheckRefusal) → AnswersJob bytes s r → (answer : Answer) → IsAnswer bytes s answer → Gives answer r
+only bytes s (Ok v) given answer is = one_answer bytes s answer (Ok v.set) is given
 only bytes s (Err (ends.Refused r)) given answer is = one_answer bytes s answer (Err r) is given
 only bytes s (Err ends.OutOfMemory) given answer is = tt

@@ -3,18 +3,22 @@ use Rattle.std.specs.Prelude.{◌≡◌, ◌≢◌, ℕ, List, Result, Ok, Err}
 use Rattle.serde_json.specs.Data.{Data}
 use Rattle.json_form.specs.declared.fault.JobFault.TheVariants as faults
 use Rattle.device_tree.specs.declared.pack.Pack.{Pack}
-use Rattle.command_words.specs.declared.answer.Selection.{Selection}
+use Rattle.sequence_resolve.specs.declared.selection.Selection.{Selection}
 use Rattle.sequence_resolve.specs.declared.entry.SeqSet.{SeqSet}
 use Rattle.sequence_resolve.specs.declared.fault.ResolveFault.TheVariants as resolving
 use Rattle.sequence_resolve.specs.Resolving.{IsEffectiveSet, HasNone}
-use Rattle.seq_check.specs.Valid.{IsValid, IsFirstFaultOf}
+use Rattle.sequence_code.specs.Reading.{ReadsSet}
+use Rattle.seq_check.specs.declared.checked.Checked.{Checked}
+use Rattle.seq_check.specs.Valid.{IsSound, IsValid, IsFirstFaultOf}
+use Rattle.seq_check.specs.Answers.{checked_trees}
 use Rattle.job_text.specs.declared.job.Job.{Job}
 use Rattle.job_text.specs.declared.job.JobRefusal.TheVariants as jobs
 use Rattle.job_text.specs.Answers.{Describes, IsRefused}
 use Rattle.job_check.specs.declared.answer.Refusal.{Refusal}
 use Rattle.job_check.specs.declared.answer.Refusal.TheVariants as refusals
-use Rattle.job_check.specs.declared.answer.Unchecked.{Unchecked}
-use Rattle.job_check.specs.declared.answer.Unchecked.TheVariants as ends
+use Rattle.job_check.specs.declared.answer.ValidSet.{ValidSet}
+use Rattle.job_check.specs.declared.answer.CheckRefusal.{CheckRefusal}
+use Rattle.job_check.specs.declared.answer.CheckRefusal.TheVariants as ends
 
 -- ---- refusals
 
@@ -65,19 +69,24 @@ pub data IsAnswer (bytes : List ℕ) (s : Selection) (answer : Result SeqSet Ref
 
 -- ---- what a call answers
 
+-- the grammar reads the texts of the set as these trees, and nothing is wrong with what they say
+pub record AreTreesOf (set : SeqSet) (checked : Checked) : Type 0 where
+  pub reads : ReadsSet set (checked_trees checked)
+  pub sound : IsSound (checked_trees checked)
+
 -- a fact on the refusal, unless memory ran out
-abbrev pub OnRefusal : (Refusal → Type 0) → Unchecked → Type 0
+abbrev pub OnRefusal : (Refusal → Type 0) → CheckRefusal → Type 0
 OnRefusal P (ends.Refused r) = P r
 OnRefusal P ends.OutOfMemory = Unit {0}
 
 -- the answer, unless memory ran out
-abbrev pub AnswersJob : List ℕ → Selection → Result SeqSet Unchecked → Type 0
-AnswersJob bytes s (Ok set) = IsAnswer bytes s (Ok set)
+abbrev pub AnswersJob : List ℕ → Selection → Result ValidSet CheckRefusal → Type 0
+AnswersJob bytes s (Ok valid) = IsAnswer bytes s (Ok valid.set)
 AnswersJob bytes s (Err (ends.Refused r)) = IsAnswer bytes s (Err r)
 AnswersJob bytes s (Err ends.OutOfMemory) = Unit {0}
 
 -- this answer, unless memory ran out
-abbrev pub Gives : Result SeqSet Refusal → Result SeqSet Unchecked → Type 0
-Gives answer (Ok set) = answer ≡ Ok set
+abbrev pub Gives : Result SeqSet Refusal → Result ValidSet CheckRefusal → Type 0
+Gives answer (Ok valid) = answer ≡ Ok valid.set
 Gives answer (Err (ends.Refused r)) = answer ≡ Err r
 Gives answer (Err ends.OutOfMemory) = Unit {0}

@@ -1,15 +1,25 @@
-//! Why the sequences of a job are refused.
+//! The valid set of a job for one device, and why a job has none.
 use dap_base::OutOfMemory;
 use device_tree::JobFault;
-use seq_check::FaultKind;
+use seq_check::{Checked, FaultKind};
 use sequence_code::Spot;
+use sequence_resolve::SeqSet;
+
+/// A valid set of sequences, and the trees of its texts.
+#[derive(Debug, Drop)]
+pub struct ValidSet {
+    /// The sequences that apply to the device, and where each comes from.
+    pub set: SeqSet,
+    /// The trees that the grammar gives the texts of this set.
+    pub trees: Checked,
+}
 
 /// Why the sequences of a device are refused.
 #[derive(Debug, Drop)]
 pub enum Refusal {
     /// The bytes are no JSON text.
     BadJson,
-    /// The JSON value stands for no job; this is its first fault, which is never `OutOfMemory`.
+    /// The JSON value stands for no job; this is its first fault, never `OutOfMemory`.
     Job(JobFault),
     /// No device of the pack has the name.
     NoDevice,
@@ -17,26 +27,26 @@ pub enum Refusal {
     AmbiguousDevice,
     /// The device has no variant of the name.
     NoVariant,
-    /// The set of sequences is not valid; this is its first fault, and where it stands.
+    /// The set of sequences is not valid; this is its first fault, and its place.
     Check(FaultKind, Spot),
 }
 
 /// Why there is no valid set of sequences.
 #[derive(Debug, Drop)]
-pub enum Unchecked {
-    /// The job is refused.
+pub enum CheckRefusal {
+    /// The job is refused, for this reason.
     Refused(Refusal),
     /// Memory was refused.
     OutOfMemory,
 }
 
-impl From<OutOfMemory> for Unchecked {
+impl From<OutOfMemory> for CheckRefusal {
     ghost use Rattle.std.specs.Prelude.{◌≡◌};
-    ghost use Rattle.job_check.specs.declared.answer.Unchecked.TheVariants as ends;
+    ghost use Rattle.job_check.specs.declared.answer.CheckRefusal.TheVariants as ends;
 
     ghost from_gives = { λ _ end. end ≡ ends.OutOfMemory };
 
-    fn from(_refused: OutOfMemory) -> Unchecked {
-        Unchecked::OutOfMemory
+    fn from(_refused: OutOfMemory) -> CheckRefusal {
+        CheckRefusal::OutOfMemory
     }
 }

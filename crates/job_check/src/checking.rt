@@ -8,26 +8,25 @@ ghost use Rattle.sequence_resolve.specs.declared.entry.SeqSet.{SeqSet};
 ghost use Rattle.seq_check.specs.Valid.{IsValid};
 ghost use Rattle.job_text.specs.Answers.{Describes};
 ghost use Rattle.job_check.specs.declared.answer.Refusal.{Refusal};
-ghost use Rattle.job_check.specs.Answers.{OnRefusal, NoJob, NoSet, NoValid, IsAnswer, Gives, AnswersJob};
+ghost use Rattle.job_check.specs.Answers.{OnRefusal, NoJob, NoSet, NoValid, AreTreesOf, IsAnswer, Gives, AnswersJob};
 
-use crate::answer::{Refusal, Unchecked};
-use command_words::Selection;
+use crate::answer::{CheckRefusal, Refusal, ValidSet};
 use dap_base::NameText;
 use device_tree::Pack;
 use job_text::{Job, JobRefusal, job_of};
 use seq_check::{CheckFault, check};
-use sequence_resolve::{ResolveFault, SeqSet, effective};
+use sequence_resolve::{ResolveFault, Selection, SeqSet, effective};
 use std::alloc::Global;
 
-fn job_in(alloc: Global, bytes: &[u8]) -> Result<Job, Unchecked>
+fn job_in(alloc: Global, bytes: &[u8]) -> Result<Job, CheckRefusal>
     ensures found { IfOk result (Describes bytes.now) }
     ensures refused { IfErr result (OnRefusal (NoJob bytes.now)) }
 {
     match job_of(alloc, bytes) {
         Ok(job) => Ok(job),
-        Err(JobRefusal::BadJson) => Err(Unchecked::Refused(Refusal::BadJson)),
-        Err(JobRefusal::Fault(fault)) => Err(Unchecked::Refused(Refusal::Job(fault))),
-        Err(JobRefusal::OutOfMemory) => Err(Unchecked::OutOfMemory),
+        Err(JobRefusal::BadJson) => Err(CheckRefusal::Refused(Refusal::BadJson)),
+        Err(JobRefusal::Fault(fault)) => Err(CheckRefusal::Refused(Refusal::Job(fault))),
+        Err(JobRefusal::OutOfMemory) => Err(CheckRefusal::OutOfMemory),
     }
 }
 
@@ -40,7 +39,7 @@ fn text_of(name: &Option<NameText>) -> Option<&str>
     }
 }
 
-fn set_in(alloc: Global, pack: &Pack, selection: &Selection) -> Result<SeqSet, Unchecked>
+fn set_in(alloc: Global, pack: &Pack, selection: &Selection) -> Result<SeqSet, CheckRefusal>
     ensures set { IfOk result (IsEffectiveSet pack.now selection.now.device selection.now.variant selection.now.pname) }
     ensures refused { IfErr result (OnRefusal (NoSet pack.now selection.now)) }
     ensures distinct { IfOk result (λ set. IsDistinct bytes_eq (map (λ e. e.name) set.entries)) }
@@ -50,46 +49,50 @@ fn set_in(alloc: Global, pack: &Pack, selection: &Selection) -> Result<SeqSet, U
     let pname = text_of(&selection.pname);
     match effective(alloc, pack, device, variant, pname) {
         Ok(set) => Ok(set),
-        Err(ResolveFault::NoDevice) => Err(Unchecked::Refused(Refusal::NoDevice)),
-        Err(ResolveFault::AmbiguousDevice) => Err(Unchecked::Refused(Refusal::AmbiguousDevice)),
-        Err(ResolveFault::NoVariant) => Err(Unchecked::Refused(Refusal::NoVariant)),
-        Err(ResolveFault::OutOfMemory) => Err(Unchecked::OutOfMemory),
+        Err(ResolveFault::NoDevice) => Err(CheckRefusal::Refused(Refusal::NoDevice)),
+        Err(ResolveFault::AmbiguousDevice) => Err(CheckRefusal::Refused(Refusal::AmbiguousDevice)),
+        Err(ResolveFault::NoVariant) => Err(CheckRefusal::Refused(Refusal::NoVariant)),
+        Err(ResolveFault::OutOfMemory) => Err(CheckRefusal::OutOfMemory),
     }
 }
 
-fn checked(alloc: Global, set: SeqSet) -> Result<SeqSet, Unchecked>
+fn checked(alloc: Global, set: SeqSet) -> Result<ValidSet, CheckRefusal>
     requires { IsDistinct bytes_eq (map (λ e. e.name) set.entries) }
-    ensures same { IfOk result (λ checked. checked ≡ set) }
-    ensures valid { IfOk result IsValid }
+    ensures same { IfOk result (λ valid. valid.set ≡ set) }
+    ensures trees { IfOk result (λ valid. AreTreesOf valid.set valid.trees) }
     ensures refused { IfErr result (OnRefusal (NoValid set)) }
 {
     match check(alloc, &set) {
-        Ok(_) => Ok(set),
-        Err(CheckFault::Fault(kind, spot)) => Err(Unchecked::Refused(Refusal::Check(kind, spot))),
-        Err(CheckFault::OutOfMemory) => Err(Unchecked::OutOfMemory),
+        Ok(trees) => Ok(ValidSet { set, trees }),
+        Err(CheckFault::Fault(kind, spot)) => Err(CheckRefusal::Refused(Refusal::Check(kind, spot))),
+        Err(CheckFault::OutOfMemory) => Err(CheckRefusal::OutOfMemory),
     }
 }
 
-fn answered(alloc: Global, bytes: &[u8], selection: &Selection) -> Result<SeqSet, Unchecked>
-    ensures { AnswersJob bytes.now selection.now result }
+fn answered(alloc: Global, bytes: &[u8], selection: &Selection) -> Result<ValidSet, CheckRefusal>
+    ensures answer { AnswersJob bytes.now selection.now result }
+    ensures trees { IfOk result (λ valid. AreTreesOf valid.set valid.trees) }
 {
     let job = job_in(alloc, bytes)?;
     let set = set_in(alloc, &job.pack, selection)?;
     checked(alloc, set)
 }
 
-/// The set of sequences that the job of these bytes has for the selected device, where it is valid.
+/// The set of sequences that the job of these bytes has for the selected device, where it is valid,
+/// with the trees of its texts.
 ///
 /// Else the first refusal of these: `BadJson` exactly where the bytes are no JSON text; `Job`
 /// exactly where the value is no job, with its first fault; `NoDevice`, `AmbiguousDevice` and
 /// `NoVariant` exactly where no device, two or more devices, and no variant of the one device have
 /// the names; `Check` exactly where the set is not valid, with its first fault. `OutOfMemory` where
 /// memory is refused. The limit on the number of bytes is the caller's.
-pub fn valid_set(alloc: Global, bytes: &[u8], selection: &Selection) -> Result<SeqSet, Unchecked>
+pub fn valid_set(alloc: Global, bytes: &[u8], selection: &Selection) -> Result<ValidSet, CheckRefusal>
     // What is answered is the answer to the bytes and the selection.
     ensures answer { AnswersJob bytes.now selection.now result }
     // Their answer is what is answered, unless memory is refused.
     ensures only { (answer : Result SeqSet Refusal) → IsAnswer bytes.now selection.now answer → Gives answer result }
+    // The trees are those that the grammar gives the texts of the set.
+    ensures trees { IfOk result (λ valid. AreTreesOf valid.set valid.trees) }
 {
     answered(alloc, bytes, selection)
 }

@@ -1,6 +1,6 @@
 //! A law of checks, as the contract of a function that does nothing.
 ghost use Rattle.std.specs.Prelude.{◌≡◌, ℕ, List, Result};
-ghost use Rattle.command_words.specs.declared.answer.Selection.{Selection};
+ghost use Rattle.sequence_resolve.specs.declared.selection.Selection.{Selection};
 ghost use Rattle.sequence_resolve.specs.declared.entry.SeqSet.{SeqSet};
 ghost use Rattle.job_check.specs.declared.answer.Refusal.{Refusal};
 ghost use Rattle.job_check.specs.Answers.{IsAnswer};

@@ -4,11 +4,9 @@
 mod answer;
 mod checking;
 pub mod laws;
-mod writing;
 
-pub use answer::{Refusal, Unchecked};
+pub use answer::{CheckRefusal, Refusal, ValidSet};
 pub use checking::valid_set;
-pub use writing::write_refusal;
 
 #[cfg(test)]
 mod tests;

@@ -1,147 +1,100 @@
-//! What is written of whole jobs: the text of a valid set, or the line of the first refusal.
-mod block_tests;
-mod call_tests;
-mod control_tests;
-mod debugvars_tests;
-mod job_tests;
-mod level_tests;
-mod limit_tests;
-mod order_tests;
-mod syntax_tests;
-mod valid_tests;
-
-use crate::{Unchecked, valid_set, write_refusal};
-use check_text::write_check;
-use command_words::Selection;
-use dap_base::{MemorySink, NameText};
+//! Each answer once. The texts of many more jobs are tested where they are written, in `check_lines`.
+use crate::{CheckRefusal, Refusal, valid_set};
+use dap_base::NameText;
+use device_tree::JobFault;
+use seq_check::FaultKind;
+use sequence_resolve::Selection;
 use std::alloc::{AllocError, Global};
-use std::process::Abort;
 use std::test::Fail;
 
-// The texts before and after what the cases of a table say. Each makes a job with the device D1.
-// The cases are the code of the one block of Main,
-pub const BLOCK: (&str, &str) = (
-    r#"{"pack":{"families":[{"Dfamily":"F","devices":[{"Dname":"D1","sequences":[{"name":"Main","steps":[{"block":""#,
-    r#""}]}]}]}]},"bench":{"packet_size":64,"packet_count":1,"target":{"aps":[],"memory":[]}}}"#,
-);
-
-// the steps of Main,
-pub const STEPS: (&str, &str) = (
-    r#"{"pack":{"families":[{"Dfamily":"F","devices":[{"Dname":"D1","sequences":[{"name":"Main","steps":["#,
-    r#"]}]}]}]},"bench":{"packet_size":64,"packet_count":1,"target":{"aps":[],"memory":[]}}}"#,
-);
-
-// the sequences,
-pub const SEQUENCES: (&str, &str) = (
-    r#"{"pack":{"families":[{"Dfamily":"F","devices":[{"Dname":"D1","sequences":["#,
-    r#"]}]}]},"bench":{"packet_size":64,"packet_count":1,"target":{"aps":[],"memory":[]}}}"#,
-);
-
-// the other keys of the device,
-pub const DEVICE: (&str, &str) = (
-    r#"{"pack":{"families":[{"Dfamily":"F","devices":[{"Dname":"D1","#,
-    r#"}]}]},"bench":{"packet_size":64,"packet_count":1,"target":{"aps":[],"memory":[]}}}"#,
-);
-
-// or the families.
-pub const FAMILIES: (&str, &str) = (
-    r#"{"pack":{"families":["#,
-    r#"]},"bench":{"packet_size":64,"packet_count":1,"target":{"aps":[],"memory":[]}}}"#,
-);
-
-// The text of a valid set with one block in Main.
-pub const ONE_BLOCK: &str =
-    "check ok sequences 1\nsequence Main from device blocks 1 controls 0 atomic 0";
-
-fn name_of(alloc: Global, name: Option<&str>) -> Result<Option<NameText>, Fail> {
-    match name {
-        Some(name) => Ok(Some(NameText::new(alloc, name)?)),
-        None => Ok(None),
-    }
+// A job whose pack has these families.
+fn job_of(alloc: Global, families: &str) -> Result<String, AllocError> {
+    let mut text = String::from_str(alloc, r#"{"pack":{"families":["#)?;
+    text.push_str(families)?;
+    text.push_str(r#"]},"bench":{"packet_size":64,"packet_count":1,"target":{"aps":[],"memory":[]}}}"#)?;
+    Ok(text)
 }
 
-pub fn selection_of(
-    alloc: Global,
-    device: &str,
-    variant: Option<&str>,
-    pname: Option<&str>,
-) -> Result<Selection, Fail> {
+// The device D1, and its variant V1 where it is selected.
+fn selection_of(alloc: Global, with_variant: bool) -> Result<Selection, Fail> {
+    let variant = if with_variant {
+        Some(NameText::new(alloc, "V1")?)
+    } else {
+        None
+    };
     Ok(Selection {
-        device: NameText::new(alloc, device)?,
-        variant: name_of(alloc, variant)?,
-        pname: name_of(alloc, pname)?,
+        device: NameText::new(alloc, "D1")?,
+        variant,
+        pname: None,
     })
 }
 
-// What is written of the bytes of a job.
-pub fn written(alloc: Global, job: &[u8], selection: &Selection) -> Result<MemorySink, Fail> {
-    let mut sink = MemorySink::new(alloc, &[])?;
-    match valid_set(alloc, job, selection) {
-        Ok(set) => write_check(alloc, &set, &mut sink)?,
-        Err(Unchecked::Refused(refusal)) => write_refusal(alloc, &refusal, &mut sink)?,
-        Err(Unchecked::OutOfMemory) => return Err(Fail::from("no memory")),
+// The name of a refusal.
+fn name_of(refusal: &Refusal) -> &'static str {
+    match refusal {
+        Refusal::BadJson => "BadJson",
+        Refusal::Job(JobFault::WrongKind(_)) => "Job WrongKind",
+        Refusal::Job(_) => "Job",
+        Refusal::NoDevice => "NoDevice",
+        Refusal::AmbiguousDevice => "AmbiguousDevice",
+        Refusal::NoVariant => "NoVariant",
+        Refusal::Check(FaultKind::UndefinedName, _) => "Check UndefinedName",
+        Refusal::Check(_, _) => "Check",
     }
-    Ok(sink)
 }
 
-pub fn joined(alloc: Global, parts: &[&str]) -> Result<String, AllocError> {
-    let mut text = String::new(alloc);
-    for part in parts {
-        text.push_str(part)?;
-    }
-    Ok(text)
-}
+// The families of a job, whether the variant V1 is selected, and the refusal.
+const REFUSED: [(&str, bool, &str); 6] = [
+    (",", false, "BadJson"),
+    ("1", false, "Job WrongKind"),
+    ("", false, "NoDevice"),
+    (
+        r#"{"Dfamily":"F","devices":[{"Dname":"D1"},{"Dname":"D1"}]}"#,
+        false,
+        "AmbiguousDevice",
+    ),
+    (
+        r#"{"Dfamily":"F","devices":[{"Dname":"D1"}]}"#,
+        true,
+        "NoVariant",
+    ),
+    (
+        r#"{"Dfamily":"F","devices":[{"Dname":"D1","sequences":[{"name":"Main","steps":[{"block":"x;"}]}]}]}"#,
+        false,
+        "Check UndefinedName",
+    ),
+];
 
-// The text so many times.
-pub fn repeated(alloc: Global, part: &str, count: u32) -> Result<String, AllocError> {
-    let mut text = String::new(alloc);
-    for _ in 0..count {
-        text.push_str(part)?;
+#[test]
+fn refusals(rt: HostRuntime) -> Result<(), Fail> {
+    let alloc = rt.alloc();
+    for (families, with_variant, name) in &REFUSED {
+        let job = job_of(alloc, families)?;
+        let selection = selection_of(alloc, *with_variant)?;
+        let Err(CheckRefusal::Refused(refusal)) = valid_set(alloc, job.as_bytes(), &selection)
+        else {
+            return Err(Fail::from("not refused"));
+        };
+        assert_eq!(rt; name_of(&refusal), *name, "{families}");
     }
-    Ok(text)
-}
-
-// These lines, whose last line feed is left out, are written of the case in the frame.
-pub fn says_of(
-    rt: &impl Abort,
-    alloc: Global,
-    selection: &Selection,
-    frame: (&str, &str),
-    case: &str,
-    lines: &str,
-) -> Result<(), Fail> {
-    let job = joined(alloc, &[frame.0, case, frame.1])?;
-    let sink = written(alloc, job.as_bytes(), selection)?;
-    let lines = joined(alloc, &[lines, "\n"])?;
-    assert_eq!(rt;
-        std::str::from_utf8(sink.bytes()),
-        Ok(lines.as_str()),
-        "{case}"
-    );
     Ok(())
 }
 
-// The same for the device D1 itself, for no processor.
-pub fn says(
-    rt: &impl Abort,
-    alloc: Global,
-    frame: (&str, &str),
-    case: &str,
-    lines: &str,
-) -> Result<(), Fail> {
-    let selection = selection_of(alloc, "D1", None, None)?;
-    says_of(rt, alloc, &selection, frame, case, lines)
-}
-
-// Each case stands in the frame, with the lines that are written of the whole.
-pub fn check(
-    rt: &impl Abort,
-    alloc: Global,
-    frame: (&str, &str),
-    cases: &[(&str, &str)],
-) -> Result<(), Fail> {
-    for (case, lines) in cases {
-        says(rt, alloc, frame, case, lines)?;
-    }
+// The trees are handed out with the set.
+#[test]
+fn a_valid_set(rt: HostRuntime) -> Result<(), Fail> {
+    let alloc = rt.alloc();
+    let families = r#"{"Dfamily":"F","devices":[{"Dname":"D1","debugvars":"__var x = 1;","sequences":[{"name":"Main","steps":[{"block":"x;"},{"block":"1;"}]}]}]}"#;
+    let job = job_of(alloc, families)?;
+    let selection = selection_of(alloc, false)?;
+    let Ok(valid) = valid_set(alloc, job.as_bytes(), &selection) else {
+        return Err(Fail::from("refused"));
+    };
+    assert_eq!(rt; valid.set.entries.len(), 1);
+    assert_eq!(rt; valid.trees.has("Main"), true);
+    assert_eq!(rt; valid.trees.has("D1"), false);
+    let steps = valid.trees.steps("Main").ok_or("no steps")?;
+    assert_eq!(rt; steps.len(), 2);
+    assert_eq!(rt; valid.trees.debugvars().len(), 1);
     Ok(())
 }

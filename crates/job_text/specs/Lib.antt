@@ -6,5 +6,4 @@ pub mod TargetForm
 pub mod JobReading
 pub mod JobForm
 pub mod Answers
-pub mod PathText
 pub mod Ranges

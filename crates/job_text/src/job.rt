@@ -30,7 +30,7 @@ pub struct Job {
 pub enum JobRefusal {
     /// The bytes are no JSON text.
     BadJson,
-    /// The JSON value stands for no job; this is its first fault, which is never `OutOfMemory`.
+    /// The JSON value stands for no job; this is its first fault, never `OutOfMemory`.
     Fault(JobFault),
     /// Memory was refused.
     OutOfMemory,

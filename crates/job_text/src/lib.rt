@@ -4,14 +4,12 @@
 mod bench;
 mod job;
 mod memory;
-mod path;
 mod reading;
 mod run;
 mod target;
 mod watch;
 
 pub use job::{Job, JobRefusal, Watch, WatchItem};
-pub use path::path_text;
 pub use reading::job_of;
 
 #[cfg(test)]

@@ -83,7 +83,7 @@ fn is_length(earlier: &[RegionJob], address: u64, length: u32) -> bool
     length % 4 == 0 && ends_early(address, length) && fits_after(earlier, length)
 }
 
-// Reads the length of a region, with its address and the regions before it in hand.
+// Reads the length of a region, given its address and the regions before it.
 #[derive(Clone, Copy)]
 struct RegionLength<'a> {
     earlier: &'a [RegionJob],

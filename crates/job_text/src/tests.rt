@@ -3,21 +3,34 @@ mod bench_tests;
 mod pack_tests;
 mod run_tests;
 
-use crate::{Job, JobRefusal, job_of, path_text};
-use dap_base::OutOfMemory;
+use crate::{Job, JobRefusal, job_of};
 use device_tree::{JobFault, Path, PathStep};
 use std::alloc::{AllocError, Global};
 use std::process::Abort;
 use std::test::Fail;
 use target_machine::ApJob;
 
-fn shown(alloc: Global, kind: &str, path: &Path) -> Result<Vec<u8>, AllocError> {
-    let mut text = Vec::from_slice(alloc, kind.as_bytes())?;
-    text.push(b' ')?;
-    match path_text(alloc, path) {
-        Ok(path) => text.extend_from_slice(&path)?,
-        Err(OutOfMemory) => return Err(AllocError),
+// The steps of a path, each after a slash.
+fn push_path(alloc: Global, text: &mut Vec<u8>, path: &Path) -> Result<(), AllocError> {
+    for step in path.as_slice() {
+        text.push(b'/')?;
+        match step {
+            PathStep::Key(name) => text.extend_from_slice(name.as_str().as_bytes())?,
+            PathStep::Index(index) => {
+                text.extend_from_slice(format!(in alloc; "{index}")?.as_bytes())?
+            }
+        }
     }
+    Ok(())
+}
+
+fn shown(alloc: Global, fault: &JobFault) -> Result<Vec<u8>, AllocError> {
+    let Some(path) = fault.path() else {
+        return Err(AllocError);
+    };
+    let mut text = Vec::from_slice(alloc, fault.name().as_bytes())?;
+    text.extend_from_slice(b" #")?;
+    push_path(alloc, &mut text, path)?;
     Ok(text)
 }
 
@@ -27,15 +40,7 @@ fn said(alloc: Global, bytes: &[u8]) -> Result<Vec<u8>, AllocError> {
         Ok(_) => Vec::from_slice(alloc, b"ok"),
         Err(JobRefusal::BadJson) => Vec::from_slice(alloc, b"BadJson"),
         Err(JobRefusal::OutOfMemory) => Err(AllocError),
-        Err(JobRefusal::Fault(fault)) => match fault {
-            JobFault::Missing(path) => shown(alloc, "Missing", &path),
-            JobFault::WrongKind(path) => shown(alloc, "WrongKind", &path),
-            JobFault::UnknownKey(path) => shown(alloc, "UnknownKey", &path),
-            JobFault::Repeated(path) => shown(alloc, "Repeated", &path),
-            JobFault::BadNumber(path) => shown(alloc, "BadNumber", &path),
-            JobFault::TooMany(path) => shown(alloc, "TooMany", &path),
-            JobFault::OutOfMemory => Err(AllocError),
-        },
+        Err(JobRefusal::Fault(fault)) => shown(alloc, &fault),
     }
 }
 
@@ -138,18 +143,5 @@ fn default_access_port(rt: HostRuntime) -> Result<(), Fail> {
         la: false,
     };
     assert_eq!(rt; *port, requested);
-    Ok(())
-}
-
-#[test]
-fn paths(rt: HostRuntime) -> Result<(), Fail> {
-    let alloc = rt.alloc();
-    let mut path = Path::new(alloc);
-    let pushed = path.push(PathStep::Index(10)).is_ok();
-    assert!(rt; pushed);
-    match path_text(alloc, &path) {
-        Ok(text) => assert_eq!(rt; text.as_slice(), b"#/10".as_slice()),
-        Err(OutOfMemory) => return Err(Fail::from("no memory")),
-    }
     Ok(())
 }

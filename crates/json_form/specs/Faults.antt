@@ -1,5 +1,5 @@
 -- Faults with their paths, and what a function that reads a value answers.
-use Rattle.std.specs.Prelude.{◌≡◌, Result, Ok, Err, ◌∷◌}
+use Rattle.std.specs.Prelude.{◌≡◌, ℕ, codes, List, Option, Some, None, Result, Ok, Err, ◌∷◌}
 use Rattle.json_form.specs.declared.fault.JobFault.{JobFault}
 use Rattle.json_form.specs.declared.fault.JobFault.TheVariants.{Missing, WrongKind, UnknownKey, Repeated, BadNumber, TooMany, OutOfMemory}
 use Rattle.json_form.specs.declared.path.PathStep.{PathStep}
@@ -13,6 +13,26 @@ fault_at step (Repeated path) = Repeated (step ∷ path)
 fault_at step (BadNumber path) = BadNumber (step ∷ path)
 fault_at step (TooMany path) = TooMany (step ∷ path)
 fault_at step OutOfMemory = OutOfMemory
+
+-- the name of what is wrong, as the variant is spelled
+abbrev pub fault_name : JobFault → List ℕ
+fault_name (Missing path) = codes "Missing"
+fault_name (WrongKind path) = codes "WrongKind"
+fault_name (UnknownKey path) = codes "UnknownKey"
+fault_name (Repeated path) = codes "Repeated"
+fault_name (BadNumber path) = codes "BadNumber"
+fault_name (TooMany path) = codes "TooMany"
+fault_name OutOfMemory = codes "OutOfMemory"
+
+-- the path of a fault; refused memory has none
+abbrev pub fault_path : JobFault → Option (List PathStep)
+fault_path (Missing path) = Some path
+fault_path (WrongKind path) = Some path
+fault_path (UnknownKey path) = Some path
+fault_path (Repeated path) = Some path
+fault_path (BadNumber path) = Some path
+fault_path (TooMany path) = Some path
+fault_path OutOfMemory = None
 
 -- what is read inside a member or an item, seen from the value around it
 abbrev pub at : {A : Type 0} → PathStep → Result A JobFault → Result A JobFault

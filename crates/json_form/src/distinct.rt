@@ -1,4 +1,4 @@
-//! Lists whose items are reported apart by a key, found in an ordered set.
+//! Lists whose items are distinguished by a key, found in an ordered set.
 ghost use Rattle.std.specs.Prelude.{◌≡◌, List, Bool, true, IfOk, OnErr, if◌then◌else◌};
 ghost use Rattle.std.specs.Ordering.{is_eq};
 ghost use Rattle.std.specs.List.{list_any};
@@ -13,12 +13,12 @@ use serde_json::Value;
 use std::alloc::Global;
 use std::collections::BTreeSet;
 
-/// Reads items that are reported apart by a key.
+/// Reads items that are distinguished by a key.
 pub trait Keyed: Reader {
     ghost use Rattle.std.specs.Prelude.{◌≡◌, Bool, IfOk};
     ghost use Rattle.std.specs.Ordering.{is_eq};
 
-    /// What tells the items apart.
+    /// By what two items are known to be the same.
     type Key: Ord + Drop;
 
     /// Whether two items are the same.

@@ -13,7 +13,7 @@ use dap_base::{ItemList, OutOfMemory};
 use serde_json::Value;
 use std::alloc::Global;
 
-/// Reads the items of a list, each with the earlier ones in hand.
+/// Reads the items of a list, each with the earlier ones given.
 pub trait ItemReader {
     ghost use Rattle.std.specs.Prelude.{◌≡◌, ◌++◌, ◌∷◌, [], List, Bool, false, Result, IfOk};
     ghost use Rattle.serde_json.specs.Data.{Data};

@@ -1,4 +1,4 @@
-//! Where in a value a fault stands.
+//! Where in a value a fault is.
 use dap_base::{ItemList, NameText};
 
 /// One step into a value.

@@ -8,11 +8,13 @@ mod fault;
 pub mod laws;
 mod levels;
 mod place;
+mod selection;
 mod winners;
 
 pub use effective_set::effective;
 pub use entry::{LevelKind, SeqEntries, SeqEntry, SeqSet};
 pub use fault::ResolveFault;
+pub use selection::Selection;
 
 #[cfg(test)]
 mod tests;

@@ -1,3 +1,4 @@
+//! A line of each kind of piece, and puts that fail.
 use crate::{Line, TextError, put_line, put_text};
 use dap_base::{MemorySink, OutOfMemory};
 use std::alloc::Global;

@@ -9,7 +9,7 @@ const KEYS: [(&str, &str); 11] = [
     (r#""#, "ok"),
     (r#","pack":1"#, "WrongKind #/pack"),
     (r#","speed":1,"run":null"#, "UnknownKey #/speed"),
-    (r#","a~b/c":1"#, "UnknownKey #/a~0b~1c"),
+    (r#","a~b/c":1"#, "UnknownKey #/a~b/c"),
     (r#","zz":1,"aa":1"#, "UnknownKey #/aa"),
     (r#","é":1,"z":1"#, "UnknownKey #/z"),
     (r#","image":1"#, "UnknownKey #/image"),

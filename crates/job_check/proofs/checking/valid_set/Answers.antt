@@ -2,4 +2,4 @@ use Rattle.job_check.proofs.OneAnswer as lemmas
 use Rattle.job_check.proofs.checking.valid_set.Goals as goal
 
 pub returns-clause-only : goal.returns-clause-only
-returns-clause-only c = lemmas.only c.args.bytes.now c.args.selection.now c.answered.result c.answered.ensures
+returns-clause-only c = lemmas.only c.args.bytes.now c.args.selection.now c.answered.result c.answered.ensures.answer

@@ -1,0 +1,15 @@
+//! The lines of a check and of every refusal, put into a sink.
+#![tactic(auto)]
+
+mod counts;
+mod lines;
+mod path;
+mod refusals;
+mod words;
+mod writing;
+
+pub use refusals::{write_not_built, write_refusal, write_too_long, write_usage};
+pub use writing::{write_check, write_check_fault};
+
+#[cfg(test)]
+mod tests;

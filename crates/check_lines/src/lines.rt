@@ -1,0 +1,80 @@
+//! The lines of the texts.
+ghost use Rattle.std.specs.Prelude.{◌≡◌, ◌++◌, codes, IfOk};
+ghost use Rattle.text_lines.specs.Shown.{shown};
+ghost use Rattle.check_lines.specs.Words.{level_word, kind_word};
+ghost use Rattle.check_lines.specs.CheckLines.{head_line, counts_words, sequence_line, place_words, step_words, where_words, fault_line};
+
+use crate::counts::counts_of;
+use crate::words::{disabled_text, kind_text, level_text, part_text};
+use code_check::FaultKind;
+use dap_base::{OutOfMemory, Place};
+use device_tree::Steps;
+use sequence_code::Spot;
+use sequence_resolve::SeqEntry;
+use std::alloc::Global;
+use text_lines::Line;
+
+pub fn head_text(alloc: Global, sequences: u64) -> Result<Line, OutOfMemory>
+    ensures { IfOk result (λ line. line ≡ head_line sequences) }
+{
+    Line::begin(alloc, "check ok sequences ")?
+        .decimal(sequences)?
+        .text("\n")
+}
+
+// The name of a sequence and the level that it comes from.
+fn begin_sequence(alloc: Global, entry: &SeqEntry) -> Result<Line, OutOfMemory>
+    ensures { IfOk result (λ line. line ≡ codes "sequence " ++ shown entry.now.name ++ codes " from " ++ level_word entry.now.from) }
+{
+    let line = Line::begin(alloc, "sequence ")?.shown(entry.name.as_str().as_bytes())?;
+    line.text(" from ")?.text(level_text(entry.from))
+}
+
+fn with_counts(line: Line, steps: &Steps) -> Result<Line, OutOfMemory>
+    ensures { IfOk result (λ l. l ≡ line ++ counts_words steps.now) }
+{
+    let counts = counts_of(steps)?;
+    let line = line.labelled(" blocks ", counts.blocks)?;
+    let line = line.labelled(" controls ", counts.controls)?;
+    line.labelled(" atomic ", counts.atomic)
+}
+
+pub fn sequence_text(alloc: Global, entry: &SeqEntry) -> Result<Line, OutOfMemory>
+    ensures { IfOk result (λ line. line ≡ sequence_line entry.now) }
+{
+    let line = begin_sequence(alloc, entry)?;
+    let line = with_counts(line, &entry.steps)?;
+    line.text(disabled_text(entry.disabled))?.text("\n")
+}
+
+// The sequence, the step and its part.
+fn with_step(line: Line, name: &str, spot: &Spot) -> Result<Line, OutOfMemory>
+    ensures { IfOk result (λ l. l ≡ line ++ step_words name.now spot.now.path spot.now.part) }
+{
+    let line = line.text(" ")?.shown(name.as_bytes())?;
+    let line = line.text(" ")?.dotted(spot.path.as_slice())?;
+    line.text(" ")?.text(part_text(spot.part))
+}
+
+fn with_where(line: Line, spot: &Spot) -> Result<Line, OutOfMemory>
+    ensures { IfOk result (λ l. l ≡ line ++ where_words spot.now.sequence spot.now.path spot.now.part) }
+{
+    match &spot.sequence {
+        Some(name) => with_step(line, name.as_str(), spot),
+        None => line.text(" debugvars"),
+    }
+}
+
+fn with_place(line: Line, place: Place) -> Result<Line, OutOfMemory>
+    ensures { IfOk result (λ l. l ≡ line ++ place_words place) }
+{
+    line.labelled(" ", place.line)?.labelled(":", place.column)
+}
+
+pub fn fault_text(alloc: Global, kind: FaultKind, spot: &Spot) -> Result<Line, OutOfMemory>
+    ensures { IfOk result (λ line. line ≡ fault_line kind spot.now) }
+{
+    let line = Line::begin(alloc, "refused check ")?.text(kind_text(kind))?;
+    let line = with_where(line, spot)?;
+    with_place(line, spot.place)?.text("\n")
+}

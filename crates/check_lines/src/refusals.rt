@@ -1,0 +1,82 @@
+//! The line of a refusal, and the line of words that are no command.
+ghost use Rattle.std.specs.Prelude.{◌≡◌, IfOk};
+ghost use Rattle.dap_base.specs.Streams.{PutAppends};
+ghost use Rattle.text_lines.specs.Causes.{NamesFault};
+ghost use Rattle.check_lines.specs.RefusalLines.{path_line, job_fault_line, refusal_line, too_long_line, not_built_line, usage_line};
+
+use crate::path::with_path;
+use crate::writing::write_check_fault;
+use dap_base::{OutOfMemory, Sink};
+use device_tree::{JobFault, Path};
+use job_check::Refusal;
+use std::alloc::Global;
+use text_lines::{Line, TextError, put_line, put_text};
+
+fn path_line(alloc: Global, name: &str, path: &Path) -> Result<Line, OutOfMemory>
+    ensures { IfOk result (λ line. line ≡ path_line name.now path.now) }
+{
+    let line = Line::begin(alloc, "refused ")?.text(name)?.text(" ")?;
+    with_path(line, path)?.text("\n")
+}
+
+fn job_fault_text(alloc: Global, fault: &JobFault) -> Result<Line, OutOfMemory>
+    ensures { IfOk result (λ line. line ≡ job_fault_line fault.now) }
+{
+    match fault.path() {
+        Some(path) => path_line(alloc, fault.name(), path),
+        None => Err(OutOfMemory),
+    }
+}
+
+/// Puts the line of a refusal by one `put`: `refused` and its name; for a fault of the job its name and
+/// the path, each byte as names are shown; for a fault of the set `check`, its name and its place.
+///
+/// `Failed` where the sink failed, `OutOfMemory` where memory is refused, or was while the job was
+/// read; a prefix of the line was then appended.
+pub fn write_refusal<K: Sink>(
+    alloc: Global,
+    refusal: &Refusal,
+    sink: &mut K,
+) -> Result<(), TextError>
+    ensures text { PutAppends (K.written sink.old) (K.written sink.new) result (refusal_line refusal.now) }
+    ensures sink { NamesFault TextError.Failed (K.faults sink.old) (K.faults sink.new) result }
+{
+    match refusal {
+        Refusal::BadJson => put_text(b"refused BadJson\n", sink),
+        Refusal::Job(fault) => put_line(job_fault_text(alloc, fault), sink),
+        Refusal::NoDevice => put_text(b"refused NoDevice\n", sink),
+        Refusal::AmbiguousDevice => put_text(b"refused AmbiguousDevice\n", sink),
+        Refusal::NoVariant => put_text(b"refused NoVariant\n", sink),
+        Refusal::Check(kind, spot) => write_check_fault(alloc, *kind, spot, sink),
+    }
+}
+
+/// Puts the line of a job of too many bytes, `refused TooLong`, by one `put`. `Failed` where the sink
+/// failed; a prefix of the line was then appended.
+pub fn write_too_long<K: Sink>(sink: &mut K) -> Result<(), TextError>
+    ensures text { PutAppends (K.written sink.old) (K.written sink.new) result too_long_line }
+    ensures sink { NamesFault TextError.Failed (K.faults sink.old) (K.faults sink.new) result }
+{
+    put_text(b"refused TooLong\n", sink)
+}
+
+/// Puts the line of a job whose form is not built yet, `refused NotBuilt`, by one `put`. `Failed` where
+/// the sink failed; a prefix of the line was then appended.
+pub fn write_not_built<K: Sink>(sink: &mut K) -> Result<(), TextError>
+    ensures text { PutAppends (K.written sink.old) (K.written sink.new) result not_built_line }
+    ensures sink { NamesFault TextError.Failed (K.faults sink.old) (K.faults sink.new) result }
+{
+    put_text(b"refused NotBuilt\n", sink)
+}
+
+const USAGE: &[u8] =
+    b"usage dapseq MODE [--device NAME] [--variant NAME] [--pname NAME] [--sequence NAME] [--number N]\n";
+
+/// Puts the line of words that are no command by one `put`: `usage`, the program, and its options.
+/// `Failed` where the sink failed; a prefix of the line was then appended.
+pub fn write_usage<K: Sink>(sink: &mut K) -> Result<(), TextError>
+    ensures text { PutAppends (K.written sink.old) (K.written sink.new) result usage_line }
+    ensures sink { NamesFault TextError.Failed (K.faults sink.old) (K.faults sink.new) result }
+{
+    put_text(USAGE, sink)
+}

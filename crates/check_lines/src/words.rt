@@ -1,0 +1,59 @@
+//! The words of the texts.
+ghost use Rattle.std.specs.Prelude.{◌≡◌};
+ghost use Rattle.check_lines.specs.Words.{level_word, part_word, kind_word, disabled_word};
+
+use code_check::FaultKind;
+use sequence_code::Part;
+use sequence_resolve::LevelKind;
+
+pub fn level_text(level: LevelKind) -> &'static str
+    ensures { result.now ≡ level_word level }
+{
+    match level {
+        LevelKind::Defaults => "defaults",
+        LevelKind::Family => "family",
+        LevelKind::SubFamily => "subFamily",
+        LevelKind::Device => "device",
+        LevelKind::Variant => "variant",
+    }
+}
+
+pub fn part_text(part: Part) -> &'static str
+    ensures { result.now ≡ part_word part }
+{
+    match part {
+        Part::Debugvars => "debugvars",
+        Part::Control => "control",
+        Part::Block => "block",
+        Part::If => "if",
+        Part::While => "while",
+    }
+}
+
+pub fn kind_text(kind: FaultKind) -> &'static str
+    ensures { result.now ≡ kind_word kind }
+{
+    match kind {
+        FaultKind::Syntax => "Syntax",
+        FaultKind::UndefinedName => "UndefinedName",
+        FaultKind::Redeclared => "Redeclared",
+        FaultKind::UndefinedSequence => "UndefinedSequence",
+        FaultKind::UndefinedFunction => "UndefinedFunction",
+        FaultKind::ArgumentCount => "ArgumentCount",
+        FaultKind::TextExpected => "TextExpected",
+        FaultKind::NumberExpected => "NumberExpected",
+        FaultKind::FormatMismatch => "FormatMismatch",
+        FaultKind::BadDebugvars => "BadDebugvars",
+        FaultKind::UnboundedLoop => "UnboundedLoop",
+        FaultKind::TimeoutTooLong => "TimeoutTooLong",
+        FaultKind::NestedTooDeep => "NestedTooDeep",
+        FaultKind::CallCycle => "CallCycle",
+        FaultKind::CallsTooDeep => "CallsTooDeep",
+    }
+}
+
+pub fn disabled_text(disabled: bool) -> &'static str
+    ensures { result.now ≡ disabled_word disabled }
+{
+    if disabled { " disabled" } else { "" }
+}

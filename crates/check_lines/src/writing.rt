@@ -1,0 +1,65 @@
+//! Writing the texts line by line.
+ghost use Rattle.std.specs.List.{flat_map};
+ghost use Rattle.dap_base.specs.Streams.{PutAppends};
+ghost use Rattle.text_lines.specs.Causes.{NamesFault};
+ghost use Rattle.check_lines.specs.CheckLines.{sequence_line, check_text, fault_line};
+
+use crate::lines::{fault_text, head_text, sequence_text};
+use code_check::FaultKind;
+use dap_base::Sink;
+use sequence_code::Spot;
+use sequence_resolve::{SeqEntry, SeqSet};
+use std::alloc::Global;
+use text_lines::{TextError, put_line};
+
+// Puts the lines of sequences.
+fn write_sequences<K: Sink>(
+    alloc: Global,
+    entries: &[SeqEntry],
+    sink: &mut K,
+) -> Result<(), TextError>
+    ensures text { PutAppends (K.written sink.old) (K.written sink.new) result (flat_map sequence_line entries.now) }
+    ensures sink { NamesFault TextError.Failed (K.faults sink.old) (K.faults sink.new) result }
+{
+    for entry in entries {
+        match put_line(sequence_text(alloc, entry), sink) {
+            Ok(()) => {}
+            Err(error) => return Err(error),
+        }
+    }
+    Ok(())
+}
+
+/// Puts what `check` writes of a valid set, each line by one `put`: how many sequences it has, and
+/// then for each, in the set's order, its name, the level that it comes from, how many blocks,
+/// controls and atomic blocks it has at all depths, and whether it is disabled.
+///
+/// `Failed` where the sink failed, `OutOfMemory` where memory is refused, as it is for 2^64 steps; a
+/// prefix of the text was then appended.
+pub fn write_check<K: Sink>(alloc: Global, set: &SeqSet, sink: &mut K) -> Result<(), TextError>
+    ensures text { PutAppends (K.written sink.old) (K.written sink.new) result (check_text set.now) }
+    ensures sink { NamesFault TextError.Failed (K.faults sink.old) (K.faults sink.new) result }
+{
+    match put_line(head_text(alloc, set.entries.len() as u64), sink) {
+        Ok(()) => write_sequences(alloc, set.entries.as_slice(), sink),
+        Err(error) => Err(error),
+    }
+}
+
+/// Puts the line of a fault of a set by one `put`: what is wrong, the sequence, the numbers of the
+/// steps that lead to the step, its part, and line and column there; in the code of the debug
+/// variables, which belongs to no sequence, `debugvars` in place of sequence, steps and part.
+///
+/// `Failed` where the sink failed, `OutOfMemory` where memory is refused; a prefix of the line was
+/// then appended.
+pub fn write_check_fault<K: Sink>(
+    alloc: Global,
+    kind: FaultKind,
+    spot: &Spot,
+    sink: &mut K,
+) -> Result<(), TextError>
+    ensures text { PutAppends (K.written sink.old) (K.written sink.new) result (fault_line kind spot.now) }
+    ensures sink { NamesFault TextError.Failed (K.faults sink.old) (K.faults sink.new) result }
+{
+    put_line(fault_text(alloc, kind, spot), sink)
+}
