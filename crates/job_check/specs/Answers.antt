@@ -81,12 +81,12 @@ OnRefusal P ends.OutOfMemory = Unit {0}
 
 -- the answer, unless memory ran out
 abbrev pub AnswersJob : List ℕ → Selection → Result ValidSet CheckRefusal → Type 0
-AnswersJob bytes s (Ok valid) = IsAnswer bytes s (Ok valid.set)
+AnswersJob bytes s (Ok found) = IsAnswer bytes s (Ok found.set)
 AnswersJob bytes s (Err (ends.Refused r)) = IsAnswer bytes s (Err r)
 AnswersJob bytes s (Err ends.OutOfMemory) = Unit {0}
 
 -- this answer, unless memory ran out
 abbrev pub Gives : Result SeqSet Refusal → Result ValidSet CheckRefusal → Type 0
-Gives answer (Ok valid) = answer ≡ Ok valid.set
+Gives answer (Ok found) = answer ≡ Ok found.set
 Gives answer (Err (ends.Refused r)) = answer ≡ Err r
 Gives answer (Err ends.OutOfMemory) = Unit {0}

@@ -64,7 +64,9 @@ fn checked(alloc: Global, set: SeqSet) -> Result<ValidSet, CheckRefusal>
 {
     match check(alloc, &set) {
         Ok(trees) => Ok(ValidSet { set, trees }),
-        Err(CheckFault::Fault(kind, spot)) => Err(CheckRefusal::Refused(Refusal::Check(kind, spot))),
+        Err(CheckFault::Fault(kind, spot)) => Err(CheckRefusal::Refused(Refusal::Check(
+            kind, spot,
+        ))),
         Err(CheckFault::OutOfMemory) => Err(CheckRefusal::OutOfMemory),
     }
 }
@@ -86,7 +88,11 @@ fn answered(alloc: Global, bytes: &[u8], selection: &Selection) -> Result<ValidS
 /// `NoVariant` exactly where no device, two or more devices, and no variant of the one device have
 /// the names; `Check` exactly where the set is not valid, with its first fault. `OutOfMemory` where
 /// memory is refused. The limit on the number of bytes is the caller's.
-pub fn valid_set(alloc: Global, bytes: &[u8], selection: &Selection) -> Result<ValidSet, CheckRefusal>
+pub fn valid_set(
+    alloc: Global,
+    bytes: &[u8],
+    selection: &Selection,
+) -> Result<ValidSet, CheckRefusal>
     // What is answered is the answer to the bytes and the selection.
     ensures answer { AnswersJob bytes.now selection.now result }
     // Their answer is what is answered, unless memory is refused.

@@ -11,7 +11,9 @@ use std::test::Fail;
 fn job_of(alloc: Global, families: &str) -> Result<String, AllocError> {
     let mut text = String::from_str(alloc, r#"{"pack":{"families":["#)?;
     text.push_str(families)?;
-    text.push_str(r#"]},"bench":{"packet_size":64,"packet_count":1,"target":{"aps":[],"memory":[]}}}"#)?;
+    text.push_str(
+        r#"]},"bench":{"packet_size":64,"packet_count":1,"target":{"aps":[],"memory":[]}}}"#,
+    )?;
     Ok(text)
 }
 
@@ -84,7 +86,8 @@ fn refusals(rt: HostRuntime) -> Result<(), Fail> {
 #[test]
 fn a_valid_set(rt: HostRuntime) -> Result<(), Fail> {
     let alloc = rt.alloc();
-    let families = r#"{"Dfamily":"F","devices":[{"Dname":"D1","debugvars":"__var x = 1;","sequences":[{"name":"Main","steps":[{"block":"x;"},{"block":"1;"}]}]}]}"#;
+    let families =
+        r#"{"Dfamily":"F","devices":[{"Dname":"D1","debugvars":"__var x = 1;","sequences":[{"name":"Main","steps":[{"block":"x;"},{"block":"1;"}]}]}]}"#;
     let job = job_of(alloc, families)?;
     let selection = selection_of(alloc, false)?;
     let Ok(valid) = valid_set(alloc, job.as_bytes(), &selection) else {

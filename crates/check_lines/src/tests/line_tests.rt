@@ -158,7 +158,8 @@ fn lines_without_a_job(rt: HostRuntime) -> Result<(), Fail> {
     assert_eq!(rt; write_usage(&mut sink), Ok(()));
     assert_eq!(rt; write_too_long(&mut sink), Ok(()));
     assert_eq!(rt; write_not_built(&mut sink), Ok(()));
-    let text = "usage dapseq MODE [--device NAME] [--variant NAME] [--pname NAME] [--sequence NAME] [--number N]
+    let text =
+        "usage dapseq MODE [--device NAME] [--variant NAME] [--pname NAME] [--sequence NAME] [--number N]
 refused TooLong
 refused NotBuilt
 ";
