@@ -6,8 +6,8 @@ mod registers;
 mod starts;
 
 pub use accesses::{
-    an_access_keeps, an_access_of_one_ap, an_access_of_the_dp, csw_keeps_stored_bits,
-    faults_set_stickyerr, rdbuff_decides_nothing,
+    an_access_keeps, an_access_of_no_memory, an_access_of_one_ap, an_access_of_the_dp,
+    csw_keeps_stored_bits, faults_set_stickyerr, rdbuff_decides_nothing, what_rdbuff_has,
 };
 pub use lists::{
     lists_join, lists_on_targets_that_agree, passing_lists, the_dp_acts_beside_the_aps,
