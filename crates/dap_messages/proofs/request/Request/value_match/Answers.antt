@@ -1,0 +1,8 @@
+use Rattle.std.proofs.Common.{◌+◌, arith, sym, subst, ℕ}
+use Rattle.dap_messages.specs.Requests.{IsRequest}
+use Rattle.dap_messages.proofs.RequestBits.{match_is_request}
+use Rattle.dap_messages.proofs.request.Request.value_match.Goals as goal
+
+pub returns-clause-in_range : goal.returns-clause-in_range
+returns-clause-in_range c =
+    subst (λ (b : ℕ). IsRequest (record { byte = (b + 16); word = c.args.word })) (sym c.access_byte.ensures) (match_is_request c.args.ap c.args.addr c.args.word (omega (arith, c.ranges.word.fits)))
