@@ -2,8 +2,8 @@
 use Rattle.std.proofs.Common.{◌≡◌, ℕ, Bool, true, false, cond, List, [], ◌∷◌, Option, None, Some, inr, refl, ap}
 use Rattle.std.specs.Int.{w32, to_le_bytes}
 use Rattle.dap_messages.specs.declared.request.Request.{Request}
-use Rattle.dap_messages.specs.declared.request.Kind.{Kind}
-use Rattle.dap_messages.specs.declared.request.Kind.TheVariants.{Posted, Write}
+use Rattle.dap_messages.specs.declared.request.RequestKind.{RequestKind}
+use Rattle.dap_messages.specs.declared.request.RequestKind.TheVariants.{Posted, Write}
 use Rattle.dap_messages.specs.Requests.{kind, takes_word, word_if}
 use Rattle.dap_base.specs.Bits.{has_bit}
 use Rattle.target_machine.specs.Attempt.{attempt}
@@ -15,7 +15,7 @@ use Rattle.dapseq_tool.specs.Progress.{CanDo, IsAmid, IsAccessed, actions_of}
 use Rattle.dapseq_tool.proofs.ExchangeLemmas.{IsExecuted}
 use Rattle.dapseq_tool.proofs.ProgressLemmas.{accessed, amid_one, never_bad}
 
-bytes_by : (b : Bool) (k : Kind) (byte word : ℕ) → k ≡ cond b Posted Write → byte ∷ word_if (takes_word k) word ≡ byte ∷ cond b [] (to_le_bytes w32 word)
+bytes_by : (b : Bool) (k : RequestKind) (byte word : ℕ) → k ≡ cond b Posted Write → byte ∷ word_if (takes_word k) word ≡ byte ∷ cond b [] (to_le_bytes w32 word)
 bytes_by true k byte word is = ap (λ x. byte ∷ word_if (takes_word x) word) is
 bytes_by false k byte word is = ap (λ x. byte ∷ word_if (takes_word x) word) is
 

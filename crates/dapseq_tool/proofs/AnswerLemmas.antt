@@ -5,7 +5,7 @@ use Rattle.dap_messages.specs.PacketReading.{packet_at, packet_read}
 use Rattle.dap_messages.specs.Words.{word_bytes}
 use Rattle.dap_messages.specs.Responses.{code_of}
 use Rattle.dap_messages.specs.declared.command.PacketKind.TheVariants.{Plain}
-use Rattle.dap_messages.specs.declared.content.Content.TheVariants as content
+use Rattle.dap_messages.specs.declared.command_value.CommandValue.TheVariants as content
 use Rattle.dap_messages.specs.declared.request.Request.{Request}
 use Rattle.dap_messages.specs.Requests.{kind, takes_word, word_if, request_bytes, IsRequest, gives_word}
 use Rattle.dap_messages.proofs.PacketLaws.{packet_complete}

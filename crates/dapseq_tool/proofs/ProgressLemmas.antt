@@ -6,8 +6,8 @@ use Rattle.target_machine.specs.State.{TargetState}
 use Rattle.target_machine.specs.Attempt.{attempt}
 use Rattle.target_machine.specs.Plain.{Action}
 use Rattle.dap_messages.specs.declared.request.Request.{Request}
-use Rattle.dap_messages.specs.declared.request.Kind.{Kind}
-use Rattle.dap_messages.specs.declared.request.Kind.TheVariants.{Posted, Write}
+use Rattle.dap_messages.specs.declared.request.RequestKind.{RequestKind}
+use Rattle.dap_messages.specs.declared.request.RequestKind.TheVariants.{Posted, Write}
 use Rattle.dap_messages.specs.declared.request.Response.{Response}
 use Rattle.dap_messages.specs.declared.request.Response.TheVariants.{Good, Wait, Fault, Mismatch}
 use Rattle.dap_messages.specs.Requests.{kind}
@@ -28,14 +28,14 @@ use Rattle.dapseq_tool.specs.Progress.{after_actions, actions_of, IsAmid, CanDo,
 use Rattle.dapseq_tool.proofs.AnswerLemmas.{answer_to, answered_one}
 use Rattle.dapseq_tool.proofs.TransferLemmas.{IsAccess, executed_few, executed_good, response_good}
 
-access_by : (b : Bool) (k : Kind) → k ≡ cond b Posted Write → (k ≡ Write) ⊎ (k ≡ Posted)
+access_by : (b : Bool) (k : RequestKind) → k ≡ cond b Posted Write → (k ≡ Write) ⊎ (k ≡ Posted)
 access_by true k is = inr is
 access_by false k is = inl is
 
 is_access : (r : Request) → IsOne r → IsAccess r
 is_access r one = access_by (has_bit r.byte 2) (kind r) one.kind
 
-normal_kind : (k : Kind) → (k ≡ Write) ⊎ (k ≡ Posted) → IsNormalKind k
+normal_kind : (k : RequestKind) → (k ≡ Write) ⊎ (k ≡ Posted) → IsNormalKind k
 normal_kind k (inl is) = subst IsNormalKind (sym is) tt
 normal_kind k (inr is) = subst IsNormalKind (sym is) tt
 
@@ -128,7 +128,7 @@ good_code Mismatch e = let no : ⊥ = omega (arith, e) in absurd no
 abbrev given_by : Bool → ℕ → ℕ
 given_by is_read v = cond is_read (from_le_bytes w32 (to_le_bytes w32 v)) 0
 
-values_by : (b : Bool) (k : Kind) (v : ℕ) → k ≡ cond b Posted Write → (cond (reads_value k) (v ∷ []) [] ++ []) ≡ cond b (v ∷ []) []
+values_by : (b : Bool) (k : RequestKind) (v : ℕ) → k ≡ cond b Posted Write → (cond (reads_value k) (v ∷ []) [] ++ []) ≡ cond b (v ∷ []) []
 values_by true k v is = subst (λ x. (cond (reads_value x) (v ∷ []) [] ++ []) ≡ v ∷ []) (sym is) refl
 values_by false k v is = subst (λ x. (cond (reads_value x) (v ∷ []) [] ++ []) ≡ []) (sym is) refl
 

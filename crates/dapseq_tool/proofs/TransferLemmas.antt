@@ -3,12 +3,12 @@ use Rattle.std.proofs.Common.{◌≡◌, ◌⊎◌, inl, inr, ◌∙◌, ℕ, �
 use Rattle.target_machine.specs.Attempt.{attempt, is_free}
 use Rattle.target_machine.specs.declared.access.RegAccess.{RegAccess}
 use Rattle.dap_messages.specs.declared.request.Request.{Request}
-use Rattle.dap_messages.specs.declared.request.Kind.{Kind}
-use Rattle.dap_messages.specs.declared.request.Kind.TheVariants.{Posted, Write}
+use Rattle.dap_messages.specs.declared.request.RequestKind.{RequestKind}
+use Rattle.dap_messages.specs.declared.request.RequestKind.TheVariants.{Posted, Write}
 use Rattle.dap_messages.specs.declared.request.Response.{Response}
 use Rattle.dap_messages.specs.declared.request.Response.TheVariants.{Good, Wait, Fault, Mismatch}
-use Rattle.dap_messages.specs.Requests.{kind, write_last}
-use Rattle.dap_transfer.specs.Wires.{Wire, Role, Posts, Fetches, Writes, Checks, item, rdbuff, access_of, wires, between, fetch_if, is_posted, mask_by, check_if, last_mask}
+use Rattle.dap_messages.specs.Requests.{is_posted, kind, write_last}
+use Rattle.dap_transfer.specs.Wires.{Wire, Role, Posts, Fetches, Writes, Checks, item, rdbuff, access_of, wires, between, fetch_if, mask_by, check_if, last_mask}
 use Rattle.dap_transfer.specs.Transfer.{Setting, Line, Did, Ran, TransferState, Transferred, did, once_at, ends, made, is_good, is_writes, good_front, transferred, ended, ran_to}
 use Rattle.dap_transfer.specs.Run.{run, first_as}
 use Rattle.dap_transfer.proofs.Runs.{first_place}
@@ -44,7 +44,7 @@ few_two s before l u w first second =
     (first_few (did s (did s l u).line w).response (is_writes u.role) (did s l u).line w (did s (did s l u).line w) (run s (is_writes w.role) (did s (did s l u).line w).line []) second (lit≤ tt))
 
 -- the wire transfers of one request
-abbrev wires_as : Kind → ℕ → Request → List Wire
+abbrev wires_as : RequestKind → ℕ → Request → List Wire
 wires_as k mask r = (between k false 0 mask r ++ fetch_if (is_posted k) 1 (mask_by k mask r)) ++ check_if (write_last k false) 1 (mask_by k mask r)
 
 wires_write : (mask : ℕ) (r : Request) → kind r ≡ Write → wires mask (r ∷ []) ≡ item Writes (access_of r) 0 mask ∷ item Checks rdbuff 1 mask ∷ []

@@ -2,7 +2,7 @@
 use Rattle.std.specs.Prelude.{◌≡◌, ℕ, ◌≤◌, Bool, false, ◌==◌, ◌&&◌, if◌then◌else◌, List, [], ◌∷◌, Option, Some, None}
 use Rattle.std.specs.Int.{w32, from_le_bytes}
 use Rattle.dap_messages.specs.declared.request.Request.{Request}
-use Rattle.dap_messages.specs.declared.request.Kind.TheVariants.{Posted, Write}
+use Rattle.dap_messages.specs.declared.request.RequestKind.TheVariants.{Posted, Write}
 use Rattle.dap_messages.specs.Requests.{kind, request_bytes, IsRequest}
 use Rattle.dap_base.specs.Bits.{has_bit}
 use Rattle.dap_transfer.specs.Transfer.{is_rdbuff}
