@@ -1,0 +1,86 @@
+-- How a command of normal requests ends: where, and which of its accesses are known to have been good.
+use Rattle.std.specs.Prelude.{◌≡◌, ℕ, ◌+◌, ◌≤◌, Bool, true, false, not, ◌&&◌, ◌||◌, ◌==◌, if◌then◌else◌, List, [], ◌∷◌, length, take, map, fold}
+use Rattle.target_machine.specs.State.{TargetState}
+use Rattle.target_machine.specs.declared.access.RegAccess.{RegAccess}
+use Rattle.dap_messages.specs.declared.request.Request.{Request}
+use Rattle.dap_messages.specs.declared.request.Response.{Response}
+use Rattle.dap_messages.specs.declared.request.Response.TheVariants.{Good, Wait, Fault, Mismatch}
+use Rattle.dap_messages.specs.Requests.{is_posted, kind, reads_in, write_after}
+use Rattle.dap_transfer.specs.Wires.{access_of}
+use Rattle.dap_transfer.specs.Transfer.{TransferState, Transferred, transferred}
+use Rattle.dap_transfer.specs.Laws.{one_at_a_time}
+
+-- an access that, under some SELECT, acts also where STICKYERR is set: DPIDR, CTRL/STAT, ABORT
+abbrev pub may_be_free : RegAccess → Bool
+may_be_free a = not a.ap && (if a.read then (a.addr == 0) || (a.addr == 4) else (a.addr == 0))
+
+-- a write of an access port
+abbrev pub writes_ap : RegAccess → Bool
+writes_ap a = a.ap && not a.read
+
+-- No access that may act where STICKYERR is set follows a write of an access port directly; before these requests such a
+-- write was made or not.
+abbrev pub AreGuarded : Bool → List Request → Type 0
+AreGuarded after_write [] = Unit {0}
+AreGuarded after_write (r ∷ rs) = ((after_write && may_be_free (access_of r)) ≡ false) × AreGuarded (writes_ap (access_of r)) rs
+
+-- Whether the outcome of the last executed access is not known: at WAIT where a read was outstanding or a write unchecked,
+-- and at FAULT always.
+abbrev pub doubted : Response → Bool → Bool
+doubted Good pending = false
+doubted Wait pending = pending
+doubted Fault pending = true
+doubted Mismatch pending = false
+
+-- the same of a command that was done
+abbrev pub in_doubt : Transferred → Bool
+in_doubt d = doubted d.response d.next.pending
+
+-- one where it holds
+abbrev pub one_if : Bool → ℕ
+one_if true = 1
+one_if false = 0
+
+-- whether the last request is a posted read; without a request, whether one was outstanding before
+abbrev pub posted_last : Bool → List Request → Bool
+posted_last before rs = fold (λ _ r. is_posted (kind r)) before rs
+
+-- the target after the accesses of the first n requests
+abbrev pub target_after : TargetState → ℕ → List Request → TargetState
+target_after t n rs = one_at_a_time t (take n (map access_of rs))
+
+-- A command that executed the first n of these requests, gave so many words and ended so, its last access being in doubt
+-- or not. Before these requests a read was outstanding, or a write unchecked, or neither.
+pub record EndsAt (t : TargetState) (outstanding unchecked : Bool) (rs : List Request) (given n : ℕ) (response : Response) (doubt : Bool) : Type 0 where
+  pub most : n ≤ length rs
+  pub whole : response ≡ Good → n ≡ length rs
+  pub never : response ≡ Mismatch → ⊥
+  -- STICKYERR was clear before each access whose outcome is known, and after the last of them
+  pub clear : (j : ℕ) → j + one_if doubt ≤ n → (target_after t j rs).sticky ≡ false
+  -- at FAULT the last access set it
+  pub fault : response ≡ Fault → (target_after t n rs).sticky ≡ true
+  -- the word of a posted read is missing exactly where its outcome is not known
+  pub words : given + one_if (doubt && posted_last outstanding (take n rs)) ≡ one_if outstanding + reads_in (take n rs)
+  -- what is in doubt is a posted read or a write
+  pub unseen : doubt ≡ true → (posted_last outstanding (take n rs) || write_after unchecked (take n rs)) ≡ true
+  -- where all requests were executed it is the last access that is in doubt
+  pub at_end : (response ≡ Good → ⊥) → n ≡ length rs → doubt ≡ true
+  -- a last write is in doubt unless the command ended well
+  pub unproven : write_after unchecked (take n rs) ≡ true → (response ≡ Good → ⊥) → doubt ≡ true
+
+-- how a command of these requests ends
+abbrev pub Ends : TransferState → List Request → Type 0
+Ends p rs = let d = transferred p rs in EndsAt p.line.target false false rs (length d.words) d.executed d.response (in_doubt d)
+
+-- what a command with a mask after its last request does, by what it does without: where it ended well one request more is
+-- executed, and the mask is set
+abbrev pub masked_by : Response → Transferred → ℕ → Transferred
+masked_by Good d mask = record d { executed = d.executed + 1; next = record d.next { mask = mask } }
+masked_by _ d mask = d
+
+abbrev pub masked : Transferred → ℕ → Transferred
+masked d mask = masked_by d.response d mask
+
+-- the same command with k executed requests in front of it
+abbrev pub counted_from : ℕ → Transferred → Transferred
+counted_from k d = record d { executed = k + d.executed }
