@@ -12,8 +12,10 @@ use Rattle.dap_messages.specs.declared.request.Response.{Response}
 use Rattle.dap_messages.specs.declared.request.Response.TheVariants.{Good, Wait, Fault, Mismatch}
 use Rattle.dap_messages.specs.Requests.{is_posted, kind, write_last}
 use Rattle.dap_transfer.specs.Wires.{Wire, Posts, Moves, Fetches, Reads, Writes, Checks, item, rdbuff, fetch_if, access_of, between, own, check_if}
-use Rattle.dap_transfer.specs.Transfer.{Setting, Line, Ran, TransferState, Transferred, reads_back, grown, ends, is_pending}
-use Rattle.dap_transfer.specs.Run.{run, request_ran, close_ran, served, word_of, noted, mask_if}
+use Rattle.dap_transfer.specs.State.{Setting, TransferState, Transferred, WireState, grown}
+use Rattle.dap_transfer.specs.Transfer.{RunResult, is_pending, reads_back}
+use Rattle.dap_transfer.specs.WireTransfer.{ends}
+use Rattle.dap_transfer.specs.Private.{close_ran, mask_if, noted, request_ran, run, served, word_of}
 use Rattle.dap_transfer.specs.Laws.{IsNormalKind, AreNormal}
 use Rattle.dap_transfer.proofs.Runs.{run-append}
 use Rattle.dap_transfer.proofs.Steps.{continued, start_notes, from_start, goes_on, one_after, breaks_off, closes, ended_here, run_written, between_written}
@@ -77,11 +79,11 @@ write_bits r e = write_chain (eqb r.byte 0x20) (has_bit r.byte 2) (has_bit r.byt
 
 -- ---- one request
 
-fetch_reports : (s : Setting) (l : Line) (i m : ℕ) (w : Wire) (waits : Bool) (after own : ℕ) → IsPlain w.role → reads_back w.role ≡ false → gives_one w.role + after ≡ own →
+fetch_reports : (s : Setting) (l : WireState) (i m : ℕ) (w : Wire) (waits : Bool) (after own : ℕ) → IsPlain w.role → reads_back w.role ≡ false → gives_one w.role + after ≡ own →
     Reports true false l.target waits after own (run s false l (fetch_if true i m ++ w ∷ []))
 fetch_reports s l i m w waits after own plain back count =
     let f : Wire = item Fetches rdbuff i m in
-    let a : Ran = run s false l (f ∷ []) in
+    let a : RunResult = run s false l (f ∷ []) in
     subst (Reports true false l.target waits after own) (sym (run-append s false l (f ∷ []) (w ∷ [])))
     (fetched_reports a.response a s w l.target waits after own refl
     (back_reports s l f true 0 0 tt refl (rdbuff_waits l.target) refl refl)
@@ -89,7 +91,7 @@ fetch_reports s l i m w waits after own plain back count =
     (run_written s false l (f ∷ [])) plain back count)
 
 -- what the wire transfers of one request tell: `waits` where its own access waits
-pub between_reports : (k : RequestKind) → IsNormalKind k → (o b : Bool) (s : Setting) (l : Line) (i m : ℕ) (r : Request) → kind r ≡ k → (o && b) ≡ false → (waits : Bool) →
+pub between_reports : (k : RequestKind) → IsNormalKind k → (o b : Bool) (s : Setting) (l : WireState) (i m : ℕ) (r : Request) → kind r ≡ k → (o && b) ≡ false → (waits : Bool) →
     (waits ≡ true → is_free l.target (access_of r) ≡ false) →
     Reports o b l.target waits (one_if (is_posted k)) (word_of k) (run s b l (between k o i m r))
 between_reports Posted h true true s l i m r e one waits free = absurd (cc)
@@ -107,13 +109,13 @@ between_reports Match h o b s l i m r e one waits free = absurd h
 between_reports Mask h o b s l i m r e one waits free = absurd h
 
 -- what the end of a command reports
-pub close_reports : (o b : Bool) (s : Setting) (l : Line) (i m : ℕ) → (o && b) ≡ false → Reports o b l.target b 0 0 (run s b l (fetch_if o i m ++ check_if b i m))
+pub close_reports : (o b : Bool) (s : Setting) (l : WireState) (i m : ℕ) → (o && b) ≡ false → Reports o b l.target b 0 0 (run s b l (fetch_if o i m ++ check_if b i m))
 close_reports true true s l i m e = absurd (cc)
 close_reports true false s l i m e = back_reports s l (item Fetches rdbuff i m) false 0 0 tt refl (rdbuff_waits l.target) refl refl
 close_reports false true s l i m e = alone_reports s true l (item Checks rdbuff i m) true 0 0 tt refl (λ _. rdbuff_waits l.target) (omega arith)
 close_reports false false s l i m e = ((λ h. absurd (cc)), omega arith)
 
-wait_back : (x : Response) (s : Setting) (b : Bool) (l : Line) (w : Wire) → IsPlain w.role → is_pending w.role b 0 ≡ true → OneAs x b l w (run s b l (w ∷ [])) → (run s b l (w ∷ [])).response ≡ Wait →
+wait_back : (x : Response) (s : Setting) (b : Bool) (l : WireState) (w : Wire) → IsPlain w.role → is_pending w.role b 0 ≡ true → OneAs x b l w (run s b l (w ∷ [])) → (run s b l (w ∷ [])).response ≡ Wait →
     (run s b l (w ∷ [])).pending ≡ true
 wait_back Good s b l w plain back one e = absurd (let f = sym one.0 ∙ e in cc)
 wait_back Wait s b l w plain back one e = one.2 ∙ back
@@ -121,7 +123,7 @@ wait_back Fault s b l w plain back one e = absurd (let f = sym one.0 ∙ e in cc
 wait_back Mismatch s b l w plain back one e = absurd (let f = sym one.0 ∙ e in cc)
 
 -- a command that meets WAIT at its end: the last access is in doubt
-close_pending : (o b : Bool) (s : Setting) (l : Line) (i m : ℕ) → (o && b) ≡ false → (run s b l (fetch_if o i m ++ check_if b i m)).response ≡ Wait →
+close_pending : (o b : Bool) (s : Setting) (l : WireState) (i m : ℕ) → (o && b) ≡ false → (run s b l (fetch_if o i m ++ check_if b i m)).response ≡ Wait →
     (run s b l (fetch_if o i m ++ check_if b i m)).pending ≡ true
 close_pending true true s l i m e f = absurd (cc)
 close_pending true false s l i m e f = wait_back (ends s l rdbuff) s false l (item Fetches rdbuff i m) tt refl (one_ends s false l (item Fetches rdbuff i m) tt) f
@@ -180,7 +182,7 @@ wait_done false t o u w rs n w_u owes known_doubt known words last =
     }
 
 -- no request is done from here on
-pub none_done : (x : Response) (t : TargetState) (o u w waits : Bool) (after own : ℕ) (rs : List Request) (ran : Ran) (pending : Bool) →
+pub none_done : (x : Response) (t : TargetState) (o u w waits : Bool) (after own : ℕ) (rs : List Request) (ran : RunResult) (pending : Bool) →
     (x ≡ Good → (rs ≡ []) × (waits ≡ u) × (after ≡ 0) × (own ≡ 0)) → (x ≡ Wait → pending ≡ ran.pending) →
     (w ≡ true → u ≡ true) → (t.sticky ≡ true → (o || w) ≡ true) →
     ReportsAs x o u t waits after own ran → (x ≡ Wait → 0 ≡ length rs → ran.pending ≡ true) → EndsAt t o u rs (length ran.words) 0 x (doubted x pending)
@@ -287,7 +289,7 @@ wait_pending Fault p b e = absurd (cc)
 wait_pending Mismatch p b e = absurd (cc)
 
 -- a command that ends here
-ended_reached : (p : TransferState) (words : List ℕ) (i : ℕ) (ran : Ran) (t : TargetState) (o u w waits : Bool) (after own : ℕ) (rs : List Request) (d : Transferred) →
+ended_reached : (p : TransferState) (words : List ℕ) (i : ℕ) (ran : RunResult) (t : TargetState) (o u w waits : Bool) (after own : ℕ) (rs : List Request) (d : Transferred) →
     d ≡ ended_here p words i ran → (ran.response ≡ Good → (rs ≡ []) × (waits ≡ u) × (after ≡ 0) × (own ≡ 0)) →
     (w ≡ true → u ≡ true) → (t.sticky ≡ true → (o || w) ≡ true) → Reports o u t waits after own ran → (ran.response ≡ Wait → 0 ≡ length rs → ran.pending ≡ true) → Reached t o u i (length words) rs d
 ended_reached p words i ran t o u w waits after own rs d is good w_u owes reports last =
@@ -320,7 +322,7 @@ goes_reached t t' o u o' u' i words ws r rs d d' is t_is o_is u_is clear count n
     one : suc (d'.executed - (i + 1)) ≡ d'.executed - i
     one = let h = next.least in omega arith
 
-reported_good : (x : Response) (o u : Bool) (t : TargetState) (waits : Bool) (after own : ℕ) (ran : Ran) → x ≡ Good → ReportsAs x o u t waits after own ran → ReportsAs Good o u t waits after own ran
+reported_good : (x : Response) (o u : Bool) (t : TargetState) (waits : Bool) (after own : ℕ) (ran : RunResult) → x ≡ Good → ReportsAs x o u t waits after own ran → ReportsAs Good o u t waits after own ran
 reported_good x o u t waits after own ran e h = subst (λ (y : Response). ReportsAs y o u t waits after own ran) e h
 
 clear_now : (o w set : Bool) → (set ≡ true → (o || w) ≡ true) → ((o || w) ≡ true → set ≡ false) → set ≡ false
@@ -337,7 +339,7 @@ reaches p words notes [] w normal guarded one w_u owes =
     (λ e _. close_pending notes.outstanding notes.unchecked p.setting p.line notes.executed p.mask one e)
 reaches p words notes (r ∷ rs) w normal guarded one w_u owes =
     let t : TargetState = p.line.target in
-    let ran : Ran = request_ran p notes r in
+    let ran : RunResult = request_ran p notes r in
     let reports : Reports notes.outstanding notes.unchecked t w (one_if (is_posted (kind r))) (word_of (kind r)) ran =
     between_reports (kind r) normal.0 notes.outstanding notes.unchecked p.setting p.line notes.executed p.mask r refl one w (waits_then w t (access_of r) guarded.0) in
     elim (good_or_not ran.response) [

@@ -8,9 +8,11 @@ use Rattle.dap_messages.specs.declared.request.RequestKind.TheVariants.{Posted, 
 use Rattle.dap_messages.specs.declared.request.Response.{Response}
 use Rattle.dap_messages.specs.declared.request.Response.TheVariants.{Good, Wait, Fault, Mismatch}
 use Rattle.dap_messages.specs.Requests.{is_posted, kind, write_last}
-use Rattle.dap_transfer.specs.Wires.{Looks, Wire, access_of, item, wires_from, between, own, post_if, fetch_if, check_if, mask_after, last_mask}
-use Rattle.dap_transfer.specs.Transfer.{Setting, Line, Did, Ran, TransferState, Transferred, ended, did, is_writes}
-use Rattle.dap_transfer.specs.Run.{run, front, first_as}
+use Rattle.dap_transfer.specs.Wires.{Matches, Wire, access_of, item, wires_from, between, own, post_if, fetch_if, check_if, mask_after, last_mask}
+use Rattle.dap_transfer.specs.State.{Setting, TransferState, Transferred, WireState}
+use Rattle.dap_transfer.specs.Transfer.{RunResult, ended, ending, is_writes}
+use Rattle.dap_transfer.specs.WireTransfer.{Ending}
+use Rattle.dap_transfer.specs.Private.{first_then, front, run}
 use Rattle.dap_transfer.specs.CommandEnds.{counted_from}
 use Rattle.dap_transfer.proofs.Steps.{continued}
 
@@ -27,26 +29,26 @@ later-append k [] ys = refl
 later-append k (x ∷ xs) ys = ap (λ ws. later k x ∷ ws) (later-append k xs ys)
 
 -- a run that stopped, with k requests more executed before it
-abbrev moved_by : Response → ℕ → Ran → Ran
+abbrev moved_by : Response → ℕ → RunResult → RunResult
 moved_by Good k ran = ran
 moved_by _ k ran = record ran { executed = k + ran.executed }
 
-front_moved : (x : Response) (k : ℕ) (xs : List ℕ) (n : ℕ) (a : Ran) → front xs n (moved_by x k a) ≡ moved_by x k (front xs n a)
+front_moved : (x : Response) (k : ℕ) (xs : List ℕ) (n : ℕ) (a : RunResult) → front xs n (moved_by x k a) ≡ moved_by x k (front xs n a)
 front_moved Good k xs n a = refl
 front_moved Wait k xs n a = refl
 front_moved Fault k xs n a = refl
 front_moved Mismatch k xs n a = refl
 
-first_moved : (r : Response) (k : ℕ) (before : Bool) (l : Line) (w : Wire) (d : Did) (a b : Ran) → b ≡ moved_by a.response k a →
-    first_as r before l (later k w) d b ≡ (let c = first_as r before l w d a in moved_by c.response k c)
+first_moved : (r : Response) (k : ℕ) (before : Bool) (l : WireState) (w : Wire) (d : Ending) (a b : RunResult) → b ≡ moved_by a.response k a →
+    first_then r before l (later k w) d b ≡ (let c = first_then r before l w d a in moved_by c.response k c)
 first_moved Good k before l w d a b e = ap (front _ _) e ∙ front_moved a.response k _ _ a
 first_moved Wait k before l w d a b e = refl
 first_moved Fault k before l w d a b e = refl
 first_moved Mismatch k before l w d a b e = refl
 
-run_moved : (k : ℕ) (s : Setting) (before : Bool) (l : Line) (ws : List Wire) → run s before l (all_later k ws) ≡ (let a = run s before l ws in moved_by a.response k a)
+run_moved : (k : ℕ) (s : Setting) (before : Bool) (l : WireState) (ws : List Wire) → run s before l (all_later k ws) ≡ (let a = run s before l ws in moved_by a.response k a)
 run_moved k s before l [] = refl
-run_moved k s before l (w ∷ ws) = first_moved (did s l w).response k before l w (did s l w) _ _ (run_moved k s (is_writes w.role) (did s l w).line ws)
+run_moved k s before l (w ∷ ws) = first_moved (ending s l w).response k before l w (ending s l w) _ _ (run_moved k s (is_writes w.role) (ending s l w).line ws)
 
 fetch_later : (o : Bool) (k i m : ℕ) → fetch_if o (k + i) m ≡ all_later k (fetch_if o i m)
 fetch_later true k i m = refl
@@ -65,7 +67,7 @@ own_later Posted k i m r = refl
 own_later Read k i m r = refl
 own_later Mask k i m r = refl
 own_later Match k i m r =
-    let w : Wire = item (Looks r.word) (access_of r) i m in
+    let w : Wire = item (Matches r.word) (access_of r) i m in
     ap (λ ws. ws ++ later k w ∷ []) (post_later (has_bit r.byte 1) k i m r) ∙ sym (later-append k (post_if (has_bit r.byte 1) i m r) (w ∷ []))
 own_later Write k i m r = refl
 
@@ -87,10 +89,10 @@ wires_later k i m o (r ∷ rs) =
     ∙ ap (λ ws. all_later k (between (kind r) o i m r) ++ ws) (wires_later k (i + 1) (mask_after m r) (is_posted (kind r)) rs)
     ∙ sym (later-append k (between (kind r) o i m r) (wires_from (i + 1) (mask_after m r) (is_posted (kind r)) rs))
 
-ended_moved : (x : Response) (p : TransferState) (words : List ℕ) (ran : Ran) (k whole mask : ℕ) → ran.response ≡ x →
+ended_moved : (x : Response) (p : TransferState) (words : List ℕ) (ran : RunResult) (k whole mask : ℕ) → ran.response ≡ x →
     ended p words (moved_by x k ran) (k + whole) mask ≡ counted_from k (ended p words ran whole mask)
 ended_moved x p words ran k whole mask e =
-    subst (λ (a : Ran). ended p words (moved_by x k a) (k + whole) mask ≡ counted_from k (ended p words a whole mask)) (λ j. record ran { response = sym e j }) (by_end x)
+    subst (λ (a : RunResult). ended p words (moved_by x k a) (k + whole) mask ≡ counted_from k (ended p words a whole mask)) (λ j. record ran { response = sym e j }) (by_end x)
   where
     by_end : (x : Response) → ended p words (moved_by x k (record ran { response = x })) (k + whole) mask ≡ counted_from k (ended p words (record ran { response = x }) whole mask)
     by_end Good = refl
@@ -109,7 +111,7 @@ counts_from p words o u k i rs =
     let is : wires_from (k + i) p.mask o rs ++ check_if last (k + i + length rs) mask ≡ all_later k ws =
     (λ j. wires_later k i p.mask o rs j ++ check_if last (whole j) mask) ∙ ap (λ vs. all_later k (wires_from i p.mask o rs) ++ vs) (check_later last k (i + length rs) mask)
     ∙ sym (later-append k (wires_from i p.mask o rs) (check_if last (i + length rs) mask)) in
-    let ran : Ran = run p.setting u p.line ws in
+    let ran : RunResult = run p.setting u p.line ws in
     (λ j. ended p words (run p.setting u p.line (is j)) (whole j) mask)
-    ∙ ap (λ (a : Ran). ended p words a (k + (i + length rs)) mask) (run_moved k p.setting u p.line ws)
+    ∙ ap (λ (a : RunResult). ended p words a (k + (i + length rs)) mask) (run_moved k p.setting u p.line ws)
     ∙ ended_moved ran.response p words ran k (i + length rs) mask refl

@@ -11,9 +11,12 @@ use Rattle.dap_messages.specs.declared.request.RequestKind.TheVariants.{Match}
 use Rattle.dap_messages.specs.declared.request.Response.{Response}
 use Rattle.dap_messages.specs.declared.request.Response.TheVariants.{Good, Wait, Fault, Mismatch}
 use Rattle.dap_messages.specs.Requests.{mask_request, match_request}
-use Rattle.dap_transfer.specs.Wires.{Wire, Looks, item, access_of}
-use Rattle.dap_transfer.specs.Transfer.{Setting, Line, Did, Ran, TransferState, Transferred, transferred, did, looks, look_at, ends, made, value, value_of, grown}
-use Rattle.dap_transfer.specs.Run.{run, first_as, request_ran, served, mask_if}
+use Rattle.dap_transfer.specs.Wires.{Wire, Matches, item, access_of}
+use Rattle.dap_transfer.specs.State.{Setting, TransferState, Transferred, WireState, grown}
+use Rattle.dap_transfer.specs.Transfer.{RunResult, ending, transferred}
+use Rattle.dap_transfer.specs.ValueMatch.{match_ending, match_ending_as}
+use Rattle.dap_transfer.specs.WireTransfer.{Ending, ends, made, value, value_of}
+use Rattle.dap_transfer.specs.Private.{first_then, mask_if, request_ran, run, served}
 use Rattle.dap_transfer.specs.CommandEnds.{counted_from}
 use Rattle.dap_transfer.proofs.Counting.{counts_from}
 use Rattle.dap_transfer.proofs.Steps.{continued, start_notes, from_start, goes_on, breaks_off, ended_here}
@@ -30,55 +33,55 @@ reads_dpidr t v = not_stuck t.sticky
     not_stuck true = refl
     not_stuck false = refl
 
-match_ends : (s : Setting) (l : Line) (v : ℕ) → ends s l (access_of (dpidr_match v)) ≡ Good
+match_ends : (s : Setting) (l : WireState) (v : ℕ) → ends s l (access_of (dpidr_match v)) ≡ Good
 unfolding ends is_free
 match_ends s l v = refl
 
-match_made : (l : Line) (v : ℕ) → made l (access_of (dpidr_match v)) ≡ l
+match_made : (l : WireState) (v : ℕ) → made l (access_of (dpidr_match v)) ≡ l
 unfolding is_free
 match_made l v = λ i. record { target = (reads_dpidr l.target v i).next; number = l.number }
 
-match_value : (l : Line) (v : ℕ) → value l (access_of (dpidr_match v)) ≡ l.target.dpidr
+match_value : (l : WireState) (v : ℕ) → value l (access_of (dpidr_match v)) ≡ l.target.dpidr
 match_value l v = ap (λ (x : Attempt). value_of x.outcome) (reads_dpidr l.target v)
 
 -- how it ends: at once where the value matches, and where it doesn't and match retry is 0
-abbrev match_did : Bool → Line → Did
+abbrev match_did : Bool → WireState → Ending
 match_did true l = record { response = Good; line = l; count = 1 }
 match_did false l = record { response = Mismatch; line = l; count = 1 }
 
-matches_at : (hit : Bool) (l : Line) (a : RegAccess) (rest : Did) → made l a ≡ l → (hit ≡ false → rest ≡ record { response = Mismatch; line = made l a; count = 0 }) →
-    look_at Good hit l a rest ≡ match_did hit l
+matches_at : (hit : Bool) (l : WireState) (a : RegAccess) (rest : Ending) → made l a ≡ l → (hit ≡ false → rest ≡ record { response = Mismatch; line = made l a; count = 0 }) →
+    match_ending_as Good hit l a rest ≡ match_did hit l
 matches_at true l a rest same none = λ i. record { response = Good; line = same i; count = 1 }
 matches_at false l a rest same none =
     (λ i. record { response = (none refl i).response; line = (none refl i).line; count = (none refl i).count + 1 }) ∙ (λ i. record { response = Mismatch; line = same i; count = 1 })
 
-did_match : (s : Setting) (l : Line) (v i mask : ℕ) (hit : Bool) → (hit ≡ false → s.matches ≡ 0) → eqb (bit_and l.target.dpidr mask) v ≡ hit →
-    did s l (item (Looks v) (access_of (dpidr_match v)) i mask) ≡ match_did hit l
+did_match : (s : Setting) (l : WireState) (v i mask : ℕ) (hit : Bool) → (hit ≡ false → s.matches ≡ 0) → eqb (bit_and l.target.dpidr mask) v ≡ hit →
+    ending s l (item (Matches v) (access_of (dpidr_match v)) i mask) ≡ match_did hit l
 did_match s l v i mask hit no_retry h =
     let a : RegAccess = access_of (dpidr_match v) in
-    let rest : Did = looks s mask v a s.matches (made l a) in
+    let rest : Ending = match_ending s mask v a s.matches (made l a) in
     let turns : s.matches + 1 ≡ suc s.matches = omega arith in
-    ap (λ n. looks s mask v a n l) turns
-    ∙ ap (λ r. look_at r (eqb (bit_and (value l a) mask) v) l a rest) (match_ends s l v)
-    ∙ ap (λ b. look_at Good b l a rest) (ap (λ x. eqb (bit_and x mask) v) (match_value l v) ∙ h)
-    ∙ matches_at hit l a rest (match_made l v) (λ e. ap (λ n. looks s mask v a n (made l a)) (no_retry e))
+    ap (λ n. match_ending s mask v a n l) turns
+    ∙ ap (λ r. match_ending_as r (eqb (bit_and (value l a) mask) v) l a rest) (match_ends s l v)
+    ∙ ap (λ b. match_ending_as Good b l a rest) (ap (λ x. eqb (bit_and x mask) v) (match_value l v) ∙ h)
+    ∙ matches_at hit l a rest (match_made l v) (λ e. ap (λ n. match_ending s mask v a n (made l a)) (no_retry e))
 
-abbrev match_ran : Bool → Line → ℕ → Ran
+abbrev match_ran : Bool → WireState → ℕ → RunResult
 match_ran true l mask = record { response = Good; line = l; words = []; work = 0; written = false; pending = false; executed = 0; mask = 0 }
 match_ran false l mask = record { response = Mismatch; line = l; words = []; work = 0; written = false; pending = false; executed = 0; mask = mask }
 
-ran_by : (hit : Bool) (s : Setting) (l : Line) (v mask : ℕ) →
-    (let w = item (Looks v) (access_of (dpidr_match v)) 0 mask in
+ran_by : (hit : Bool) (s : Setting) (l : WireState) (v mask : ℕ) →
+    (let w = item (Matches v) (access_of (dpidr_match v)) 0 mask in
     let d = match_did hit l in
-    first_as d.response false l w d (run s false d.line []) ≡ match_ran hit l mask)
+    first_then d.response false l w d (run s false d.line []) ≡ match_ran hit l mask)
 ran_by true s l v mask = refl
 ran_by false s l v mask = refl
 
 ran_match : (p : TransferState) (v : ℕ) (hit : Bool) → (hit ≡ false → p.setting.matches ≡ 0) → eqb (bit_and p.line.target.dpidr p.mask) v ≡ hit →
     request_ran p start_notes (dpidr_match v) ≡ match_ran hit p.line p.mask
 ran_match p v hit no_retry h =
-    let w : Wire = item (Looks v) (access_of (dpidr_match v)) 0 p.mask in
-    ap (λ (d : Did). first_as d.response false p.line w d (run p.setting false d.line [])) (did_match p.setting p.line v 0 p.mask hit no_retry h)
+    let w : Wire = item (Matches v) (access_of (dpidr_match v)) 0 p.mask in
+    ap (λ (d : Ending). first_then d.response false p.line w d (run p.setting false d.line [])) (did_match p.setting p.line v 0 p.mask hit no_retry h)
     ∙ ran_by hit p.setting p.line v p.mask
 
 same_work : (w : ℕ) → grown w 0 ≡ w
@@ -96,10 +99,10 @@ pub match_opens : (p : TransferState) (v mask : ℕ) (rs : List Request) → eqb
 match_opens p v mask rs hit =
     let rest : List Request = mask_request mask ∷ rs in
     let is : request_ran p start_notes (dpidr_match v) ≡ match_ran true p.line p.mask = ran_match p v true (λ e. absurd (cc)) hit in
-    let good : (request_ran p start_notes (dpidr_match v)).response ≡ Good = ap (λ (ran : Ran). ran.response) is in
+    let good : (request_ran p start_notes (dpidr_match v)).response ≡ Good = ap (λ (ran : RunResult). ran.response) is in
     sym (from_start p (dpidr_match v ∷ rest))
     ∙ goes_on p [] start_notes (dpidr_match v) rest good refl
-    ∙ ap (λ (ran : Ran). continued (served p ran Match (dpidr_match v)) ran.words (record { outstanding = false; unchecked = ran.written; executed = 1 }) rest) is
+    ∙ ap (λ (ran : RunResult). continued (served p ran Match (dpidr_match v)) ran.words (record { outstanding = false; unchecked = ran.written; executed = 1 }) rest) is
     ∙ ap (λ (n : ℕ). continued (record p { work = n }) [] one_note rest) (same_work p.work)
     ∙ goes_on p [] one_note (mask_request mask) rs refl refl
     ∙ ap (λ (n : ℕ). continued (record p { work = n; mask = mask }) [] two_notes rs) (same_work p.work)
@@ -114,10 +117,10 @@ pub match_shuts : (p : TransferState) (v : ℕ) (rs : List Request) → p.settin
     transferred p (dpidr_match v ∷ rs) ≡ record { executed = 0; response = Mismatch; words = []; next = p }
 match_shuts p v rs no_retry miss =
     let is : request_ran p start_notes (dpidr_match v) ≡ match_ran false p.line p.mask = ran_match p v false (λ _. no_retry) miss in
-    let bad : (request_ran p start_notes (dpidr_match v)).response ≡ Good → ⊥ = λ e. (let f = sym (ap (λ (ran : Ran). ran.response) is) ∙ e in not_both f) in
+    let bad : (request_ran p start_notes (dpidr_match v)).response ≡ Good → ⊥ = λ e. (let f = sym (ap (λ (ran : RunResult). ran.response) is) ∙ e in not_both f) in
     sym (from_start p (dpidr_match v ∷ rs))
     ∙ breaks_off p [] start_notes (dpidr_match v) rs bad
-    ∙ ap (λ (ran : Ran). ended_here (record p { mask = mask_if ran.response Match p.mask (dpidr_match v) }) [] 0 ran) is
+    ∙ ap (λ (ran : RunResult). ended_here (record p { mask = mask_if ran.response Match p.mask (dpidr_match v) }) [] 0 ran) is
     ∙ ap (λ (n : ℕ). mismatched (record p { work = n })) (same_work p.work)
   where
     not_both : Mismatch ≡ Good → ⊥

@@ -8,8 +8,9 @@ use Rattle.dap_messages.specs.declared.request.Response.{Response}
 use Rattle.dap_messages.specs.declared.request.Response.TheVariants.{Good, Wait, Fault, Mismatch}
 use Rattle.dap_messages.specs.Requests.{ends_in_write, is_posted, kind, mask_request, write_after, write_last}
 use Rattle.dap_transfer.specs.Wires.{Wire, check_if, wires_from, between, mask_after, last_mask}
-use Rattle.dap_transfer.specs.Transfer.{Ran, TransferState, Transferred, transferred, ended}
-use Rattle.dap_transfer.specs.Run.{run, request_ran, served, mask_if}
+use Rattle.dap_transfer.specs.State.{TransferState, Transferred}
+use Rattle.dap_transfer.specs.Transfer.{RunResult, ended, transferred}
+use Rattle.dap_transfer.specs.Private.{mask_if, request_ran, run, served}
 use Rattle.dap_transfer.specs.Laws.{IsNormalKind, AreNormal}
 use Rattle.dap_transfer.specs.CommandEnds.{masked, masked_by}
 use Rattle.dap_transfer.proofs.Prefix.{good_or_not}
@@ -36,7 +37,7 @@ pub stays_from : (p : TransferState) (words : List ℕ) (notes : Notes) (rs : Li
     (continued p words notes rs).next.mask ≡ p.mask
 stays_from p words notes [] normal one = ap (λ (x : Transferred). x.next.mask) (closes p words notes)
 stays_from p words notes (r ∷ rs) normal one =
-    let ran : Ran = request_ran p notes r in
+    let ran : RunResult = request_ran p notes r in
     elim (good_or_not ran.response) [
       | inl good ↦
           let next : Notes = record { outstanding = is_posted (kind r); unchecked = ran.written; executed = notes.executed + 1 } in
@@ -66,10 +67,10 @@ mask_masked : (m : ℕ) (rs : List Request) (v : ℕ) → last_mask m (rs ++ mas
 mask_masked m [] v = refl
 mask_masked m (r ∷ rs) v = mask_masked (mask_after m r) rs v
 
-ended_masked : (x : Response) (p : TransferState) (words : List ℕ) (ran : Ran) (whole mask v : ℕ) → ran.response ≡ x →
+ended_masked : (x : Response) (p : TransferState) (words : List ℕ) (ran : RunResult) (whole mask v : ℕ) → ran.response ≡ x →
     ended p words ran (whole + 1) v ≡ masked_by x (ended p words ran whole mask) v
 ended_masked x p words ran whole mask v e =
-    subst (λ (a : Ran). ended p words a (whole + 1) v ≡ masked_by x (ended p words a whole mask) v) (λ j. record ran { response = sym e j }) (by_end x)
+    subst (λ (a : RunResult). ended p words a (whole + 1) v ≡ masked_by x (ended p words a whole mask) v) (λ j. record ran { response = sym e j }) (by_end x)
   where
     by_end : (x : Response) → ended p words (record ran { response = x }) (whole + 1) v ≡ masked_by x (ended p words (record ran { response = x }) whole mask) v
     by_end Good = refl
@@ -89,7 +90,7 @@ closed_by p words notes rs v none =
     let first : continued p words notes more ≡ form ws false (n + 1) v =
     λ j. form (wires_masked i p.mask notes.outstanding rs v j) ((write_masked notes.unchecked rs v ∙ none) j) (count j) (mask_masked p.mask rs v j) in
     let last : continued p words notes rs ≡ form ws false n (last_mask p.mask rs) = λ j. form ws (none j) n (last_mask p.mask rs) in
-    let ran : Ran = run p.setting notes.unchecked p.line (ws ++ []) in
+    let ran : RunResult = run p.setting notes.unchecked p.line (ws ++ []) in
     first ∙ ended_masked ran.response p words ran n (last_mask p.mask rs) v refl ∙ ap (λ (d : Transferred). masked d v) (sym last)
 
 -- a mask after requests whose last access is no write

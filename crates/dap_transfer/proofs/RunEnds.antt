@@ -4,9 +4,11 @@ use Rattle.target_machine.specs.State.{TargetState}
 use Rattle.target_machine.specs.Attempt.{is_free}
 use Rattle.dap_messages.specs.declared.request.Response.{Response}
 use Rattle.dap_messages.specs.declared.request.Response.TheVariants.{Good, Wait, Fault, Mismatch}
-use Rattle.dap_transfer.specs.Wires.{Wire, Role, Posts, Moves, Fetches, Reads, Looks, Writes, Checks}
-use Rattle.dap_transfer.specs.Transfer.{Setting, Line, Did, Ran, once_at, ends, is_writes, is_pending, reads_back, word_as}
-use Rattle.dap_transfer.specs.Run.{run, first_as, after_as, front}
+use Rattle.dap_transfer.specs.Wires.{Wire, Role, Posts, Moves, Fetches, Reads, Matches, Writes, Checks}
+use Rattle.dap_transfer.specs.State.{Setting, WireState}
+use Rattle.dap_transfer.specs.Transfer.{RunResult, is_pending, is_writes, reads_back, word_of_role}
+use Rattle.dap_transfer.specs.WireTransfer.{Ending, ends, wire_ending_as}
+use Rattle.dap_transfer.specs.Private.{first_then, front, run, run_then}
 use Rattle.dap_transfer.proofs.Prefix.{IsPlain, plain_once}
 use Rattle.dap_transfer.proofs.ReadWords.{not_sticky}
 use Rattle.dap_transfer.specs.CommandEnds.{one_if}
@@ -19,37 +21,37 @@ gives_one Reads = 1
 gives_one _ = 0
 
 -- how one wire transfer leaves its run
-abbrev pub OneAs : Response → Bool → Line → Wire → Ran → Type 0
+abbrev pub OneAs : Response → Bool → WireState → Wire → RunResult → Type 0
 OneAs Good before l w ran = (ran.response ≡ Good) × (length ran.words ≡ gives_one w.role) × (ran.written ≡ is_writes w.role)
 OneAs r before l w ran = (ran.response ≡ r) × (length ran.words ≡ 0) × (ran.pending ≡ is_pending w.role before 0)
 
-word_count : (role : Role) (v : ℕ) → length (word_as role v ++ []) ≡ gives_one role
+word_count : (role : Role) (v : ℕ) → length (word_of_role role v ++ []) ≡ gives_one role
 word_count Posts v = refl
 word_count Moves v = refl
 word_count Fetches v = refl
 word_count Reads v = refl
-word_count (Looks w) v = refl
+word_count (Matches w) v = refl
 word_count Writes v = refl
 word_count Checks v = refl
 
-abbrev ran_as : Response → Setting → Bool → Line → Wire → Ran
-ran_as r s before l w = let d : Did = once_at r l w.access in first_as d.response before l w d (run s (is_writes w.role) d.line [])
+abbrev ran_as : Response → Setting → Bool → WireState → Wire → RunResult
+ran_as r s before l w = let d : Ending = wire_ending_as r l w.access in first_then d.response before l w d (run s (is_writes w.role) d.line [])
 
-one_is : (s : Setting) (before : Bool) (l : Line) (w : Wire) → IsPlain w.role → run s before l (w ∷ []) ≡ ran_as (ends s l w.access) s before l w
-one_is s before l w plain = ap (λ (d : Did). first_as d.response before l w d (run s (is_writes w.role) d.line [])) (plain_once w.role s l w.mask w.access plain)
+one_is : (s : Setting) (before : Bool) (l : WireState) (w : Wire) → IsPlain w.role → run s before l (w ∷ []) ≡ ran_as (ends s l w.access) s before l w
+one_is s before l w plain = ap (λ (d : Ending). first_then d.response before l w d (run s (is_writes w.role) d.line [])) (plain_once w.role s l w.mask w.access plain)
 
-one_as : (r : Response) (s : Setting) (before : Bool) (l : Line) (w : Wire) → OneAs r before l w (ran_as r s before l w)
+one_as : (r : Response) (s : Setting) (before : Bool) (l : WireState) (w : Wire) → OneAs r before l w (ran_as r s before l w)
 one_as Good s before l w = (refl, word_count w.role _, refl)
 one_as Wait s before l w = (refl, refl, refl)
 one_as Fault s before l w = (refl, refl, refl)
 one_as Mismatch s before l w = (refl, refl, refl)
 
-pub one_ends : (s : Setting) (before : Bool) (l : Line) (w : Wire) → IsPlain w.role → OneAs (ends s l w.access) before l w (run s before l (w ∷ []))
+pub one_ends : (s : Setting) (before : Bool) (l : WireState) (w : Wire) → IsPlain w.role → OneAs (ends s l w.access) before l w (run s before l (w ∷ []))
 one_ends s before l w plain = subst (OneAs (ends s l w.access) before l w) (sym (one_is s before l w plain)) (one_as (ends s l w.access) s before l w)
 
 -- What the wire transfers of a request, or the end of a command, tell, with a read outstanding or a write unchecked before
 -- them: whether STICKYERR was clear, and how many words came.
-abbrev pub ReportsAs : Response → Bool → Bool → TargetState → Bool → ℕ → ℕ → Ran → Type 0
+abbrev pub ReportsAs : Response → Bool → Bool → TargetState → Bool → ℕ → ℕ → RunResult → Type 0
 ReportsAs Good outstanding before t waits after own ran = ((outstanding || waits) ≡ true → t.sticky ≡ false) × (length ran.words + after ≡ one_if outstanding + own)
 ReportsAs Wait outstanding before t waits after own ran =
     (ran.pending ≡ true → (outstanding || before) ≡ true)
@@ -59,7 +61,7 @@ ReportsAs Fault outstanding before t waits after own ran = (t.sticky ≡ true) �
 ReportsAs Mismatch outstanding before t waits after own ran = ⊥
 
 -- the same for what ran
-abbrev pub Reports : Bool → Bool → TargetState → Bool → ℕ → ℕ → Ran → Type 0
+abbrev pub Reports : Bool → Bool → TargetState → Bool → ℕ → ℕ → RunResult → Type 0
 Reports outstanding before t waits after own ran = ReportsAs ran.response outstanding before t waits after own ran
 
 and_same : (b : Bool) → (b && true) ≡ b
@@ -75,21 +77,21 @@ never_pending Posts before e = and_same before
 never_pending Moves before e = absurd (cc)
 never_pending Fetches before e = absurd (cc)
 never_pending Reads before e = and_same before
-never_pending (Looks w) before e = and_same before
+never_pending (Matches w) before e = and_same before
 never_pending Writes before e = and_same before
 never_pending Checks before e = and_same before
 
-pub reports_by : (x : Response) (o before : Bool) (t : TargetState) (waits : Bool) (after own : ℕ) (ran : Ran) → ran.response ≡ x → ReportsAs x o before t waits after own ran → Reports o before t waits after own ran
+pub reports_by : (x : Response) (o before : Bool) (t : TargetState) (waits : Bool) (after own : ℕ) (ran : RunResult) → ran.response ≡ x → ReportsAs x o before t waits after own ran → Reports o before t waits after own ran
 reports_by x o before t waits after own ran e h = subst (λ (y : Response). ReportsAs y o before t waits after own ran) (sym e) h
 
 -- one wire transfer of a request of its own, with no read outstanding
-pub alone_reports : (s : Setting) (before : Bool) (l : Line) (w : Wire) (waits : Bool) (after own : ℕ) → IsPlain w.role → reads_back w.role ≡ false →
+pub alone_reports : (s : Setting) (before : Bool) (l : WireState) (w : Wire) (waits : Bool) (after own : ℕ) → IsPlain w.role → reads_back w.role ≡ false →
     (waits ≡ true → is_free l.target w.access ≡ false) → gives_one w.role + after ≡ own →
     Reports false before l.target waits after own (run s before l (w ∷ []))
 alone_reports s before l w waits after own plain back free count =
     by_end (ends s l w.access) refl (one_ends s before l w plain)
   where
-    not_pending : (ran : Ran) → ran.pending ≡ is_pending w.role before 0 → ran.pending ≡ before
+    not_pending : (ran : RunResult) → ran.pending ≡ is_pending w.role before 0 → ran.pending ≡ before
     not_pending ran e = e ∙ never_pending w.role before back
 
     none : (b : Bool) → one_if (b && false) ≡ 0
@@ -98,21 +100,21 @@ alone_reports s before l w waits after own plain back free count =
 
     by_end : (r : Response) → ends s l w.access ≡ r → OneAs r before l w (run s before l (w ∷ [])) → Reports false before l.target waits after own (run s before l (w ∷ []))
     by_end Good e one =
-        let ran : Ran = run s before l (w ∷ []) in
+        let ran : RunResult = run s before l (w ∷ []) in
         reports_by Good false before l.target waits after own ran one.0
         ((λ h. not_sticky s l w.access e (free h)), (let n = one.1 in omega arith))
     by_end Wait e one =
-        let ran : Ran = run s before l (w ∷ []) in
+        let ran : RunResult = run s before l (w ∷ []) in
         let pending : ran.pending ≡ before = not_pending ran one.2 in
         reports_by Wait false before l.target waits after own ran one.0
         ((λ h. sym pending ∙ h), (λ h. (sym pending ∙ h, (λ e. absurd (cc)))), (let n = one.1 in let m = none ran.pending in omega arith))
     by_end Fault e one =
-        let ran : Ran = run s before l (w ∷ []) in
+        let ran : RunResult = run s before l (w ∷ []) in
         reports_by Fault false before l.target waits after own ran one.0 (fault_sticky s l w.access e, one.1)
     by_end Mismatch e one = absurd (no_mismatch s l w.access e)
 
 -- one wire transfer that gives the word of the read before it
-pub back_reports : (s : Setting) (l : Line) (w : Wire) (waits : Bool) (after own : ℕ) → IsPlain w.role → reads_back w.role ≡ true →
+pub back_reports : (s : Setting) (l : WireState) (w : Wire) (waits : Bool) (after own : ℕ) → IsPlain w.role → reads_back w.role ≡ true →
     is_free l.target w.access ≡ false → after ≡ own → gives_one w.role ≡ 1 →
     Reports true false l.target waits after own (run s false l (w ∷ []))
 back_reports s l w waits after own plain back waits_is count gives =
@@ -124,27 +126,27 @@ back_reports s l w waits after own plain back waits_is count gives =
 
     by_end : (r : Response) → ends s l w.access ≡ r → OneAs r false l w (run s false l (w ∷ [])) → Reports true false l.target waits after own (run s false l (w ∷ []))
     by_end Good e one =
-        let ran : Ran = run s false l (w ∷ []) in
+        let ran : RunResult = run s false l (w ∷ []) in
         reports_by Good true false l.target waits after own ran one.0
         ((λ h. not_sticky s l w.access e waits_is), (let n = one.1 in omega arith))
     by_end Wait e one =
-        let ran : Ran = run s false l (w ∷ []) in
+        let ran : RunResult = run s false l (w ∷ []) in
         let pending : ran.pending ≡ true = one.2 ∙ is_back (reads_back w.role) _ back in
         reports_by Wait true false l.target waits after own ran one.0
         ((λ h. refl), (λ h. absurd (cc)), (let n = one.1 in let m = ap (λ b. one_if (b && true)) pending in omega arith))
     by_end Fault e one =
-        let ran : Ran = run s false l (w ∷ []) in
+        let ran : RunResult = run s false l (w ∷ []) in
         reports_by Fault true false l.target waits after own ran one.0 (fault_sticky s l w.access e, one.1)
     by_end Mismatch e one = absurd (no_mismatch s l w.access e)
 
 -- a fetch, and one wire transfer of its own after it
-pub fetched_reports : (x : Response) (a : Ran) (s : Setting) (w : Wire) (t : TargetState) (waits : Bool) (after own : ℕ) → a.response ≡ x →
+pub fetched_reports : (x : Response) (a : RunResult) (s : Setting) (w : Wire) (t : TargetState) (waits : Bool) (after own : ℕ) → a.response ≡ x →
     ReportsAs x true false t true 0 0 a → a.line.target ≡ t → (x ≡ Good → a.written ≡ false) → IsPlain w.role → reads_back w.role ≡ false → gives_one w.role + after ≡ own →
-    Reports true false t waits after own (after_as x a (run s a.written a.line (w ∷ [])))
+    Reports true false t waits after own (run_then x a (run s a.written a.line (w ∷ [])))
 fetched_reports Good a s w t waits after own e h same written plain back count =
     by_end (ends s a.line w.access) refl (one_ends s a.written a.line w plain)
   where
-    b : Ran
+    b : RunResult
     b = run s a.written a.line (w ∷ [])
 
     clear : t.sticky ≡ false

@@ -7,7 +7,8 @@ use Rattle.target_machine.specs.State.{TargetState}
 use Rattle.target_machine.specs.declared.access.Outcome.TheVariants as outcome
 use Rattle.target_machine.specs.declared.access.RegAccess.{RegAccess}
 use Rattle.dap_messages.specs.declared.request.Response.TheVariants.{Good, Wait, Fault, Mismatch}
-use Rattle.dap_transfer.specs.Transfer.{Setting, Line, ends}
+use Rattle.dap_transfer.specs.State.{Setting, WireState}
+use Rattle.dap_transfer.specs.WireTransfer.{ends}
 use Rattle.dap_transfer.specs.CommandEnds.{may_be_free}
 
 pub clash : (b : Bool) → b ≡ true → b ≡ false → ⊥
@@ -72,7 +73,7 @@ fault_end false true sticky e = absurd (cc)
 fault_end false false true e = refl
 fault_end false false false e = absurd (cc)
 
-pub fault_sticky : (s : Setting) (l : Line) (a : RegAccess) → ends s l a ≡ Fault → l.target.sticky ≡ true
+pub fault_sticky : (s : Setting) (l : WireState) (a : RegAccess) → ends s l a ≡ Fault → l.target.sticky ≡ true
 unfolding ends
 fault_sticky s l a e = fault_end (is_free l.target a) (ltb s.retry (slice_index s.stalls l.number)) l.target.sticky e
 
@@ -82,6 +83,6 @@ mismatch_end false true sticky e = cc
 mismatch_end false false true e = cc
 mismatch_end false false false e = cc
 
-pub no_mismatch : (s : Setting) (l : Line) (a : RegAccess) → ends s l a ≡ Mismatch → ⊥
+pub no_mismatch : (s : Setting) (l : WireState) (a : RegAccess) → ends s l a ≡ Mismatch → ⊥
 unfolding ends
 no_mismatch s l a e = mismatch_end (is_free l.target a) (ltb s.retry (slice_index s.stalls l.number)) l.target.sticky e

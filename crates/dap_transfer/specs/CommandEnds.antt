@@ -1,5 +1,5 @@
 -- How a command of normal requests ends: where, and which of its accesses are known to have been good.
-use Rattle.std.specs.Prelude.{◌≡◌, ℕ, ◌+◌, ◌≤◌, Bool, true, false, not, ◌&&◌, ◌||◌, ◌==◌, if◌then◌else◌, List, [], ◌∷◌, length, take, map, fold}
+use Rattle.std.specs.Prelude.{◌≡◌, ℕ, ◌+◌, ◌≤◌, Bool, true, false, not, ◌&&◌, ◌||◌, ◌==◌, if◌then◌else◌, List, [], ◌∷◌, length, take, map, fold, count_by}
 use Rattle.target_machine.specs.State.{TargetState}
 use Rattle.target_machine.specs.declared.access.RegAccess.{RegAccess}
 use Rattle.dap_messages.specs.declared.request.Request.{Request}
@@ -7,7 +7,8 @@ use Rattle.dap_messages.specs.declared.request.Response.{Response}
 use Rattle.dap_messages.specs.declared.request.Response.TheVariants.{Good, Wait, Fault, Mismatch}
 use Rattle.dap_messages.specs.Requests.{is_posted, kind, reads_in, write_after}
 use Rattle.dap_transfer.specs.Wires.{access_of}
-use Rattle.dap_transfer.specs.Transfer.{TransferState, Transferred, transferred}
+use Rattle.dap_transfer.specs.State.{TransferState, Transferred}
+use Rattle.dap_transfer.specs.Transfer.{transferred}
 use Rattle.dap_transfer.specs.Laws.{one_at_a_time}
 
 -- an access that, under some SELECT, acts also where STICKYERR is set: DPIDR, CTRL/STAT, ABORT
@@ -84,3 +85,27 @@ masked d mask = masked_by d.response d mask
 -- the same command with k executed requests in front of it
 abbrev pub counted_from : ℕ → Transferred → Transferred
 counted_from k d = record d { executed = k + d.executed }
+
+-- how many of these requests are posted reads
+abbrev pub posted_in : List Request → ℕ
+posted_in rs = count_by (λ r. is_posted (kind r)) rs
+
+-- Whether one transfer more was made at the end of a command, by how it ended and what its last executed request is: the
+-- check of a write, the one that met more WAITs than the retry number allows, or the one that met FAULT, unless it was to
+-- fetch the word of a posted read.
+abbrev pub one_at_end : Response → Bool → Bool → Bool
+one_at_end Good posted written = written
+one_at_end Wait posted written = true
+one_at_end Fault posted written = not posted
+one_at_end Mismatch posted written = true
+
+-- So many transfers that may wait are numbered where n requests are executed: one for each of them, one for each posted read
+-- to fetch its word, and one at the end.
+abbrev pub IsNumbered : ℕ → Bool → Bool → ℕ → List Request → Response → ℕ → Type 0
+IsNumbered before outstanding unchecked n rs response number =
+    number ≤ before + n + posted_in (take n rs) + one_if outstanding
+    + one_if (one_at_end response (posted_last outstanding (take n rs)) (write_after unchecked (take n rs)))
+
+-- how far a command of these requests goes on in the list of stalls
+abbrev pub NumbersTransfers : TransferState → List Request → Type 0
+NumbersTransfers p rs = let d = transferred p rs in IsNumbered p.line.number false false d.executed rs d.response d.next.line.number

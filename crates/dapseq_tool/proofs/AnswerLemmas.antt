@@ -9,7 +9,8 @@ use Rattle.dap_messages.specs.declared.command_value.CommandValue.TheVariants as
 use Rattle.dap_messages.specs.declared.request.Request.{Request}
 use Rattle.dap_messages.specs.Requests.{kind, takes_word, word_if, request_bytes, IsRequest, gives_word}
 use Rattle.dap_messages.proofs.PacketLaws.{packet_complete}
-use Rattle.dap_transfer.specs.Transfer.{Transferred, transferred}
+use Rattle.dap_transfer.specs.State.{Transferred}
+use Rattle.dap_transfer.specs.Transfer.{transferred}
 use Rattle.probe_core.specs.Packet.{Answered, answered, answered_as, packet_done}
 use Rattle.probe_core.specs.Probe.{ExecutorState}
 use Rattle.dapseq_tool.specs.Exchange.{packet_of}

@@ -12,7 +12,7 @@ use Rattle.target_machine.specs.declared.job.RegionJob.{RegionJob}
 use Rattle.target_machine.proofs.Maps.{got_inserted}
 use Rattle.dap_base.specs.Bits.{has_bit}
 use Rattle.dap_transfer.specs.Laws.{value_now}
-use Rattle.dap_transfer.specs.Transfer.{value_of as value_of_outcome}
+use Rattle.dap_transfer.specs.WireTransfer.{value_of as value_of_outcome}
 use Rattle.dap_transfer.specs.Wires.{access_of}
 use Rattle.word_job.specs.Region.{lies_in}
 use Rattle.dapseq_tool.specs.Meaning.{statement_done, value_of, stored}

@@ -15,7 +15,8 @@ use Rattle.dap_base.specs.Bits.{has_bit}
 use Rattle.dap_messages.specs.Responses.{code_of}
 use Rattle.dap_messages.specs.Words.{word_bytes}
 use Rattle.dap_transfer.specs.Wires.{access_of}
-use Rattle.dap_transfer.specs.Transfer.{TransferState, Transferred, transferred, grown}
+use Rattle.dap_transfer.specs.State.{TransferState, Transferred, grown}
+use Rattle.dap_transfer.specs.Transfer.{transferred}
 use Rattle.dap_transfer.specs.Laws.{one_at_a_time, AreNormal, IsNormalKind, value_now, read_values, reads_value}
 use Rattle.dap_transfer.proofs.Prefix.{makes_prefix}
 use Rattle.dap_transfer.proofs.Work.{counts_executed}

@@ -9,39 +9,41 @@ use Rattle.dap_messages.specs.declared.request.Response.{Response}
 use Rattle.dap_messages.specs.declared.request.Response.TheVariants.{Good, Wait, Fault, Mismatch}
 use Rattle.dap_messages.specs.Requests.{is_posted, kind, write_last}
 use Rattle.dap_transfer.specs.Wires.{Wire, Role, Posts, Fetches, Writes, Checks, item, rdbuff, access_of, wires, between, fetch_if, mask_by, check_if, last_mask}
-use Rattle.dap_transfer.specs.Transfer.{Setting, Line, Did, Ran, TransferState, Transferred, did, once_at, ends, made, is_good, is_writes, good_front, transferred, ended, ran_to}
-use Rattle.dap_transfer.specs.Run.{run, first_as}
+use Rattle.dap_transfer.specs.State.{Setting, TransferState, Transferred, WireState, is_good}
+use Rattle.dap_transfer.specs.Transfer.{RunResult, ended, ending, good_front, is_writes, run_to_place, transferred}
+use Rattle.dap_transfer.specs.WireTransfer.{Ending, ends, made, wire_ending_as}
+use Rattle.dap_transfer.specs.Private.{first_then, run}
 use Rattle.dap_transfer.proofs.Runs.{first_place}
 use Rattle.dap_transfer.proofs.Prefix.{IsPlain, plain_once}
 
 -- without stalls and with STICKYERR clear a wire transfer ends well
-good_by : (s : Setting) (l : Line) (a : RegAccess) (free : Bool) → is_free l.target a ≡ free → s.stalls ≡ [] → l.target.sticky ≡ false → ends s l a ≡ Good
+good_by : (s : Setting) (l : WireState) (a : RegAccess) (free : Bool) → is_free l.target a ≡ free → s.stalls ≡ [] → l.target.sticky ≡ false → ends s l a ≡ Good
 unfolding ends
 good_by s l a true is none clear = rw is refl
 good_by s l a false is none clear = let few : nat_lt s.retry 0 ≡ false = grind arith in rw (is, none, few, clear) refl
 
-ends_good : (s : Setting) (l : Line) (a : RegAccess) → s.stalls ≡ [] → l.target.sticky ≡ false → ends s l a ≡ Good
+ends_good : (s : Setting) (l : WireState) (a : RegAccess) → s.stalls ≡ [] → l.target.sticky ≡ false → ends s l a ≡ Good
 ends_good s l a none clear = good_by s l a (is_free l.target a) refl none clear
 
-did_good : (s : Setting) (l : Line) (role : Role) (a : RegAccess) (executed mask : ℕ) → IsPlain role → s.stalls ≡ [] → l.target.sticky ≡ false → did s l (item role a executed mask) ≡ record { response = Good; line = made l a; count = 1 }
-did_good s l role a executed mask plain none clear = plain_once role s l mask a plain ∙ ap (λ r. once_at r l a) (ends_good s l a none clear)
+did_good : (s : Setting) (l : WireState) (role : Role) (a : RegAccess) (executed mask : ℕ) → IsPlain role → s.stalls ≡ [] → l.target.sticky ≡ false → ending s l (item role a executed mask) ≡ record { response = Good; line = made l a; count = 1 }
+did_good s l role a executed mask plain none clear = plain_once role s l mask a plain ∙ ap (λ r. wire_ending_as r l a) (ends_good s l a none clear)
 
 -- two wire transfers, an access and a read of RDBUFF after it
-pub good_two : (s : Setting) (l : Line) (one two : Role) (a : RegAccess) (mask : ℕ) → IsPlain one → IsPlain two → s.stalls ≡ [] → l.target.sticky ≡ false → (attempt l.target a).next.sticky ≡ false
+pub good_two : (s : Setting) (l : WireState) (one two : Role) (a : RegAccess) (mask : ℕ) → IsPlain one → IsPlain two → s.stalls ≡ [] → l.target.sticky ≡ false → (attempt l.target a).next.sticky ≡ false
     → (run s false l (item one a 0 mask ∷ item two rdbuff 1 mask ∷ [])).response ≡ Good
 good_two s l one two a mask plain_one plain_two none clear after =
     rw (did_good s l one a 0 mask plain_one none clear, did_good s (made l a) two rdbuff 1 mask plain_two none after) refl
 
-first_few : (r : Response) (before : Bool) (l : Line) (w : Wire) (d : Did) (rest : Ran) → w.executed ≤ 1 → rest.executed ≤ 1 → (first_as r before l w d rest).executed ≤ 1
+first_few : (r : Response) (before : Bool) (l : WireState) (w : Wire) (d : Ending) (rest : RunResult) → w.executed ≤ 1 → rest.executed ≤ 1 → (first_then r before l w d rest).executed ≤ 1
 first_few Good before l w d rest few more = more
 first_few Wait before l w d rest few more = few
 first_few Fault before l w d rest few more = few
 first_few Mismatch before l w d rest few more = few
 
-few_two : (s : Setting) (before : Bool) (l : Line) (u w : Wire) → u.executed ≤ 1 → w.executed ≤ 1 → (run s before l (u ∷ w ∷ [])).executed ≤ 1
+few_two : (s : Setting) (before : Bool) (l : WireState) (u w : Wire) → u.executed ≤ 1 → w.executed ≤ 1 → (run s before l (u ∷ w ∷ [])).executed ≤ 1
 few_two s before l u w first second =
-    first_few (did s l u).response before l u (did s l u) (run s (is_writes u.role) (did s l u).line (w ∷ [])) first
-    (first_few (did s (did s l u).line w).response (is_writes u.role) (did s l u).line w (did s (did s l u).line w) (run s (is_writes w.role) (did s (did s l u).line w).line []) second (lit≤ tt))
+    first_few (ending s l u).response before l u (ending s l u) (run s (is_writes u.role) (ending s l u).line (w ∷ [])) first
+    (first_few (ending s (ending s l u).line w).response (is_writes u.role) (ending s l u).line w (ending s (ending s l u).line w) (run s (is_writes w.role) (ending s (ending s l u).line w).line []) second (lit≤ tt))
 
 -- the wire transfers of one request
 abbrev wires_as : RequestKind → ℕ → Request → List Wire
@@ -70,7 +72,7 @@ two_wires mask r (inl is) = record { one = Writes; two = Checks; plain_one = tt;
 two_wires mask r (inr is) = record { one = Posts; two = Fetches; plain_one = tt; plain_two = tt; are = wires_posted mask r is }
 
 -- what a Transfer of one request runs
-ran : TransferState → Request → Ran
+ran : TransferState → Request → RunResult
 ran p r = run p.setting false p.line (wires p.mask (r ∷ []))
 
 transferred_ran : (p : TransferState) (r : Request) → transferred p (r ∷ []) ≡ ended p [] (ran p r) 1 (last_mask p.mask (r ∷ []))
@@ -100,4 +102,4 @@ executed_few p r is =
 
 -- with the response 01 the request was executed
 pub executed_good : (p : TransferState) (r : Request) → (transferred p (r ∷ [])).response ≡ Good → (transferred p (r ∷ [])).executed ≡ 1
-executed_good p r good = ap (λ x. cond (is_good x) 1 (ran_to p.setting false p.line (wires p.mask (r ∷ [])) (good_front p.setting p.line (wires p.mask (r ∷ [])))).executed) good
+executed_good p r good = ap (λ x. cond (is_good x) 1 (run_to_place p.setting false p.line (wires p.mask (r ∷ [])) (good_front p.setting p.line (wires p.mask (r ∷ [])))).executed) good

@@ -5,7 +5,7 @@ use Rattle.dap_messages.specs.declared.request.Request.{Request}
 use Rattle.dap_messages.specs.declared.request.RequestKind.TheVariants.{Posted, Write}
 use Rattle.dap_messages.specs.Requests.{kind, request_bytes, IsRequest}
 use Rattle.dap_base.specs.Bits.{has_bit}
-use Rattle.dap_transfer.specs.Transfer.{is_rdbuff}
+use Rattle.dap_transfer.specs.WireTransfer.{reads_rdbuff_itself}
 use Rattle.dap_transfer.specs.Wires.{access_of}
 use Rattle.probe_core.specs.Bench.{Reported, BenchState, Exchange}
 use Rattle.probe_core.specs.Packet.{answered}
@@ -39,7 +39,7 @@ packet_of r = 0x05 ∷ 0 ∷ 1 ∷ request_bytes r
 pub record IsOne (r : Request) : Type 0 where
   pub kind : kind r ≡ (if has_bit r.byte 2 then Posted else Write)
   pub request : IsRequest r
-  pub work : is_rdbuff (access_of r) ≡ false
+  pub work : reads_rdbuff_itself (access_of r) ≡ false
 
 -- What a reply to the packet of one request gives, where it says that the request was executed (its number is 1 and its
 -- response 01): the word of a read, and 0 for a write.
