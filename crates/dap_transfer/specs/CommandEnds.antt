@@ -1,5 +1,6 @@
 -- How a command of normal requests ends: where, and which of its accesses are known to have been good.
 use Rattle.std.specs.Prelude.{◌≡◌, ℕ, ◌+◌, ◌≤◌, Bool, true, false, not, ◌&&◌, ◌||◌, ◌==◌, if◌then◌else◌, List, [], ◌∷◌, length, take, map, fold, count_by}
+use Rattle.target_machine.specs.Registers.{abort_address, ctrl_stat_address, dpidr_address}
 use Rattle.target_machine.specs.State.{TargetState}
 use Rattle.target_machine.specs.declared.access.RegAccess.{RegAccess}
 use Rattle.dap_messages.specs.declared.request.Request.{Request}
@@ -13,7 +14,7 @@ use Rattle.dap_transfer.specs.Laws.{one_at_a_time}
 
 -- an access that, under some SELECT, acts also where STICKYERR is set: DPIDR, CTRL/STAT, ABORT
 abbrev pub may_be_free : RegAccess → Bool
-may_be_free a = not a.ap && (if a.read then (a.addr == 0) || (a.addr == 4) else (a.addr == 0))
+may_be_free a = not a.ap && (if a.read then (a.addr == dpidr_address) || (a.addr == ctrl_stat_address) else (a.addr == abort_address))
 
 -- a write of an access port
 abbrev pub writes_ap : RegAccess → Bool

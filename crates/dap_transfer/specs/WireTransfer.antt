@@ -1,6 +1,7 @@
 -- One wire transfer: how it ends, and what it does to the target.
 use Rattle.std.specs.Prelude.{ℕ, ◌+◌, ◌-◌, ◌^◌, Bool, not, ◌&&◌, ◌==◌, nat_lt, if◌then◌else◌, min, slice_index}
 use Rattle.target_machine.specs.Attempt.{attempt, is_free}
+use Rattle.target_machine.specs.Registers.{dpidr_address, rdbuff_address}
 use Rattle.target_machine.specs.declared.access.RegAccess.{RegAccess}
 use Rattle.target_machine.specs.declared.access.Outcome.{Outcome}
 use Rattle.target_machine.specs.declared.access.Outcome.TheVariants as outcome
@@ -58,8 +59,8 @@ wire_ending s l a = wire_ending_as (ends s l a) l a
 
 -- a read of RDBUFF at its own address; a read of RESEND (0x8), which gives RDBUFF too, is none
 abbrev pub reads_rdbuff_itself : RegAccess → Bool
-reads_rdbuff_itself a = not a.ap && a.read && (a.addr == 0xC)
+reads_rdbuff_itself a = not a.ap && a.read && (a.addr == rdbuff_address)
 
 -- a read of DPIDR
 abbrev pub reads_dpidr : RegAccess → Bool
-reads_dpidr a = not a.ap && a.read && (a.addr == 0x0)
+reads_dpidr a = not a.ap && a.read && (a.addr == dpidr_address)

@@ -24,31 +24,37 @@ fn list<T: Copy + Drop>(alloc: Global, items: &[T]) -> Result<ItemList<T>, OutOf
 fn job(alloc: Global) -> Result<TargetJob, OutOfMemory>
     ensures { IfOk result IsTargetJob }
 {
-    let ap = ApJob {
-        ap: 0,
-        idr: 0x2477_0011,
-        base: 0xE00F_F003,
-        csw: 0,
-        la: false,
-    };
-    let region = RegionJob {
-        address: 0x2000_0000,
-        length: 16,
-        read_only: false,
-    };
-    let word = WordJob {
-        address: 0x2000_0000,
-        value: 7,
-    };
     Ok(TargetJob {
         dpidr: 0x2BA0_1477,
         powered: true,
         power_reads: 0,
         pins: 0xA0,
         carry: false,
-        aps: list(alloc, &[ap])?,
-        memory: list(alloc, &[region])?,
-        words: list(alloc, &[word])?,
+        aps: list(
+            alloc,
+            &[ApJob {
+                ap: 0,
+                idr: 0x2477_0011,
+                base: 0xE00F_F003,
+                csw: 0,
+                la: false,
+            }],
+        )?,
+        memory: list(
+            alloc,
+            &[RegionJob {
+                address: 0x2000_0000,
+                length: 16,
+                read_only: false,
+            }],
+        )?,
+        words: list(
+            alloc,
+            &[WordJob {
+                address: 0x2000_0000,
+                value: 7,
+            }],
+        )?,
         scripts: ScriptJobs::new(alloc),
         reset: WordJobs::new(alloc),
     })
@@ -58,7 +64,9 @@ fn job(alloc: Global) -> Result<TargetJob, OutOfMemory>
 fn engine(alloc: Global, waits: &[u32; 4]) -> Result<TransferEngine, OutOfMemory> {
     let mut stalls = Vec::new(alloc);
     for wait in waits {
-        stalls.push(*wait)?;
+        if stalls.push(*wait).is_err() {
+            return Err(OutOfMemory);
+        }
     }
     Ok(TransferEngine::new(Target::new(alloc, &job(alloc)?)?, stalls))
 }
