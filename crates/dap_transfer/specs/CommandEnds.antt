@@ -80,6 +80,7 @@ abbrev pub masked_by : Response → Transferred → ℕ → Transferred
 masked_by Good d mask = record d { executed = d.executed + 1; next = record d.next { mask = mask } }
 masked_by _ d mask = d
 
+-- the same, by how the command ended
 abbrev pub masked : Transferred → ℕ → Transferred
 masked d mask = masked_by d.response d mask
 
