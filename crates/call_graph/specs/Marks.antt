@@ -1,10 +1,11 @@
--- Sets of nodes, as a mark for each node.
+-- Sets of nodes, as a mark for each node: what private contracts cite.
 use Rattle.std.specs.Prelude.{◌≡◌, ℕ, ◌<◌, ◌⊎◌, Bool, true, false, List, length, map, MatchOption, Option, slice_index_or}
 use Rattle.std.specs.List.{list_any}
 use Rattle.call_graph.specs.declared.graph.CallSpot.{CallSpot}
 use Rattle.call_graph.specs.Graph.{Calls, Leads}
 use Rattle.call_graph.specs.Spots.{IsCallOf, IsInCycle}
 
+-- whether the node is marked; a number that is no node is not
 abbrev pub is_marked : List Bool → ℕ → Bool
 is_marked marks v = slice_index_or marks v false
 

@@ -1,4 +1,4 @@
--- Numbers of nodes, as a list.
+-- Numbers of nodes, as a list: what private contracts cite.
 use Rattle.std.specs.Prelude.{◌≡◌, ℕ, ◌≤◌, List, Contains, slice_index}
 use Rattle.call_graph.specs.Graph.{callees_of, Calls}
 

@@ -20,6 +20,7 @@ unary_value u.Plus value = value
 abbrev pub quotient : ℕ → ℕ → Option ℕ
 quotient left right = if right == 0 then None else Some (left / right)
 
+-- the remainder, where the divisor is not 0
 abbrev pub remainder : ℕ → ℕ → Option ℕ
 remainder left right = if right == 0 then None else Some (left % right)
 
@@ -27,6 +28,7 @@ remainder left right = if right == 0 then None else Some (left % right)
 abbrev pub shifted_left : ℕ → ℕ → ℕ
 shifted_left left right = if nat_lt right 64 then (left * 2 ^ right) % 2 ^ 64 else 0
 
+-- a shift by 64 or more gives 0
 abbrev pub shifted_right : ℕ → ℕ → ℕ
 shifted_right left right = if nat_lt right 64 then left / 2 ^ right else 0
 

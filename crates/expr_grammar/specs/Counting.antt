@@ -1,4 +1,5 @@
--- Counting tokens and parentheses, and the answer that follows from what was read before the limit.
+-- Counting tokens and parentheses, and the answer that follows from what was read before the limit: what private
+-- contracts cite.
 use Rattle.std.specs.Prelude.{◌≡◌, ℕ, ◌+◌, ◌-◌, Bool, false, ◌&&◌, ◌||◌, ◌==◌, List, length, count_by, Result, Ok, Err, codes, nat_lt, if◌then◌else◌}
 use Rattle.expr_grammar.specs.declared.limit.Count.{Count}
 use Rattle.expr_grammar.specs.declared.limit.Span.{Span}
@@ -26,6 +27,7 @@ abbrev pub ends : Span → Lexeme → Bool
 ends Text k = false
 ends Statement k = is_mark (codes ";") k
 
+-- with one more token
 abbrev pub counted : Count → Lexeme → Count
 counted count k = record {
   tokens = count.tokens + 1;
@@ -33,9 +35,11 @@ counted count k = record {
   closed = count.closed + (if is_mark (codes ")") k then 1 else 0);
 }
 
+-- no token
 abbrev pub nothing_counted : Count
 nothing_counted = record { tokens = 0; opened = 0; closed = 0 }
 
+-- what is counted after this token
 abbrev pub with_token : Span → Count → Lexeme → Count
 with_token span count k = if ends span k then nothing_counted else counted count k
 

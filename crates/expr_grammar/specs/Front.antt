@@ -1,4 +1,4 @@
--- What stands at the front of a text, as the search for tokens finds it.
+-- What is at the front of a text, as the search for tokens finds it: what private contracts cite.
 use Rattle.std.specs.Prelude.{◌≡◌, ℕ, suc, ◌+◌, ◌-◌, ◌<◌, ◌≤◌, Bool, true, false, not, ◌&&◌, ◌==◌, List, [], ◌∷◌, length, Option, Some, None, ◌⊎◌, slice_index, if◌then◌else◌}
 use Rattle.expr_grammar.specs.declared.front.Piece.{Piece}
 use Rattle.expr_grammar.specs.declared.front.Piece.TheVariants.{Gap, Token}
@@ -16,10 +16,12 @@ pub record IsCut (n : ℕ) (bs : List ℕ) : Type 0 where
   pub within : n ≤ length bs
   pub edge : (n < length bs → slice_index bs n < 128) ⊎ (slice_index bs (n - 1) < 128)
 
+-- how many bytes the piece has
 abbrev pub piece_len : Piece → ℕ
 piece_len (Gap n) = n
 piece_len (Token kind n) = n
 
+-- the piece at the front, or none can be taken
 abbrev pub FrontIs : List ℕ → Option Piece → Type 0
 FrontIs bs None = IsStuck bs
 FrontIs bs (Some (Gap n)) = IsGapPiece n bs × IsCut n bs
@@ -30,6 +32,7 @@ abbrev pub ClosesFirst : List ℕ → Option ℕ → Type 0
 ClosesFirst bs None = (k : ℕ) → 2 ≤ k → closes bs k ≡ false
 ClosesFirst bs (Some n) = (k : ℕ) × (2 ≤ k) × (n ≡ k + 2) × (closes bs k ≡ true) × ((j : ℕ) → 2 ≤ j → j < k → closes bs j ≡ false)
 
+-- one more, where there is a number
 abbrev pub one_more : Option ℕ → Option ℕ
 one_more None = None
 one_more (Some n) = Some (suc n)

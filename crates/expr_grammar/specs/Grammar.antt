@@ -64,14 +64,17 @@ level b.Or = 2
 
 -- ---- single tokens
 
+-- the token is this mark
 pub record IsMark (text : List ℕ) (k : Lexeme) : Type 0 where
   pub kind : k.kind ≡ kinds.Mark
   pub text_is : k.text ≡ text
 
+-- the token is a number of this value
 pub record IsNumber (n : ℕ) (k : Lexeme) : Type 0 where
   pub kind : k.kind ≡ kinds.Number
   pub value : number_value k.text ≡ Some n
 
+-- the token is this name
 pub record IsName (n : Name) (k : Lexeme) : Type 0 where
   pub kind : k.kind ≡ kinds.Name
   pub text_is : k.text ≡ n.text

@@ -13,6 +13,7 @@ use Rattle.expr_grammar.specs.Spelling.{is_word, IsTokenText}
 abbrev pub is_blank : ℕ → Bool
 is_blank b = b == 32 || b == 9 || b == 13 || b == 10
 
+-- any byte but a line feed
 abbrev pub is_in_line : ℕ → Bool
 is_in_line b = not (b == 10)
 
@@ -20,12 +21,15 @@ is_in_line b = not (b == 10)
 abbrev pub place_after : List ℕ → Place
 place_after before = record { line = 1 + count_by (λ b. b == 10) before; column = 1 + suffix_len is_in_line before }
 
+-- the place of the byte at this offset of a text
 abbrev pub place_at : List ℕ → ℕ → Place
 place_at text n = place_after (take n text)
 
+-- `//`
 abbrev pub begins_line_comment : List ℕ → Bool
 begins_line_comment bs = slice_index bs 0 == 47 && slice_index bs 1 == 47
 
+-- `/*`
 abbrev pub begins_block_comment : List ℕ → Bool
 begins_block_comment bs = slice_index bs 0 == 47 && slice_index bs 1 == 42
 
@@ -49,6 +53,7 @@ pub record IsBlockComment (n : ℕ) (bs : List ℕ) : Type 0 where
   pub ends : closes bs close ≡ true
   pub size : n ≡ close + 2
 
+-- the first n bytes are one blank or one comment
 pub data IsGapFront : ℕ → List ℕ → Type 0 where
   blank : {bs : List ℕ} → is_blank (slice_index bs 0) ≡ true → IsGapFront 1 bs
   line : {n : ℕ} {bs : List ℕ} → IsLineComment n bs → IsGapFront n bs

@@ -1,4 +1,4 @@
--- Reading from left to right. An error is how many tokens are left where it is met.
+-- Reading from left to right: what private contracts cite. An error is how many tokens are left where it is met.
 use Rattle.std.specs.Prelude.{◌≡◌, ℕ, zero, suc, ◌+◌, Bool, true, false, ◌&&◌, ◌==◌, List, [], ◌∷◌, length, Option, Some, None, Result, Ok, Err, nat_lt, if◌then◌else◌, codes}
 use Rattle.std.specs.Str.{bytes_eq}
 use Rattle.dap_base.specs.declared.text.Place.{Place}

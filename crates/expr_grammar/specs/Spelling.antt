@@ -14,9 +14,11 @@ is_letter b = is_ascii_alphabetic b || b == 95
 abbrev pub is_word : ℕ → Bool
 is_word b = is_ascii_alphanumeric b || b == 95
 
+-- a decimal digit
 abbrev pub is_decimal : ℕ → Bool
 is_decimal b = nat_le 48 b && nat_le b 57
 
+-- one of these bytes
 abbrev pub is_among : List ℕ → ℕ → Bool
 is_among [] b = false
 is_among (c ∷ cs) b = b == c || is_among cs b
@@ -29,9 +31,11 @@ is_single b = is_among (codes "(),;?:!~+-*/%<>&^|=") b
 abbrev pub is_pair : ℕ → ℕ → Bool
 is_pair a b = (b == 61 && is_among (codes "<>=!") a) || (a == b && is_among (codes "<>&|") a)
 
+-- the one keyword
 abbrev pub keyword : List ℕ
 keyword = codes "__var"
 
+-- a mark of one byte or of two, or the keyword
 pub data IsMarkText : List ℕ → Type 0 where
   single : {a : ℕ} → is_single a ≡ true → IsMarkText (a ∷ [])
   pair : {a b : ℕ} → is_pair a b ≡ true → IsMarkText (a ∷ b ∷ [])
@@ -49,11 +53,13 @@ pub data IsQuoted : List ℕ → Type 0 where
   plain : {b : ℕ} {bs : List ℕ} → b ≢ 34 → b ≢ 92 → b ≢ 10 → IsQuoted bs → IsQuoted (b ∷ bs)
   escaped : {b : ℕ} {bs : List ℕ} → b ≢ 10 → IsQuoted bs → IsQuoted (92 ∷ b ∷ bs)
 
+-- a text between quotes
 pub record IsStringText (text : List ℕ) : Type 0 where
   pub body : List ℕ
   pub parts : text ≡ 34 ∷ body ++ 34 ∷ []
   pub quoted : IsQuoted body
 
+-- how a token of each kind is spelled
 abbrev pub IsTokenText : TokenKind → List ℕ → Type 0
 IsTokenText kinds.Number text = IsSome (number_value text)
 IsTokenText kinds.Name text = IsNameText text

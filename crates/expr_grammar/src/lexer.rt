@@ -17,8 +17,8 @@ use std::alloc::Global;
 /// `OutOfMemory` where memory is refused. The text is gone through once, and nothing of it is copied.
 pub fn tokens<'a>(alloc: Global, text: &'a str) -> Result<Tokens<'a>, TokenError>
     ensures answer { Lexes text.now result }
-    ensures only_tokens { (ts : List Lexeme) → AreTokensOf text.now ts → GivesTokens ts result }
-    ensures only_bad { (bad : ℕ) → IsFirstBad text.now bad → GivesBad (place_at text.now bad) result }
+    ensures only { (ts : List Lexeme) → AreTokensOf text.now ts → GivesTokens ts result }
+    ensures only_fault { (bad : ℕ) → IsFirstBad text.now bad → GivesBad (place_at text.now bad) result }
 {
     cut(alloc, text)
 }

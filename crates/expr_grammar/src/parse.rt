@@ -41,7 +41,7 @@ pub enum ParseError {
 /// token is unexpected. `OutOfMemory` where memory is refused.
 pub fn parse_expr(alloc: Global, tokens: &Tokens<'_>) -> Result<Expr, ParseError>
     ensures answer { Answers tree ReadsExpr Text tokens.now result }
-    ensures only_tree { (e : Tree) → IsAccepted ReadsExpr Text tokens.now e → Accepts tree e result }
+    ensures only { (e : Tree) → IsAccepted ReadsExpr Text tokens.now e → Accepts tree e result }
     ensures only_unexpected { (i : ℕ) → IsUnexpectedFirst ReadsExpr Text tokens.now i
         → Refuses (ParseError.Unexpected (place_of tokens.now i)) result }
     ensures only_too_deep { (i : ℕ) → IsDeepFirst ReadsExpr Text tokens.now i
@@ -58,7 +58,7 @@ pub fn parse_expr(alloc: Global, tokens: &Tokens<'_>) -> Result<Expr, ParseError
 /// `__var` and `;` among them. `OutOfMemory` where memory is refused.
 pub fn parse_code(alloc: Global, tokens: &Tokens<'_>) -> Result<Code, ParseError>
     ensures answer { Answers code_trees ReadsCode Statement tokens.now result }
-    ensures only_code { (code : List StmtTree) → IsAccepted ReadsCode Statement tokens.now code
+    ensures only { (code : List StmtTree) → IsAccepted ReadsCode Statement tokens.now code
         → Accepts code_trees code result }
     ensures only_unexpected { (i : ℕ) → IsUnexpectedFirst ReadsCode Statement tokens.now i
         → Refuses (ParseError.Unexpected (place_of tokens.now i)) result }

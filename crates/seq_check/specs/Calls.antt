@@ -44,15 +44,18 @@ abbrev mutual
   args_calls names NoArgs = []
   args_calls names (MoreArgs a more) = arg_calls names a ++ args_calls names more
 
+-- the calls of a statement
 abbrev pub statement_calls : List (List ℕ) → StmtTree → List TextCall
 statement_calls names (Empty at) = []
 statement_calls names (Declare name e) = expr_calls names e
 statement_calls names (Plain at e) = expr_calls names e
 
+-- the calls of statements
 abbrev pub block_calls : List (List ℕ) → List StmtTree → List TextCall
 block_calls names [] = []
 block_calls names (s ∷ code) = statement_calls names s ++ block_calls names code
 
+-- the calls of a condition, where there is one
 abbrev pub condition_calls : List (List ℕ) → Option Tree → List TextCall
 condition_calls names None = []
 condition_calls names (Some e) = expr_calls names e

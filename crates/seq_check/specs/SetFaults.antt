@@ -31,6 +31,7 @@ pub record Of (holder : Holder) (Inside : StepFault → Type 0) (f : SetFault) :
   pub holder_is : f.holder ≡ holder
   pub holds : Inside f.fault
 
+-- the names of the sequences, in order
 abbrev pub names_of : SetTrees → List (List ℕ)
 names_of set = map (λ s. s.name) set.sequences
 

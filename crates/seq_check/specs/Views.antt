@@ -1,4 +1,4 @@
--- What the code's faults stand for.
+-- What the code's faults mean: what private contracts cite.
 use Rattle.std.specs.Prelude.{[]}
 use Rattle.seq_check.specs.declared.faulty.PartFault.{PartFault}
 use Rattle.seq_check.specs.declared.faulty.FaultyStep.{FaultyStep}

@@ -27,10 +27,12 @@ use Rattle.sequence_code.specs.SetView.{set_trees}
 
 -- ---- of a text
 
+-- a text without tokens has its fault at its first bad token
 abbrev pub token_fault : TokenError → TextFault
 token_fault (tokens.BadToken at) = texts.Syntax at
 token_fault tokens.OutOfMemory = texts.OutOfMemory
 
+-- a text whose tokens are refused has its fault at the refused token
 abbrev pub parse_fault : ParseError → TextFault
 parse_fault (parses.Unexpected at) = texts.Syntax at
 parse_fault (parses.TooDeep at) = texts.Syntax at

@@ -32,6 +32,7 @@ IsFine kinds.If text = (e : Tree) × IsConditionOf text e
 IsFine kinds.While text = (e : Tree) × IsConditionOf text e
 IsFine kinds.Control text = ⊥
 
+-- the text is not that, and this is the place of its first fault
 abbrev pub IsFaulty : Part → List ℕ → Place → Type 0
 IsFaulty kinds.Debugvars text at = IsFaultyCode text at
 IsFaulty kinds.Block text at = IsFaultyCode text at
@@ -50,6 +51,7 @@ pub record IsFirstFaulty {W : Type 0} (texts : List (TextAt W)) (step : W) (part
 
 -- ---- the texts of steps; a step is the path to it from the list that they stand in
 
+-- a text of steps
 abbrev pub StepText : Type 0
 StepText = TextAt (List ℕ)
 
@@ -57,6 +59,7 @@ StepText = TextAt (List ℕ)
 abbrev pub own : Part → List ℕ → StepText
 own part text = record { step = []; part = part; text = text }
 
+-- the text of this part, where there is one
 abbrev pub text_if_some : Part → Option (List ℕ) → List StepText
 text_if_some part text = option_map_or (λ t. own part t ∷ []) text []
 
@@ -89,13 +92,16 @@ pub record SetStep : Type 0 where
 abbrev pub enabled_steps : SeqEntry → device.StepTree
 enabled_steps e = if e.disabled then device.no_steps else e.steps
 
+-- the texts of a sequence
 abbrev pub entry_texts : SeqEntry → List (TextAt SetStep)
 entry_texts e = map (moved (λ path. record { sequence = Some e.name; path = path })) (steps_texts 0 (enabled_steps e))
 
+-- the texts of sequences, in order
 abbrev pub entries_texts : List SeqEntry → List (TextAt SetStep)
 entries_texts [] = []
 entries_texts (e ∷ es) = entry_texts e ++ entries_texts es
 
+-- the text of the debug variables
 abbrev pub debugvars_texts : List ℕ → List (TextAt SetStep)
 debugvars_texts text = record { step = record { sequence = None; path = [] }; part = kinds.Debugvars; text = text } ∷ []
 
@@ -103,6 +109,7 @@ debugvars_texts text = record { step = record { sequence = None; path = [] }; pa
 abbrev pub set_texts : SeqSet → List (TextAt SetStep)
 set_texts set = debugvars_texts set.debugvars ++ entries_texts set.entries
 
+-- the step of a spot
 abbrev pub step_of : Spot → SetStep
 step_of spot = record { sequence = spot.sequence; path = spot.path }
 

@@ -19,6 +19,7 @@ abbrev pub IsFaultOf : List StepText → StepFault → Type 0
 IsFaultOf all (steps.Syntax f) = IsFirstFaulty all f.path f.part f.place
 IsFaultOf all steps.OutOfMemory = Unit {0}
 
+-- the fault is the first of these texts of a set that is faulty
 abbrev pub IsSetFaultOf : List (TextAt SetStep) → SetFault → Type 0
 IsSetFaultOf all (sets.Syntax spot) = IsFirstFaulty all (step_of spot) spot.part spot.place
 IsSetFaultOf all sets.OutOfMemory = Unit {0}
@@ -38,6 +39,7 @@ abbrev pub ReadsStep : device.Step → CodeStep → Type 0
 ReadsStep (device.TheVariants.Block code atomic) = ReadsBlock code
 ReadsStep (device.TheVariants.Control cond repeat timeout inner) = ReadsControl cond repeat timeout (λ own. ReadsSteps inner own)
 
+-- the texts of one step
 abbrev pub step_texts : device.Step → List StepText
 step_texts (device.TheVariants.Block code atomic) = block_texts code
 step_texts (device.TheVariants.Control cond repeat timeout inner) = control_texts cond repeat (steps_texts 0 inner)
