@@ -3,3 +3,4 @@ pub mod StepsOpen
 pub mod KeyLemmas
 pub mod StepsLaws
 pub mod PackLaws
+pub mod FaultLaws

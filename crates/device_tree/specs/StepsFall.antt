@@ -1,4 +1,4 @@
--- A list inside is smaller than the list around it.
+-- A list inside is smaller than the list around it: a lemma for `Model` of `Steps`, which cites what is in specs/ alone.
 use Rattle.std.specs.Prelude.{◌≤◌, List, [], ◌∷◌}
 use Rattle.std.proofs.Common.{arith}
 use denote.Param.Weighed.{most}

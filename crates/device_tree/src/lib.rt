@@ -1,6 +1,7 @@
 //! The levels of a device pack and their debug access sequences, read from JSON.
 #![tactic(auto)]
 
+pub mod laws;
 mod levels;
 mod pack;
 mod sequences;

@@ -5,3 +5,4 @@ pub mod LeafLaws
 pub mod ObjectLaws
 pub mod ListLaws
 pub mod ItemLaws
+pub mod FaultLaws

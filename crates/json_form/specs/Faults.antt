@@ -49,6 +49,21 @@ Fails (BadNumber path) read = read ≡ Err (BadNumber path)
 Fails (TooMany path) read = read ≡ Err (TooMany path)
 Fails OutOfMemory read = Unit {0}
 
+-- the fault is one of the value, and not that memory was refused
+abbrev pub IsValueFault : JobFault → Type 0
+IsValueFault (Missing path) = Unit {0}
+IsValueFault (WrongKind path) = Unit {0}
+IsValueFault (UnknownKey path) = Unit {0}
+IsValueFault (Repeated path) = Unit {0}
+IsValueFault (BadNumber path) = Unit {0}
+IsValueFault (TooMany path) = Unit {0}
+IsValueFault OutOfMemory = ⊥
+
+-- reading gives a value, or a fault of it
+abbrev pub IsDecided : {A : Type 0} → Result A JobFault → Type 0
+IsDecided (Ok x) = Unit {0}
+IsDecided (Err fault) = IsValueFault fault
+
 -- A function answered what reading gives: the value, the first fault with its path, or that memory ran out.
 abbrev pub Gives : {A : Type 0} → Result A JobFault → Result A JobFault → Type 0
 Gives (Ok x) read = read ≡ Ok x
