@@ -1,7 +1,8 @@
 //! Runs and their reports.
 use super::jobs::{READ_REPORT, REPORT, job_of, read_job, word_job, write_job};
-use super::{CHECK, RUN, ends};
+use super::{CHECK, RUN, call, ends};
 use crate::Status;
+use probe_core::SilentBench;
 use std::process::Abort;
 use std::test::Fail;
 
@@ -25,6 +26,17 @@ fn runs_are_reported(rt: HostRuntime) -> Result<(), Fail> {
             (Status::Done, report),
         )?;
     }
+    Ok(())
+}
+
+// Over a bench that is not observable, as each real probe is, a run is made and reported like any other.
+#[test]
+fn a_silent_bench_is_reported(rt: HostRuntime) -> Result<(), Fail> {
+    let job = read_job(rt.alloc())?;
+    let mut bench = SilentBench::new(rt.alloc());
+    let (status, sink) = call(rt.alloc(), &RUN, job.as_bytes(), &[], &[], &mut bench)?;
+    assert_eq!(rt; status, Status::Done);
+    assert_eq!(rt; sink.bytes(), READ_REPORT.as_bytes());
     Ok(())
 }
 
