@@ -1,15 +1,12 @@
 -- Words and bytes ask for one thing at most.
-use Rattle.std.proofs.Common.{◌≡◌, ◌∙◌, ℕ, Bool, true, false, List, Option, None, Some, Result, Ok, Err, length, nat_le, inl, inr, ◌⊎◌, sym, ap, subst, refl}
-use Rattle.std.specs.Prelude.{IfSome, IfOk, MatchBool}
+use Rattle.std.proofs.Common.{◌≡◌, ◌∙◌, ℕ, Bool, true, false, List, [], Option, None, Some, Result, Ok, Err, length, nat_le, ◌<◌, ◌≤◌, sym, ap, subst, refl, arith}
+use Rattle.std.specs.Prelude.{IfOk, MatchBool}
 use Rattle.serde_json.specs.Data.{Data}
 use Rattle.command_words.specs.declared.answer.Command.{Command}
 use Rattle.command_words.specs.declared.answer.Command.TheVariants as commands
 use Rattle.sequence_resolve.specs.declared.selection.Selection.{Selection}
 use Rattle.command_words.specs.Table.{IsCommand}
 use Rattle.command_words.proofs.TableLemmas.{one_command}
-use Rattle.sequence_resolve.specs.declared.entry.SeqSet.{SeqSet}
-use Rattle.job_check.specs.declared.answer.Refusal.{Refusal}
-use Rattle.job_check.specs.Answers.{IsAnswer}
 use Rattle.job_check.proofs.OneAnswer as check
 use Rattle.word_job.specs.declared.job.RunJob.{RunJob}
 use Rattle.word_job.specs.Job.{IsJob}
@@ -18,6 +15,7 @@ use Rattle.dapseq_tool.specs.declared.asking.Answer.{Answer}
 use Rattle.dapseq_tool.specs.declared.asking.Answer.TheVariants as answers
 use Rattle.dapseq_tool.specs.declared.asking.Asked.{Asked}
 use Rattle.dapseq_tool.specs.declared.asking.Asked.TheVariants as asked
+use Rattle.dapseq_tool.specs.Headline.{AreBytesOf}
 use Rattle.dapseq_tool.specs.Asked.{IsBuilt, IsUsage, of_check, AsksOfCheck, IsRunOf, AsksOfRun, text_value, limit, AsksOfBytes, AsksOfCommand, Asks, usage, command, IfRun, UnlessRun}
 
 -- ---- one thing
@@ -69,30 +67,24 @@ not_both : (answer : Answer) (job : RunJob) → asked.Answer answer ≡ asked.Ru
 not_both answer job e = cc
 
 -- what holds of the run that is asked for
-pub run_only : (words : List (List ℕ)) (left : Option (List ℕ)) (what : Asked) (here : RunJob) (P : RunJob → Type 0) → what ≡ asked.Run here → IfSome left (λ bytes. Asks words bytes what) → P here → IfSome left (λ bytes. IfRun words bytes P)
-run_only words None what here P is asks holds = tt
-run_only words (Some bytes) what here P is asks holds =
-    λ job other. subst P (same_run here job (sym is ∙ one_answer words bytes what (asked.Run job) asks other)) holds
+pub run_only : (words : List (List ℕ)) (bytes : List ℕ) (here : RunJob) (P : RunJob → Type 0) → Asks words bytes (asked.Run here) → P here → IfRun words bytes P
+run_only words bytes here P asks holds =
+    λ job other. subst P (same_run here job (one_answer words bytes (asked.Run here) (asked.Run job) asks other)) holds
 
 -- where a run is asked for, no answer is
-pub no_answer : (words : List (List ℕ)) (left : Option (List ℕ)) (what : Asked) (here : RunJob) (P : Answer → Type 0) → what ≡ asked.Run here → IfSome left (λ bytes. Asks words bytes what) → IfSome left (λ bytes. UnlessRun words bytes P)
-no_answer words None what here P is asks = tt
-no_answer words (Some bytes) what here P is asks =
-    λ answer other. absurd (not_both answer here (one_answer words bytes (asked.Answer answer) what other asks ∙ is))
-
--- ---- the answer that is asked for
+pub no_answer : (words : List (List ℕ)) (bytes : List ℕ) (here : RunJob) (P : Answer → Type 0) → Asks words bytes (asked.Run here) → UnlessRun words bytes P
+no_answer words bytes here P asks =
+    λ answer other. absurd (not_both answer here (one_answer words bytes (asked.Answer answer) (asked.Run here) other asks))
 
 -- what holds of the answer that is asked for
-pub answer_only : (words : List (List ℕ)) (left : Option (List ℕ)) (what : Asked) (here : Answer) (P : Answer → Type 0) → what ≡ asked.Answer here → IfSome left (λ bytes. Asks words bytes what) → P here → IfSome left (λ bytes. UnlessRun words bytes P)
-answer_only words None what here P is asks holds = tt
-answer_only words (Some bytes) what here P is asks holds =
-    λ answer other. subst P (same_answer here answer (sym is ∙ one_answer words bytes what (asked.Answer answer) asks other)) holds
+pub answer_only : (words : List (List ℕ)) (bytes : List ℕ) (here : Answer) (P : Answer → Type 0) → Asks words bytes (asked.Answer here) → P here → UnlessRun words bytes P
+answer_only words bytes here P asks holds =
+    λ answer other. subst P (same_answer here answer (one_answer words bytes (asked.Answer here) (asked.Answer answer) asks other)) holds
 
 -- where an answer is asked for, no run is
-pub no_run : (words : List (List ℕ)) (left : Option (List ℕ)) (what : Asked) (here : Answer) (P : RunJob → Type 0) → what ≡ asked.Answer here → IfSome left (λ bytes. Asks words bytes what) → IfSome left (λ bytes. IfRun words bytes P)
-no_run words None what here P is asks = tt
-no_run words (Some bytes) what here P is asks =
-    λ job other. absurd (not_both here job (sym is ∙ one_answer words bytes what (asked.Run job) asks other))
+pub no_run : (words : List (List ℕ)) (bytes : List ℕ) (here : Answer) (P : RunJob → Type 0) → Asks words bytes (asked.Answer here) → IfRun words bytes P
+no_run words bytes here P asks =
+    λ job other. absurd (not_both here job (one_answer words bytes (asked.Answer here) (asked.Run job) asks other))
 
 -- ---- what each step asks for
 
@@ -101,17 +93,35 @@ pub not_built : (s : Selection) (sequence device name : List ℕ) (d : Data) →
     → (job : RunJob) → IsRunOf s sequence d job → ⊥
 not_built s sequence device name d e f none job is = none job (rw (e, f) is.holds)
 
--- words that are no command ask for the usage
-pub usage_asked : (words : List (List ℕ)) (left : Option (List ℕ)) → IsUsage words → IfSome left (λ bytes. Asks words bytes (asked.Answer answers.Usage))
-usage_asked words None none = tt
-usage_asked words (Some bytes) none = usage none refl
+-- each source has bytes
+pub some_bytes : (left : Option (List ℕ)) → (bytes : List ℕ) × AreBytesOf left bytes
+some_bytes None = ([], tt)
+some_bytes (Some bytes) = (bytes, refl)
 
-command_asked_of : (words : List (List ℕ)) (left : Option (List ℕ)) (c : Command) (what : Asked) → IsCommand words c → IsBuilt c → IfSome left (λ bytes. AsksOfCommand c bytes what) → IfSome left (λ bytes. Asks words bytes what)
-command_asked_of words None c what is built h = tt
-command_asked_of words (Some bytes) c what is built h = command c is built h
+-- words that are no command ask for the usage
+pub usage_asked : (words : List (List ℕ)) (left : Option (List ℕ)) → IsUsage words → (bytes : List ℕ) × AreBytesOf left bytes × Asks words bytes (asked.Answer answers.Usage)
+usage_asked words left none = let some = some_bytes left in (some.0, some.1, usage none refl)
+
+-- too many bytes ask for the refusal
+pub long_asked : (left : Option (List ℕ)) (c : Command) → ((bytes : List ℕ) × AreBytesOf left bytes × (limit < length bytes))
+    → (bytes : List ℕ) × AreBytesOf left bytes × AsksOfCommand c bytes (asked.Answer answers.TooLong)
+long_asked left c long = (long.0, long.1, by_length (nat_le (length long.0) limit) refl)
+  where
+    by_length : (b : Bool) → nat_le (length long.0) limit ≡ b → MatchBool b (AsksOfBytes c long.0 (asked.Answer answers.TooLong)) (asked.Answer answers.TooLong ≡ asked.Answer answers.TooLong)
+    by_length true e = let past = long.2 in let no : ⊥ = grind arith in absurd no
+    by_length false e = refl
+
+-- what the bytes of a source ask for
+pub bytes_asked : (left : Option (List ℕ)) (c : Command) (bytes : List ℕ) (what : Asked) → AreBytesOf left bytes → length bytes ≤ limit → AsksOfBytes c bytes what
+    → (bytes : List ℕ) × AreBytesOf left bytes × AsksOfCommand c bytes what
+bytes_asked left c bytes what are short asks = (bytes, are, by_length (nat_le (length bytes) limit) refl)
+  where
+    by_length : (b : Bool) → nat_le (length bytes) limit ≡ b → MatchBool b (AsksOfBytes c bytes what) (what ≡ asked.Answer answers.TooLong)
+    by_length true e = asks
+    by_length false e = let no : ⊥ = grind arith in absurd no
 
 -- what a command asks for, the words do
 pub command_asked : {E : Type 0} (words : List (List ℕ)) (left : Option (List ℕ)) (c : Command) (r : Result Asked E) → IsCommand words c → IsBuilt c
-    → IfOk r (λ what. IfSome left (λ bytes. AsksOfCommand c bytes what)) → IfOk r (λ what. IfSome left (λ bytes. Asks words bytes what))
-command_asked words left c (Ok what) is built h = command_asked_of words left c what is built h
-command_asked words left c (Err e) is built h = tt
+    → IfOk r (λ what. (bytes : List ℕ) × AreBytesOf left bytes × AsksOfCommand c bytes what) → IfOk r (λ what. (bytes : List ℕ) × AreBytesOf left bytes × Asks words bytes what)
+command_asked words left c (Ok what) is built asks = (asks.0, asks.1, command c is built asks.2)
+command_asked words left c (Err e) is built asks = tt

@@ -14,5 +14,7 @@ pub mod RequestLemmas
 pub mod RunLemmas
 pub mod StartLemmas
 pub mod RunJobLemmas
-pub mod CallLemmas
 pub mod AskedLemmas
+pub mod ReadingLemmas
+pub mod CallLemmas
+pub mod MemoryLemmas

@@ -69,11 +69,11 @@ room_for count done region ss before after m n can is few = record {
   ready = is.ready;
 }
 
-pub done_more : (region : RegionJob) (count : ℕ) (ss : List Statement) (s : Statement) (v : ℕ) (before after : List ℕ) (m n o : BenchState) → IsPlaced region s → 5 * length ss + 5 ≤ count → CanRun region count m → AreDone region ss before after m n → (CanRun region 5 n → IsStatementDone s v n o) → AreDone region (ss ++ s ∷ []) before (stored s v after) m o
-done_more region count ss s v before after m n o placed few can is more =
+pub done_more : (region : RegionJob) (count : ℕ) (ss : List Statement) (s : Statement) (v : ℕ) (before later : List ℕ) (m n o : BenchState) → IsPlaced region s → 5 * length ss + 5 ≤ count → CanRun region count m → AreDone region ss before later m n → (CanRun region 5 n → IsStatementDone s v n o) → AreDone region (ss ++ s ∷ []) before (stored s v later) m o
+done_more region count ss s v before later m n o placed few can is more =
     let t : TargetState = target_of m.probe in
     let now : Now = ran t before ss in
-    let ready : CanRun region 5 n = room_for count 0 region ss before after m n can is few in
+    let ready : CanRun region 5 n = room_for count 0 region ss before later m n can is few in
     let one : IsStatementDone s v n o = more ready in
     let f : UnitFacts region (target_of n.probe) s = unit_facts region (target_of n.probe) s is.ready placed in
     let five : length (statement_done (target_of n.probe) s).actions ≡ 5 = ap length f.actions in
@@ -87,7 +87,7 @@ done_more region count ss s v before after m n o placed few can is more =
           one.target ∙ f.next ∙ ap (after_actions (target_of n.probe)) (sym f.actions) ∙ ap (λ u. after_actions u (statement_done (target_of n.probe) s).actions) is.accesses
           ∙ ap (λ d. after_actions (after_actions t now.issued) d.actions) at ∙ sym (accesses_of t now.issued (statement_done now.target s).actions)
           ∙ sym (ap (λ (w : Now). after_actions t w.issued) same);
-      values = one.stores after ∙ ap (λ d. stored s (value_of d.end) after) at ∙ ap (λ vs. stored s (value_of (statement_done now.target s).end) vs) is.values ∙ sym (ap (λ (w : Now). w.values) same);
+      values = one.stores later ∙ ap (λ d. stored s (value_of d.end) later) at ∙ ap (λ vs. stored s (value_of (statement_done now.target s).end) vs) is.values ∙ sym (ap (λ (w : Now). w.values) same);
       work = let a = one.work in let b = is.work in omega (arith, a, b, five, issued);
       count = let c = is.count in let l = length_both ss (s ∷ []) in omega (arith, c, l, issued);
       ready = subst (IsReady region) (sym one.target) f.ready;
@@ -112,11 +112,11 @@ amid_more t now s rest acts m n o same from went work part =
           ∙ ap (after_actions (target_of m.probe)) (sym first);
     })
 
-pub part_more : (region : RegionJob) (count : ℕ) (ss : List Statement) (s : Statement) (rest : List Statement) (before after : List ℕ) (m n o : BenchState) → 5 * length ss + 5 ≤ count → CanRun region count m → AreDone region ss before after m n → (CanRun region 5 n → IsAmid (statement_done (target_of n.probe) s).actions n o) → IsAmid (ran (target_of m.probe) before (ss ++ s ∷ rest)).issued m o
-part_more region count ss s rest before after m n o few can is part =
+pub part_more : (region : RegionJob) (count : ℕ) (ss : List Statement) (s : Statement) (rest : List Statement) (before later : List ℕ) (m n o : BenchState) → 5 * length ss + 5 ≤ count → CanRun region count m → AreDone region ss before later m n → (CanRun region 5 n → IsAmid (statement_done (target_of n.probe) s).actions n o) → IsAmid (ran (target_of m.probe) before (ss ++ s ∷ rest)).issued m o
+part_more region count ss s rest before later m n o few can is part =
     let t : TargetState = target_of m.probe in
     subst (λ (w : Now). IsAmid w.issued m o) (sym (fold_both after (now_of t before) ss (s ∷ rest)))
-    (amid_more t (ran t before ss) s rest (statement_done (target_of n.probe) s).actions m n o (ap (λ (u : TargetState). (statement_done u s).actions) is.target) refl is.accesses is.work (part (room_for count 0 region ss before after m n can is few)))
+    (amid_more t (ran t before ss) s rest (statement_done (target_of n.probe) s).actions m n o (ap (λ (u : TargetState). (statement_done u s).actions) is.target) refl is.accesses is.work (part (room_for count 0 region ss before later m n can is few)))
 
 pub none_done : (region : RegionJob) (count : ℕ) (before : List ℕ) (m : BenchState) → CanRun region count m → AreDone region [] before before m m
 none_done region count before m can = record {

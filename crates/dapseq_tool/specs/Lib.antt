@@ -8,3 +8,4 @@ pub mod Ready
 pub mod Units
 pub mod Blocks
 pub mod Headline
+pub mod InMemory

@@ -1,5 +1,5 @@
 -- The report of a run, and what is written where no job runs.
-use Rattle.std.specs.Prelude.{ℕ, zero, suc, ◌+◌, List, [], ◌++◌, length, codes}
+use Rattle.std.specs.Prelude.{ℕ, zero, suc, ◌+◌, List, [], ◌∷◌, ◌++◌, length, codes}
 use Rattle.std.specs.List.{flat_map, zip}
 use Rattle.target_machine.specs.Image.{shown}
 use Rattle.target_machine.specs.State.{TargetState}
@@ -56,16 +56,13 @@ word_lines t address (suc n) = part_of t (ask.Word address) ++ word_lines t (add
 abbrev pub watch_lines : TargetState → List WatchItem → List ℕ
 watch_lines t watch = flat_map (λ item. word_lines t item.address item.words) watch
 
--- the lines of a target from the probe's lines on, and from the access port 0 on
-abbrev pub lines_on : TargetState → List WatchItem → List ℕ
-lines_on t watch = part_of t ask.Lines ++ watch_lines t watch
-
-abbrev pub ports_on : TargetState → List WatchItem → List ℕ
-ports_on t watch = part_of t (ask.Ap 0) ++ lines_on t watch
+-- the lines of parts of a target
+abbrev pub part_lines : TargetState → List ImageAsk → List ℕ
+part_lines t parts = flat_map (part_of t) parts
 
 -- the lines of a target: the debug port, the access port 0, the lines of the probe, and the words that are watched
 abbrev pub target_lines : TargetState → List WatchItem → List ℕ
-target_lines t watch = part_of t ask.Dp ++ ports_on t watch
+target_lines t watch = part_lines t (ask.Dp ∷ ask.Ap 0 ∷ ask.Lines ∷ []) ++ watch_lines t watch
 
 -- the lines of a report from the variables on, and from the number of units on
 abbrev pub values_on : RunJob → List ℕ → TargetState → List ℕ

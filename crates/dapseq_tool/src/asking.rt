@@ -1,9 +1,10 @@
 //! What a call is asked for.
-ghost use Rattle.std.specs.Prelude.{◌≡◌, ◌⊎◌, ◌≤◌, IsUtf8, None, Some, length, IfOk, OnOk, IfErr, IfSome, IsErrOf, option_map, MatchBool};
+ghost use Rattle.std.specs.Prelude.{◌≡◌, ◌⊎◌, ◌≤◌, IsUtf8, ℕ, List, None, Some, length, IfOk, OnOk, IfErr, IfSome, IsErrOf, option_map, MatchBool};
 ghost use Rattle.dap_base.specs.Causes.{Rose};
 ghost use Rattle.serde_json.specs.View.{view};
 ghost use Rattle.command_words.specs.Table.{IsCommand};
 ghost use Rattle.dapseq_tool.specs.Asked.{limit, text_value, IsBuilt, IsUsage, IsRunCommand, IsRunLine, AsksOfCheck, AsksOfRun, AsksOfBytes, AsksOfCommand, Asks, OnRun};
+ghost use Rattle.dapseq_tool.specs.Headline.{AreBytesOf, AreTaken};
 ghost use Rattle.word_job.specs.Sound.{IsSoundRun};
 
 use crate::reading::{Unread, read_all};
@@ -146,7 +147,8 @@ fn asked_of_source<S: Source>(
     source: &mut S,
 ) -> Result<Asked, Unasked>
     requires { IsBuilt command.now }
-    ensures asked { IfOk result (λ what. IfSome (S.left source.old) (λ bytes. AsksOfCommand command.now bytes what)) }
+    ensures asked { IfOk result (λ what. (bytes : List ℕ) × AreBytesOf (S.left source.old) bytes × AsksOfCommand command.now bytes what) }
+    ensures taken { OnOk result (AreTaken (S.left source.old) (S.left source.new)) }
     ensures sound { IfOk result (λ what. OnRun what IsSoundRun) }
     ensures run { IfOk result (λ what. OnRun what (λ job. IsRunCommand command.now)) }
     ensures used { IfOk result (λ what. what ≡ Asked.Answer Answer.Usage → ⊥) }
@@ -169,7 +171,11 @@ fn asked_of_source<S: Source>(
 /// What the words and the source ask for. Where the words are no command of a mode that is built, the
 /// source is not read.
 pub fn ask<S: Source>(alloc: Global, words: &Words, source: &mut S) -> Result<Asked, Unasked>
-    ensures asked { IfOk result (λ what. IfSome (S.left source.old) (λ bytes. Asks words.now bytes what)) }
+    ensures asked { IfOk result (λ what. (bytes : List ℕ) × AreBytesOf (S.left source.old) bytes × Asks words.now bytes what) }
+    ensures taken { OnOk result ((IsUsage words.now → ⊥) → AreTaken (S.left source.old) (S.left source.new)) }
+    ensures usage_only { IfOk result (λ what. IsUsage words.now → what ≡ Asked.Answer Answer.Usage) }
+    ensures usage_unread { IsUsage words.now → source.new ≡ source.old }
+    ensures usage_fault { IsErrOf result Unasked.ReadFault → IsUsage words.now → ⊥ }
     ensures sound { IfOk result (λ what. OnRun what IsSoundRun) }
     ensures run { IfOk result (λ what. OnRun what (λ job. IsRunLine words.now)) }
     ensures usage { IfOk result (λ what. what ≡ Asked.Answer Answer.Usage → IsUsage words.now) }

@@ -1,4 +1,4 @@
-//! The top call: one run of a debug access sequence over any source, sink and bench.
+//! The top call: a check or a run of a debug access sequence over any source, sink and bench.
 #![tactic(auto)]
 
 mod access;
@@ -9,6 +9,7 @@ mod chain;
 mod exchange;
 pub mod laws;
 mod lines;
+mod memory;
 mod reading;
 mod reporting;
 mod run;
@@ -16,6 +17,7 @@ mod status;
 mod unit;
 
 pub use call::dapseq;
+pub use memory::{InMemory, dapseq_in_memory};
 pub use status::Status;
 
 #[cfg(test)]

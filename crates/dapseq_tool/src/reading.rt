@@ -1,8 +1,9 @@
 //! Reading a source to its end.
-ghost use Rattle.std.specs.Prelude.{◌≡◌, ◌⊎◌, ◌≤◌, ◌<◌, length, IfOk, OnOk, IfErr, IfSome, IsErrOf};
+ghost use Rattle.std.specs.Prelude.{◌≡◌, ◌⊎◌, ◌≤◌, ◌<◌, ℕ, List, length, IfOk, OnOk, IfErr, IfSome, IsErrOf};
 ghost use Rattle.std.specs.Io.KnownBytes.{IsAtEnd};
 ghost use Rattle.dap_base.specs.Causes.{Rose};
 ghost use Rattle.dapseq_tool.specs.Asked.{limit};
+ghost use Rattle.dapseq_tool.specs.Headline.{AreBytesOf, AreTaken};
 
 use dap_base::Source;
 use std::alloc::Global;
@@ -27,10 +28,12 @@ pub enum Unread {
 /// All that a source has left. `TooLong` exactly where it is more than 16,777,216 bytes, of which
 /// 16,777,217 are taken then.
 pub fn read_all<S: Source>(alloc: Global, source: &mut S) -> Result<Vec<u8>, Unread>
-    ensures whole { IfOk result (λ v. IfSome (S.left source.old) (λ bytes. v.items ≡ bytes)) }
+    ensures whole { IfOk result (λ v. AreBytesOf (S.left source.old) v.items) }
     ensures short { IfOk result (λ v. length v.items ≤ limit) }
     ensures end { OnOk result (IsAtEnd (S.left source.new)) }
-    ensures too_long { IsErrOf result Unread.TooLong → IfSome (S.left source.old) (λ bytes. limit < length bytes) }
+    ensures too_long { IsErrOf result Unread.TooLong → (bytes : List ℕ) × AreBytesOf (S.left source.old) bytes × (limit < length bytes) }
+    ensures taken { OnOk result (AreTaken (S.left source.old) (S.left source.new)) }
+    ensures taken_too_far { IsErrOf result Unread.TooLong → AreTaken (S.left source.old) (S.left source.new) }
     ensures failed { IsErrOf result Unread.Failed → Rose (S.faults source.old) (S.faults source.new) }
     ensures quiet { IfErr result (λ e. (e ≡ Unread.Failed) ⊎ (S.faults source.new ≡ S.faults source.old)) }
     ensures quiet_ok { OnOk result (S.faults source.new ≡ S.faults source.old) }

@@ -6,7 +6,7 @@ ghost use Rattle.probe_core.specs.Bench.{IsAsBefore, seen};
 ghost use Rattle.probe_core.specs.Probe.{target_of};
 ghost use Rattle.text_lines.specs.Causes.{NamesFault};
 ghost use Rattle.word_job.specs.Sound.{IsLowItem};
-ghost use Rattle.dapseq_tool.specs.Report.{part_line, part_of, variable_lines, word_lines, watch_lines, lines_on, ports_on, target_lines, values_on, units_on, done_text};
+ghost use Rattle.dapseq_tool.specs.Report.{part_line, part_of, variable_lines, word_lines, watch_lines, part_lines, target_lines, values_on, units_on, done_text};
 
 use crate::lines::{ap_text, dp_text, lines_text, units_text, variable_text, word_text};
 use dap_base::{OutOfMemory, Sink};
@@ -135,45 +135,28 @@ fn write_watch<K: Sink, B: Bench>(
     Ok(())
 }
 
-// Puts the line of the probe's lines and those of the words that are watched.
-fn write_lines<K: Sink, B: Bench>(
+// Puts the lines of parts of the target.
+fn write_parts<K: Sink, B: Bench>(
     alloc: Global,
-    watch: &[WatchItem],
+    parts: &[ImageAsk],
     bench: &mut B,
     sink: &mut K,
 ) -> Result<(), TextEnd>
-    requires { All IsLowItem watch.now }
-    ensures text { IfSome (B.state bench.old) (λ m. PutAppends (K.written sink.old) (K.written sink.new) result (lines_on (target_of m.probe) watch.now)) }
+    ensures text { IfSome (B.state bench.old) (λ m. PutAppends (K.written sink.old) (K.written sink.new) result (part_lines (target_of m.probe) parts.now)) }
     ensures same { IsAsBefore (seen B.reported B.state bench.old) (seen B.reported B.state bench.new) }
     ensures bench { NamesFault TextEnd.BenchFault (B.reported bench.old).faults (B.reported bench.new).faults result }
     ensures sink { NamesFault TextEnd.WriteFault (K.faults sink.old) (K.faults sink.new) result }
 {
-    match write_part(alloc, ImageAsk::Lines, bench, sink) {
-        Ok(()) => write_watch(alloc, watch, bench, sink),
-        Err(end) => Err(end),
+    for part in parts {
+        match write_part(alloc, *part, bench, sink) {
+            Ok(()) => {}
+            Err(end) => return Err(end),
+        }
     }
+    Ok(())
 }
 
-// Puts the line of the access port, and those after it.
-fn write_ports<K: Sink, B: Bench>(
-    alloc: Global,
-    watch: &[WatchItem],
-    bench: &mut B,
-    sink: &mut K,
-) -> Result<(), TextEnd>
-    requires { All IsLowItem watch.now }
-    ensures text { IfSome (B.state bench.old) (λ m. PutAppends (K.written sink.old) (K.written sink.new) result (ports_on (target_of m.probe) watch.now)) }
-    ensures same { IsAsBefore (seen B.reported B.state bench.old) (seen B.reported B.state bench.new) }
-    ensures bench { NamesFault TextEnd.BenchFault (B.reported bench.old).faults (B.reported bench.new).faults result }
-    ensures sink { NamesFault TextEnd.WriteFault (K.faults sink.old) (K.faults sink.new) result }
-{
-    match write_part(alloc, ImageAsk::Ap(0), bench, sink) {
-        Ok(()) => write_lines(alloc, watch, bench, sink),
-        Err(end) => Err(end),
-    }
-}
-
-// Puts the lines of a target.
+// Puts the lines of a target: the debug port, the access port 0, the lines of the probe, and the words that are watched.
 fn write_target<K: Sink, B: Bench>(
     alloc: Global,
     watch: &[WatchItem],
@@ -186,8 +169,9 @@ fn write_target<K: Sink, B: Bench>(
     ensures bench { NamesFault TextEnd.BenchFault (B.reported bench.old).faults (B.reported bench.new).faults result }
     ensures sink { NamesFault TextEnd.WriteFault (K.faults sink.old) (K.faults sink.new) result }
 {
-    match write_part(alloc, ImageAsk::Dp, bench, sink) {
-        Ok(()) => write_ports(alloc, watch, bench, sink),
+    let parts = [ImageAsk::Dp, ImageAsk::Ap(0), ImageAsk::Lines];
+    match write_parts(alloc, &parts, bench, sink) {
+        Ok(()) => write_watch(alloc, watch, bench, sink),
         Err(end) => Err(end),
     }
 }

@@ -1,63 +1,105 @@
--- The run that is asked for is the one that was made.
-use Rattle.std.specs.Prelude.{IfSome}
-use Rattle.dap_base.specs.Streams.{AppendsPrefix}
-use Rattle.probe_core.specs.Bench.{StepsTo}
-use Rattle.dapseq_tool.specs.Blocks.{IsPartDone}
-use Rattle.dapseq_tool.specs.Headline.{Moment, moment, Succeeds, Answers}
-use Rattle.dapseq_tool.specs.Report.{report, answer_text}
-use Rattle.dapseq_tool.proofs.AskedLemmas.{run_only, no_answer, no_run, answer_only}
-use Rattle.dapseq_tool.proofs.CallLemmas.{success_run, answers_of}
+-- What is asked for is what was done.
+use Rattle.std.proofs.Common.{refl, inr, ap, Err}
+use Rattle.dapseq_tool.specs.Headline.{Call, moment}
+use Rattle.dapseq_tool.specs.Report.{fault_text}
+use Rattle.dapseq_tool.proofs.CallLemmas.{no_rise, whole_prefix, run_asked, answer_asked, unknown_does}
+use Rattle.dapseq_tool.specs.declared.status.Status.TheVariants as status
 use Rattle.dapseq_tool.proofs.call.dapseq.Goals as goal
 
-pub returns-in-Ok-Run-clause-success : goal.returns-in-Ok-Run-clause-success
-returns-in-Ok-Run-clause-success g c = λ quiet reported.
-    let old : Moment = moment g.S.Source.left g.S.Source.faults g.K.Sink.written g.K.Sink.faults g.B.Bench.reported g.B.Bench.state c.args.source.now c.args.sink.now c.args.bench.now in
-    let new : Moment = moment g.S.Source.left g.S.Source.faults g.K.Sink.written g.K.Sink.faults g.B.Bench.reported g.B.Bench.state c.ask.new.source c.run.new.sink c.run.new.bench in
-    run_only c.args.words.now (g.S.Source.left c.args.source.now) c.in-Ok-Run.field-0 c.in-Ok-Run.job (Succeeds old new c.run.result) c.in-Ok-Run.field-0-is c.in-Ok-Run.ensures.asked
-    (success_run old new c.run.result c.in-Ok-Run.job c.run.ensures.done c.run.ensures.text c.run.ensures.write c.run.ensures.bench c.run.ensures.bad c.run.ensures.ends quiet reported)
+pub returns-in-Ok-Run-clause-asked : goal.returns-in-Ok-Run-clause-asked
+returns-in-Ok-Run-clause-asked g c =
+    let call : Call = record {
+      words = c.args.words.now;
+      old = moment g.S.Source.left g.S.Source.faults g.K.Sink.written g.K.Sink.faults g.B.Bench.reported g.B.Bench.state c.args.source.now c.args.sink.now c.args.bench.now;
+      new = moment g.S.Source.left g.S.Source.faults g.K.Sink.written g.K.Sink.faults g.B.Bench.reported g.B.Bench.state c.ask.new.source c.run.new.sink c.run.new.bench;
+      end = c.run.result;
+    } in
+    run_asked call _ c.in-Ok-Run.field-0 c.in-Ok-Run.job c.in-Ok-Run.field-0-is c.in-Ok-Run.ensures.asked (record {
+      done = c.run.ensures.done;
+      text = c.run.ensures.text;
+      part = c.run.ensures.part;
+      after = c.run.ensures.after;
+      lines = c.run.ensures.lines;
+      write = c.run.ensures.write;
+      bench = c.run.ensures.bench;
+      bad = c.run.ensures.bad;
+      ends = c.run.ensures.ends;
+    })
 
-pub returns-in-Ok-Run-clause-outside : goal.returns-in-Ok-Run-clause-outside
-returns-in-Ok-Run-clause-outside g c =
-    run_only c.args.words.now (g.S.Source.left c.args.source.now) c.in-Ok-Run.field-0 c.in-Ok-Run.job (λ job. StepsTo (IsPartDone job) (g.B.Bench.state c.args.bench.now) (g.B.Bench.state c.run.new.bench)) c.in-Ok-Run.field-0-is c.in-Ok-Run.ensures.asked c.run.ensures.part
+pub returns-in-Ok-Answer-clause-asked : goal.returns-in-Ok-Answer-clause-asked
+returns-in-Ok-Answer-clause-asked g c =
+    let call : Call = record {
+      words = c.args.words.now;
+      old = moment g.S.Source.left g.S.Source.faults g.K.Sink.written g.K.Sink.faults g.B.Bench.reported g.B.Bench.state c.args.source.now c.args.sink.now c.args.bench.now;
+      new = moment g.S.Source.left g.S.Source.faults g.K.Sink.written g.K.Sink.faults g.B.Bench.reported g.B.Bench.state c.ask.new.source c.answer.new.sink c.args.bench.now;
+      end = c.answer.result;
+    } in
+    answer_asked call _ c.in-Ok-Answer.field-0 c.in-Ok-Answer.what c.in-Ok-Answer.field-0-is c.in-Ok-Answer.ensures.asked (record {
+      text = c.answer.ensures.text;
+      part = c.answer.ensures.part;
+      write = c.answer.ensures.write;
+      ends = c.answer.ensures.ends;
+    }) refl
 
-pub returns-in-Ok-Run-clause-lines : goal.returns-in-Ok-Run-clause-lines
-returns-in-Ok-Run-clause-lines g c = λ quiet.
-    run_only c.args.words.now (g.S.Source.left c.args.source.now) c.in-Ok-Run.field-0 c.in-Ok-Run.job (λ job. IfSome (g.B.Bench.state c.args.bench.now) (λ m. AppendsPrefix (g.K.Sink.written c.args.sink.now) (g.K.Sink.written c.run.new.sink) (report job))) c.in-Ok-Run.field-0-is c.in-Ok-Run.ensures.asked c.run.ensures.lines
+pub returns-in-Err-OutOfMemory-clause-asked : goal.returns-in-Err-OutOfMemory-clause-asked
+returns-in-Err-OutOfMemory-clause-asked g c =
+    let call : Call = record {
+      words = c.args.words.now;
+      old = moment g.S.Source.left g.S.Source.faults g.K.Sink.written g.K.Sink.faults g.B.Bench.reported g.B.Bench.state c.args.source.now c.args.sink.now c.args.bench.now;
+      new = moment g.S.Source.left g.S.Source.faults g.K.Sink.written g.K.Sink.faults g.B.Bench.reported g.B.Bench.state c.ask.new.source c.args.sink.now c.args.bench.now;
+      end = status.OutOfMemory;
+    } in
+    unknown_does call _ (record {
+      state = refl;
+      text = λ quiet. refl;
+      failed = λ read quiet memory. memory refl;
+      loud = λ quiet. quiet.memory refl;
+      known = λ quiet memory. memory refl;
+      done = λ e. cc;
+      refused = λ e. cc;
+    }) refl
 
-pub returns-in-Ok-Run-clause-unchanged : goal.returns-in-Ok-Run-clause-unchanged
-returns-in-Ok-Run-clause-unchanged g c =
-    no_answer c.args.words.now (g.S.Source.left c.args.source.now) c.in-Ok-Run.field-0 c.in-Ok-Run.job _ c.in-Ok-Run.field-0-is c.in-Ok-Run.ensures.asked
+pub returns-in-Ok-clause-asked : goal.returns-in-Ok-clause-asked
+returns-in-Ok-clause-asked g c =
+    let call : Call = record {
+      words = c.args.words.now;
+      old = moment g.S.Source.left g.S.Source.faults g.K.Sink.written g.K.Sink.faults g.B.Bench.reported g.B.Bench.state c.args.source.now c.args.sink.now c.args.bench.now;
+      new = moment g.S.Source.left g.S.Source.faults g.K.Sink.written g.K.Sink.faults g.B.Bench.reported g.B.Bench.state c.ask.new.source c.put.new.self c.args.bench.now;
+      end = status.ReadFault;
+    } in
+    unknown_does call _ (record {
+      state = refl;
+      text = λ quiet. absurd (no_rise _ _ quiet (c.in-Err-ReadFault.ensures.failed (ap Err c.in-Err-ReadFault.field-0-is)));
+      failed = λ read quiet memory. read refl;
+      loud = λ quiet. no_rise _ _ quiet.source (c.in-Err-ReadFault.ensures.failed (ap Err c.in-Err-ReadFault.field-0-is));
+      known = λ quiet memory. no_rise _ _ quiet (c.in-Err-ReadFault.ensures.failed (ap Err c.in-Err-ReadFault.field-0-is));
+      done = λ e. cc;
+      refused = λ e. cc;
+    }) refl
 
-pub returns-in-Ok-Run-clause-answer : goal.returns-in-Ok-Run-clause-answer
-returns-in-Ok-Run-clause-answer g c = λ read quiet memory.
-    no_answer c.args.words.now (g.S.Source.left c.args.source.now) c.in-Ok-Run.field-0 c.in-Ok-Run.job _ c.in-Ok-Run.field-0-is c.in-Ok-Run.ensures.asked
+pub returns-in-Err-clause-asked : goal.returns-in-Err-clause-asked
+returns-in-Err-clause-asked g c =
+    let call : Call = record {
+      words = c.args.words.now;
+      old = moment g.S.Source.left g.S.Source.faults g.K.Sink.written g.K.Sink.faults g.B.Bench.reported g.B.Bench.state c.args.source.now c.args.sink.now c.args.bench.now;
+      new = moment g.S.Source.left g.S.Source.faults g.K.Sink.written g.K.Sink.faults g.B.Bench.reported g.B.Bench.state c.ask.new.source c.put.new.self c.args.bench.now;
+      end = status.WriteFault;
+    } in
+    unknown_does call _ (record {
+      state = refl;
+      text = λ quiet. absurd (no_rise _ _ quiet (c.in-Err-ReadFault.ensures.failed (ap Err c.in-Err-ReadFault.field-0-is)));
+      failed = λ read quiet memory. no_rise _ _ quiet c.in-Err.ensures.cause.failed;
+      loud = λ quiet. no_rise _ _ quiet.source (c.in-Err-ReadFault.ensures.failed (ap Err c.in-Err-ReadFault.field-0-is));
+      known = λ quiet memory. no_rise _ _ quiet (c.in-Err-ReadFault.ensures.failed (ap Err c.in-Err-ReadFault.field-0-is));
+      done = λ e. cc;
+      refused = λ e. cc;
+    }) refl
 
--- ---- an answer
+pub returns-in-Ok-clause-source_fault_prefix : goal.returns-in-Ok-clause-source_fault_prefix
+returns-in-Ok-clause-source_fault_prefix g c = inr (whole_prefix (g.K.Sink.written c.args.sink.now) (g.K.Sink.written c.put.new.self) fault_text c.in-Ok.ensures.bytes)
 
-pub returns-in-Ok-Answer-clause-success : goal.returns-in-Ok-Answer-clause-success
-returns-in-Ok-Answer-clause-success g c = λ quiet reported.
-    no_run c.args.words.now (g.S.Source.left c.args.source.now) c.in-Ok-Answer.field-0 c.in-Ok-Answer.what _ c.in-Ok-Answer.field-0-is c.in-Ok-Answer.ensures.asked
+pub returns-in-Ok-Run-clause-taken : goal.returns-in-Ok-Run-clause-taken
+returns-in-Ok-Run-clause-taken g c = λ command quiet memory. c.in-Ok-Run.ensures.taken command
 
-pub returns-in-Ok-Answer-clause-outside : goal.returns-in-Ok-Answer-clause-outside
-returns-in-Ok-Answer-clause-outside g c =
-    no_run c.args.words.now (g.S.Source.left c.args.source.now) c.in-Ok-Answer.field-0 c.in-Ok-Answer.what _ c.in-Ok-Answer.field-0-is c.in-Ok-Answer.ensures.asked
-
-pub returns-in-Ok-Answer-clause-lines : goal.returns-in-Ok-Answer-clause-lines
-returns-in-Ok-Answer-clause-lines g c = λ quiet.
-    no_run c.args.words.now (g.S.Source.left c.args.source.now) c.in-Ok-Answer.field-0 c.in-Ok-Answer.what _ c.in-Ok-Answer.field-0-is c.in-Ok-Answer.ensures.asked
-
-pub returns-in-Ok-Answer-clause-answer : goal.returns-in-Ok-Answer-clause-answer
-returns-in-Ok-Answer-clause-answer g c = λ read quiet memory.
-    let old : Moment = moment g.S.Source.left g.S.Source.faults g.K.Sink.written g.K.Sink.faults g.B.Bench.reported g.B.Bench.state c.args.source.now c.args.sink.now c.args.bench.now in
-    let new : Moment = moment g.S.Source.left g.S.Source.faults g.K.Sink.written g.K.Sink.faults g.B.Bench.reported g.B.Bench.state c.ask.new.source c.answer.new.sink c.args.bench.now in
-    answer_only c.args.words.now (g.S.Source.left c.args.source.now) c.in-Ok-Answer.field-0 c.in-Ok-Answer.what (Answers old new c.answer.result) c.in-Ok-Answer.field-0-is c.in-Ok-Answer.ensures.asked
-    (answers_of old new c.answer.result c.in-Ok-Answer.what c.answer.ensures.text c.answer.ensures.write c.answer.ensures.ends quiet memory)
-
-pub returns-in-Ok-Answer-clause-part : goal.returns-in-Ok-Answer-clause-part
-returns-in-Ok-Answer-clause-part g c = λ quiet.
-    answer_only c.args.words.now (g.S.Source.left c.args.source.now) c.in-Ok-Answer.field-0 c.in-Ok-Answer.what (λ answer. AppendsPrefix (g.K.Sink.written c.args.sink.now) (g.K.Sink.written c.answer.new.sink) (answer_text answer))
-    c.in-Ok-Answer.field-0-is c.in-Ok-Answer.ensures.asked c.answer.ensures.part
-
-pub returns-in-Ok-Run-clause-part : goal.returns-in-Ok-Run-clause-part
-returns-in-Ok-Run-clause-part g c = λ quiet.
-    no_answer c.args.words.now (g.S.Source.left c.args.source.now) c.in-Ok-Run.field-0 c.in-Ok-Run.job _ c.in-Ok-Run.field-0-is c.in-Ok-Run.ensures.asked
+pub returns-in-Ok-Answer-clause-taken : goal.returns-in-Ok-Answer-clause-taken
+returns-in-Ok-Answer-clause-taken g c = λ command quiet memory. c.in-Ok-Answer.ensures.taken command
