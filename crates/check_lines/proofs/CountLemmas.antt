@@ -1,30 +1,13 @@
 -- Counts of steps in a row.
-use Rattle.std.proofs.Common.{◌≡◌, ℕ, zero, suc, ◌+◌, ◌*◌, ◌<◌, ◌≤◌, Bool, true, false, List, [], ◌∷◌, length, take, get_or, sym, ap, ◌∙◌, arith, if◌then◌else◌}
+use Rattle.std.proofs.Common.{◌≡◌, ℕ, ◌+◌, ◌<◌, Bool, true, false, List, [], ◌∷◌, length, take, get_or, sym, ap, ◌∙◌, arith, if◌then◌else◌}
 use Rattle.std.proofs.lemmas.List.{take_more}
-use Rattle.device_tree.specs.StepTree.{StepTree, no_steps, block, control, tree_size}
+use Rattle.device_tree.specs.StepTree.{StepTree, no_steps, block, control}
 use Rattle.device_tree.specs.StepsView.{steps_view, then_step, cons_step}
 use Rattle.device_tree.specs.declared.steps.Step.{Step}
 use Rattle.device_tree.specs.declared.steps.Step.TheVariants.{Block, Control}
 use Rattle.device_tree.proofs.StepsLemmas.{steps_view-append}
 use Rattle.check_lines.specs.declared.counts.StepCounts.{StepCounts}
 use Rattle.check_lines.specs.Counts.{sum_over, AreCounts, IsSum}
-
--- ---- what the recursion goes down by
-
-abbrev pub step_weight : Step → ℕ
-step_weight (Block code atomic) = 0
-step_weight (Control cond repeat timeout steps) = 3 * tree_size steps + 3
-
-weight_first : (s : Step) (ss : List Step) → step_weight s + 3 * tree_size (steps_view ss) ≤ 3 * tree_size (steps_view (s ∷ ss))
-weight_first (Block code atomic) ss = omega arith
-weight_first (Control cond repeat timeout steps) ss = omega arith
-
-pub weight_below : (ss : List Step) (i : ℕ) (s : Step) → i < length ss → step_weight (get_or ss i s) ≤ 3 * tree_size (steps_view ss)
-weight_below [] i s h = absurd (omega arith)
-weight_below (x ∷ ss) zero s h = omega (arith, weight_first x ss)
-weight_below (x ∷ ss) (suc i) s h = let lt : i < length ss = omega arith in omega (arith, weight_first x ss, weight_below ss i s lt)
-
--- ---- the counts
 
 -- one step more at the end
 sum_over-then : (f : Bool → ℕ) (n : ℕ) (t : StepTree) (s : Step) → sum_over f n (then_step t s) ≡ sum_over f n t + sum_over f n (cons_step s no_steps)

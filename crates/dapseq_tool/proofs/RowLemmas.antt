@@ -13,6 +13,7 @@ use Rattle.probe_core.specs.Bench.{BenchState, Seen, IsAsBefore}
 use Rattle.probe_core.specs.Probe.{target_of}
 use Rattle.dapseq_tool.specs.Report.{part_of, word_lines}
 use Rattle.text_lines.proofs.PutLemmas.{prefix_first, put_after}
+use Rattle.check_lines.proofs.RowLemmas.{row_more, row_cut}
 
 -- a bench that is twice as it was before
 pub before-trans : (a b c : Seen) → IsAsBefore a b → IsAsBefore b c → IsAsBefore a c
@@ -65,12 +66,6 @@ words_cut (Some m) a b c address i n below first second =
     subst (λ k. AppendsPrefix a c (word_lines t address k)) all
     (rw (word_lines-add t address (i + 1) (n - (i + 1))) (prefix_first a c (word_lines t address (i + 1)) (word_lines t (address + 4 * (i + 1)) (n - (i + 1))) so_far))
 
--- an item that is there
-pub slice_get-in : {X : Type 0} (xs : List X) (i : ℕ) (d : X) → i < length xs → slice_get xs i ≡ Some (get_or xs i d)
-slice_get-in [] i d inside = let no : ⊥ = omega arith in absurd no
-slice_get-in (x ∷ xs) zero d inside = refl
-slice_get-in (x ∷ xs) (suc i) d inside = slice_get-in xs i d (omega arith)
-
 pub some_fact : {X : Type 0} (P : X → Type 0) (o : Option X) (x : X) → o ≡ Some x → IfSome o P → P x
 some_fact P o x same fact = subst (λ p. IfSome p P) same fact
 
@@ -86,28 +81,6 @@ take-zip [] ys i all = take-nil i
 take-zip (x ∷ xs) [] i all = take-nil i
 take-zip (x ∷ xs) (y ∷ ys) zero all = let no : ⊥ = omega arith in absurd no
 take-zip (x ∷ xs) (y ∷ ys) (suc i) all = ap (λ zs. (x, y) ∷ zs) (take-zip xs ys i (omega arith))
-
--- the first items and the one after them
-pub take-at : {X : Type 0} (xs : List X) (i : ℕ) (x : X) → slice_get xs i ≡ Some x → take (i + 1) xs ≡ take i xs ++ x ∷ []
-take-at [] zero x at = cc
-take-at [] (suc i) x at = cc
-take-at (y ∷ ys) zero x at = let same : y ≡ x = cc in rw same refl
-take-at (y ∷ ys) (suc i) x at =
-    let more : suc i + 1 ≡ suc (i + 1) = omega arith in
-    rw more (ap (λ zs. y ∷ zs) (take-at ys i x at))
-
--- one row more
-pub row_more : {X : Type 0} (a b c : Option (List ℕ)) (g : X → List ℕ) (xs : List X) (i : ℕ) (x : X) → slice_get xs i ≡ Some x → Appends a b (flat_map g (take i xs)) → Appends b c (g x) → Appends a c (flat_map g (take (i + 1) xs))
-row_more a b c g xs i x at first second =
-    rw (take-at xs i x at, flat_map-append g (take i xs) (x ∷ []), append-nil (g x)) (Appends-trans a b c (flat_map g (take i xs)) (g x) first second)
-
--- the rows before one, and a part of it
-pub row_cut : {X : Type 0} (a b c : Option (List ℕ)) (g : X → List ℕ) (xs : List X) (i : ℕ) (x : X) → slice_get xs i ≡ Some x → Appends a b (flat_map g (take i xs)) → AppendsPrefix b c (g x) → AppendsPrefix a c (flat_map g xs)
-row_cut a b c g xs i x at first second =
-    let so_far : AppendsPrefix a c (flat_map g (take (i + 1) xs)) =
-    rw (take-at xs i x at, flat_map-append g (take i xs) (x ∷ []), append-nil (g x)) (put_after {E = Unit {0}} a b c (Err tt) (flat_map g (take i xs)) (g x) first second) in
-    subst (λ ys. AppendsPrefix a c (flat_map g ys)) (take-append-drop (i + 1) xs)
-    (rw (flat_map-append g (take (i + 1) xs) (drop (i + 1) xs)) (prefix_first a c (flat_map g (take (i + 1) xs)) (flat_map g (drop (i + 1) xs)) so_far))
 
 -- the same of what a bench shows
 pub rows_more : {X : Type 0} (s : Option BenchState) (a b c : Option (List ℕ)) (g : TargetState → X → List ℕ) (xs : List X) (i : ℕ) (x : X) → slice_get xs i ≡ Some x → Wrote s (λ t. flat_map (g t) (take i xs)) a b → Wrote s (λ t. g t x) b c → Wrote s (λ t. flat_map (g t) (take (i + 1) xs)) a c

@@ -16,7 +16,7 @@ use Rattle.word_job.specs.Sound.{IsLowRegion, IsStatementOf, IsSoundRun}
 use Rattle.dapseq_tool.specs.Units.{address_of, IsPlaced, CanRun, IsStatementDone}
 use Rattle.word_job.specs.declared.job.RunJob.{RunJob}
 use Rattle.word_job.specs.declared.statement.Statement.TheVariants.{Write, Read}
-use Rattle.dapseq_tool.proofs.RowLemmas.{take-at, slice_get-in}
+use Rattle.check_lines.proofs.RowLemmas.{take-at, slice_get-in}
 use Rattle.dapseq_tool.specs.Blocks.{AreDone, HaveRun, IsAmidBlock}
 use Rattle.word_job.specs.declared.statement.Statement.{Statement}
 use Rattle.dapseq_tool.proofs.ChainLemmas.{steps_then}

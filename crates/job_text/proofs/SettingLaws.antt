@@ -11,7 +11,8 @@ use Rattle.target_machine.specs.declared.unit.Variable.{Variable}
 use Rattle.job_text.specs.declared.job.Job.{Job}
 use Rattle.job_text.specs.declared.job.WatchItem.{WatchItem}
 use Rattle.job_text.specs.RunReading.{with_value, zeros, default_settings}
-use Rattle.job_text.specs.RunForm.{variable_names, HasValues, AreVariables, IsRun}
+use Rattle.function_table.specs.Variables.{predefined}
+use Rattle.job_text.specs.RunForm.{HasValues, AreVariables, IsRun}
 use Rattle.job_text.specs.JobForm.{IsWatchItem, IsJob}
 use Rattle.job_text.specs.Ranges.{AreSettings, IsWatched, AreWatched}
 use Rattle.job_text.proofs.RangeLaws.{or_default, is_equal}
@@ -29,7 +30,7 @@ run_settings d x is =
     record {
       some = turn.0;
       few = turn.1;
-      names = or_default (codes "variables") AreVariables zeros d x.start (λ vs. map (λ variable. variable.name) vs ≡ variable_names) (λ v vs h. names-values variable_names v vs h.values) refl is.start;
+      names = or_default (codes "variables") AreVariables zeros d x.start (λ vs. map (λ variable. variable.name) vs ≡ predefined) (λ v vs h. names-values predefined v vs h.values) refl is.start;
     }
 
 pub settings_in_range : (d : Data) (job : Job) → IsJob d job → AreSettings job.settings

@@ -4,14 +4,14 @@ use Rattle.std.specs.List.{All}
 use Rattle.target_machine.specs.declared.job.RegionJob.{RegionJob}
 use Rattle.target_machine.specs.declared.unit.Settings.{Settings}
 use Rattle.job_text.specs.declared.job.WatchItem.{WatchItem}
-use Rattle.job_text.specs.RunForm.{variable_names}
+use Rattle.function_table.specs.Variables.{predefined}
 use Rattle.job_text.specs.Tests.{are_words_in}
 
 -- 1 to 60,000,000 microseconds a turn, and a value for each predefined variable, in their order
 pub record AreSettings (settings : Settings) : Type 0 where
   pub some : 1 ≤ settings.turn_us
   pub few : settings.turn_us ≤ 60000000
-  pub names : map (λ variable. variable.name) settings.start ≡ variable_names
+  pub names : map (λ variable. variable.name) settings.start ≡ predefined
 
 -- 1 to 65,536 words, each in one of the regions
 pub record IsWatched (regions : List RegionJob) (item : WatchItem) : Type 0 where

@@ -2,13 +2,10 @@
 use Rattle.std.specs.Prelude.{◌≡◌, ℕ, ◌-◌, ◌^◌, codes, List, [], ◌∷◌}
 use Rattle.serde_json.specs.Data.{Data}
 use Rattle.json_form.specs.Form.{IsNumber, HasOnly, HasOr}
+use Rattle.function_table.specs.Variables.{predefined}
 use Rattle.target_machine.specs.declared.unit.Variable.{Variable}
 use Rattle.target_machine.specs.declared.unit.Settings.{Settings}
 use Rattle.job_text.specs.RunReading.{with_value, zeros}
-
--- the names that starting values may be given for, in order
-abbrev pub variable_names : List (List ℕ)
-variable_names = codes "__protocol" ∷ codes "__connection" ∷ codes "__dp" ∷ codes "__ap" ∷ codes "__traceout" ∷ codes "__errorcontrol" ∷ codes "__Result" ∷ []
 
 -- the variables have these names, each with the value that is given, or 0
 abbrev pub HasValues : List (List ℕ) → Data → List Variable → Type 0
@@ -17,8 +14,8 @@ HasValues (name ∷ names) d variables =
     (value : ℕ) × (rest : List Variable) × (variables ≡ with_value value name ∷ rest) × HasOr name (IsNumber 0 (2 ^ 64 - 1)) 0 d value × HasValues names d rest
 
 pub record AreVariables (d : Data) (variables : List Variable) : Type 0 where
-  pub known : HasOnly variable_names d
-  pub values : HasValues variable_names d variables
+  pub known : HasOnly predefined d
+  pub values : HasValues predefined d variables
 
 pub record IsRun (d : Data) (settings : Settings) : Type 0 where
   pub known : HasOnly (codes "turn_us" ∷ codes "retry" ∷ codes "idle" ∷ codes "variables" ∷ []) d

@@ -6,11 +6,12 @@ use Rattle.dap_base.specs.Outcome.{◌>>=◌}
 use Rattle.json_form.specs.Reading.{number, only_keys, or_else}
 use Rattle.target_machine.specs.declared.unit.Variable.{Variable}
 use Rattle.target_machine.specs.declared.unit.Settings.{Settings}
-use Rattle.job_text.specs.declared.run.TheConstants.{RUN_KEYS, PREDEFINED}
+use Rattle.function_table.specs.declared.variables.TheConstants.{PREDEFINED}
+use Rattle.job_text.specs.declared.run.TheConstants.{RUN_KEYS}
 
--- the names of the predefined variables, in their order
-abbrev pub predefined : List (List ℕ)
-predefined = map (λ name. name.now) PREDEFINED
+-- the names of the predefined variables, in their order, as the code has them
+abbrev pub names_read : List (List ℕ)
+names_read = map (λ name. name.now) PREDEFINED
 
 abbrev pub with_value : ℕ → List ℕ → Variable
 with_value value name = record { name = name; value = value }
@@ -30,12 +31,12 @@ values_after earlier (name ∷ names) d = do
 
 unfoldable pub variables_in : Data → Result (List Variable) JobFault
 variables_in d = do
-  known ← only_keys predefined d
-  values_after [] predefined d
+  known ← only_keys names_read d
+  values_after [] names_read d
 
 -- each predefined variable at 0
 abbrev pub zeros : List Variable
-zeros = map (with_value 0) predefined
+zeros = map (with_value 0) names_read
 
 unfoldable pub run_in : Data → Result Settings JobFault
 run_in d = do

@@ -3,25 +3,15 @@ ghost use Rattle.std.specs.Prelude.{◌≡◌, [], codes, map, IfOk};
 ghost use Rattle.serde_json.specs.View.{view};
 ghost use Rattle.json_form.specs.Faults.{Gives};
 ghost use Rattle.json_form.specs.Reading.{or_else};
-ghost use Rattle.job_text.specs.RunReading.{with_value, predefined, zeros, variable_in, values_after, variables_in, run_in, default_settings};
+ghost use Rattle.job_text.specs.RunReading.{with_value, names_read, zeros, variable_in, values_after, variables_in, run_in, default_settings};
 
 use dap_base::{ItemList, NameText, OutOfMemory};
 use device_tree::JobFault;
+use function_table::PREDEFINED;
 use json_form::{Number, Reader, member_or, only_keys_of, optional_of};
 use serde_json::Value;
 use std::alloc::Global;
 use target_machine::{Settings, Variable, Variables};
-
-// The names of the predefined variables, in their order.
-const PREDEFINED: [&str; 7] = [
-    "__protocol",
-    "__connection",
-    "__dp",
-    "__ap",
-    "__traceout",
-    "__errorcontrol",
-    "__Result",
-];
 
 fn variable(alloc: Global, name: &str, value: u64) -> Result<Variable, OutOfMemory>
     ensures { IfOk result (λ v. v ≡ with_value value name.now) }

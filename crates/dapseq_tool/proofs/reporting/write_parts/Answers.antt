@@ -2,7 +2,8 @@ use Rattle.std.proofs.Common.{get_or}
 use Rattle.target_machine.specs.declared.image.ImageAsk.{ImageAsk}
 use Rattle.target_machine.specs.declared.image.ImageAsk.TheVariants as ask
 use Rattle.dapseq_tool.specs.Report.{part_of}
-use Rattle.dapseq_tool.proofs.RowLemmas.{rows_cut, began_same, slice_get-in}
+use Rattle.check_lines.proofs.RowLemmas.{slice_get-in}
+use Rattle.dapseq_tool.proofs.RowLemmas.{rows_cut, began_same}
 use Rattle.dapseq_tool.proofs.reporting.write_parts.Goals as goal
 
 pub returns-in-Err-clause-text : goal.returns-in-Err-clause-text

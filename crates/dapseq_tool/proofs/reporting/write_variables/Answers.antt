@@ -4,7 +4,8 @@ use Rattle.std.specs.List.{zip}
 use Rattle.target_machine.specs.declared.unit.Variable.{Variable}
 use Rattle.dapseq_tool.specs.Report.{variable_lines}
 use Rattle.dapseq_tool.specs.Lines.{variable_line}
-use Rattle.dapseq_tool.proofs.RowLemmas.{row_more, row_cut, zip-at, take-zip, slice_get-in, some_fact}
+use Rattle.check_lines.proofs.RowLemmas.{row_more, row_cut, slice_get-in}
+use Rattle.dapseq_tool.proofs.RowLemmas.{zip-at, take-zip, some_fact}
 use Rattle.dapseq_tool.proofs.reporting.write_variables.Goals as goal
 
 pub returns-in-Err-clause-text : goal.returns-in-Err-clause-text

@@ -1,7 +1,8 @@
 use Rattle.std.proofs.Common.{get_or}
 use Rattle.word_job.specs.declared.job.WatchItem.{WatchItem}
 use Rattle.dapseq_tool.specs.Report.{word_lines}
-use Rattle.dapseq_tool.proofs.RowLemmas.{rows_cut, began_same, slice_get-in}
+use Rattle.check_lines.proofs.RowLemmas.{slice_get-in}
+use Rattle.dapseq_tool.proofs.RowLemmas.{rows_cut, began_same}
 use Rattle.dapseq_tool.proofs.reporting.write_watch.Goals as goal
 
 pub returns-in-Err-clause-text : goal.returns-in-Err-clause-text

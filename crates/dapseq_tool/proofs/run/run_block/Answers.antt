@@ -3,7 +3,7 @@ use Rattle.word_job.specs.declared.statement.Statement.{Statement}
 use Rattle.word_job.specs.declared.statement.Statement.TheVariants.{Write}
 use Rattle.probe_core.specs.Bench.{StepsTo}
 use Rattle.dapseq_tool.specs.Blocks.{HaveRun}
-use Rattle.dapseq_tool.proofs.RowLemmas.{slice_get-in}
+use Rattle.check_lines.proofs.RowLemmas.{slice_get-in}
 use Rattle.dapseq_tool.proofs.RunLemmas.{goes_on_at, stops_at, kept}
 use Rattle.dapseq_tool.proofs.run.run_block.Goals as goal
 
