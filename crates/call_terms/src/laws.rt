@@ -1,0 +1,1 @@
+//! What follows from the definitions: each law is the contract of a function that does nothing.
