@@ -1,5 +1,5 @@
 -- Need points: the moments at which all that was asked has to be made before a run can go on.
-use Rattle.std.specs.Prelude.{ℕ, ◌+◌, ◌-◌, ◌^◌, min, if◌then◌else◌, nat_lt, nat_eq, List, [], ◌∷◌, ◌++◌, length}
+use Rattle.std.specs.Prelude.{ℕ, zero, suc, ◌+◌, ◌-◌, ◌^◌, min, if◌then◌else◌, nat_lt, List, [], ◌∷◌, ◌++◌, length}
 use Rattle.call_terms.specs.Asks.{settled_last}
 use Rattle.call_terms.specs.declared.calls.Ask.{Ask}
 use Rattle.call_terms.specs.declared.calls.Slot.{Slot}
@@ -25,7 +25,8 @@ capped_sum needs more = min (needs + more) (2 ^ 64 - 1)
 
 -- so many need points come now
 abbrev pub needed_more : ℕ → Asks → Asks
-needed_more more asks = if nat_eq more 0 then asks else record asks { needs = capped_sum asks.needs more; fence = length asks.calls }
+needed_more zero asks = asks
+needed_more (suc more) asks = record asks { needs = capped_sum asks.needs (suc more); fence = length asks.calls }
 
 -- one need point comes now
 abbrev pub needed : Asks → Asks

@@ -1,0 +1,11 @@
+use Rattle.call_terms.proofs.EntryLemmas.{fault_append, none_pass, pass_none}
+use Rattle.call_terms.proofs.laws.entries.passing_entries.Goals as goal
+
+pub returns-clause-none : goal.returns-clause-none
+returns-clause-none c = pass_none
+
+pub returns-clause-all : goal.returns-clause-all
+returns-clause-all c = none_pass
+
+pub returns-clause-later : goal.returns-clause-later
+returns-clause-later c = fault_append

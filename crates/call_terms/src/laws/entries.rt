@@ -1,0 +1,32 @@
+//! Entries of a journal.
+ghost use Rattle.std.specs.Prelude.{◌≡◌, ℕ, ◌+◌, ◌<◌, ◌≤◌, List, ◌++◌, length, take, None};
+ghost use Rattle.call_terms.specs.Journal.{Entry, Passes, first_fault, target_after};
+ghost use Rattle.call_terms.specs.Weights.{AreWeighty, IsWeighty, performed, weight, weight_in};
+ghost use Rattle.call_terms.specs.World.{later_by};
+ghost use Rattle.target_machine.specs.Plain.{Action};
+ghost use Rattle.target_machine.specs.State.{TargetState};
+
+/// Two lists of entries, one after the other.
+pub fn entries_join()
+    ensures target { (t : TargetState) (xs ys : List Entry) → target_after t (xs ++ ys) ≡ target_after (target_after t xs) ys }
+    ensures weight { (t : TargetState) (xs ys : List Entry) → weight_in t (xs ++ ys) ≡ weight_in t xs + weight_in (target_after t xs) ys }
+    ensures both { (t : TargetState) (xs ys : List Entry) → Passes t xs → Passes (target_after t xs) ys → Passes t (xs ++ ys) }
+    ensures front { (t : TargetState) (xs ys : List Entry) → Passes t (xs ++ ys) → Passes t xs }
+    ensures rest { (t : TargetState) (xs ys : List Entry) → Passes t (xs ++ ys) → Passes (target_after t xs) ys }
+{}
+
+/// Entries pass exactly where none of them is the first fault that is not forgiven.
+pub fn passing_entries()
+    ensures none { (t : TargetState) (entries : List Entry) → Passes t entries → first_fault t entries ≡ None }
+    ensures all { (t : TargetState) (entries : List Entry) → first_fault t entries ≡ None → Passes t entries }
+    ensures later { (t : TargetState) (xs ys : List Entry) → Passes t xs → first_fault t (xs ++ ys) ≡ later_by (length xs) (first_fault (target_after t xs) ys) }
+{}
+
+/// The entries that were performed are the most from the front that weigh no more than the work.
+pub fn performed_entries()
+    ensures within { (t : TargetState) (entries : List Entry) (work : ℕ) → performed t entries work ≤ length entries }
+    ensures fits { (t : TargetState) (entries : List Entry) (work : ℕ) → weight_in t (take (performed t entries work) entries) ≤ work }
+    ensures most { (t : TargetState) (entries : List Entry) (work n : ℕ) → n ≤ length entries → weight_in t (take n entries) ≤ work → n ≤ performed t entries work }
+    ensures weighs { (t : TargetState) (action : Action) → IsWeighty action → 0 < weight t action }
+    ensures front { (t : TargetState) (xs ys : List Entry) → AreWeighty ys → performed t (xs ++ ys) (weight_in t xs) ≡ length xs }
+{}
