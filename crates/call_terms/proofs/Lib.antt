@@ -1,4 +1,6 @@
 pub mod CallLists
+pub mod OneCall
+pub mod EndLemmas
 pub mod WorldLemmas
 pub mod MarkLemmas
 pub mod NeedLemmas

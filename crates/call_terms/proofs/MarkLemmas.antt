@@ -1,8 +1,11 @@
 -- The mark of a `finish` after the last call.
-use Rattle.std.proofs.Common.{◌≡◌, ℕ, suc, ◌+◌, Bool, true, false, cond, List, [], ◌∷◌, ◌++◌, length, Some, refl, sym, ap}
+use Rattle.std.proofs.Common.{◌≡◌, ℕ, suc, ◌+◌, Bool, true, false, cond, List, [], ◌∷◌, ◌++◌, length, slice_index, Some, refl, sym, ap}
 use Rattle.call_terms.specs.Asks.{is_settled, settled_last}
+use Rattle.call_terms.specs.Values.{number_of}
 use Rattle.call_terms.specs.World.{World, done_now, next_world, stops_here, end_result, results, later_by, stop, left_at, world_after, one_if_skipped, skips}
 use Rattle.call_terms.specs.declared.calls.Ask.{Ask}
+use Rattle.call_terms.specs.declared.calls.Value.{Value}
+use Rattle.call_terms.specs.declared.calls.Value.TheVariants.{Number, Pending}
 
 pub results_marked : (w : World) (calls : List Ask) → results w (settled_last calls) ≡ results w calls
 results_marked w [] = refl
@@ -23,6 +26,10 @@ pub skips_marked : (w : World) (calls : List Ask) → skips w (settled_last call
 skips_marked w [] = refl
 skips_marked w (a ∷ []) = refl
 skips_marked w (a ∷ b ∷ calls) = ap (λ n. cond (stops_here w a) 0 (one_if_skipped (done_now w a).end + n)) (skips_marked (next_world w a) (b ∷ calls))
+
+pub value_marked : (w : World) (calls : List Ask) (v : Value) → number_of w (settled_last calls) v ≡ number_of w calls v
+value_marked w calls (Number n) = refl
+value_marked w calls (Pending slot) = ap (λ r. slice_index r slot.index) (results_marked w calls)
 
 pub length_marked : (calls : List Ask) → length (settled_last calls) ≡ length calls
 length_marked [] = refl

@@ -1,5 +1,5 @@
 -- Calls that are asked.
-use Rattle.std.specs.Prelude.{◌^◌, ◌<◌, Bool, true, false, ◌&&◌, List, [], ◌∷◌}
+use Rattle.std.specs.Prelude.{◌≡◌, ℕ, ◌^◌, ◌<◌, Bool, true, false, ◌&&◌, nat_lt, List, [], ◌∷◌}
 use Rattle.std.specs.List.{AllByRecursion}
 use Rattle.target_machine.specs.Plain.{may_forgive}
 use Rattle.target_machine.specs.Sound.{IsSoundCall}
@@ -26,6 +26,22 @@ probe_ask command = ask_of (Probe command) false
 -- a fault of the call is forgiven: error control counts for memory and AP units alone
 abbrev pub is_forgiving : Ask → Bool
 is_forgiving ask = ask.forgive && may_forgive ask.call
+
+-- no fault of these calls is forgiven
+abbrev pub ForgiveNothing : List Ask → Type 0
+ForgiveNothing asks = AllByRecursion (λ ask. is_forgiving ask ≡ false) asks
+
+-- the access is one of memory at an address over 0xFFFFFFFF
+abbrev pub is_wide : AccessUnit → Bool
+is_wide (unit.Memory size read ap address value) = nat_lt 0xFFFF_FFFF address
+is_wide (unit.Ap read ap addr value) = false
+is_wide (unit.Dp read addr value) = false
+is_wide (unit.Poll mask value turns) = false
+
+-- the call is such an access
+abbrev pub is_wide_call : Call → Bool
+is_wide_call (Access asked) = is_wide asked
+is_wide_call (Probe command) = false
 
 -- The last call is marked: a `finish` was made after it.
 abbrev pub settled_last : List Ask → List Ask

@@ -119,6 +119,6 @@ abbrev pub small_after : Option ℕ → World → Ask → Bool
 small_after None w ask = is_small_end (done_now w ask).end
 small_after (Some n) w ask = false
 
--- A call that is asked after these is answered `Small`.
+-- A call that is asked after these ends so, where it is answered.
 abbrev pub small_now : World → List Ask → Ask → Bool
 small_now w asks ask = small_after (stop w asks) (world_after w asks) ask

@@ -1,11 +1,13 @@
 //! What follows from the definitions: each law is the contract of a function that does nothing.
 mod calls;
+mod ends;
 mod entries;
 mod marks;
 mod needs;
 mod worlds;
 
-pub use calls::{calls_join, count_of_results, first_calls, stopped_calls};
+pub use calls::{calls_join, count_of_results, first_calls, one_call_more, stopped_calls};
+pub use ends::ends_of_calls;
 pub use entries::{entries_join, passing_entries, performed_entries};
 pub use marks::{last_mark, marks_change_nothing};
 pub use needs::{need_points_add, uses_after_a_need_point};

@@ -1,7 +1,7 @@
 //! Calls in a row.
-ghost use Rattle.std.specs.Prelude.{◌≡◌, ℕ, suc, ◌+◌, ◌<◌, ◌≤◌, List, ◌++◌, length, take, slice_index, Some, None};
+ghost use Rattle.std.specs.Prelude.{◌≡◌, ℕ, suc, ◌+◌, ◌<◌, ◌≤◌, true, false, List, [], ◌∷◌, ◌++◌, length, take, slice_index, Some, None};
 ghost use Rattle.call_terms.specs.Values.{IsAsked, number_of};
-ghost use Rattle.call_terms.specs.World.{World, later_by, results, skips, stop, world_after};
+ghost use Rattle.call_terms.specs.World.{World, done_now, end_result, is_small_end, later_by, left_at, next_world, one_if_skipped, results, skips, small_now, stop, stops_here, world_after};
 ghost use Rattle.call_terms.specs.declared.calls.Ask.{Ask};
 ghost use Rattle.call_terms.specs.declared.calls.Value.{Value};
 
@@ -11,6 +11,24 @@ pub fn calls_join()
     ensures after { (w : World) (calls more : List Ask) → stop w calls ≡ None → world_after w (calls ++ more) ≡ world_after (world_after w calls) more }
     ensures stop { (w : World) (calls more : List Ask) → stop w calls ≡ None → stop w (calls ++ more) ≡ later_by (length calls) (stop (world_after w calls) more) }
     ensures skips { (w : World) (calls more : List Ask) → stop w calls ≡ None → skips w (calls ++ more) ≡ skips w calls + skips (world_after w calls) more }
+{}
+
+/// One call more, after calls at none of which they stop.
+pub fn one_call_more()
+    ensures stops { (w : World) (calls : List Ask) (ask : Ask) → stop w calls ≡ None → stops_here (world_after w calls) ask ≡ true
+        → stop w (calls ++ ask ∷ []) ≡ Some (suc (length calls)) }
+    ensures left { (w : World) (calls : List Ask) (ask : Ask) → stop w calls ≡ None → stops_here (world_after w calls) ask ≡ true
+        → world_after w (calls ++ ask ∷ []) ≡ left_at (world_after w calls) ask }
+    ensures goes { (w : World) (calls : List Ask) (ask : Ask) → stop w calls ≡ None → stops_here (world_after w calls) ask ≡ false → stop w (calls ++ ask ∷ []) ≡ None }
+    ensures after { (w : World) (calls : List Ask) (ask : Ask) → stop w calls ≡ None → stops_here (world_after w calls) ask ≡ false
+        → world_after w (calls ++ ask ∷ []) ≡ next_world (world_after w calls) ask }
+    ensures results { (w : World) (calls : List Ask) (ask : Ask) → stop w calls ≡ None → stops_here (world_after w calls) ask ≡ false
+        → results w (calls ++ ask ∷ []) ≡ results w calls ++ end_result (done_now (world_after w calls) ask).end ∷ [] }
+    ensures last { (w : World) (calls : List Ask) (ask : Ask) → stop w calls ≡ None → stops_here (world_after w calls) ask ≡ false
+        → slice_index (results w (calls ++ ask ∷ [])) (length calls) ≡ end_result (done_now (world_after w calls) ask).end }
+    ensures skips { (w : World) (calls : List Ask) (ask : Ask) → stop w calls ≡ None → stops_here (world_after w calls) ask ≡ false
+        → skips w (calls ++ ask ∷ []) ≡ skips w calls + one_if_skipped (done_now (world_after w calls) ask).end }
+    ensures small { (w : World) (calls : List Ask) (ask : Ask) → stop w calls ≡ None → small_now w calls ask ≡ is_small_end (done_now (world_after w calls) ask).end }
 {}
 
 /// What is asked after calls that stop changes nothing.

@@ -1,8 +1,10 @@
 //! The mark of a `finish`.
 ghost use Rattle.std.specs.Prelude.{◌≡◌, true, List, [], ◌∷◌, ◌++◌, length};
 ghost use Rattle.call_terms.specs.Asks.{is_settled, settled_last};
+ghost use Rattle.call_terms.specs.Values.{number_of};
 ghost use Rattle.call_terms.specs.World.{World, results, skips, stop, world_after};
 ghost use Rattle.call_terms.specs.declared.calls.Ask.{Ask};
+ghost use Rattle.call_terms.specs.declared.calls.Value.{Value};
 
 /// What calls come to does not depend on the mark.
 pub fn marks_change_nothing()
@@ -10,6 +12,7 @@ pub fn marks_change_nothing()
     ensures after { (w : World) (calls : List Ask) → world_after w (settled_last calls) ≡ world_after w calls }
     ensures stop { (w : World) (calls : List Ask) → stop w (settled_last calls) ≡ stop w calls }
     ensures skips { (w : World) (calls : List Ask) → skips w (settled_last calls) ≡ skips w calls }
+    ensures value { (w : World) (calls : List Ask) (v : Value) → number_of w (settled_last calls) v ≡ number_of w calls v }
     ensures count { (calls : List Ask) → length (settled_last calls) ≡ length calls }
 {}
 

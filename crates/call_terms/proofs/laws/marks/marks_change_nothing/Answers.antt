@@ -1,4 +1,4 @@
-use Rattle.call_terms.proofs.MarkLemmas.{after_marked, length_marked, results_marked, skips_marked, stop_marked}
+use Rattle.call_terms.proofs.MarkLemmas.{after_marked, length_marked, results_marked, skips_marked, stop_marked, value_marked}
 use Rattle.call_terms.proofs.laws.marks.marks_change_nothing.Goals as goal
 
 pub returns-clause-results : goal.returns-clause-results
@@ -12,6 +12,9 @@ returns-clause-stop c = stop_marked
 
 pub returns-clause-skips : goal.returns-clause-skips
 returns-clause-skips c = skips_marked
+
+pub returns-clause-value : goal.returns-clause-value
+returns-clause-value c = value_marked
 
 pub returns-clause-count : goal.returns-clause-count
 returns-clause-count c = length_marked
