@@ -90,7 +90,7 @@ whole_front w calls more h = one (stop w calls) refl
     one (Some n) e = none_some (sym (stop_stays w calls more n e) ∙ h)
 
 -- the first call does not stop, and those after it do at this number
-later_head : (b : Bool) (at : Option ℕ) (n : ℕ) → cond b (Some 1) (later_by 1 at) ≡ Some (suc (suc n)) → (b ≡ false) × (at ≡ Some (suc n))
+pub later_head : (b : Bool) (at : Option ℕ) (n : ℕ) → cond b (Some 1) (later_by 1 at) ≡ Some (suc (suc n)) → (b ≡ false) × (at ≡ Some (suc n))
 later_head true at n h = absurd (let e : 1 ≡ suc (suc n) = cc in omega (arith, e))
 later_head false None n h = absurd cc
 later_head false (Some k) n h = (refl, (let e : 1 + k ≡ suc (suc n) = cc in ap Some (omega (arith, e))))

@@ -1,15 +1,16 @@
 -- Entries of a journal: what they leave, and what they weigh.
 use Rattle.std.proofs.Common.{◌≡◌, ◌∙◌, ℕ, zero, suc, ◌+◌, ◌-◌, ◌*◌, ◌/◌, ◌<◌, ◌≤◌, Bool, true, false, cond, List, [], ◌∷◌, ◌++◌, length, take, nat_le, Option, None, Some, refl, sym, ap, arith}
 use Rattle.std.specs.Prelude.{◌==◌, bit_and}
+use Rattle.std.proofs.lemmas.List.Sums.{sum_by-append}
 use Rattle.target_machine.specs.Attempt.{Attempt, attempt}
 use Rattle.target_machine.specs.Plain.{Action, Makes, Polls, Commands, Polled, acted, dp_read_of, looked, polled}
 use Rattle.target_machine.specs.State.{TargetState}
 use Rattle.target_machine.specs.declared.access.Outcome.{Outcome}
 use Rattle.target_machine.specs.declared.access.Outcome.TheVariants.{Value, Done, Fault}
 use Rattle.target_machine.specs.declared.unit.ProbeCall.TheVariants as probe
-use Rattle.call_terms.proofs.CallLists.{head_of, later_twice, later_zero}
-use Rattle.call_terms.specs.Journal.{Entry, Passes, first_fault, is_bad, target_after}
-use Rattle.call_terms.specs.Weights.{AreWeighty, IsWeighty, delay_commands, performed, weight, weight_in}
+use Rattle.call_terms.proofs.CallLists.{head_of, later_head, later_twice, later_zero}
+use Rattle.call_terms.specs.Journal.{Entry, Passes, attempted_in, completes, first_fault, is_bad, is_skip, one_if, skipped_in, target_after}
+use Rattle.call_terms.specs.Weights.{AreWeighty, IsWeighty, commands_in, commands_of, delay_commands, performed, registers_in, registers_of, weight, weight_in}
 use Rattle.call_terms.specs.World.{later_by}
 
 pub target_append : (t : TargetState) (xs ys : List Entry) → target_after t (xs ++ ys) ≡ target_after (target_after t xs) ys
@@ -49,6 +50,30 @@ fault_append t [] ys h = later_zero (first_fault t ys)
 fault_append t (x ∷ xs) ys h =
     rw h.0 (ap (later_by 1) (fault_append (acted t x.action).next xs ys h.1) ∙ later_twice (length xs) (first_fault (target_after (acted t x.action).next xs) ys))
 
+pub fault_first : (t : TargetState) (xs : List Entry) (e : Entry) (ys : List Entry) → Passes t xs → is_bad (target_after t xs) e ≡ true → first_fault t (xs ++ e ∷ ys) ≡ Some (suc (length xs))
+fault_first t xs e ys h bad = fault_append t xs (e ∷ ys) h ∙ rw bad (ap Some (omega arith))
+
+pub pass_before : (t : TargetState) (entries : List Entry) (n : ℕ) → first_fault t entries ≡ Some (suc n) → Passes t (take n entries)
+pass_before t [] n h = absurd cc
+pass_before t (e ∷ entries) zero h = tt
+pass_before t (e ∷ entries) (suc n) h =
+    let q = later_head (is_bad t e) (first_fault (acted t e.action).next entries) n h in
+    (q.0, pass_before (acted t e.action).next entries n q.1)
+
+-- ---- counts of entries
+
+pub attempted_append : (xs ys : List Entry) → attempted_in (xs ++ ys) ≡ attempted_in xs + attempted_in ys
+attempted_append xs ys = sum_by-append (λ (e : Entry). one_if (completes e.part)) xs ys
+
+pub skipped_append : (xs ys : List Entry) → skipped_in (xs ++ ys) ≡ skipped_in xs + skipped_in ys
+skipped_append xs ys = sum_by-append (λ (e : Entry). one_if (is_skip e.part)) xs ys
+
+pub commands_append : (xs ys : List Entry) → commands_in (xs ++ ys) ≡ commands_in xs + commands_in ys
+commands_append xs ys = sum_by-append (λ (e : Entry). commands_of e.action) xs ys
+
+pub registers_append : (xs ys : List Entry) → registers_in (xs ++ ys) ≡ registers_in xs + registers_in ys
+registers_append xs ys = sum_by-append (λ (e : Entry). registers_of e.action) xs ys
+
 -- ---- what entries weigh
 
 looked_some : (o : Outcome) (t : TargetState) (mask requested : ℕ) (rest : Polled) → 0 < (looked o t mask requested rest).reads
@@ -66,13 +91,14 @@ polled_some zero mask requested t some = absurd (omega (arith, some))
 polled_some (suc turns) mask requested t some =
     let first = attempt t (dp_read_of 4) in looked_some first.outcome first.next mask requested (polled turns mask requested first.next)
 
-delay_some : (micros : ℕ) → 0 < delay_commands micros
-delay_some zero = omega arith
-delay_some (suc micros) = one (suc micros == 0)
-  where
-    one : (b : Bool) → 0 < cond b 1 ((suc micros + 65534) / 65535)
-    one true = omega arith
-    one false = omega arith
+pub delay_some : (micros : ℕ) → 0 < delay_commands micros
+delay_some micros = omega arith
+
+pub delay_enough : (micros : ℕ) → micros ≤ 65535 * delay_commands micros
+delay_enough micros = omega arith
+
+pub delay_few : (micros n : ℕ) → 0 < n → micros ≤ 65535 * n → delay_commands micros ≤ n
+delay_few micros n some enough = omega (arith, some, enough)
 
 pub weight_some : (t : TargetState) (action : Action) → IsWeighty action → 0 < weight t action
 weight_some t (Makes a) h = omega arith
@@ -121,3 +147,13 @@ performed_front t (x ∷ xs) ys h =
     let fits : nat_le (weight t x.action) (weight t x.action + weight_in (acted t x.action).next xs) ≡ true = grind arith in
     let rest : weight t x.action + weight_in (acted t x.action).next xs - weight t x.action ≡ weight_in (acted t x.action).next xs = omega arith in
     rw (fits, rest) (ap suc (performed_front (acted t x.action).next xs ys h))
+
+-- a part of the next entry counts as nothing
+pub performed_part : (t : TargetState) (xs : List Entry) (e : Entry) (ys : List Entry) (more : ℕ) → more < weight (target_after t xs) e.action → performed t (xs ++ e ∷ ys) (weight_in t xs + more) ≡ length xs
+performed_part t [] e ys more h =
+    let short : nat_le (weight t e.action) (0 + more) ≡ false = grind (arith, h) in
+    rw short refl
+performed_part t (x ∷ xs) e ys more h =
+    let fits : nat_le (weight t x.action) (weight t x.action + weight_in (acted t x.action).next xs + more) ≡ true = grind arith in
+    let rest : weight t x.action + weight_in (acted t x.action).next xs + more - weight t x.action ≡ weight_in (acted t x.action).next xs + more = omega arith in
+    rw (fits, rest) (ap suc (performed_part (acted t x.action).next xs e ys more h))

@@ -1,5 +1,5 @@
 -- What entries weigh: by how much the probe's work grows with each. It shows how many of them were performed.
-use Rattle.std.specs.Prelude.{ℕ, suc, ◌+◌, ◌-◌, ◌/◌, ◌<◌, ◌==◌, nat_le, if◌then◌else◌, List, [], ◌∷◌, sum_by}
+use Rattle.std.specs.Prelude.{ℕ, suc, ◌+◌, ◌-◌, ◌/◌, ◌<◌, max, nat_le, if◌then◌else◌, List, [], ◌∷◌, sum_by}
 use Rattle.std.specs.List.{AllByRecursion}
 use Rattle.target_machine.specs.Plain.{Action, Makes, Polls, Commands, acted, polled}
 use Rattle.target_machine.specs.State.{TargetState}
@@ -9,7 +9,7 @@ use Rattle.call_terms.specs.Journal.{Entry}
 
 -- how many commands of at most 65,535 microseconds a delay takes; one of 0 takes one
 abbrev pub delay_commands : ℕ → ℕ
-delay_commands micros = if micros == 0 then 1 else (micros + 65534) / 65535
+delay_commands micros = max 1 ((micros + 65534) / 65535)
 
 -- how many commands of the probe a probe call takes
 abbrev pub commands_for : ProbeCall → ℕ

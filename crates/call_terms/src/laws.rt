@@ -8,7 +8,7 @@ mod worlds;
 
 pub use calls::{calls_join, count_of_results, first_calls, one_call_more, stopped_calls};
 pub use ends::ends_of_calls;
-pub use entries::{entries_join, passing_entries, performed_entries};
+pub use entries::{commands_of_a_delay, entries_join, passing_entries, performed_entries};
 pub use marks::{last_mark, marks_change_nothing};
 pub use needs::{need_points_add, uses_after_a_need_point};
 pub use worlds::{limits_of_answers, unanswered_calls};

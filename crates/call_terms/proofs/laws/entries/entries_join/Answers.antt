@@ -1,4 +1,4 @@
-use Rattle.call_terms.proofs.EntryLemmas.{pass_append, pass_front, pass_rest, target_append, weight_append}
+use Rattle.call_terms.proofs.EntryLemmas.{attempted_append, commands_append, pass_append, pass_front, pass_rest, registers_append, skipped_append, target_append, weight_append}
 use Rattle.call_terms.proofs.laws.entries.entries_join.Goals as goal
 
 pub returns-clause-target : goal.returns-clause-target
@@ -6,6 +6,18 @@ returns-clause-target c = target_append
 
 pub returns-clause-weight : goal.returns-clause-weight
 returns-clause-weight c = weight_append
+
+pub returns-clause-attempted : goal.returns-clause-attempted
+returns-clause-attempted c = attempted_append
+
+pub returns-clause-skipped : goal.returns-clause-skipped
+returns-clause-skipped c = skipped_append
+
+pub returns-clause-commands : goal.returns-clause-commands
+returns-clause-commands c = commands_append
+
+pub returns-clause-registers : goal.returns-clause-registers
+returns-clause-registers c = registers_append
 
 pub returns-clause-both : goal.returns-clause-both
 returns-clause-both c = pass_append

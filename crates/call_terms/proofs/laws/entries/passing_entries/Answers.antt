@@ -1,4 +1,4 @@
-use Rattle.call_terms.proofs.EntryLemmas.{fault_append, none_pass, pass_none}
+use Rattle.call_terms.proofs.EntryLemmas.{fault_append, fault_first, none_pass, pass_before, pass_none}
 use Rattle.call_terms.proofs.laws.entries.passing_entries.Goals as goal
 
 pub returns-clause-none : goal.returns-clause-none
@@ -6,6 +6,12 @@ returns-clause-none c = pass_none
 
 pub returns-clause-all : goal.returns-clause-all
 returns-clause-all c = none_pass
+
+pub returns-clause-first : goal.returns-clause-first
+returns-clause-first c = fault_first
+
+pub returns-clause-before : goal.returns-clause-before
+returns-clause-before c = pass_before
 
 pub returns-clause-later : goal.returns-clause-later
 returns-clause-later c = fault_append

@@ -1,4 +1,4 @@
-use Rattle.call_terms.proofs.EntryLemmas.{performed_fits, performed_front, performed_most, performed_within, weight_some}
+use Rattle.call_terms.proofs.EntryLemmas.{performed_fits, performed_front, performed_most, performed_part, performed_within, weight_some}
 use Rattle.call_terms.proofs.laws.entries.performed_entries.Goals as goal
 
 pub returns-clause-within : goal.returns-clause-within
@@ -15,3 +15,6 @@ returns-clause-weighs c = weight_some
 
 pub returns-clause-front : goal.returns-clause-front
 returns-clause-front c = performed_front
+
+pub returns-clause-part : goal.returns-clause-part
+returns-clause-part c = performed_part
