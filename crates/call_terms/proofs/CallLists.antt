@@ -2,7 +2,7 @@
 use Rattle.std.proofs.Common.{◌≡◌, ◌∙◌, ℕ, zero, suc, ◌+◌, ◌<◌, ◌≤◌, Bool, true, false, cond, List, [], ◌∷◌, ◌++◌, length, take, slice_index, Option, None, Some, refl, sym, ap, arith}
 use Rattle.std.proofs.Math.ListN.{get_or-append}
 use Rattle.call_terms.specs.Values.{IsAsked, number_of}
-use Rattle.call_terms.specs.World.{World, done_now, next_world, stops_here, end_result, results, later_by, stop, left_at, world_after, one_if_skipped, skips}
+use Rattle.call_terms.specs.World.{World, done_now, next_world, stops_here, end_result, results, later_by, stop, world_after, one_if_skipped, skips}
 use Rattle.call_terms.specs.declared.calls.Ask.{Ask}
 use Rattle.call_terms.specs.declared.calls.Value.{Value}
 use Rattle.call_terms.specs.declared.calls.Value.TheVariants.{Number, Pending}

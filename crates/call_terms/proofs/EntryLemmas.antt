@@ -1,15 +1,15 @@
 -- Entries of a journal: what they leave, and what they weigh.
-use Rattle.std.proofs.Common.{◌≡◌, ◌∙◌, ℕ, zero, suc, ◌+◌, ◌-◌, ◌*◌, ◌/◌, ◌<◌, ◌≤◌, Bool, true, false, cond, List, [], ◌∷◌, ◌++◌, length, take, nat_le, Option, None, Some, refl, sym, ap, arith}
+use Rattle.std.proofs.Common.{◌≡◌, ◌∙◌, ℕ, zero, suc, ◌+◌, ◌-◌, ◌*◌, ◌<◌, ◌≤◌, Bool, true, false, cond, List, [], ◌∷◌, ◌++◌, length, take, nat_le, None, Some, refl, ap, arith}
 use Rattle.std.specs.Prelude.{◌==◌, bit_and}
 use Rattle.std.proofs.lemmas.List.Sums.{sum_by-append}
-use Rattle.target_machine.specs.Attempt.{Attempt, attempt}
+use Rattle.target_machine.specs.Attempt.{attempt}
 use Rattle.target_machine.specs.Plain.{Action, Makes, Polls, Commands, Polled, acted, dp_read_of, looked, polled}
 use Rattle.target_machine.specs.State.{TargetState}
 use Rattle.target_machine.specs.declared.access.Outcome.{Outcome}
 use Rattle.target_machine.specs.declared.access.Outcome.TheVariants.{Value, Done, Fault}
 use Rattle.target_machine.specs.declared.unit.ProbeCall.TheVariants as probe
 use Rattle.call_terms.proofs.CallLists.{head_of, later_head, later_twice, later_zero}
-use Rattle.call_terms.specs.Journal.{Entry, Passes, attempted_in, completes, first_fault, is_bad, is_skip, one_if, skipped_in, target_after}
+use Rattle.call_terms.specs.Journal.{Entry, Passes, attempted_in, completes, first_fault, is_unforgiven, is_skip, one_if, skipped_in, target_after}
 use Rattle.call_terms.specs.Weights.{AreWeighty, IsWeighty, commands_in, commands_of, delay_commands, performed, registers_in, registers_of, weight, weight_in}
 use Rattle.call_terms.specs.World.{later_by}
 
@@ -42,7 +42,7 @@ pass_none t (e ∷ entries) h = rw h.0 (ap (later_by 1) (pass_none (acted t e.ac
 pub none_pass : (t : TargetState) (entries : List Entry) → first_fault t entries ≡ None → Passes t entries
 none_pass t [] h = tt
 none_pass t (e ∷ entries) h =
-    let q = head_of (is_bad t e) (first_fault (acted t e.action).next entries) h in
+    let q = head_of (is_unforgiven t e) (first_fault (acted t e.action).next entries) h in
     (q.0, none_pass (acted t e.action).next entries q.1)
 
 pub fault_append : (t : TargetState) (xs ys : List Entry) → Passes t xs → first_fault t (xs ++ ys) ≡ later_by (length xs) (first_fault (target_after t xs) ys)
@@ -50,14 +50,14 @@ fault_append t [] ys h = later_zero (first_fault t ys)
 fault_append t (x ∷ xs) ys h =
     rw h.0 (ap (later_by 1) (fault_append (acted t x.action).next xs ys h.1) ∙ later_twice (length xs) (first_fault (target_after (acted t x.action).next xs) ys))
 
-pub fault_first : (t : TargetState) (xs : List Entry) (e : Entry) (ys : List Entry) → Passes t xs → is_bad (target_after t xs) e ≡ true → first_fault t (xs ++ e ∷ ys) ≡ Some (suc (length xs))
+pub fault_first : (t : TargetState) (xs : List Entry) (e : Entry) (ys : List Entry) → Passes t xs → is_unforgiven (target_after t xs) e ≡ true → first_fault t (xs ++ e ∷ ys) ≡ Some (suc (length xs))
 fault_first t xs e ys h bad = fault_append t xs (e ∷ ys) h ∙ rw bad (ap Some (omega arith))
 
 pub pass_before : (t : TargetState) (entries : List Entry) (n : ℕ) → first_fault t entries ≡ Some (suc n) → Passes t (take n entries)
 pass_before t [] n h = absurd cc
 pass_before t (e ∷ entries) zero h = tt
 pass_before t (e ∷ entries) (suc n) h =
-    let q = later_head (is_bad t e) (first_fault (acted t e.action).next entries) n h in
+    let q = later_head (is_unforgiven t e) (first_fault (acted t e.action).next entries) n h in
     (q.0, pass_before (acted t e.action).next entries n q.1)
 
 -- ---- counts of entries

@@ -1,5 +1,5 @@
 -- The mark of a `finish` after the last call.
-use Rattle.std.proofs.Common.{◌≡◌, ℕ, suc, ◌+◌, Bool, true, false, cond, List, [], ◌∷◌, ◌++◌, length, slice_index, Some, refl, sym, ap}
+use Rattle.std.proofs.Common.{◌≡◌, suc, ◌+◌, true, cond, List, [], ◌∷◌, ◌++◌, length, slice_index, Some, refl, sym, ap}
 use Rattle.call_terms.specs.Asks.{is_settled, settled_last}
 use Rattle.call_terms.specs.Values.{number_of}
 use Rattle.call_terms.specs.World.{World, done_now, next_world, stops_here, end_result, results, later_by, stop, left_at, world_after, one_if_skipped, skips}

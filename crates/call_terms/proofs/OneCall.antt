@@ -1,8 +1,8 @@
 -- One call more, after calls at none of which they stop.
-use Rattle.std.proofs.Common.{◌≡◌, ◌∙◌, ℕ, suc, ◌+◌, Bool, true, false, cond, List, [], ◌∷◌, ◌++◌, length, slice_index, None, Some, refl, sym, ap, arith}
+use Rattle.std.proofs.Common.{◌≡◌, ◌∙◌, suc, ◌+◌, true, false, List, [], ◌∷◌, ◌++◌, length, slice_index, None, Some, refl, ap, arith}
 use Rattle.std.proofs.Math.Seq.{get_or-append_seam}
 use Rattle.call_terms.proofs.CallLists.{append_after, append_results, append_skips, append_stop, count_of}
-use Rattle.call_terms.specs.World.{World, done_now, end_result, is_small_end, later_by, left_at, next_world, one_if_skipped, results, skips, small_after, small_now, stop, stops_here, world_after}
+use Rattle.call_terms.specs.World.{World, done_now, end_result, is_small_end, left_at, next_world, one_if_skipped, results, skips, small_after, small_now, stop, stops_here, world_after}
 use Rattle.call_terms.specs.declared.calls.Ask.{Ask}
 
 module _ (w : World) (calls : List Ask) (ask : Ask) (whole : stop w calls ≡ None) where

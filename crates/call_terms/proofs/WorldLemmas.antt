@@ -1,8 +1,8 @@
 -- Worlds in which only so many calls are answered, beside those that answer all.
-use Rattle.std.proofs.Common.{◌≡◌, ◌∙◌, ℕ, zero, suc, ◌+◌, ◌-◌, ◌<◌, ◌≤◌, Bool, true, false, cond, List, [], ◌∷◌, length, take, Option, None, Some, refl, sym, ap, subst, arith}
-use Rattle.std.specs.Bool.{⊤}
+use Rattle.std.proofs.Common.{◌≡◌, ◌∙◌, ℕ, zero, suc, ◌+◌, ◌-◌, ◌<◌, ◌≤◌, Bool, true, false, cond, List, [], ◌∷◌, length, take, Option, None, Some, refl, ap, arith}
+use Rattle.std.proofs.lemmas.List.{take-take}
 use Rattle.call_terms.proofs.CallLists.{head_of}
-use Rattle.call_terms.specs.World.{World, AtLeast, fewer, is_faulted, one_fewer, unlimited, done_now, next_world, stops_here, end_result, results, results_within, later_by, stop, left_at, world_after, one_if_skipped, skips}
+use Rattle.call_terms.specs.World.{World, AtLeast, fewer, is_faulted, unlimited, done_now, next_world, stops_here, end_result, results, results_within, later_by, stop, world_after, one_if_skipped, skips}
 use Rattle.call_terms.specs.declared.calls.Ask.{Ask}
 
 -- so many calls are answered
@@ -30,6 +30,13 @@ results_first w calls = one w.answered
     one : (o : Option ℕ) → results (record w { answered = o }) calls ≡ results_within o (results (unlimited w) calls)
     one None = refl
     one (Some n) = results_limited w n calls
+
+pub front_first : (w : World) (calls : List Ask) (n : ℕ) → AtLeast n w.answered → take n (results w calls) ≡ take n (results (unlimited w) calls)
+front_first w calls n low = ap (take n) (results_first w calls) ∙ one w.answered low
+  where
+    one : (o : Option ℕ) → AtLeast n o → take n (results_within o (results (unlimited w) calls)) ≡ take n (results (unlimited w) calls)
+    one None low = refl
+    one (Some m) low = take-take n m (results (unlimited w) calls) low
 
 limited_least : (w : World) (n : ℕ) (calls : List Ask) → stop (limited w n) calls ≡ None → length calls ≤ n
 limited_least w n [] h = omega arith

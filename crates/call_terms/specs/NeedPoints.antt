@@ -1,5 +1,6 @@
 -- Need points: the moments at which all that was asked has to be made before a run can go on.
 use Rattle.std.specs.Prelude.{ℕ, zero, suc, ◌+◌, ◌-◌, ◌^◌, min, if◌then◌else◌, nat_lt, List, [], ◌∷◌, ◌++◌, length}
+use Rattle.target_machine.specs.State.{TargetState}
 use Rattle.call_terms.specs.Asks.{settled_last}
 use Rattle.call_terms.specs.declared.calls.Ask.{Ask}
 use Rattle.call_terms.specs.declared.calls.Slot.{Slot}
@@ -8,6 +9,10 @@ use Rattle.call_terms.specs.declared.calls.Slot.{Slot}
 pub record Cost : Type 0 where
   pub before : ℕ
   pub after : ℕ
+
+-- How many a call makes that is asked after others, from a target.
+abbrev pub Costs : Type 0
+Costs = TargetState → List Ask → Ask → Cost
 
 -- What was asked so far, how many need points there were, and how many calls had been asked at the last of them.
 pub record Asks : Type 0 where

@@ -13,8 +13,8 @@ pub record World : Type 0 where
   pub answered : Option ℕ
 
 -- the world at the start, where no AP is known to have large addresses
-abbrev pub world : TargetState → Option ℕ → World
-world t answered = record { target = t; large = []; answered = answered }
+abbrev pub start_world : TargetState → Option ℕ → World
+start_world t answered = record { target = t; large = []; answered = answered }
 
 -- the same world with all calls answered
 abbrev pub unlimited : World → World
@@ -72,7 +72,7 @@ abbrev pub results : World → List Ask → List ℕ
 results w [] = []
 results w (ask ∷ asks) = if stops_here w ask then [] else end_result (done_now w ask).end ∷ results (next_world w ask) asks
 
--- a call's number, where so many calls come before the list in which it was counted
+-- a number counted in a list, where so many come before that list
 abbrev pub later_by : ℕ → Option ℕ → Option ℕ
 later_by calls at = option_map (λ n. calls + n) at
 

@@ -1,6 +1,6 @@
 //! Entries of a journal.
 ghost use Rattle.std.specs.Prelude.{◌≡◌, ℕ, suc, ◌+◌, ◌*◌, ◌<◌, ◌≤◌, true, List, ◌∷◌, ◌++◌, length, take, Some, None};
-ghost use Rattle.call_terms.specs.Journal.{Entry, Passes, attempted_in, first_fault, is_bad, skipped_in, target_after};
+ghost use Rattle.call_terms.specs.Journal.{Entry, Passes, attempted_in, first_fault, is_unforgiven, skipped_in, target_after};
 ghost use Rattle.call_terms.specs.Weights.{AreWeighty, IsWeighty, commands_in, delay_commands, performed, registers_in, weight, weight_in};
 ghost use Rattle.call_terms.specs.World.{later_by};
 ghost use Rattle.target_machine.specs.Plain.{Action};
@@ -23,7 +23,7 @@ pub fn entries_join()
 pub fn passing_entries()
     ensures none { (t : TargetState) (entries : List Entry) → Passes t entries → first_fault t entries ≡ None }
     ensures all { (t : TargetState) (entries : List Entry) → first_fault t entries ≡ None → Passes t entries }
-    ensures first { (t : TargetState) (xs : List Entry) (e : Entry) (ys : List Entry) → Passes t xs → is_bad (target_after t xs) e ≡ true
+    ensures first { (t : TargetState) (xs : List Entry) (e : Entry) (ys : List Entry) → Passes t xs → is_unforgiven (target_after t xs) e ≡ true
         → first_fault t (xs ++ e ∷ ys) ≡ Some (suc (length xs)) }
     ensures before { (t : TargetState) (entries : List Entry) (n : ℕ) → first_fault t entries ≡ Some (suc n) → Passes t (take n entries) }
     ensures later { (t : TargetState) (xs ys : List Entry) → Passes t xs → first_fault t (xs ++ ys) ≡ later_by (length xs) (first_fault (target_after t xs) ys) }

@@ -6,6 +6,7 @@ ghost use Rattle.call_terms.specs.declared.calls.Ask.{Ask};
 /// Calls come to the same where enough of them are answered as where all are; else their results are the first of those.
 pub fn limits_of_answers()
     ensures results { (w : World) (calls : List Ask) → results w calls ≡ results_within w.answered (results (unlimited w) calls) }
+    ensures front { (w : World) (calls : List Ask) (n : ℕ) → AtLeast n w.answered → take n (results w calls) ≡ take n (results (unlimited w) calls) }
     ensures answered { (w : World) (calls : List Ask) → stop w calls ≡ None → AtLeast (length calls) w.answered }
     ensures unlimited { (w : World) (calls : List Ask) → stop w calls ≡ None → stop (unlimited w) calls ≡ None }
     ensures whole { (w : World) (calls : List Ask) → stop (unlimited w) calls ≡ None → AtLeast (length calls) w.answered → stop w calls ≡ None }

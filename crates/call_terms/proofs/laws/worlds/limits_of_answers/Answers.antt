@@ -1,8 +1,11 @@
-use Rattle.call_terms.proofs.WorldLemmas.{results_first, unlimited_whole, whole_after, whole_least, whole_skips, whole_unlimited}
+use Rattle.call_terms.proofs.WorldLemmas.{front_first, results_first, unlimited_whole, whole_after, whole_least, whole_skips, whole_unlimited}
 use Rattle.call_terms.proofs.laws.worlds.limits_of_answers.Goals as goal
 
 pub returns-clause-results : goal.returns-clause-results
 returns-clause-results c = results_first
+
+pub returns-clause-front : goal.returns-clause-front
+returns-clause-front c = front_first
 
 pub returns-clause-answered : goal.returns-clause-answered
 returns-clause-answered c = whole_least
