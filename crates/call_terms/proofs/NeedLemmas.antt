@@ -1,6 +1,7 @@
 -- Need points.
 use Rattle.std.proofs.Common.{◌≡◌, ◌∙◌, ℕ, zero, suc, ◌+◌, ◌^◌, ◌<◌, ◌≤◌, Bool, true, false, cond, [], ◌∷◌, ◌++◌, length, nat_lt, refl, sym, ap, arith}
-use Rattle.call_terms.specs.NeedPoints.{Asks, Cost, capped_sum, asked, needed, needed_more, used, with_call}
+use Rattle.call_terms.proofs.MarkLemmas.{length_marked}
+use Rattle.call_terms.specs.NeedPoints.{Asks, Cost, capped_sum, asked, finished, needed, needed_more, used, with_call}
 use Rattle.call_terms.specs.declared.calls.Ask.{Ask}
 use Rattle.call_terms.specs.declared.calls.Slot.{Slot}
 
@@ -48,6 +49,11 @@ pub used_free : (slot : Slot) (asks : Asks) → slot.index < length asks.calls �
 used_free slot asks h =
     let low : nat_lt slot.index (length asks.calls) ≡ true = grind (arith, h) in
     rw low refl
+
+pub used_finished : (slot : Slot) (asks : Asks) → slot.index < length asks.calls → used slot (needed (finished asks)) ≡ needed (finished asks)
+used_finished slot asks h =
+    let count = length_marked asks.calls in
+    used_free slot (finished asks) (grind (arith, h, count))
 
 pub used_again : (slot : Slot) (asks : Asks) → slot.index < length asks.calls → used slot (used slot asks) ≡ used slot asks
 used_again slot asks h = one (nat_lt slot.index asks.fence) refl

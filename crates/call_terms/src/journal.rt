@@ -3,7 +3,7 @@
 /// What an entry of a journal is to its unit.
 #[derive(Clone, Copy, Debug, PartialEq, Eq)]
 pub enum Part {
-    /// It writes the CSW and TAR that an earlier unit left open.
+    /// It settles: it writes CSW or TAR as plain units leave them, after units that left them otherwise.
     Settles,
     /// It leads to the access that the unit is for.
     Leads,

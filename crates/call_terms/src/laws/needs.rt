@@ -1,6 +1,6 @@
 //! Need points.
 ghost use Rattle.std.specs.Prelude.{◌≡◌, ℕ, ◌+◌, ◌^◌, ◌<◌, ◌≤◌, [], ◌∷◌, ◌++◌, length};
-ghost use Rattle.call_terms.specs.NeedPoints.{Asks, Cost, asked, needed, needed_more, used};
+ghost use Rattle.call_terms.specs.NeedPoints.{Asks, Cost, asked, finished, needed, needed_more, used};
 ghost use Rattle.call_terms.specs.declared.calls.Ask.{Ask};
 ghost use Rattle.call_terms.specs.declared.calls.Slot.{Slot};
 
@@ -18,5 +18,6 @@ pub fn need_points_add()
 /// After a need point the use of a slot that was asked before it makes none.
 pub fn uses_after_a_need_point()
     ensures needed { (slot : Slot) (asks : Asks) → slot.index < length asks.calls → used slot (needed asks) ≡ needed asks }
+    ensures finished { (slot : Slot) (asks : Asks) → slot.index < length asks.calls → used slot (needed (finished asks)) ≡ needed (finished asks) }
     ensures used { (slot : Slot) (asks : Asks) → slot.index < length asks.calls → used slot (used slot asks) ≡ used slot asks }
 {}
