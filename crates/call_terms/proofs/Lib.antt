@@ -5,3 +5,4 @@ pub mod WorldLemmas
 pub mod MarkLemmas
 pub mod NeedLemmas
 pub mod EntryLemmas
+pub mod CallRanges

@@ -63,17 +63,17 @@ IsUnitInRange (unit.Dp read addr value) = value < 2 ^ 32
 IsUnitInRange (unit.Poll mask value turns) = (mask < 2 ^ 32) × (value < 2 ^ 32)
 
 -- the numbers of a command are those of its type
-abbrev pub IsCommandInRange : ProbeCall → Type 0
-IsCommandInRange (probe.Delay micros) = micros < 2 ^ 32
-IsCommandInRange (probe.Abort value) = value < 2 ^ 32
-IsCommandInRange (probe.Pins output select wait) = (output < 2 ^ 8) × (select < 2 ^ 8) × (wait < 2 ^ 32)
-IsCommandInRange (probe.Clock hertz) = hertz < 2 ^ 32
-IsCommandInRange (probe.Line count bits) = (count < 2 ^ 8) × (bits < 2 ^ 64)
+abbrev pub IsProbeInRange : ProbeCall → Type 0
+IsProbeInRange (probe.Delay micros) = micros < 2 ^ 32
+IsProbeInRange (probe.Abort value) = value < 2 ^ 32
+IsProbeInRange (probe.Pins output select wait) = (output < 2 ^ 8) × (select < 2 ^ 8) × (wait < 2 ^ 32)
+IsProbeInRange (probe.Clock hertz) = hertz < 2 ^ 32
+IsProbeInRange (probe.Line count bits) = (count < 2 ^ 8) × (bits < 2 ^ 64)
 
 -- the numbers of a call are those of its type
 abbrev pub IsCallInRange : Call → Type 0
 IsCallInRange (Access asked) = IsUnitInRange asked
-IsCallInRange (Probe command) = IsCommandInRange command
+IsCallInRange (Probe command) = IsProbeInRange command
 
 -- The call may be asked: its sizes, addresses and counts are those of units, and its numbers those of their types.
 pub record IsAskable (ask : Ask) : Type 0 where
