@@ -21,7 +21,7 @@ fn set(alloc: Global, texts: [&str; 5]) -> Result<SeqSet, Fail>
         {{"name":"Off","disable":true,"steps":[{{"block":"("}}]}},
         {{"name":"Main","steps":[
             {{"if":"{cond}","while":"{repeat}","timeout":5,"control":[{{"block":"{inside}"}}]}},
-            {{"block":"{behind}"}}]}}]}}]}}]}}"#
+            {{"block":"{after}"}}]}}]}}]}}]}}"#
     )?;
     let Ok(value) = Value::from_str(alloc, &text) else {
         return Err(Fail::from("no JSON"));
