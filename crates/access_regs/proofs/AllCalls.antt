@@ -1,0 +1,122 @@
+-- The laws of the journal.
+use Rattle.std.proofs.Common.{◌≡◌, ◌∙◌, ℕ, ◌<◌, ◌⊎◌, inl, inr, Bool, true, false, cond, ◌&&◌, List, [], ◌∷◌, None, refl, sym, ap, subst, arith, length, replicate, get_or, zero, suc, ◌≤◌}
+use Rattle.std.proofs.lemmas.List.{get_or-replicate, length-replicate}
+use Rattle.std.proofs.lemmas.Bool.{cases_lt}
+use Rattle.target_machine.specs.Plain.{call_done, may_forgive}
+use Rattle.target_machine.specs.Sound.{IsSoundCall}
+use Rattle.target_machine.specs.State.{TargetState}
+use Rattle.target_machine.specs.declared.unit.Call.{Call}
+use Rattle.target_machine.specs.declared.unit.Call.TheVariants.{Access, Probe}
+use Rattle.target_machine.specs.declared.unit.Unit.{Unit as AccessUnit}
+use Rattle.target_machine.specs.declared.unit.Unit.TheVariants as unit
+use Rattle.access_regs.specs.Kept.{Kept, known, unknown, nothing_kept}
+use Rattle.access_regs.specs.Plan.{settled}
+use Rattle.access_regs.specs.declared.known.Known.{Known}
+use Rattle.access_regs.specs.Journal.{finish, issue_of, finish_of, steps_at, actions_of, forgiving_at, after_settling, planned, issue, issued, kept_from}
+use Rattle.access_regs.specs.Alone.{alone, alone_after, large_of_all}
+use Rattle.access_regs.specs.Follows.{Follows, IsTrueOf}
+use Rattle.access_regs.specs.Laws.{FreshFollows, CallGoes, CallLeaves, JournalFollows, JournalAgrees, JournalPasses, JournalStops, JournalAnswers}
+use Rattle.access_regs.specs.Course.{Course}
+use Rattle.access_regs.proofs.Settle.{settled_calm, follows_agree}
+use Rattle.access_regs.proofs.Calls.{strict_course, settle_course}
+use Rattle.access_regs.proofs.Forgiving.{ap_course, memory_course}
+use Rattle.access_regs.proofs.Agreeing.{follows_facts}
+use Rattle.target_machine.specs.Lists.{after}
+use Rattle.call_terms.specs.Asks.{IsUnitInRange, IsCallInRange, IsAskable, AreAskable, is_settled}
+use Rattle.call_terms.specs.Journal.{actions_in}
+use Rattle.call_terms.specs.declared.calls.Ask.{Ask}
+use Rattle.access_regs.proofs.Lists.{AllOk, step_follows, list_follows, list_passes, list_stops, list_answers}
+
+forgiving_course : (k : Kept) (large : List ℕ) (t u : TargetState) → Follows k large t u → (asked : AccessUnit) → IsUnitInRange asked → may_forgive (Access asked) ≡ true →
+    Course (after_settling u k (forgiving_at asked)) (call_done t large true (Access asked)) (Access asked) u
+forgiving_course k large t u f (unit.Memory size read n address value) range may =
+    settle_course k large t u f (forgiving_at (unit.Memory size read n address value)) (call_done t large true (Access (unit.Memory size read n address value))) (Access (unit.Memory size read n address value))
+    (λ v g. memory_course (settled k) large t v g (settled_calm k) size read n address value range.0)
+forgiving_course k large t u f (unit.Ap read n addr value) range may =
+    settle_course k large t u f (forgiving_at (unit.Ap read n addr value)) (call_done t large true (Access (unit.Ap read n addr value))) (Access (unit.Ap read n addr value))
+    (λ v g. ap_course (settled k) large t v g (settled_calm k) read n addr value range.0 range.1)
+forgiving_course k large t u f (unit.Dp read addr value) range may = absurd (cc)
+forgiving_course k large t u f (unit.Poll mask value turns) range may = absurd (cc)
+
+both_true : (x y : Bool) → (x && y) ≡ true → (x ≡ true) × (y ≡ true)
+both_true true y e = (refl, e)
+both_true false y e = absurd (cc)
+
+-- Each call goes as it goes alone.
+pub call_course : (k : Kept) (large : List ℕ) (t u : TargetState) → Follows k large t u → (c : Ask) → IsAskable c → Course (issue_of u k c) (alone t large c) c.call u
+call_course k large t u f c ok = by_mark c.call (c.forgive && may_forgive c.call) refl ok.sound ok.range
+  where
+    by_mark : (call : Call) (b : Bool) → (c.forgive && may_forgive call) ≡ b → IsSoundCall call → IsCallInRange call → Course (issue u k c.forgive call) (call_done t large c.forgive call) call u
+    by_mark call false e sound range = strict_course k large t u f c.forgive call e sound range
+    by_mark (Access asked) true e sound range =
+        let p = both_true c.forgive (may_forgive (Access asked)) e in
+        subst (λ (b : Bool). Course (cond b (after_settling u k (forgiving_at asked)) (planned u k asked)) (call_done t large c.forgive (Access asked)) (Access asked) u) (sym e)
+        (subst (λ (b : Bool). Course (after_settling u k (forgiving_at asked)) (call_done t large b (Access asked)) (Access asked) u) (sym p.0) (forgiving_course k large t u f asked range p.1))
+    by_mark (Probe x) true e sound range = (let p = both_true c.forgive false e in let no : false ≡ true = p.1 in absurd (cc))
+
+all_ok : (cs : List Ask) → AreAskable cs → AllOk IsAskable call_course cs
+all_ok [] h = tt
+all_ok (c ∷ cs) h = (h.0, all_ok cs h.1)
+
+get_or_past : (xs : List Known) (q : ℕ) → length xs ≤ q → get_or xs q unknown ≡ unknown
+get_or_past [] q le = refl
+get_or_past (x ∷ xs) zero le = absurd (omega arith)
+get_or_past (x ∷ xs) (suc q) le = get_or_past xs q (omega arith)
+
+known_nothing : (q : ℕ) → known nothing_kept q ≡ unknown
+known_nothing q = by_place (cases_lt q 256)
+  where
+    by_place : (q < 256) ⊎ (256 ≤ q) → known nothing_kept q ≡ unknown
+    by_place (inl lt) = get_or-replicate 256 q unknown unknown lt
+    by_place (inr ge) = get_or_past (replicate 256 unknown) q (let e = length-replicate 256 unknown in omega arith)
+
+pub fresh_follows : FreshFollows
+fresh_follows t fresh = follows_facts nothing_kept [] t t (record {
+  agree = record { same = refl };
+  clear = fresh.clear;
+  few = fresh.few;
+  table = length-replicate 256 unknown;
+  select = λ v e. absurd (cc);
+  larges = λ q less. ap (λ x. x.large) (known_nothing q);
+  so = λ q p is. subst (λ x. IsTrueOf x p) (sym (known_nothing q)) (record { csw = λ c e. absurd (cc); tar = λ c e. absurd (cc); high = λ c e. absurd (cc); stored = fresh.stored q p is });
+  calm = refl;
+})
+
+pub call_goes : CallGoes
+call_goes k large t u c f ok = call_course k large t u f c ok
+
+pub call_leaves : CallLeaves
+call_leaves k large t u c f ok ne = step_follows IsAskable call_course k large t u f c ok ne
+
+pub journal_follows : JournalFollows
+journal_follows t calls fresh ok none = list_follows IsAskable call_course 0 nothing_kept [] t t (fresh_follows t fresh) calls (all_ok calls ok) none
+
+pub journal_passes : JournalPasses
+journal_passes t calls fresh ok none = list_passes IsAskable call_course 0 nothing_kept [] t t (fresh_follows t fresh) calls (all_ok calls ok) none
+
+finish_calm : (b : Bool) (k : Kept) → b ≡ true → (finish b k).kept.unsettled ≡ None
+finish_calm true k e = settled_calm k
+finish_calm false k e = absurd (cc)
+
+some_calm : (k : Kept) (u : TargetState) (c : Ask) (cs : List Ask) → is_settled (c ∷ cs) ≡ true → (kept_from k u (c ∷ cs)).unsettled ≡ None
+some_calm k u c [] h = finish_calm c.settled (issue_of u k c).kept h
+some_calm k u c (d ∷ cs) h = some_calm (finish_of u k c).kept (after u (actions_of (steps_at u k c))) d cs h
+
+finished_calm : (k : Kept) (u : TargetState) (cs : List Ask) → is_settled cs ≡ true → k.unsettled ≡ None → (kept_from k u cs).unsettled ≡ None
+finished_calm k u [] h calm = calm
+finished_calm k u (c ∷ cs) h calm = some_calm k u c cs h
+
+pub journal_agrees : JournalAgrees
+journal_agrees t calls fresh ok none finished =
+    follows_agree (kept_from nothing_kept t calls) (large_of_all t [] calls) (alone_after t [] calls) (after t (actions_in (issued t calls)))
+    (journal_follows t calls fresh ok none) (finished_calm nothing_kept t calls finished refl)
+
+pub journal_stops : JournalStops
+journal_stops t calls last fresh ok ok_last none bad =
+    let s = list_stops IsAskable call_course 0 nothing_kept [] t t (fresh_follows t fresh) calls last (all_ok calls ok) ok_last none bad in
+    record { front = s.front; entry = s.entry; stops = s.stops; unit = s.unit ∙ omega arith; own = s.own; words = s.words }
+
+pub journal_answers : JournalAnswers
+journal_answers t calls more c n fresh ok ok_last none e =
+    let a = list_answers IsAskable call_course 0 nothing_kept [] t t (fresh_follows t fresh) calls more c n (all_ok calls ok) ok_last none e in
+    record { front = a.front; entry = a.entry; more = a.more; is = a.is; unit = a.unit ∙ omega arith; ends = a.ends; gives = a.gives }

@@ -1,0 +1,387 @@
+-- A forgiving unit, where nothing is unsettled: it is made by the accesses of the plain unit.
+use Rattle.std.proofs.Common.{◌≡◌, ◌≢◌, ◌∙◌, ℕ, ◌/◌, ◌%◌, ◌^◌, ◌<◌, ◌⊎◌, inl, inr, Bool, true, false, cond, not, ◌&&◌, ◌||◌, nat_lt, List, [], ◌∷◌, ◌++◌, Option, None, refl, sym, ap, subst, arith, length}
+use Rattle.std.proofs.lemmas.Bool.{eq-eqb, cases_eq}
+use Rattle.target_machine.specs.Attempt.{Attempt, attempt, done, is_free}
+use Rattle.target_machine.specs.Laws.{Alike}
+use Rattle.target_machine.specs.Plain.{Action, Makes, Polls, Commands, acted, in_order, is_fault, given, issued, contains, select_of, ap_access_of, csw_for, drw_of, needs_cfg, has_large, cfg_actions, csw_actions, memory_actions, transfer_actions, after_cfg, unit_actions, call_done, ended, result_of, large_after, is_small, commanded, forgives, CallDone, Answered, Skipped}
+use Rattle.target_machine.specs.State.{TargetState, Agree}
+use Rattle.target_machine.specs.declared.access.Outcome.{Outcome}
+use Rattle.target_machine.specs.declared.access.Outcome.TheVariants.{Fault}
+use Rattle.target_machine.specs.declared.access.RegAccess.{RegAccess}
+use Rattle.target_machine.specs.declared.unit.Call.{Call}
+use Rattle.target_machine.specs.declared.unit.Call.TheVariants.{Access}
+use Rattle.target_machine.specs.declared.unit.Unit.{Unit as AccessUnit}
+use Rattle.target_machine.specs.declared.unit.Unit.TheVariants as unit
+use Rattle.access_regs.specs.Kept.{Kept, known, with_known, forgotten}
+use Rattle.access_regs.specs.Journal.{Issue, Step, actions_of, port_of, large_of, part_of, parts_of, is_early, issue_done, is_last, select_written, select_after, kept_after, forgiving_at}
+use Rattle.access_regs.specs.Follows.{Follows}
+use Rattle.access_regs.specs.declared.known.Known.{Known}
+use Rattle.access_regs.proofs.Stage.{is_true_of}
+use Rattle.access_regs.proofs.PortFacts.{table_kept, known_same, known_other}
+use Rattle.access_regs.proofs.Settle.{follows_agree}
+use Rattle.access_regs.specs.Course.{Course, answered, small, skipped, IsPassing}
+use Rattle.access_regs.proofs.FollowsFacts.{planned_clear}
+use Rattle.access_regs.proofs.Agreeing.{follows_facts, forgotten_true, whole_from}
+use Rattle.access_regs.proofs.Wide.{contains_last, contains_other}
+use Rattle.target_machine.proofs.ActionAgreement.{in_order_alike}
+use Rattle.target_machine.proofs.ActionLists.{pass_last, after_append, after_issued, issued_pass}
+use Rattle.target_machine.specs.Lists.{after, PassTo, SpareRdbuff}
+use Rattle.dap_base.specs.Bits.{has_bit}
+use Rattle.call_terms.specs.Journal.{settles}
+use Rattle.call_terms.specs.declared.journal.Part.TheVariants.{Leads, Ends}
+use Rattle.access_regs.proofs.Runs.{spare_append, AreOf, Left, Step', run_left}
+
+-- ---- the actions of a memory unit
+
+module _ (size : ℕ) (read : Bool) (n address value : ℕ) where
+  abbrev tail : Bool → ℕ → List Action
+  tail l csw = transfer_actions l size read address value csw
+
+  abbrev shape : Bool → Bool → Bool → ℕ → List Action
+  shape w b l csw = cond w (cfg_actions n ++ cond b (csw_actions n ++ tail true csw) []) (csw_actions n ++ tail l csw)
+
+  abbrev csw_at : TargetState → Bool → ℕ
+  csw_at t w = given (in_order (cond w (in_order t (cfg_actions n)).next t) (csw_actions n)).outcome
+
+  memory_shape : (t : TargetState) (large : List ℕ) → unit_actions t large (unit.Memory size read n address value) ≡ shape (needs_cfg large n address) (has_large t n) (contains large n) (csw_at t (needs_cfg large n address))
+  memory_shape t large = by_wide (needs_cfg large n address)
+    where
+      by_wide : (w : Bool) → cond w (cfg_actions n ++ after_cfg t size read n address value) (memory_actions t (contains large n) size read n address value) ≡ shape w (has_large t n) (contains large n) (csw_at t w)
+      by_wide true = refl
+      by_wide false = refl
+
+  quiet_tail : (l : Bool) (csw : ℕ) → SpareRdbuff (tail l csw)
+  quiet_tail true csw = (refl, (refl, (refl, (refl, tt))))
+  quiet_tail false csw = (refl, (refl, (refl, tt)))
+
+  quiet_csw : SpareRdbuff (csw_actions n)
+  quiet_csw = (refl, (refl, tt))
+
+  quiet_shape : (w b l : Bool) (csw : ℕ) → SpareRdbuff (shape w b l csw)
+  quiet_shape true true l csw = (refl, (refl, spare_append (csw_actions n) (tail true csw) quiet_csw (quiet_tail true csw)))
+  quiet_shape true false l csw = (refl, (refl, tt))
+  quiet_shape false b l csw = spare_append (csw_actions n) (tail l csw) quiet_csw (quiet_tail l csw)
+
+  of_tail : (l : Bool) (csw : ℕ) → AreOf n (tail l csw)
+  of_tail true csw = (inr refl, (inr refl, (inr refl, (inr refl, tt))))
+  of_tail false csw = (inr refl, (inr refl, (inr refl, tt)))
+
+  -- it begins with SELECT
+  left_shape : (lt : n < 256) (u : TargetState) → u.sticky ≡ false → (written : Option ℕ) (w b l : Bool) (csw : ℕ) → Step' n u (select_after written (issued u (shape w b l csw))) (in_order u (shape w b l csw))
+  left_shape lt u clear written true true l csw =
+      run_left n lt u 0xF (omega arith) (Makes (ap_access_of true 4 0) ∷ Makes (select_of n 0) ∷ Makes (ap_access_of true 0 0) ∷ tail true csw) written
+      (inr refl, (inl (0, omega arith, refl), (inr refl, of_tail true csw))) clear
+  left_shape lt u clear written true false l csw = run_left n lt u 0xF (omega arith) (Makes (ap_access_of true 4 0) ∷ []) written (inr refl, tt) clear
+  left_shape lt u clear written false b l csw =
+      run_left n lt u 0 (omega arith) (Makes (ap_access_of true 0 0) ∷ tail l csw) written (inr refl, of_tail l csw) clear
+
+  -- the last one is DRW
+  front : Bool → ℕ → List Action
+  front true csw = Makes (ap_access_of false 0 (csw_for csw size)) ∷ Makes (ap_access_of false 8 (address / 2 ^ 32)) ∷ Makes (ap_access_of false 4 (address % 2 ^ 32)) ∷ []
+  front false csw = Makes (ap_access_of false 0 (csw_for csw size)) ∷ Makes (ap_access_of false 4 (address % 2 ^ 32)) ∷ []
+
+  tail_is : (l : Bool) (csw : ℕ) → tail l csw ≡ front l csw ++ Makes (drw_of read address value) ∷ []
+  unfolding front
+  tail_is true csw = refl
+  tail_is false csw = refl
+
+  shape_front : Bool → Bool → ℕ → List Action
+  shape_front true l csw = cfg_actions n ++ (csw_actions n ++ front true csw)
+  shape_front false l csw = csw_actions n ++ front l csw
+
+  shape_last : (w b l : Bool) (csw : ℕ) → (w && not b) ≡ false → shape w b l csw ≡ shape_front w l csw ++ Makes (drw_of read address value) ∷ []
+  unfolding shape_front
+  shape_last true true l csw e = ap (λ (x : List Action). cfg_actions n ++ (csw_actions n ++ x)) (tail_is true csw)
+  shape_last true false l csw e = absurd (cc)
+  shape_last false b l csw e = ap (λ (x : List Action). csw_actions n ++ x) (tail_is l csw)
+
+  shape_same : (t u : TargetState) → Agree t u → (w : Bool) → (has_large t n ≡ has_large u n) × (csw_at t w ≡ csw_at u w)
+  shape_same t u agree w =
+      let c = in_order_alike (cfg_actions n) t u agree (refl, (refl, tt)) in
+      (ap (λ (o : Outcome). has_bit (given o) 2) c.outcome, by_wide w c.next)
+    where
+      by_wide : (w : Bool) → Agree (in_order t (cfg_actions n)).next (in_order u (cfg_actions n)).next → csw_at t w ≡ csw_at u w
+      by_wide true next = (let d = in_order_alike (csw_actions n) (in_order t (cfg_actions n)).next (in_order u (cfg_actions n)).next next (refl, (refl, tt)) in ap given d.outcome)
+      by_wide false next = (let d = in_order_alike (csw_actions n) t u agree (refl, (refl, tt)) in ap given d.outcome)
+
+-- ---- any unit that may be forgiven
+
+-- the write of ABORT that clears STICKYERR
+aborts : (t : TargetState) → commanded t forgives ≡ done (record t { sticky = false })
+unfolding attempt is_free
+aborts t = by_sticky t.sticky
+  where
+    by_sticky : (b : Bool) → cond (b && false) (record { outcome = Fault; next = t }) (done (record t { sticky = false })) ≡ done (record t { sticky = false })
+    by_sticky true = refl
+    by_sticky false = refl
+
+actions_parts : (early : Bool) (asked : AccessUnit) (xs : List Action) → actions_of (parts_of early asked xs) ≡ xs
+actions_parts early asked [] = refl
+actions_parts early asked (x ∷ xs) = ap (λ (l : List Action). x ∷ l) (actions_parts early asked xs)
+
+parts_append : (early : Bool) (asked : AccessUnit) (xs ys : List Action) → parts_of early asked (xs ++ ys) ≡ parts_of early asked xs ++ parts_of early asked ys
+parts_append early asked [] ys = refl
+parts_append early asked (x ∷ xs) ys = ap (λ (l : List Step). record { part = part_of early asked x; action = x } ∷ l) (parts_append early asked xs ys)
+
+never_settles : (early : Bool) (asked : AccessUnit) (x : Action) → settles (part_of early asked x) ≡ false
+never_settles early asked (Makes a) = by_last (is_last asked a)
+  where
+    by_last : (b : Bool) → settles (cond b Ends Leads) ≡ false
+    by_last true = refl
+    by_last false = refl
+never_settles early asked (Polls m w n) = refl
+never_settles early asked (Commands c) = refl
+
+and_false : (b : Bool) → (b && false) ≡ false
+and_false true = refl
+and_false false = refl
+
+all_pass : (early : Bool) (asked : AccessUnit) (u : TargetState) (xs : List Action) → IsPassing u (parts_of early asked xs)
+all_pass early asked u [] = tt
+all_pass early asked u (x ∷ xs) =
+    (ap (λ (b : Bool). is_fault (acted u x).outcome && b) (never_settles early asked x) ∙ and_false (is_fault (acted u x).outcome), all_pass early asked (acted u x).next xs)
+
+select_append : (written : Option ℕ) (xs ys : List Action) → select_after written (xs ++ ys) ≡ select_after (select_after written xs) ys
+select_append written [] ys = refl
+select_append written (x ∷ xs) ys = select_append (select_written written x) xs ys
+
+record Split (t : TargetState) (xs : List Action) (a : Action) (v : TargetState) : Type 0 where
+  at : TargetState
+  pass : PassTo t xs at
+  good : is_fault (acted at a).outcome ≡ false
+  is : v ≡ (acted at a).next
+
+split_pass : (t : TargetState) (xs : List Action) (a : Action) (v : TargetState) → PassTo t (xs ++ a ∷ []) v → Split t xs a v
+split_pass t [] a v h = record { at = t; pass = refl; good = h.0; is = h.1 }
+split_pass t (x ∷ xs) a v h = let s = split_pass (acted t x).next xs a v h.1 in record { at = s.at; pass = (h.0, s.pass); good = s.good; is = s.is }
+
+-- the last access of a list is the one that the unit is for
+pub record HasLast (asked : AccessUnit) (xs : List Action) : Type 0 where
+  pub front : List Action
+  pub last : RegAccess
+  pub is : xs ≡ front ++ Makes last ∷ []
+  pub ends : is_last asked last ≡ true
+
+module _ (k : Kept) (large : List ℕ) (t u : TargetState) (f : Follows k large t u) (calm : k.unsettled ≡ None) (asked : AccessUnit) (lt : port_of asked < 256)
+    (xs : List Action) (s : Bool) (lt_after lu_after : List ℕ) where
+  abbrev n : ℕ
+  n = port_of asked
+
+  abbrev call : Call
+  call = Access asked
+
+  abbrev RT : Attempt
+  RT = in_order t xs
+
+  abbrev RU : Attempt
+  RU = in_order u xs
+
+  abbrev DT : CallDone
+  DT = ended (is_fault RT.outcome) true s (result_of call (given RT.outcome)) RT.next lt_after (issued t xs)
+
+  abbrev DU : CallDone
+  DU = ended (is_fault RU.outcome) true s (result_of call (given RU.outcome)) RU.next lu_after (issued u xs)
+
+  abbrev kept_of : CallDone → Kept
+  kept_of d = kept_after k asked d
+
+  abbrev issue_of : CallDone → Issue
+  issue_of d = issue_done k asked d
+
+  module _ (quiet : SpareRdbuff xs) (left : Step' n u (select_after k.select (issued u xs)) RU) (last : s ≡ false → HasLast asked xs)
+      (same_large : contains lu_after n ≡ contains lt_after n) (other_large : (q : ℕ) → q ≢ n → contains lt_after q ≡ contains large q) where
+    alike : Alike RT RU
+    alike = in_order_alike xs t u (follows_agree k large t u f calm) quiet
+
+    table : n < length k.ports
+    table = let e = f.table in let l : n < 256 = lt in omega arith
+
+    larges_at : (q : ℕ) → q < 256 → (q ≡ n) ⊎ (q ≢ n) → (known (with_known k n (record (forgotten (known k n)) { large = contains lu_after n })) q).large ≡ contains lt_after q
+    larges_at q less (inl same) =
+        ap (λ (i : ℕ). (known (with_known k n (record (forgotten (known k n)) { large = contains lu_after n })) i).large) same
+        ∙ ap (λ (x : Known). x.large) (known_same k n (record (forgotten (known k n)) { large = contains lu_after n }) table) ∙ same_large ∙ ap (contains lt_after) (sym same)
+    larges_at q less (inr ne) =
+        ap (λ (x : Known). x.large) (known_other k n q (record (forgotten (known k n)) { large = contains lu_after n }) ne) ∙ f.larges q less ∙ sym (other_large q ne)
+
+    -- what is kept after it is so
+    facts : (v w : TargetState) (written : Option ℕ) → Agree v w → v.sticky ≡ false → Left n u written w →
+        Follows (record (with_known k n (record (forgotten (known k n)) { large = contains lu_after n })) { select = written }) lt_after v w
+    facts v w written agree clear l =
+        let a : Known = record (forgotten (known k n)) { large = contains lu_after n } in
+        follows_facts (record (with_known k n a) { select = written }) lt_after v w (record {
+          agree = agree;
+          clear = clear;
+          few =
+              subst (λ (x : ℕ). x < 2 ^ 32) (sym (ap (λ (x : TargetState). x.power_reads) agree.same ∙ l.few ∙ ap (λ (x : TargetState). x.power_reads) f.rest)) f.few;
+          table = table_kept k n a ∙ f.table;
+          select = λ x e. ap (λ (y : TargetState). y.select) agree.same ∙ l.select x e;
+          larges = λ q less. larges_at q less (cases_eq q n);
+          so = forgotten_true k n a u w table refl refl refl l.others (l.stored (whole_from k large t u f)) (λ q p is. is_true_of k large t u q f p is);
+          calm = calm;
+        })
+
+    abbrev written : Option ℕ
+    written = select_after k.select (issued u xs)
+
+    abbrev kept_with : Option ℕ → Kept
+    kept_with w = record (with_known k n (record (forgotten (known k n)) { large = contains lu_after n })) { select = w }
+
+    -- it faults, and is skipped
+    abbrev skipped_t : CallDone
+    skipped_t = record { end = Skipped; next = (commanded RT.next forgives).next; large = lt_after; actions = issued t xs ++ Commands forgives ∷ [] }
+
+    abbrev skipped_u : CallDone
+    skipped_u = record { end = Skipped; next = (commanded RU.next forgives).next; large = lu_after; actions = issued u xs ++ Commands forgives ∷ [] }
+
+    abbrev skip_parts : List Step
+    skip_parts = parts_of (is_early asked skipped_u.actions) asked skipped_u.actions
+
+    skipped_follows : Follows (kept_of skipped_u) lt_after (commanded RT.next forgives).next (after u (actions_of skip_parts))
+    skipped_follows =
+        let l = left.left in
+        let v : TargetState = record RT.next { sticky = false } in
+        let w : TargetState = record RU.next { sticky = false } in
+        let g : Follows (kept_with written) lt_after v w =
+        facts v w written (record { same = ap (λ (x : TargetState). record x { sticky = false }) alike.next.same }) refl
+        (record { others = l.others; stored = l.stored; few = l.few; select = l.select; here = l.here }) in
+        let at : after u (actions_of skip_parts) ≡ w =
+        ap (after u) (actions_parts (is_early asked skipped_u.actions) asked skipped_u.actions) ∙ after_append u (issued u xs) (Commands forgives ∷ [])
+        ∙ ap (λ (x : TargetState). (commanded x forgives).next) (after_issued xs u) ∙ ap (λ (x : Attempt). x.next) (aborts RU.next) in
+        subst (λ (x : Option ℕ). Follows (kept_with x) lt_after (commanded RT.next forgives).next (after u (actions_of skip_parts)))
+        (sym (select_append k.select (issued u xs) (Commands forgives ∷ [])))
+        (subst (λ (x : TargetState). Follows (kept_with written) lt_after x (after u (actions_of skip_parts))) (sym (ap (λ (x : Attempt). x.next) (aborts RT.next)))
+        (subst (Follows (kept_with written) lt_after v) (sym at) g))
+
+    -- it does not fault
+    module _ (good : is_fault RU.outcome ≡ false) where
+      t_clear : RT.next.sticky ≡ false
+      t_clear = ap (λ (x : TargetState). x.sticky) alike.next.same ∙ left.clear good
+
+      after_follows : Follows (kept_with written) lt_after RT.next RU.next
+      after_follows = facts RT.next RU.next written alike.next t_clear left.left
+
+      all_issued : (issued u xs ≡ xs) × PassTo u xs RU.next
+      all_issued = issued_pass xs u good
+
+      good_course : (b : Bool) → s ≡ b → Course (issue_of (ended false true b (result_of call (given RU.outcome)) RU.next lu_after (issued u xs))) (ended false true b (result_of call (given RT.outcome)) RT.next lt_after (issued t xs)) call u
+      good_course true e =
+          small (record {
+            at = RU.next;
+            pass = subst (λ (l : List Action). PassTo u l RU.next) (sym (actions_parts (is_early asked (issued u xs)) asked (issued u xs) ∙ all_issued.0)) all_issued.1;
+            end = refl;
+            follows = after_follows;
+          })
+      good_course false e =
+          let h = last e in
+          let early : Bool = is_early asked (issued u xs) in
+          let p = split_pass u h.front (Makes h.last) RU.next (subst (λ (l : List Action). PassTo u l RU.next) h.is all_issued.1) in
+          let order : RU ≡ attempt p.at h.last = ap (in_order u) h.is ∙ pass_last u p.at h.front (Makes h.last) p.pass in
+          answered (record {
+            leads = parts_of early asked h.front;
+            action = Makes h.last;
+            at = p.at;
+            steps = ap (parts_of early asked) (all_issued.0 ∙ h.is) ∙ parts_append early asked h.front (Makes h.last ∷ [])
+                ∙ ap (λ (b : Bool). parts_of early asked h.front ++ record { part = cond b Ends Leads; action = Makes h.last } ∷ []) h.ends;
+            pass = subst (λ (l : List Action). PassTo u l p.at) (sym (actions_parts early asked h.front)) p.pass;
+            good = p.good;
+            end = ap (λ (o : Outcome). Answered (result_of call (given o))) alike.outcome ∙ ap (λ (x : Attempt). Answered (result_of call (given x.outcome))) order;
+            follows = subst (Follows (kept_with written) lt_after RT.next) p.is after_follows;
+          })
+
+    pub by_fault : (b : Bool) → is_fault RU.outcome ≡ b → Course (issue_of DU) DT call u
+    by_fault true e =
+        let et : DT ≡ skipped_t = ap (λ (b : Bool). ended b true s (result_of call (given RT.outcome)) RT.next lt_after (issued t xs)) (ap is_fault alike.outcome ∙ e) in
+        let eu : DU ≡ skipped_u = ap (λ (b : Bool). ended b true s (result_of call (given RU.outcome)) RU.next lu_after (issued u xs)) e in
+        subst (λ (d : CallDone). Course (issue_of DU) d call u) (sym et) (subst (λ (d : CallDone). Course (issue_of d) skipped_t call u) (sym eu)
+        (skipped (record { end = refl; passes = all_pass (is_early asked skipped_u.actions) asked u skipped_u.actions; follows = skipped_follows })))
+    by_fault false e =
+        let et : DT ≡ ended false true s (result_of call (given RT.outcome)) RT.next lt_after (issued t xs) =
+        ap (λ (b : Bool). ended b true s (result_of call (given RT.outcome)) RT.next lt_after (issued t xs)) (ap is_fault alike.outcome ∙ e) in
+        let eu : DU ≡ ended false true s (result_of call (given RU.outcome)) RU.next lu_after (issued u xs) =
+        ap (λ (b : Bool). ended b true s (result_of call (given RU.outcome)) RU.next lu_after (issued u xs)) e in
+        subst (λ (d : CallDone). Course (issue_of DU) d call u) (sym et) (subst (λ (d : CallDone). Course (issue_of d) (ended false true s (result_of call (given RT.outcome)) RT.next lt_after (issued t xs)) call u) (sym eu)
+        (good_course e s refl))
+
+-- ---- memory units and AP units
+
+-- the call, by its actions
+abbrev pub done_of : TargetState → List ℕ → AccessUnit → List Action → Bool → CallDone
+done_of t l asked xs s =
+    ended (is_fault (in_order t xs).outcome) true s (result_of (Access asked) (given (in_order t xs).outcome)) (in_order t xs).next (large_after t l (Access asked)) (issued t xs)
+
+memory_done : (t : TargetState) (l : List ℕ) (size : ℕ) (read : Bool) (n address value : ℕ) → call_done t l true (Access (unit.Memory size read n address value))
+    ≡ done_of t l (unit.Memory size read n address value) (unit_actions t l (unit.Memory size read n address value)) (is_small t l (Access (unit.Memory size read n address value)))
+unfolding call_done
+memory_done t l size read n address value = refl
+
+port_done : (t : TargetState) (l : List ℕ) (read : Bool) (n addr value : ℕ) → call_done t l true (Access (unit.Ap read n addr value))
+    ≡ done_of t l (unit.Ap read n addr value) (unit_actions t l (unit.Ap read n addr value)) false
+unfolding call_done
+port_done t l read n addr value = refl
+
+contains_one : (b : Bool) (n : ℕ) → contains (cond b (n ∷ []) []) n ≡ b
+contains_one true n = ap (λ (c : Bool). c || false) (eq-eqb n n refl)
+contains_one false n = refl
+
+joined_same : (l m : List ℕ) (n : ℕ) (b : Bool) → contains l n ≡ contains m n → contains (cond b (l ++ n ∷ []) l) n ≡ contains (cond b (m ++ n ∷ []) m) n
+joined_same l m n true e = contains_last l n ∙ sym (contains_last m n)
+joined_same l m n false e = e
+
+joined_other : (l : List ℕ) (n q : ℕ) (b : Bool) → q ≢ n → contains (cond b (l ++ n ∷ []) l) q ≡ contains l q
+joined_other l n q true ne = contains_other l n q ne
+joined_other l n q false ne = refl
+
+module _ (k : Kept) (large : List ℕ) (t u : TargetState) (f : Follows k large t u) (calm : k.unsettled ≡ None) where
+  pub ap_course : (read : Bool) (n addr value : ℕ) → n < 256 → addr < 256 →
+      Course (forgiving_at (unit.Ap read n addr value) u k) (call_done t large true (Access (unit.Ap read n addr value))) (Access (unit.Ap read n addr value)) u
+  ap_course read n addr value lt fits =
+      let asked : AccessUnit = unit.Ap read n addr value in
+      let xs : List Action = unit_actions t large asked in
+      let left = run_left n lt u (addr / 16) (omega arith) (Makes (ap_access_of read (addr % 16) value) ∷ []) k.select (inr refl, tt) (planned_clear k large t u f) in
+      let DT : CallDone = done_of t large asked xs false in
+      let DU : CallDone = done_of u (large_of k asked) asked xs false in
+      let same_large : contains (large_of k asked) n ≡ contains large n = contains_one (known k n).large n ∙ f.larges n lt in
+      let c = by_fault k large t u f calm asked lt xs false large (large_of k asked) (refl, (refl, tt)) left
+      (λ e. record { front = Makes (select_of n (addr / 16)) ∷ []; last = ap_access_of read (addr % 16) value; is = refl; ends = refl })
+      same_large (λ q ne. refl) (is_fault (in_order u xs).outcome) refl in
+      subst (λ (d : CallDone). Course (forgiving_at asked u k) d (Access asked) u) (sym (port_done t large read n addr value))
+      (subst (λ (d : CallDone). Course (issue_done k asked d) DT (Access asked) u)
+      (sym (port_done u (large_of k asked) read n addr value)) c)
+
+  pub memory_course : (size : ℕ) (read : Bool) (n address value : ℕ) → n < 256 →
+      Course (forgiving_at (unit.Memory size read n address value) u k) (call_done t large true (Access (unit.Memory size read n address value))) (Access (unit.Memory size read n address value)) u
+  memory_course size read n address value lt =
+      let asked : AccessUnit = unit.Memory size read n address value in
+      let l2 : List ℕ = large_of k asked in
+      let same : contains l2 n ≡ contains large n = contains_one (known k n).large n ∙ f.larges n lt in
+      let w : Bool = needs_cfg large n address in
+      let b : Bool = has_large t n in
+      let csw : ℕ = csw_at size read n address value t w in
+      let xs : List Action = shape size read n address value w b (contains large n) csw in
+      let sh = shape_same size read n address value t u (follows_agree k large t u f calm) w in
+      let needs : needs_cfg l2 n address ≡ w = ap (λ (c : Bool). nat_lt 0xFFFF_FFFF address && not c) same in
+      let has : has_large u n ≡ b = sym sh.0 in
+      let xt : unit_actions t large asked ≡ xs = memory_shape size read n address value t large in
+      let xu : unit_actions u l2 asked ≡ xs =
+      memory_shape size read n address value u l2
+      ∙ ap (λ (c : Bool). shape size read n address value c (has_large u n) (contains l2 n) (csw_at size read n address value u c)) needs
+      ∙ ap (λ (c : Bool). shape size read n address value w c (contains l2 n) (csw_at size read n address value u w)) has
+      ∙ ap (λ (c : Bool). shape size read n address value w b c (csw_at size read n address value u w)) same
+      ∙ ap (λ (c : ℕ). shape size read n address value w b (contains large n) c) (sym sh.1) in
+      let s : Bool = w && not b in
+      let LT : List ℕ = cond (w && b) (large ++ n ∷ []) large in
+      let LU : List ℕ = cond (w && b) (l2 ++ n ∷ []) l2 in
+      let left = left_shape size read n address value lt u (planned_clear k large t u f) k.select w b (contains large n) csw in
+      let c = by_fault k large t u f calm asked lt xs s LT LU (quiet_shape size read n address value w b (contains large n) csw) left
+      (λ e. record { front = shape_front size read n address value w (contains large n) csw; last = drw_of read address value; is = shape_last size read n address value w b (contains large n) csw e; ends = refl })
+      (joined_same l2 large n (w && b) same) (λ q ne. joined_other large n q (w && b) ne) (is_fault (in_order u xs).outcome) refl in
+      let D : TargetState → Bool → Bool → List Action → List ℕ → CallDone = λ v x y acts l.
+      ended (is_fault (in_order v acts).outcome) true (x && not y) (result_of (Access asked) (given (in_order v acts).outcome)) (in_order v acts).next (cond (x && y) (l ++ n ∷ []) l) (issued v acts) in
+      let dt : call_done t large true (Access asked) ≡ D t w b xs large = memory_done t large size read n address value ∙ ap (λ (z : List Action). D t w b z large) xt in
+      let du : call_done u l2 true (Access asked) ≡ D u w b xs l2 =
+      memory_done u l2 size read n address value
+      ∙ ap (λ (z : List Action). D u (needs_cfg l2 n address) (has_large u n) z l2) xu
+      ∙ ap (λ (z : Bool). D u z (has_large u n) xs l2) needs ∙ ap (λ (z : Bool). D u w z xs l2) has in
+      subst (λ (d : CallDone). Course (forgiving_at asked u k) d (Access asked) u) (sym dt)
+      (subst (λ (d : CallDone). Course (issue_done k asked d) (D t w b xs large) (Access asked) u)
+      (sym du) c)

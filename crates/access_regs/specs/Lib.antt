@@ -1,0 +1,9 @@
+pub mod Kept
+pub mod Plan
+pub mod Plans
+pub mod Journal
+pub mod Follows
+pub mod Course
+pub mod Alone
+pub mod Laws
+pub mod Neighbours

@@ -1,0 +1,40 @@
+//! What follows from the definitions: each law is the contract of a function that does nothing.
+ghost use Rattle.access_regs.specs.Laws.{CallGoes, CallLeaves, FreshFollows, JournalAgrees, JournalAnswers, JournalFollows, JournalJoins, JournalPasses, JournalStops, KeptJoins, SettlingEnds};
+ghost use Rattle.access_regs.specs.Neighbours.{NeighboursAreFew};
+
+/// One call goes as it goes alone, and the next may follow it; the first may follow a fresh target.
+#[tactic(auto, using(crate::proofs::AllCalls::call_goes))]
+pub fn calls_go_as_alone()
+    ensures begin { FreshFollows }
+    ensures goes { CallGoes }
+    ensures leaves { CallLeaves }
+{}
+
+/// Units that are planned, and then settled, leave what they leave when each is made alone.
+#[tactic(auto, using(crate::proofs::AllCalls::journal_follows, crate::proofs::AllCalls::journal_agrees, crate::proofs::AllCalls::journal_passes, crate::proofs::AllCalls::journal_stops, crate::proofs::AllCalls::journal_answers))]
+pub fn journals_follow_calls()
+    ensures follows { JournalFollows }
+    ensures agrees { JournalAgrees }
+    ensures passes { JournalPasses }
+    ensures stops { JournalStops }
+    ensures answers { JournalAnswers }
+{}
+
+/// Neighbouring memory units issue little more than one access each.
+#[tactic(auto, using(crate::proofs::Few::neighbours_few))]
+pub fn neighbours_are_few()
+    ensures { NeighboursAreFew }
+{}
+
+/// The journal of more calls begins with that of the first ones, and goes on from where these end.
+#[tactic(auto, using(crate::proofs::Joins::journal_joins, crate::proofs::Joins::kept_joins))]
+pub fn journals_join()
+    ensures entries { JournalJoins }
+    ensures kept { KeptJoins }
+{}
+
+/// After a settling no access port is unsettled.
+#[tactic(auto, using(crate::proofs::Joins::settling_ends))]
+pub fn settling_ends()
+    ensures { SettlingEnds }
+{}

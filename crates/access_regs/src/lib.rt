@@ -1,0 +1,16 @@
+//! Plans for the register accesses of units: what the target already has is not written again.
+#![tactic(auto)]
+
+mod accesses;
+mod known;
+pub mod laws;
+mod managed;
+mod plan;
+mod values;
+
+pub use known::{Known, Unsettled};
+pub use managed::Managed;
+pub use plan::Plan;
+
+#[cfg(test)]
+mod tests;

@@ -1,0 +1,84 @@
+//! What registers are written with.
+ghost use Rattle.std.specs.Prelude.{◌≡◌, ◌<◌, ◌⊎◌, ◌*◌, ◌/◌, ◌%◌, ◌^◌};
+ghost use Rattle.target_machine.specs.Plain.{to_lanes};
+ghost use Rattle.access_regs.specs.Kept.{is_known};
+ghost use Rattle.access_regs.specs.Plan as plans;
+
+use target_machine::registers::{ADDRINC_SINGLE, CSW_OTHERS};
+
+// SELECT with this AP and this bank.
+pub(crate) fn select_value(ap: u8, bank: u8) -> u32
+    requires { bank < 16 }
+    ensures { result ≡ plans.select_value ap bank }
+{
+    u32::from(ap) * 0x100_0000 + u32::from(bank) * 16
+}
+
+// CSW with this size and AddrInc single, its other bits as they are known.
+pub(crate) fn planned_csw(csw: u32, size: u8) -> u32
+    ensures { result ≡ plans.planned_csw csw size }
+{
+    let code = match size {
+        1 => 0,
+        2 => 1,
+        _ => 2,
+    };
+    (csw & CSW_OTHERS) + code + ADDRINC_SINGLE
+}
+
+// What TAR is after an access by DRW; where that is a multiple of 1,024 it is not known.
+pub(crate) fn predicted(tar: u32, size: u8) -> Option<u32>
+    requires sized { (size ≡ 1) ⊎ ((size ≡ 2) ⊎ (size ≡ 4)) }
+    requires aligned { tar % size ≡ 0 }
+    ensures { result ≡ plans.predicted tar size }
+{
+    if tar > 0xFFFF_FFFF - u32::from(size) {
+        return None;
+    }
+    let next = tar + u32::from(size);
+    if next % 1024 == 0 { None } else { Some(next) }
+}
+
+// The value in its lanes of DRW.
+pub(crate) fn to_lanes(address: u64, value: u32) -> u32
+    requires { value * 2 ^ (8 * (address % 4)) < 2 ^ 32 }
+    ensures { result ≡ to_lanes address value }
+{
+    match address % 4 {
+        0 => value,
+        1 => value * 0x100,
+        2 => value * 0x1_0000,
+        _ => value * 0x100_0000,
+    }
+}
+
+// CSW with AddrInc off.
+pub(crate) fn increment_off(csw: u32) -> u32
+    ensures { result ≡ plans.increment_off csw }
+{
+    csw & 0xFFFF_FFCF
+}
+
+// Whether the value is known, and is this one.
+pub(crate) fn is_known(known: Option<u32>, value: u32) -> bool
+    ensures { result ≡ is_known known value }
+{
+    match known {
+        Some(number) => number == value,
+        None => false,
+    }
+}
+
+// The low 32 bits of an address: TAR.
+pub(crate) fn low_of(address: u64) -> u32
+    ensures { result ≡ address % 2 ^ 32 }
+{
+    (address % 0x1_0000_0000) as u32
+}
+
+// The other bits of an address: the upper word of TAR.
+pub(crate) fn high_of(address: u64) -> u32
+    ensures { result ≡ address / 2 ^ 32 }
+{
+    (address / 0x1_0000_0000) as u32
+}
