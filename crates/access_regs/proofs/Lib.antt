@@ -26,3 +26,9 @@ pub mod Examples
 pub mod Few
 pub mod PlanLemmas
 pub mod Joins
+pub mod Seams
+pub mod StopLists
+pub mod UnitLemmas
+pub mod EntryLemmas
+pub mod WeightyLemmas
+pub mod LeadLemmas

@@ -170,28 +170,28 @@ abort_power v t on = either (λ s. acknowledges s 0x1000_0000 ≡ true) (has_bit
 
 -- ---- polls
 
-pub record Polls' (turns mask wanted : ℕ) (t : TargetState) : Type 0 where
-  pub commutes : (r : ℕ) (m : Ports) → (polled turns mask wanted (other t r m)).next ≡ other (polled turns mask wanted t).next r m
-  pub outcome : (r : ℕ) (m : Ports) → (polled turns mask wanted (other t r m)).outcome ≡ (polled turns mask wanted t).outcome
-  pub good : is_fault (polled turns mask wanted t).outcome ≡ false
-  pub ports : (polled turns mask wanted t).next.aps ≡ t.aps
-  pub clear : (polled turns mask wanted t).next.sticky ≡ false
-  pub few : (polled turns mask wanted t).next.power_reads ≡ t.power_reads
-  pub select : (polled turns mask wanted t).next.select ≡ t.select
-  pub power : acknowledges t 0x1000_0000 ≡ true → acknowledges (polled turns mask wanted t).next 0x1000_0000 ≡ true
+pub record Polls' (turns mask requested : ℕ) (t : TargetState) : Type 0 where
+  pub commutes : (r : ℕ) (m : Ports) → (polled turns mask requested (other t r m)).next ≡ other (polled turns mask requested t).next r m
+  pub outcome : (r : ℕ) (m : Ports) → (polled turns mask requested (other t r m)).outcome ≡ (polled turns mask requested t).outcome
+  pub good : is_fault (polled turns mask requested t).outcome ≡ false
+  pub ports : (polled turns mask requested t).next.aps ≡ t.aps
+  pub clear : (polled turns mask requested t).next.sticky ≡ false
+  pub few : (polled turns mask requested t).next.power_reads ≡ t.power_reads
+  pub select : (polled turns mask requested t).next.select ≡ t.select
+  pub power : acknowledges t 0x1000_0000 ≡ true → acknowledges (polled turns mask requested t).next 0x1000_0000 ≡ true
 
-module _ (mask wanted : ℕ) where
+module _ (mask requested : ℕ) where
   abbrev hit : TargetState → Bool
-  hit t = eqb (bit_and (stat_value t) mask) wanted
+  hit t = eqb (bit_and (stat_value t) mask) requested
 
   abbrev first_look : TargetState → Polled → Polled
   first_look t rest = cond (hit t) (record { outcome = Value 1; reads = 1; next = stat_read t }) (record rest { reads = rest.reads + 1 })
 
-  poll_step : (n : ℕ) (t : TargetState) → t.sticky ≡ false → polled (suc n) mask wanted t ≡ first_look t (polled n mask wanted (stat_read t))
+  poll_step : (n : ℕ) (t : TargetState) → t.sticky ≡ false → polled (suc n) mask requested t ≡ first_look t (polled n mask requested (stat_read t))
   unfolding polled
-  poll_step n t clear = ap (λ (x : Attempt). looked x.outcome x.next mask wanted (polled n mask wanted x.next)) (stat_reads t clear)
+  poll_step n t clear = ap (λ (x : Attempt). looked x.outcome x.next mask requested (polled n mask requested x.next)) (stat_reads t clear)
 
-  poll_zero : (t : TargetState) → polled zero mask wanted t ≡ record { outcome = Value 0; reads = 0; next = t }
+  poll_zero : (t : TargetState) → polled zero mask requested t ≡ record { outcome = Value 0; reads = 0; next = t }
   unfolding polled
   poll_zero t = refl
 
@@ -203,17 +203,17 @@ module _ (mask wanted : ℕ) where
   look_outcome true x y = refl
   look_outcome false x y = refl
 
-  poll_next : (n : ℕ) (t : TargetState) → t.sticky ≡ false → (polled (suc n) mask wanted t).next ≡ cond (hit t) (stat_read t) (polled n mask wanted (stat_read t)).next
-  poll_next n t clear = ap (λ (p : Polled). p.next) (poll_step n t clear) ∙ look_next (hit t) _ (polled n mask wanted (stat_read t))
+  poll_next : (n : ℕ) (t : TargetState) → t.sticky ≡ false → (polled (suc n) mask requested t).next ≡ cond (hit t) (stat_read t) (polled n mask requested (stat_read t)).next
+  poll_next n t clear = ap (λ (p : Polled). p.next) (poll_step n t clear) ∙ look_next (hit t) _ (polled n mask requested (stat_read t))
 
-  poll_outcome : (n : ℕ) (t : TargetState) → t.sticky ≡ false → (polled (suc n) mask wanted t).outcome ≡ cond (hit t) (Value 1) (polled n mask wanted (stat_read t)).outcome
-  poll_outcome n t clear = ap (λ (p : Polled). p.outcome) (poll_step n t clear) ∙ look_outcome (hit t) _ (polled n mask wanted (stat_read t))
+  poll_outcome : (n : ℕ) (t : TargetState) → t.sticky ≡ false → (polled (suc n) mask requested t).outcome ≡ cond (hit t) (Value 1) (polled n mask requested (stat_read t)).outcome
+  poll_outcome n t clear = ap (λ (p : Polled). p.outcome) (poll_step n t clear) ∙ look_outcome (hit t) _ (polled n mask requested (stat_read t))
 
   not_fault : (b : Bool) (o : Outcome) → is_fault o ≡ false → is_fault (cond b (Value 1) o) ≡ false
   not_fault true o e = refl
   not_fault false o e = e
 
-  pub polls_are : (turns : ℕ) (t : TargetState) → t.sticky ≡ false → t.power_reads < 2 ^ 32 → Polls' turns mask wanted t
+  pub polls_are : (turns : ℕ) (t : TargetState) → t.sticky ≡ false → t.power_reads < 2 ^ 32 → Polls' turns mask requested t
   polls_are zero t clear few = record {
     commutes = λ r m. ap (λ (p : Polled). p.next) (poll_zero (other t r m)) ∙ ap (λ (p : Polled). other p.next r m) (sym (poll_zero t));
     outcome = λ r m. ap (λ (p : Polled). p.outcome) (poll_zero (other t r m)) ∙ ap (λ (p : Polled). p.outcome) (sym (poll_zero t));
@@ -230,26 +230,26 @@ module _ (mask wanted : ℕ) where
       let clear' : t'.sticky ≡ false = b.clear clear in
       let few' : t'.power_reads < 2 ^ 32 = subst (λ (x : ℕ). x < 2 ^ 32) (sym b.few) few in
       let h = polls_are n t' clear' few' in
-      let next : (polled (suc n) mask wanted t).next ≡ cond (hit t) t' (polled n mask wanted t').next = poll_next n t clear in
+      let next : (polled (suc n) mask requested t).next ≡ cond (hit t) t' (polled n mask requested t').next = poll_next n t clear in
       record {
         commutes = λ r m.
             poll_next n (other t r m) clear
-            ∙ ap (λ (x : TargetState). cond (hit t) x (polled n mask wanted x).next) (b.commutes r m)
+            ∙ ap (λ (x : TargetState). cond (hit t) x (polled n mask requested x).next) (b.commutes r m)
             ∙ ap (λ (x : TargetState). cond (hit t) (other t' r m) x) (h.commutes r m)
-            ∙ cond_other (hit t) t' (polled n mask wanted t').next r m
+            ∙ cond_other (hit t) t' (polled n mask requested t').next r m
             ∙ ap (λ (x : TargetState). other x r m) (sym next);
         outcome = λ r m.
             poll_outcome n (other t r m) clear
-            ∙ ap (λ (x : TargetState). cond (hit t) (Value 1) (polled n mask wanted x).outcome) (b.commutes r m)
+            ∙ ap (λ (x : TargetState). cond (hit t) (Value 1) (polled n mask requested x).outcome) (b.commutes r m)
             ∙ ap (λ (x : Outcome). cond (hit t) (Value 1) x) (h.outcome r m)
             ∙ sym (poll_outcome n t clear);
-        good = ap is_fault (poll_outcome n t clear) ∙ not_fault (hit t) (polled n mask wanted t').outcome h.good;
-        ports = ap (λ (x : TargetState). x.aps) next ∙ either (λ s. s.aps ≡ t.aps) (hit t) t' (polled n mask wanted t').next b.ports (h.ports ∙ b.ports);
-        clear = ap (λ (x : TargetState). x.sticky) next ∙ either (λ s. s.sticky ≡ false) (hit t) t' (polled n mask wanted t').next clear' h.clear;
-        few = ap (λ (x : TargetState). x.power_reads) next ∙ either (λ s. s.power_reads ≡ t.power_reads) (hit t) t' (polled n mask wanted t').next b.few (h.few ∙ b.few);
-        select = ap (λ (x : TargetState). x.select) next ∙ either (λ s. s.select ≡ t.select) (hit t) t' (polled n mask wanted t').next (stat_select t) (h.select ∙ stat_select t);
+        good = ap is_fault (poll_outcome n t clear) ∙ not_fault (hit t) (polled n mask requested t').outcome h.good;
+        ports = ap (λ (x : TargetState). x.aps) next ∙ either (λ s. s.aps ≡ t.aps) (hit t) t' (polled n mask requested t').next b.ports (h.ports ∙ b.ports);
+        clear = ap (λ (x : TargetState). x.sticky) next ∙ either (λ s. s.sticky ≡ false) (hit t) t' (polled n mask requested t').next clear' h.clear;
+        few = ap (λ (x : TargetState). x.power_reads) next ∙ either (λ s. s.power_reads ≡ t.power_reads) (hit t) t' (polled n mask requested t').next b.few (h.few ∙ b.few);
+        select = ap (λ (x : TargetState). x.select) next ∙ either (λ s. s.select ≡ t.select) (hit t) t' (polled n mask requested t').next (stat_select t) (h.select ∙ stat_select t);
         power = λ on. (let on' = stat_power t few on in
-            ap (λ (x : TargetState). acknowledges x 0x1000_0000) next ∙ either (λ s. acknowledges s 0x1000_0000 ≡ true) (hit t) t' (polled n mask wanted t').next on' (h.power on'));
+            ap (λ (x : TargetState). acknowledges x 0x1000_0000) next ∙ either (λ s. acknowledges s 0x1000_0000 ≡ true) (hit t) t' (polled n mask requested t').next on' (h.power on'));
       }
 
 -- ---- commands

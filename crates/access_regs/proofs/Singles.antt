@@ -46,11 +46,11 @@ module _ (t : TargetState) (large : List ℕ) (forgive : Bool) where
   unfolding call_done
   dp_is read addr value = refl
 
-  poll_is : (mask wanted turns : ℕ) → call_done t large forgive (Access (unit.Poll mask wanted turns))
-      ≡ ended (is_fault (polled turns mask wanted t).outcome) (forgive && false) false (given (polled turns mask wanted t).outcome)
-      (polled turns mask wanted t).next large (issued t (Polls mask wanted turns ∷ []))
+  poll_is : (mask requested turns : ℕ) → call_done t large forgive (Access (unit.Poll mask requested turns))
+      ≡ ended (is_fault (polled turns mask requested t).outcome) (forgive && false) false (given (polled turns mask requested t).outcome)
+      (polled turns mask requested t).next large (issued t (Polls mask requested turns ∷ []))
   unfolding call_done
-  poll_is mask wanted turns = refl
+  poll_is mask requested turns = refl
 
   probe_is : (c : ProbeCall) → call_done t large forgive (Probe c)
       ≡ ended (is_fault (commanded t c).outcome) (forgive && false) false (given (commanded t c).outcome) (commanded t c).next large (issued t (Commands c ∷ []))
@@ -62,10 +62,10 @@ module _ (t : TargetState) (large : List ℕ) (forgive : Bool) where
   dp_one read addr value good =
       one_by _ (Access (unit.Dp read addr value)) large (attempt t (dp_access_of read addr value)) (forgive && false) (issued t (Makes (dp_access_of read addr value) ∷ [])) (dp_is read addr value) good
 
-  pub poll_one : (mask wanted turns : ℕ) → is_fault (polled turns mask wanted t).outcome ≡ false →
-      IsOne (call_done t large forgive (Access (unit.Poll mask wanted turns))) (Access (unit.Poll mask wanted turns)) large (acted t (Polls mask wanted turns))
-  poll_one mask wanted turns good =
-      one_by _ (Access (unit.Poll mask wanted turns)) large (acted t (Polls mask wanted turns)) (forgive && false) (issued t (Polls mask wanted turns ∷ [])) (poll_is mask wanted turns) good
+  pub poll_one : (mask requested turns : ℕ) → is_fault (polled turns mask requested t).outcome ≡ false →
+      IsOne (call_done t large forgive (Access (unit.Poll mask requested turns))) (Access (unit.Poll mask requested turns)) large (acted t (Polls mask requested turns))
+  poll_one mask requested turns good =
+      one_by _ (Access (unit.Poll mask requested turns)) large (acted t (Polls mask requested turns)) (forgive && false) (issued t (Polls mask requested turns ∷ [])) (poll_is mask requested turns) good
 
   pub probe_one : (c : ProbeCall) → is_fault (commanded t c).outcome ≡ false → IsOne (call_done t large forgive (Probe c)) (Probe c) large (commanded t c)
   probe_one c good = one_by _ (Probe c) large (commanded t c) (forgive && false) (issued t (Commands c ∷ [])) (probe_is c) good
@@ -145,15 +145,15 @@ module _ (k : Kept) (large : List ℕ) (t u : TargetState) (f : Follows k large 
       (dp_by forgive false 8 value (λ s. Done) (select_stored value) (λ s c. select_writes s value c) refl refl
       (follows_selected k large t u f (select_stored value) (select_beside value t) value none refl))
 
-  pub poll_course : (forgive : Bool) (mask wanted turns : ℕ) →
-      Course (by_plan k (unit.Poll mask wanted turns)) (call_done t large forgive (Access (unit.Poll mask wanted turns))) (Access (unit.Poll mask wanted turns)) u
-  poll_course forgive mask wanted turns =
-      let h = polls_are mask wanted turns t f.clear f.few in
-      let g : TargetState → TargetState = λ s. (polled turns mask wanted s).next in
-      let same : (polled turns mask wanted u).outcome ≡ (polled turns mask wanted t).outcome =
-      ap (λ (s : TargetState). (polled turns mask wanted s).outcome) f.rest ∙ h.outcome u.rdbuff u.aps in
-      single (by_plan k (unit.Poll mask wanted turns)) _ (Access (unit.Poll mask wanted turns)) (Polls mask wanted turns) refl
-      (poll_one t large forgive mask wanted turns h.good) h.good same
+  pub poll_course : (forgive : Bool) (mask requested turns : ℕ) →
+      Course (by_plan k (unit.Poll mask requested turns)) (call_done t large forgive (Access (unit.Poll mask requested turns))) (Access (unit.Poll mask requested turns)) u
+  poll_course forgive mask requested turns =
+      let h = polls_are mask requested turns t f.clear f.few in
+      let g : TargetState → TargetState = λ s. (polled turns mask requested s).next in
+      let same : (polled turns mask requested u).outcome ≡ (polled turns mask requested t).outcome =
+      ap (λ (s : TargetState). (polled turns mask requested s).outcome) f.rest ∙ h.outcome u.rdbuff u.aps in
+      single (by_plan k (unit.Poll mask requested turns)) _ (Access (unit.Poll mask requested turns)) (Polls mask requested turns) refl
+      (poll_one t large forgive mask requested turns h.good) h.good same
       (follows_beside k large t u f g (record { commutes = h.commutes; ports = h.ports; clear = λ e. h.clear; few = h.few }) h.select (λ s e on. h.power on))
 
   pub probe_course : (forgive : Bool) (c : ProbeCall) →

@@ -124,7 +124,7 @@ module _ (large : List ℕ) (size : ℕ) (read : Bool) (n address value : ℕ) (
   abbrev call : Call
   call = Access asked
 
-  -- the call, by whether CFG is wanted and what it shows
+  -- the call, by whether CFG is requested and what it shows
   abbrev shape : TargetState → Bool → Bool → CallDone
   shape t w b =
       let actions : List Action = cond w (cfg_actions n ++ cond b (memory_actions (in_order t (cfg_actions n)).next true size read n address value) []) (memory_actions t (contains large n) size read n address value) in

@@ -5,5 +5,7 @@ pub mod Journal
 pub mod Follows
 pub mod Course
 pub mod Alone
+pub mod Stops
+pub mod Entries
 pub mod Laws
 pub mod Neighbours

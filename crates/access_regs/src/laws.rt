@@ -1,5 +1,7 @@
 //! What follows from the definitions: each law is the contract of a function that does nothing.
+ghost use Rattle.access_regs.specs.Entries.{CallAnswers, JournalGrows, JournalMarks, JournalWeighs, LeadsAreGood, SelectIsGood, UnitsInRange};
 ghost use Rattle.access_regs.specs.Laws.{CallGoes, CallLeaves, FreshFollows, JournalAgrees, JournalAnswers, JournalFollows, JournalJoins, JournalPasses, JournalStops, KeptJoins, SettlingEnds};
+ghost use Rattle.access_regs.specs.Stops.{FaultStops, PassingStops, WaitStops};
 ghost use Rattle.access_regs.specs.Neighbours.{NeighboursAreFew};
 
 /// One call goes as it goes alone, and the next may follow it; the first may follow a fresh target.
@@ -37,4 +39,29 @@ pub fn journals_join()
 #[tactic(auto, using(crate::proofs::Joins::settling_ends))]
 pub fn settling_ends()
     ensures { SettlingEnds }
+{}
+
+/// Where calls stop, by the entries that they issue.
+#[tactic(auto, using(crate::proofs::StopLists::fault_stops, crate::proofs::StopLists::wait_stops, crate::proofs::StopLists::passing_stops))]
+pub fn entries_stop_calls()
+    ensures fault { FaultStops }
+    ensures wait { WaitStops }
+    ensures passing { PassingStops }
+{}
+
+/// What one more call, and a mark of the last one, add to the journal; and what is true of each entry.
+#[tactic(auto, using(crate::proofs::EntryLemmas::call_answers, crate::proofs::WeightyLemmas::journal_weighs))]
+pub fn entries_of_calls()
+    ensures grows { JournalGrows }
+    ensures marks { JournalMarks }
+    ensures answers { CallAnswers }
+    ensures units { UnitsInRange }
+    ensures weighs { JournalWeighs }
+{}
+
+/// Of what comes before the access that a forgiving unit is for only the reads of CFG and CSW can fault.
+#[tactic(auto, using(crate::proofs::LeadLemmas::select_is_good))]
+pub fn leads_of_forgiving_units()
+    ensures select { SelectIsGood }
+    ensures leads { LeadsAreGood }
 {}

@@ -1,0 +1,150 @@
+-- One more call.
+use Rattle.std.proofs.Common.{◌≡◌, ◌∙◌, ℕ, suc, ◌+◌, Bool, true, false, not, ◌&&◌, List, [], ◌∷◌, ◌++◌, length, None, refl, sym, ap, arith, append-nil, append_assoc, length-append}
+use Rattle.std.proofs.lemmas.List.{map-append}
+use Rattle.access_regs.proofs.AllCalls.{call_course, journal_follows}
+use Rattle.access_regs.proofs.Joins.{journal_joins, kept_joins}
+use Rattle.access_regs.proofs.Seams.{after_split}
+use Rattle.access_regs.proofs.Settle.{settled_calm}
+use Rattle.access_regs.specs.Alone.{alone, alone_after, large_of_all}
+use Rattle.access_regs.specs.Course.{Course, IsAnswered, answered, skipped, small, stopped}
+use Rattle.access_regs.specs.Entries.{CallAnswers, JournalGrows, JournalMarks, kept_by, target_by}
+use Rattle.access_regs.specs.Journal.{Issue, Step, actions_of, entries_at, finish, finish_of, issue_of, issued, issued_from, kept_from, numbered, steps_at, steps_of}
+use Rattle.access_regs.specs.Kept.{Kept, nothing_kept}
+use Rattle.access_regs.specs.Plan.{settle, settled, settled_at, settling}
+use Rattle.call_terms.specs.Asks.{AreAskable, IsAskable, is_forgiving, settled_last}
+use Rattle.call_terms.specs.Journal.{Entry, actions_in}
+use Rattle.call_terms.specs.Weights.{AreWeighty}
+use Rattle.call_terms.specs.declared.calls.Ask.{Ask}
+use Rattle.call_terms.specs.declared.journal.Part.TheVariants.{Ends, Settles}
+use Rattle.target_machine.proofs.ActionLists.{pass_after}
+use Rattle.target_machine.specs.Lists.{after}
+use Rattle.target_machine.specs.State.{TargetState}
+use Rattle.target_machine.specs.Plain.{Action, acted, given, result_of, Answered, CallEnd, CallDone, Skipped, Faulted, Small}
+use Rattle.target_machine.specs.declared.access.RegAccess.{RegAccess}
+
+issued_after : (t : TargetState) (xs ys : List Ask) → issued t (xs ++ ys) ≡ issued t xs ++ issued_from (length xs) (kept_from nothing_kept t xs) (after t (actions_in (issued t xs))) ys
+issued_after t xs ys =
+    journal_joins 0 nothing_kept t xs ys
+    ∙ (let number : 0 + length xs ≡ length xs = omega arith in ap (λ (i : ℕ). issued t xs ++ issued_from i (kept_from nothing_kept t xs) (after t (actions_in (issued t xs))) ys) number)
+
+finish_none : (n : ℕ) (b : Bool) (k : Kept) → b ≡ false → (numbered n false (finish b k).steps ≡ []) × ((finish b k).kept ≡ k)
+finish_none n true k e = absurd (cc)
+finish_none n false k e = (refl, refl)
+
+pub journal_grows : JournalGrows
+journal_grows t asks ask unmarked =
+    let k : Kept = kept_by t asks in
+    let u : TargetState = target_by t asks in
+    let c : Ask = ask in
+    let own : List Entry = numbered (length asks) (is_forgiving c) (issue_of u k c).steps in
+    let none = finish_none (length asks + 1) ask.settled (issue_of u k c).kept unmarked in (
+      issued_after t asks (c ∷ [])
+          ∙ ap (λ (l : List Entry). issued t asks ++ ((own ++ l) ++ [])) none.0
+          ∙ ap (λ (l : List Entry). issued t asks ++ l) (append-nil (own ++ []) ∙ append-nil own),
+      kept_joins 0 nothing_kept t asks (c ∷ []) ∙ none.1,
+    )
+
+-- ---- a mark
+
+settle_none : (k : Kept) → k.unsettled ≡ None → (settle k ≡ []) × (settled k ≡ k)
+settle_none k calm = (ap (settling k) calm, ap (settled_at k) calm)
+
+-- one call that is marked, against the same one as it was
+one_marks : (n : ℕ) (own : List Entry) (k : Kept) (b : Bool) →
+    ((own ++ numbered n false (finish true k).steps) ++ [] ≡ ((own ++ numbered n false (finish b k).steps) ++ []) ++ numbered n false (steps_of Settles (settle (finish b k).kept)))
+    × ((finish true k).kept ≡ settled (finish b k).kept)
+one_marks n own k false = (append-nil (own ++ numbered n false (steps_of Settles (settle k))) ∙ ap (λ (l : List Entry). l ++ numbered n false (steps_of Settles (settle k))) (sym (append-nil own) ∙ sym (append-nil (own ++ []))), refl)
+one_marks n own k true =
+    let calm = settle_none (settled k) (settled_calm k) in
+    (sym (append-nil ((own ++ numbered n false (steps_of Settles (settle k))) ++ [])) ∙ ap (λ (l : List RegAccess). ((own ++ numbered n false (steps_of Settles (settle k))) ++ []) ++ numbered n false (steps_of Settles l)) (sym calm.0), sym calm.1)
+
+list_marks : (n : ℕ) (k : Kept) (t : TargetState) (ask : Ask) (asks : List Ask) →
+    (issued_from n k t ((settled_last (ask ∷ asks))) ≡ issued_from n k t ((ask ∷ asks)) ++ numbered (n + length (ask ∷ asks)) false (steps_of Settles (settle (kept_from k t ((ask ∷ asks))))))
+    × (kept_from k t ((settled_last (ask ∷ asks))) ≡ settled (kept_from k t ((ask ∷ asks))))
+list_marks n k t ask [] =
+    let own : List Entry = numbered n (is_forgiving ask) (issue_of t k ask).steps in
+    let m = one_marks (n + 1) own (issue_of t k ask).kept ask.settled in
+    (m.0, m.1)
+list_marks n k t ask (next ∷ asks) =
+    let v : TargetState = after t (actions_of (steps_at t k ask)) in
+    let rest = list_marks (n + 1) (finish_of t k ask).kept v next asks in
+    let number : (n + 1) + length (next ∷ asks) ≡ n + length (ask ∷ next ∷ asks) = omega arith in
+    let tail : List Entry = issued_from (n + 1) (finish_of t k ask).kept v ((next ∷ asks)) in (
+      ap (λ (l : List Entry). entries_at n t k ask ++ l) rest.0
+          ∙ sym (append_assoc (entries_at n t k ask) tail (numbered ((n + 1) + length (next ∷ asks)) false (steps_of Settles (settle (kept_from (finish_of t k ask).kept v ((next ∷ asks)))))))
+          ∙ ap (λ (i : ℕ). (entries_at n t k ask ++ tail) ++ numbered i false (steps_of Settles (settle (kept_from (finish_of t k ask).kept v ((next ∷ asks)))))) number,
+      rest.1,
+    )
+
+pub journal_marks : JournalMarks
+journal_marks t [] = (refl, refl)
+journal_marks t (ask ∷ asks) =
+    let m = list_marks 0 nothing_kept t ask asks in
+    let number : 0 + length (ask ∷ asks) ≡ length (ask ∷ asks) = omega arith in
+    (m.0 ∙ ap (λ (i : ℕ). issued t ((ask ∷ asks)) ++ numbered i false (steps_of Settles (settle (kept_by t (ask ∷ asks))))) number, m.1)
+
+pub weighty_both : (xs ys : List Entry) → AreWeighty xs → AreWeighty ys → AreWeighty (xs ++ ys)
+weighty_both [] ys h k = k
+weighty_both (x ∷ xs) ys h k = (h.0, weighty_both xs ys h.1 k)
+
+-- ---- answers
+
+is_answered : (i : Issue) (d : CallDone) (c : Ask) (u : TargetState) (v : ℕ) → Course i d c.call u → d.end ≡ Answered v → IsAnswered i d c.call u
+is_answered i d c u v (answered a) e = a
+is_answered i d c u v (stopped a) e = let x : ◌≡◌ {A = CallEnd} Faulted (Answered v) = sym a.end ∙ e in absurd (cc)
+is_answered i d c u v (small a) e = let x : ◌≡◌ {A = CallEnd} Small (Answered v) = sym a.end ∙ e in absurd (cc)
+is_answered i d c u v (skipped a) e = let x : ◌≡◌ {A = CallEnd} Skipped (Answered v) = sym a.end ∙ e in absurd (cc)
+
+askable_first : (xs ys : List Ask) → AreAskable (xs ++ ys) → AreAskable xs
+askable_first [] ys h = tt
+askable_first (x ∷ xs) ys h = (h.0, askable_first xs ys h.1)
+
+pub askable_here : (xs : List Ask) (ask : Ask) (ys : List Ask) → AreAskable ((xs ++ ask ∷ ys)) → IsAskable ask
+askable_here [] ask ys h = h.0
+askable_here (x ∷ xs) ask ys h = askable_here xs ask ys h.1
+
+numbered_both : (n : ℕ) (b : Bool) (xs ys : List Step) → numbered n b (xs ++ ys) ≡ numbered n b xs ++ numbered n b ys
+numbered_both n b xs ys = map-append _ xs ys
+
+pub numbered_actions : (n : ℕ) (b : Bool) (steps : List Step) → actions_in (numbered n b steps) ≡ actions_of steps
+numbered_actions n b [] = refl
+numbered_actions n b (s ∷ steps) = ap (λ (l : List Action). s.action ∷ l) (numbered_actions n b steps)
+
+pub call_answers : CallAnswers
+call_answers t asks ask more v fresh ok none end =
+    let k : Kept = kept_by t asks in
+    let u : TargetState = target_by t asks in
+    let c : Ask = ask in
+    let d : CallDone = alone (alone_after t [] asks) (large_of_all t [] asks) c in
+    let course : Course (issue_of u k c) d c.call u = call_course k (large_of_all t [] asks) (alone_after t [] asks) u (journal_follows t asks fresh (askable_first asks (ask ∷ more) ok) none) c (askable_here asks ask more ok) in
+    let a : IsAnswered (issue_of u k c) d c.call u = is_answered (issue_of u k c) d c u v course end in
+    let last : Step = record { part = Ends; action = a.action } in
+    let n : ℕ = length asks in
+    let leads : List Entry = numbered n (is_forgiving c) a.leads in
+    let own : numbered n (is_forgiving c) (issue_of u k c).steps ≡ leads ++ numbered n (is_forgiving c) (last ∷ []) = ap (numbered n (is_forgiving c)) a.steps ∙ numbered_both n (is_forgiving c) a.leads (last ∷ []) in
+    let fin : List Entry = numbered (n + 1) false (finish_of u k c).steps in
+    let rest : List Entry = issued_from (n + 1) (finish_of u k c).kept (after u (actions_of (steps_at u k c))) more in
+    let before : List Entry = issued t asks in
+    let whole : issued t ((asks ++ ask ∷ more)) ≡ before ++ ((numbered n (is_forgiving c) (issue_of u k c).steps ++ fin) ++ rest) = issued_after t asks (c ∷ more) in
+    let value : ◌≡◌ {A = CallEnd} (Answered (result_of c.call (given (acted a.at a.action).outcome))) (Answered v) = sym a.end ∙ end in
+    let same : result_of c.call (given (acted a.at a.action).outcome) ≡ v = cc in
+    let steps : length (issue_of u k c).steps ≡ length a.leads + 1 = ap length a.steps ∙ length-append a.leads (last ∷ []) in
+    record {
+      front = before ++ leads;
+      entry = record { unit = n + 1; part = Ends; forgiving = is_forgiving c && not false; action = a.action };
+      more = fin ++ rest;
+      is =
+          whole
+          ∙ ap (λ (l : List Entry). before ++ ((l ++ fin) ++ rest)) own
+          ∙ ap (λ (l : List Entry). before ++ l) (append_assoc (leads ++ numbered n (is_forgiving c) (last ∷ [])) fin rest ∙ append_assoc leads (numbered n (is_forgiving c) (last ∷ [])) (fin ++ rest))
+          ∙ sym (append_assoc before leads (numbered n (is_forgiving c) (last ∷ []) ++ (fin ++ rest)));
+      at = (let x = length-append before leads in let y = numbered_length n (is_forgiving c) a.leads in omega (arith, x, y, steps));
+      gives_it =
+          ap (λ (s : TargetState). result_of c.call (given (acted s a.action).outcome))
+          (after_split t before leads ∙ ap (after u) (numbered_actions n (is_forgiving c) a.leads) ∙ pass_after u a.at (actions_of a.leads) a.pass)
+          ∙ same;
+    }
+  where
+    numbered_length : (n : ℕ) (b : Bool) (steps : List Step) → length (numbered n b steps) ≡ length steps
+    numbered_length n b [] = refl
+    numbered_length n b (s ∷ steps) = ap suc (numbered_length n b steps)

@@ -1,0 +1,79 @@
+-- The entries that calls issue: what one more call adds, and which unit, weight and answer an entry has.
+use Rattle.std.specs.Prelude.{◌≡◌, ℕ, ◌+◌, ◌/◌, ◌%◌, ◌^◌, ◌≤◌, ◌<◌, Bool, true, false, not, List, [], ◌∷◌, ◌++◌, length}
+use Rattle.target_machine.specs.Attempt.{attempt}
+use Rattle.target_machine.specs.Fresh.{IsFresh}
+use Rattle.target_machine.specs.Plain.{Makes, acted, given, is_fault, result_of, Answered, select_of, ap_access_of}
+use Rattle.target_machine.specs.Registers.{csw_register, tar_register, tar_high_register}
+use Rattle.target_machine.specs.State.{TargetState}
+use Rattle.target_machine.specs.declared.access.RegAccess.{RegAccess}
+use Rattle.call_terms.specs.Asks.{AreAskable, is_forgiving, settled_last}
+use Rattle.call_terms.specs.Journal.{Entry, target_after}
+use Rattle.call_terms.specs.Weights.{AreWeighty}
+use Rattle.call_terms.specs.declared.calls.Ask.{Ask}
+use Rattle.call_terms.specs.declared.journal.Part.TheVariants.{Settles}
+use Rattle.access_regs.specs.Alone.{NoneFaults, alone, alone_after, large_of_all}
+use Rattle.access_regs.specs.Journal.{issue_of, issued, kept_from, numbered, steps_of}
+use Rattle.access_regs.specs.Kept.{Kept, nothing_kept}
+use Rattle.access_regs.specs.Plan.{settle, settled, unless}
+
+-- what is known after the entries of calls
+abbrev pub kept_by : TargetState → List Ask → Kept
+kept_by t asks = kept_from nothing_kept t asks
+
+-- the target after the entries of calls
+abbrev pub target_by : TargetState → List Ask → TargetState
+target_by t asks = target_after t (issued t asks)
+
+-- One more call, with no `finish` after it, adds what it issues from there.
+abbrev pub JournalGrows : Type 0
+JournalGrows = (t : TargetState) (asks : List Ask) (ask : Ask) → ask.settled ≡ false →
+    (issued t (asks ++ ask ∷ []) ≡ issued t asks ++ numbered (length asks) (is_forgiving ask) (issue_of (target_by t asks) (kept_by t asks) ask).steps)
+    × (kept_by t (asks ++ ask ∷ []) ≡ (issue_of (target_by t asks) (kept_by t asks) ask).kept)
+
+-- A `finish` after the last call adds the settling of the unsettled AP; where it was marked already, there is none.
+abbrev pub JournalMarks : Type 0
+JournalMarks = (t : TargetState) (asks : List Ask) →
+    (issued t (settled_last asks) ≡ issued t asks ++ numbered (length asks) false (steps_of Settles (settle (kept_by t asks))))
+    × (kept_by t (settled_last asks) ≡ settled (kept_by t asks))
+
+-- The unit of each entry is one of the calls.
+abbrev pub UnitsInRange : Type 0
+UnitsInRange = (t : TargetState) (asks : List Ask) (front : List Entry) (e : Entry) (more : List Entry) → issued t asks ≡ front ++ e ∷ more → (1 ≤ e.unit) × (e.unit ≤ length asks)
+
+-- No entry is a poll of no turns.
+abbrev pub JournalWeighs : Type 0
+JournalWeighs = (t : TargetState) (asks : List Ask) → AreAskable asks → AreWeighty (issued t asks)
+
+-- The result of a call after others is given by the last entry that it issues itself.
+pub record AnsweredAt (t : TargetState) (entries : List Entry) (asks : List Ask) (ask : Ask) (v : ℕ) : Type 0 where
+  pub front : List Entry
+  pub entry : Entry
+  pub more : List Entry
+  pub is : entries ≡ front ++ entry ∷ more
+  pub at : length front + 1 ≡ length (issued t asks) + length (issue_of (target_by t asks) (kept_by t asks) ask).steps
+  pub gives_it : result_of ask.call (given (acted (target_after t front) entry.action).outcome) ≡ v
+
+-- Where no call before it ends at a fault, a call that has a result has it so.
+abbrev pub CallAnswers : Type 0
+CallAnswers = (t : TargetState) (asks : List Ask) (ask : Ask) (more : List Ask) (v : ℕ) → IsFresh t → AreAskable (asks ++ ask ∷ more) → NoneFaults t [] asks →
+    (alone (alone_after t [] asks) (large_of_all t [] asks) ask).end ≡ Answered v → AnsweredAt t (issued t (asks ++ ask ∷ more)) asks ask v
+
+-- None of these accesses faults.
+abbrev pub NoneFault : TargetState → List RegAccess → Type 0
+NoneFault u [] = Unit {0}
+NoneFault u (a ∷ rest) = (is_fault (acted u (Makes a)).outcome ≡ false) × NoneFault (acted u (Makes a)).next rest
+
+-- A write of SELECT, which comes before the read of CFG or CSW and before the access of an AP register, does not fault.
+abbrev pub SelectIsGood : Type 0
+SelectIsGood = (t : TargetState) (n bank : ℕ) → n < 256 → bank < 16 → t.sticky ≡ false → NoneFault t (select_of n bank ∷ [])
+
+-- CSW, the upper word and TAR: what a forgiving unit writes before DRW
+abbrev pub before_drw : ℕ → Bool → ℕ → List RegAccess
+before_drw csw large address =
+    ap_access_of false csw_register csw ∷ unless (not large) (ap_access_of false tar_high_register (address / 2 ^ 32)) ++ ap_access_of false tar_register (address % 2 ^ 32) ∷ []
+
+-- After a read of CSW that does not fault, none of them faults.
+abbrev pub LeadsAreGood : Type 0
+LeadsAreGood = (t : TargetState) (n csw address : ℕ) (large : Bool) → n < 256 → t.sticky ≡ false →
+    is_fault (attempt (attempt t (select_of n 0)).next (ap_access_of true csw_register 0)).outcome ≡ false →
+    NoneFault (attempt (attempt t (select_of n 0)).next (ap_access_of true csw_register 0)).next (before_drw csw large address)
