@@ -1,4 +1,5 @@
 -- No step of a planned unit but its last one changes the memory.
+use Rattle.access_regs.specs.Laws.{UnitKeepsMemory}
 use Rattle.std.proofs.Common.{◌≡◌, ◌∙◌, ℕ, ◌/◌, ◌%◌, ◌^◌, ◌<◌, ◌⊎◌, inl, inr, Bool, true, false, cond, not, ◌&&◌, ◌||◌, List, [], ◌∷◌, ◌++◌, Option, Some, None, refl, sym, ap, subst, arith, bit_and, is_some}
 use Rattle.target_machine.specs.Plain.{Makes, select_of, ap_access_of}
 use Rattle.target_machine.specs.State.{TargetState}
@@ -139,3 +140,6 @@ module _ (k : Kept) (large : List ℕ) (t u : TargetState) (f : Follows k large 
   planned_keep (unit.Poll mask value turns) range =
       by_settling false (λ w l. by_plan l (unit.Poll mask value turns)) (by_plan k (unit.Poll mask value turns))
       (λ w v p. ((λ ne. absurd (ne refl)), tt)) ((λ ne. absurd (ne refl)), tt)
+
+pub unit_keeps_memory : UnitKeepsMemory
+unit_keeps_memory k large t u asked f range = planned_keep k large t u f asked range

@@ -1,12 +1,13 @@
 -- What is true of the journal of any calls.
 use Rattle.std.specs.Prelude.{◌≡◌, ◌≢◌, ◌+◌, ℕ, true, List, [], ◌∷◌, ◌++◌, length, None}
 use Rattle.target_machine.specs.Plain.{Answered, Faulted}
+use Rattle.target_machine.specs.declared.unit.Unit.{Unit as AccessUnit}
 use Rattle.target_machine.specs.State.{TargetState, Agree}
-use Rattle.access_regs.specs.Journal.{issue_of, issued, issued_from, kept_at, kept_from, target_at}
-use Rattle.access_regs.specs.Alone.{alone, alone_after, large_of_all, NoneFaults, StopsInLast, AnswersWith}
+use Rattle.access_regs.specs.Journal.{issue_of, issued, issued_from, kept_at, kept_from, target_at, planned}
+use Rattle.access_regs.specs.Alone.{alone, alone_after, large_of_all, NoneFaults, StopsInLast, AnswersWith, KeepsMemory}
 use Rattle.target_machine.specs.Fresh.{IsFresh}
 use Rattle.call_terms.specs.Journal.{Passes, target_after}
-use Rattle.call_terms.specs.Asks.{AreAskable, IsAskable, is_settled}
+use Rattle.call_terms.specs.Asks.{AreAskable, IsAskable, is_settled, IsUnitInRange}
 use Rattle.access_regs.specs.Kept.{Kept, nothing_kept}
 use Rattle.access_regs.specs.Plan.{settled}
 use Rattle.call_terms.specs.declared.calls.Ask.{Ask}
@@ -67,3 +68,7 @@ KeptJoins = (units : ℕ) (k : Kept) (t : TargetState) (xs ys : List Ask) →
 -- After a settling no AP is unsettled.
 abbrev pub SettlingEnds : Type 0
 SettlingEnds = (k : Kept) → (settled k).unsettled ≡ None
+
+-- Of the steps of a unit that forgives nothing, settling with them, only the one that the unit is for changes the memory.
+abbrev pub UnitKeepsMemory : Type 0
+UnitKeepsMemory = (k : Kept) (large : List ℕ) (t u : TargetState) (asked : AccessUnit) → Follows k large t u → IsUnitInRange asked → KeepsMemory u (planned u k asked).steps

@@ -1,6 +1,6 @@
 //! What follows from the definitions: each law is the contract of a function that does nothing.
 ghost use Rattle.access_regs.specs.Entries.{CallAnswers, JournalGrows, JournalMarks, JournalWeighs, LeadsAreGood, SelectIsGood, UnitsInRange};
-ghost use Rattle.access_regs.specs.Laws.{CallGoes, CallLeaves, FreshFollows, JournalAgrees, JournalAnswers, JournalFollows, JournalJoins, JournalPasses, JournalStops, KeptJoins, SettlingEnds};
+ghost use Rattle.access_regs.specs.Laws.{CallGoes, CallLeaves, FreshFollows, JournalAgrees, JournalAnswers, JournalFollows, JournalJoins, JournalPasses, JournalStops, KeptJoins, SettlingEnds, UnitKeepsMemory};
 ghost use Rattle.access_regs.specs.Stops.{FaultStops, PassingStops, WaitStops};
 ghost use Rattle.access_regs.specs.Neighbours.{NeighboursAreFew};
 
@@ -64,4 +64,10 @@ pub fn entries_of_calls()
 pub fn leads_of_forgiving_units()
     ensures select { SelectIsGood }
     ensures leads { LeadsAreGood }
+{}
+
+/// Of the accesses of a unit that forgives nothing, settling with them, only the one that the unit is for changes the
+/// memory.
+pub fn only_the_last_access_changes_memory()
+    ensures { UnitKeepsMemory }
 {}
