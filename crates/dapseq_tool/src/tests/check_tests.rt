@@ -2,6 +2,7 @@
 use super::jobs::{job_of, write_job};
 use super::{CHECK, RUN, call, ends};
 use crate::Status;
+use dap_base::OutOfMemory;
 use probe_core::MemoryBench;
 use std::alloc::Global;
 use std::process::Abort;
@@ -119,11 +120,16 @@ fn edited(alloc: Global, job: &str, old: &str, new: &str) -> Result<String, Fail
     Ok(job)
 }
 
-// What stands before the check, in `check`; each in its order before the next.
+// A check of this job for a device that it does not have writes this line.
+fn refused(rt: &impl Abort, alloc: Global, job: &[u8], line: &str) -> Result<(), OutOfMemory> {
+    let words = ["check", "--device", "D9"];
+    ends(rt, alloc, &words, job, (Status::Refused, line))
+}
+
+// What comes before the check, in `check`; each in its order before the next.
 #[test]
 fn other_jobs_are_refused(rt: HostRuntime) -> Result<(), Fail> {
     let job = write_job(rt.alloc())?;
-    let cut = job.as_bytes().split_last().ok_or("empty")?.1;
     let size = edited(
         rt.alloc(),
         &job,
@@ -133,29 +139,40 @@ fn other_jobs_are_refused(rt: HostRuntime) -> Result<(), Fail> {
     let speed = edited(rt.alloc(), &job, r#","target""#, r#","speed":1,"target""#)?;
     let bench = edited(rt.alloc(), &job, r#""bench""#, r#""Bench""#)?;
     let without = r#"{"pack":{"families":[]}}"#;
-    let table: [(&[u8], &str); 6] = [
-        (cut, "refused BadJson\n"),
-        (size.as_bytes(), "refused BadNumber #/bench/packet_size\n"),
-        (speed.as_bytes(), "refused UnknownKey #/bench/speed\n"),
-        (bench.as_bytes(), "refused UnknownKey #/Bench\n"),
-        (without.as_bytes(), "refused Missing #/bench\n"),
-        (job.as_bytes(), "refused NoDevice\n"),
-    ];
-    for (job, line) in table {
-        ends(
-            &rt,
-            rt.alloc(),
-            &["check", "--device", "D9"],
-            job,
-            (Status::Refused, line),
-        )?;
-    }
-    ends(
+    refused(
         &rt,
         rt.alloc(),
-        &RUN,
-        cut,
-        (Status::Refused, "refused BadJson\n"),
+        size.as_bytes(),
+        "refused BadNumber #/bench/packet_size\n",
     )?;
+    refused(
+        &rt,
+        rt.alloc(),
+        speed.as_bytes(),
+        "refused UnknownKey #/bench/speed\n",
+    )?;
+    refused(
+        &rt,
+        rt.alloc(),
+        bench.as_bytes(),
+        "refused UnknownKey #/Bench\n",
+    )?;
+    refused(
+        &rt,
+        rt.alloc(),
+        without.as_bytes(),
+        "refused Missing #/bench\n",
+    )?;
+    refused(&rt, rt.alloc(), job.as_bytes(), "refused NoDevice\n")?;
+    Ok(())
+}
+
+// A text that breaks off is no JSON, in both modes.
+#[test]
+fn a_text_that_breaks_off_is_refused(rt: HostRuntime) -> Result<(), Fail> {
+    let cut = r#"{"pack":{"families":[]}"#.as_bytes();
+    refused(&rt, rt.alloc(), cut, "refused BadJson\n")?;
+    let ending = (Status::Refused, "refused BadJson\n");
+    ends(&rt, rt.alloc(), &RUN, cut, ending)?;
     Ok(())
 }
