@@ -38,7 +38,7 @@ forgiving_course k large t u f (unit.Ap read n addr value) range may =
 forgiving_course k large t u f (unit.Dp read addr value) range may = absurd (cc)
 forgiving_course k large t u f (unit.Poll mask value turns) range may = absurd (cc)
 
-both_true : (x y : Bool) → (x && y) ≡ true → (x ≡ true) × (y ≡ true)
+pub both_true : (x y : Bool) → (x && y) ≡ true → (x ≡ true) × (y ≡ true)
 both_true true y e = (refl, e)
 both_true false y e = absurd (cc)
 
@@ -54,7 +54,7 @@ call_course k large t u f c ok = by_mark c.call (c.forgive && may_forgive c.call
         (subst (λ (b : Bool). Course (after_settling u k (forgiving_at asked)) (call_done t large b (Access asked)) (Access asked) u) (sym p.0) (forgiving_course k large t u f asked range p.1))
     by_mark (Probe x) true e sound range = (let p = both_true c.forgive false e in let no : false ≡ true = p.1 in absurd (cc))
 
-all_ok : (cs : List Ask) → AreAskable cs → AllOk IsAskable call_course cs
+pub all_ok : (cs : List Ask) → AreAskable cs → AllOk IsAskable call_course cs
 all_ok [] h = tt
 all_ok (c ∷ cs) h = (h.0, all_ok cs h.1)
 

@@ -18,7 +18,7 @@ two = unit.Memory 4 false 0 0x2000_0004 2
 abbrev three : AccessUnit
 three = unit.Memory 4 false 0 0x1_2000_0008 3
 
--- the upper word stands before TAR, and before DRW where TAR is not written
+-- the upper word comes before TAR, and before DRW where TAR is not written
 first_is : plan port_read one ≡ ap_access_of false 0 0x52 ∷ ap_access_of false 8 1 ∷ ap_access_of false 4 0x2000_0000 ∷ ap_access_of false 0xC 1 ∷ []
 first_is = refl
 

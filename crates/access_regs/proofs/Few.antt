@@ -13,7 +13,7 @@ use Rattle.access_regs.specs.Kept.{Kept, known, with_known, csw_of, is_known, un
 use Rattle.access_regs.specs.Plan.{select_value, unless, select_needed, csw_needed, high_needed, tar_needed, port_writes, planned_csw, first_plan, learned, made, after_drw, predicted, settle, settled, settled_at, increment_off, needs_settle, needs_csw, leads}
 use Rattle.access_regs.specs.Plan as plans
 use Rattle.access_regs.specs.Journal.{Issue, Step, steps_of, numbered, before, gives, by_plan, by_csw, by_cfg, by_cfg_read, after_settling, planned, issued_from, making, entries_at, steps_at, actions_of}
-use Rattle.access_regs.specs.Neighbours.{own_entries, AreNeighbours, NeighboursAreFew}
+use Rattle.access_regs.specs.Neighbours.{own_entries, AreNeighbours}
 use Rattle.access_regs.specs.declared.known.Known.{Known}
 use Rattle.access_regs.specs.declared.known.Unsettled.{Unsettled}
 use Rattle.access_regs.proofs.Csw.{planned_again}
@@ -27,22 +27,22 @@ own_append : (xs ys : List Entry) → own_entries (xs ++ ys) ≡ own_entries xs 
 own_append [] ys = omega arith
 own_append (x ∷ xs) ys = let h = own_append xs ys in omega (arith, h)
 
-abbrev own_steps : ℕ → Bool → List Step → ℕ
+abbrev pub own_steps : ℕ → Bool → List Step → ℕ
 own_steps n b steps = own_entries (numbered n b steps)
 
-own_steps_append : (n : ℕ) (b : Bool) (xs ys : List Step) → own_steps n b (xs ++ ys) ≡ own_steps n b xs + own_steps n b ys
+pub own_steps_append : (n : ℕ) (b : Bool) (xs ys : List Step) → own_steps n b (xs ++ ys) ≡ own_steps n b xs + own_steps n b ys
 own_steps_append n b [] ys = omega arith
 own_steps_append n b (x ∷ xs) ys = let h = own_steps_append n b xs ys in omega (arith, h)
 
-own_leads : (n : ℕ) (b : Bool) (xs : List RegAccess) → own_steps n b (steps_of Leads xs) ≡ length xs
+pub own_leads : (n : ℕ) (b : Bool) (xs : List RegAccess) → own_steps n b (steps_of Leads xs) ≡ length xs
 own_leads n b [] = refl
 own_leads n b (x ∷ xs) = let h = own_leads n b xs in omega (arith, h)
 
-own_settling : (n : ℕ) (b : Bool) (xs : List RegAccess) → own_steps n b (steps_of Settles xs) ≡ 0
+pub own_settling : (n : ℕ) (b : Bool) (xs : List RegAccess) → own_steps n b (steps_of Settles xs) ≡ 0
 own_settling n b [] = refl
 own_settling n b (x ∷ xs) = let h = own_settling n b xs in omega (arith, h)
 
-few_unless : (b : Bool) (a : RegAccess) → length (unless b a) ≤ 1
+pub few_unless : (b : Bool) (a : RegAccess) → length (unless b a) ≤ 1
 few_unless true a = omega arith
 few_unless false a = omega arith
 
@@ -73,7 +73,7 @@ large_in c d (x ∷ xs) (suc m) (suc q) = large_in c d xs m q
 large_same : (k : Kept) (m q : ℕ) (c d : Option ℕ) → (known (with_known k m (record (known k m) { csw = c; tar = d })) q).large ≡ (known k q).large
 large_same k m q c d = large_in c d k.ports m q
 
-settled_large : (k : Kept) (q : ℕ) → ((known (settled k) q).large ≡ (known k q).large) × (length (settled k).ports ≡ length k.ports)
+pub settled_large : (k : Kept) (q : ℕ) → ((known (settled k) q).large ≡ (known k q).large) × (length (settled k).ports ≡ length k.ports)
 settled_large k q = by_unsettled k.unsettled
   where
     by_unsettled : (o : Option Unsettled) → ((known (settled_at k o) q).large ≡ (known k q).large) × (length (settled_at k o).ports ≡ length k.ports)
@@ -101,7 +101,7 @@ module _ (size m address : ℕ) (read : Bool) (value : ℕ) where
   learned_extra : (k : Kept) (v : ℕ) → m < length k.ports → extra (learned k m v) ≡ extra k
   learned_extra k v lt = ap (λ (a : Known). cond a.large 1 0) (known_same k m (record (known k m) { csw = Some v }) lt)
 
-  csw_own : (n : ℕ) (t : TargetState) (k : Kept) → m < length k.ports → own_steps n false (by_csw t k asked).steps ≤ 5 + extra k
+  pub csw_own : (n : ℕ) (t : TargetState) (k : Kept) → m < length k.ports → own_steps n false (by_csw t k asked).steps ≤ 5 + extra k
   csw_own n t k lt = by_needs (needs_csw k asked)
     where
       v : ℕ
@@ -123,13 +123,13 @@ module _ (size m address : ℕ) (read : Bool) (value : ℕ) where
           omega (arith, d, e)
 
   -- what is kept after the unit comes from what is kept before its plan
-  record MadeFrom (k : Kept) (kept : Kept) : Type 0 where
-    from : Kept
-    is : kept ≡ made from asked
-    table : length from.ports ≡ length k.ports
-    large : (known from m).large ≡ (known k m).large
+  pub record MadeFrom (k : Kept) (kept : Kept) : Type 0 where
+    pub from : Kept
+    pub is : kept ≡ made from asked
+    pub table : length from.ports ≡ length k.ports
+    pub large : (known from m).large ≡ (known k m).large
 
-  csw_made : (t : TargetState) (k : Kept) → m < length k.ports → MadeFrom k (by_csw t k asked).kept
+  pub csw_made : (t : TargetState) (k : Kept) → m < length k.ports → MadeFrom k (by_csw t k asked).kept
   csw_made t k lt = by_needs (needs_csw k asked)
     where
       v : ℕ
@@ -178,14 +178,14 @@ module _ (size m address : ℕ) (read : Bool) (value : ℕ) where
 -- ---- what is known once such a unit was made
 
 -- the next unit needs nothing but DRW
-record Ready (size m address : ℕ) (k : Kept) : Type 0 where
-  table : m < length k.ports
-  select : is_known k.select (select_value m 0) ≡ true
-  csw : is_known (known k m).csw (planned_csw (csw_of (known k m)) size) ≡ true
-  some : is_none (known k m).csw ≡ false
-  high : (not (known k m).large || is_known (known k m).high (address / 2 ^ 32)) ≡ true
-  tar : is_known (known k m).tar (address % 2 ^ 32) ≡ true
-  narrow : (nat_lt 0xFFFF_FFFF address && not (known k m).large) ≡ false
+pub record Ready (size m address : ℕ) (k : Kept) : Type 0 where
+  pub table : m < length k.ports
+  pub select : is_known k.select (select_value m 0) ≡ true
+  pub csw : is_known (known k m).csw (planned_csw (csw_of (known k m)) size) ≡ true
+  pub some : is_none (known k m).csw ≡ false
+  pub high : (not (known k m).large || is_known (known k m).high (address / 2 ^ 32)) ≡ true
+  pub tar : is_known (known k m).tar (address % 2 ^ 32) ≡ true
+  pub narrow : (nat_lt 0xFFFF_FFFF address && not (known k m).large) ≡ false
 
 and_false : (b : Bool) → (b && false) ≡ false
 and_false true = refl
@@ -237,7 +237,7 @@ module _ (size m address : ℕ) (read : Bool) (value : ℕ) where
   made_narrow l (inl e) = ap (λ (b : Bool). nat_lt 0xFFFF_FFFF (address + size) && not b) e ∙ and_false (nat_lt 0xFFFF_FFFF (address + size))
   made_narrow l (inr less) = ap (λ (b : Bool). b && not l) (le-ltb 0xFFFF_FFFF (address + size) (omega arith))
 
-  made_ready : (k : Kept) → m < length k.ports → 0 < size → address % 1024 + size < 1024 → ((known k m).large ≡ true) ⊎ (address + size < 2 ^ 32) → Ready size m (address + size) (made k unit_here)
+  pub made_ready : (k : Kept) → m < length k.ports → 0 < size → address % 1024 + size < 1024 → ((known k m).large ≡ true) ⊎ (address + size < 2 ^ 32) → Ready size m (address + size) (made k unit_here)
   made_ready k lt some fits where_ =
       let a : Known = known k m in
       let b : Known = after_drw a size address in
@@ -254,14 +254,14 @@ module _ (size m address : ℕ) (read : Bool) (value : ℕ) where
         narrow = ap (λ (x : Known). nat_lt 0xFFFF_FFFF (address + size) && not x.large) here ∙ made_narrow a.large where_;
       }
 
-  made_large : (k : Kept) → m < length k.ports → (known (made k unit_here) m).large ≡ (known k m).large
+  pub made_large : (k : Kept) → m < length k.ports → (known (made k unit_here) m).large ≡ (known k m).large
   made_large k lt = ap (λ (x : Known). x.large) (known_same k m (after_drw (known k m) size address) lt)
 
   -- the journal of one such unit and more
-  abbrev here_asked : Ask
+  abbrev pub here_asked : Ask
   here_asked = record { call = Access unit_here; forgive = false; settled = false }
 
-  own_first : (n : ℕ) (k : Kept) (t : TargetState) (cs : List Ask) → own_entries (issued_from n k t (here_asked ∷ cs))
+  pub own_first : (n : ℕ) (k : Kept) (t : TargetState) (cs : List Ask) → own_entries (issued_from n k t (here_asked ∷ cs))
       ≡ own_steps n false (planned t k unit_here).steps + own_entries (issued_from (n + 1) (planned t k unit_here).kept (after t (actions_of (steps_at t k here_asked))) cs)
   own_first n k t cs =
       let a = own_append (entries_at n t k here_asked) (issued_from (n + 1) (planned t k unit_here).kept (after t (actions_of (steps_at t k here_asked))) cs) in
@@ -277,7 +277,7 @@ rest_where l address size n (inl e) = inl e
 rest_where l address size n (inr le) = inr (let a = mul-suc size n in omega (arith, a))
 
 -- units after one that was made need one entry each
-ready_few : (c : Ask) (cs : List Ask) (n : ℕ) (k : Kept) (t : TargetState) (size m address : ℕ) → 0 < size → address % 1024 + size * suc (length cs) ≤ 1024 → AreNeighbours size m address (c ∷ cs) →
+pub ready_few : (c : Ask) (cs : List Ask) (n : ℕ) (k : Kept) (t : TargetState) (size m address : ℕ) → 0 < size → address % 1024 + size * suc (length cs) ≤ 1024 → AreNeighbours size m address (c ∷ cs) →
     ((known k m).large ≡ true) ⊎ (address + size * suc (length cs) ≤ 2 ^ 32) → Ready size m address k → own_entries (issued_from n k t (c ∷ cs)) ≤ suc (length cs)
 ready_few c [] n k t size m address some fits near where_ ready =
     let u = near.0 in
@@ -301,36 +301,36 @@ ready_few c (d ∷ ds) n k t size m address some fits near where_ ready =
     let b = ready_own size m address u.read u.value n t k ready in
     subst (λ (x : Ask). own_entries (issued_from n k t (x ∷ d ∷ ds)) ≤ suc (suc (length ds))) (sym u.is) (omega (arith, a, b, g))
 
-some_size : (size : ℕ) → (size ≡ 1) ⊎ ((size ≡ 2) ⊎ (size ≡ 4)) → 0 < size
+pub some_size : (size : ℕ) → (size ≡ 1) ⊎ ((size ≡ 2) ⊎ (size ≡ 4)) → 0 < size
 some_size size (inl e) = omega arith
 some_size size (inr (inl e)) = omega arith
 some_size size (inr (inr e)) = omega arith
 
-start_narrow : (l : Bool) (address : ℕ) → (l ≡ true) ⊎ (address + 1024 ≤ 2 ^ 32) → (nat_lt 0xFFFF_FFFF address && not l) ≡ false
+start_narrow : (l : Bool) (address : ℕ) → (l ≡ true) ⊎ (address < 2 ^ 32) → (nat_lt 0xFFFF_FFFF address && not l) ≡ false
 start_narrow l address (inl e) = ap (λ (b : Bool). nat_lt 0xFFFF_FFFF address && not b) e ∙ and_false (nat_lt 0xFFFF_FFFF address)
 start_narrow l address (inr less) = ap (λ (b : Bool). b && not l) (le-ltb 0xFFFF_FFFF address (omega arith))
 
-start_where : (l : Bool) (address size n : ℕ) → (l ≡ true) ⊎ (address + 1024 ≤ 2 ^ 32) → address % 1024 + size * n ≤ 1024 → (l ≡ true) ⊎ (address + size * n ≤ 2 ^ 32)
+start_where : (l : Bool) (address size n : ℕ) → (l ≡ true) ⊎ (address < 2 ^ 32) → address % 1024 + size * n ≤ 1024 → (l ≡ true) ⊎ (address + size * n ≤ 2 ^ 32)
 start_where l address size n (inl e) fits = inl e
-start_where l address size n (inr le) fits = inr (omega arith)
-
-bound : Bool → ℕ
-bound l = cond l 5 4
+start_where l address size n (inr less) fits = inr (omega arith)
 
 extra_bound : (l : Bool) → 5 + cond l 1 0 ≡ 1 + cond l 5 4
 extra_bound true = refl
 extra_bound false = refl
 
-pub neighbours_few : NeighboursAreFew
-neighbours_few n k t size m address [] table lt is aligned fits near where_ = omega arith
-neighbours_few n k t size m address (c ∷ []) table lt is aligned fits near where_ =
+-- where CFG is not read
+pub narrow_few : (n : ℕ) (k : Kept) (t : TargetState) (size m address : ℕ) (calls : List Ask) → length k.ports ≡ 256 → m < 256 → ((size ≡ 1) ⊎ ((size ≡ 2) ⊎ (size ≡ 4))) →
+    address % size ≡ 0 → address % 1024 + size * length calls ≤ 1024 → AreNeighbours size m address calls → ((known k m).large ≡ true) ⊎ (address < 2 ^ 32) →
+    own_entries (issued_from n k t calls) ≤ length calls + cond (known k m).large 5 4
+narrow_few n k t size m address [] table lt is aligned fits near where_ = omega arith
+narrow_few n k t size m address (c ∷ []) table lt is aligned fits near where_ =
     let u = near.0 in
     let f = first_unit size m address u.read u.value n t k (omega arith) (start_narrow (known k m).large address where_) in
     let few = f.few in
     let a = own_first size m address u.read u.value n k t [] in
     let b = extra_bound (known k m).large in
     subst (λ (x : Ask). own_entries (issued_from n k t (x ∷ [])) ≤ 1 + cond (known k m).large 5 4) (sym u.is) (omega (arith, a, few, b))
-neighbours_few n k t size m address (c ∷ d ∷ ds) table lt is aligned fits near where_ =
+narrow_few n k t size m address (c ∷ d ∷ ds) table lt is aligned fits near where_ =
     let u = near.0 in
     let some : 0 < size = some_size size is in
     let here : AccessUnit = unit_here size m address u.read u.value in

@@ -34,16 +34,16 @@ use Rattle.access_regs.proofs.Runs.{spare_append, AreOf, Left, Step', run_left}
 -- ---- the actions of a memory unit
 
 module _ (size : ℕ) (read : Bool) (n address value : ℕ) where
-  abbrev tail : Bool → ℕ → List Action
+  abbrev pub tail : Bool → ℕ → List Action
   tail l csw = transfer_actions l size read address value csw
 
-  abbrev shape : Bool → Bool → Bool → ℕ → List Action
+  abbrev pub shape : Bool → Bool → Bool → ℕ → List Action
   shape w b l csw = cond w (cfg_actions n ++ cond b (csw_actions n ++ tail true csw) []) (csw_actions n ++ tail l csw)
 
-  abbrev csw_at : TargetState → Bool → ℕ
+  abbrev pub csw_at : TargetState → Bool → ℕ
   csw_at t w = given (in_order (cond w (in_order t (cfg_actions n)).next t) (csw_actions n)).outcome
 
-  memory_shape : (t : TargetState) (large : List ℕ) → unit_actions t large (unit.Memory size read n address value) ≡ shape (needs_cfg large n address) (has_large t n) (contains large n) (csw_at t (needs_cfg large n address))
+  pub memory_shape : (t : TargetState) (large : List ℕ) → unit_actions t large (unit.Memory size read n address value) ≡ shape (needs_cfg large n address) (has_large t n) (contains large n) (csw_at t (needs_cfg large n address))
   memory_shape t large = by_wide (needs_cfg large n address)
     where
       by_wide : (w : Bool) → cond w (cfg_actions n ++ after_cfg t size read n address value) (memory_actions t (contains large n) size read n address value) ≡ shape w (has_large t n) (contains large n) (csw_at t w)
@@ -107,7 +107,7 @@ module _ (size : ℕ) (read : Bool) (n address value : ℕ) where
 -- ---- any unit that may be forgiven
 
 -- the write of ABORT that clears STICKYERR
-aborts : (t : TargetState) → commanded t forgives ≡ done (record t { sticky = false })
+pub aborts : (t : TargetState) → commanded t forgives ≡ done (record t { sticky = false })
 unfolding attempt is_free
 aborts t = by_sticky t.sticky
   where
@@ -119,7 +119,7 @@ actions_parts : (early : Bool) (asked : AccessUnit) (xs : List Action) → actio
 actions_parts early asked [] = refl
 actions_parts early asked (x ∷ xs) = ap (λ (l : List Action). x ∷ l) (actions_parts early asked xs)
 
-parts_append : (early : Bool) (asked : AccessUnit) (xs ys : List Action) → parts_of early asked (xs ++ ys) ≡ parts_of early asked xs ++ parts_of early asked ys
+pub parts_append : (early : Bool) (asked : AccessUnit) (xs ys : List Action) → parts_of early asked (xs ++ ys) ≡ parts_of early asked xs ++ parts_of early asked ys
 parts_append early asked [] ys = refl
 parts_append early asked (x ∷ xs) ys = ap (λ (l : List Step). record { part = part_of early asked x; action = x } ∷ l) (parts_append early asked xs ys)
 

@@ -24,6 +24,7 @@ pub mod Keeps
 pub mod Still
 pub mod Examples
 pub mod Few
+pub mod FewWide
 pub mod PlanLemmas
 pub mod Joins
 pub mod Seams
@@ -32,3 +33,6 @@ pub mod UnitLemmas
 pub mod EntryLemmas
 pub mod WeightyLemmas
 pub mod LeadLemmas
+pub mod OneEnd
+pub mod ForgivingMemory
+pub mod MemoryPoints

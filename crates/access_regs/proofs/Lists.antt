@@ -186,7 +186,7 @@ ended_strict true false s v t l xs e = refl
 ended_strict false forgive true v t l xs e = absurd (cc)
 ended_strict false forgive false v t l xs e = absurd (cc)
 
-faulted_strict : (t : TargetState) (large : List ℕ) (c : Ask) → (alone t large c).end ≡ Faulted → is_forgiving c ≡ false
+pub faulted_strict : (t : TargetState) (large : List ℕ) (c : Ask) → (alone t large c).end ≡ Faulted → is_forgiving c ≡ false
 unfolding call_done
 faulted_strict t large c e = ended_strict _ (is_forgiving c) _ _ _ _ _ e
 

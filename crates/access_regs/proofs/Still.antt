@@ -90,7 +90,7 @@ select_words t n bank = by_sticky t.sticky refl
     by_sticky true e = ap (λ (x : Attempt). x.next.words) (select_stuck t n bank e)
     by_sticky false e = ap (λ (x : Attempt). x.next.words) (select_moves t n bank e)
 
-plain_select : (t : TargetState) (n bank : ℕ) → n < 256 → (bank ≡ 0) ⊎ (bank ≡ 0xF) → t.sticky ≡ false → IsPlainBank (attempt t (select_of n bank)).next
+pub plain_select : (t : TargetState) (n bank : ℕ) → n < 256 → (bank ≡ 0) ⊎ (bank ≡ 0xF) → t.sticky ≡ false → IsPlainBank (attempt t (select_of n bank)).next
 plain_select t n bank lt (inl e) clear =
     inl (ap (λ (x : Attempt). bit_and x.next.select 0xF0) (select_write n bank lt (omega arith) t clear) ∙ ap (λ (b : ℕ). bit_and (select_value n b) 0xF0) e ∙ bank_zero_bits n)
 plain_select t n bank lt (inr e) clear =
@@ -100,7 +100,7 @@ plain_stays : (t u : TargetState) → u.select ≡ t.select → IsPlainBank t �
 plain_stays t u e (inl h) = inl (ap (λ (x : ℕ). bit_and x 0xF0) e ∙ h)
 plain_stays t u e (inr h) = inr (ap (λ (x : ℕ). bit_and x 0xF0) e ∙ h)
 
-lead_plain : (t : TargetState) (a : RegAccess) → IsLead a → IsPlainBank t → ((attempt t a).next.words ≡ t.words) × IsPlainBank (attempt t a).next
+pub lead_plain : (t : TargetState) (a : RegAccess) → IsLead a → IsPlainBank t → ((attempt t a).next.words ≡ t.words) × IsPlainBank (attempt t a).next
 lead_plain t a (inl s) plain =
     subst (λ (x : RegAccess). ((attempt t x).next.words ≡ t.words) × IsPlainBank (attempt t x).next) (sym s.4) (select_words t s.0 s.1, by_sticky t.sticky refl)
   where

@@ -23,24 +23,24 @@ use Rattle.target_machine.specs.declared.access.RegAccess.{RegAccess}
 -- ---- one call
 
 -- the call ends at a fault, or it does not
-ends_how : (x : CallEnd) → (x ≡ Faulted) ⊎ ((x ≢ Faulted) × (is_faulted x ≡ false))
+pub ends_how : (x : CallEnd) → (x ≡ Faulted) ⊎ ((x ≢ Faulted) × (is_faulted x ≡ false))
 ends_how Faulted = inl refl
 ends_how (Answered v) = inr (λ e. absurd (cc), refl)
 ends_how Skipped = inr (λ e. absurd (cc), refl)
 ends_how Small = inr (λ e. absurd (cc), refl)
 
 -- a call that ends at a fault has an entry that breaks, which is its own
-record FirstBreak (base : ℕ) (k : Kept) (u : TargetState) (c : Ask) : Type 0 where
-  front : List Entry
-  entry : Entry
-  more : List Entry
-  is : entries_at base u k c ≡ front ++ entry ∷ more
-  passes : Passes u front
-  bad : Breaks (after u (actions_in front)) entry
-  unit : entry.unit ≡ base + 1
-  own : entry.part ≢ Settles
+pub record FirstBreak (base : ℕ) (k : Kept) (u : TargetState) (c : Ask) : Type 0 where
+  pub front : List Entry
+  pub entry : Entry
+  pub more : List Entry
+  pub is : entries_at base u k c ≡ front ++ entry ∷ more
+  pub passes : Passes u front
+  pub bad : Breaks (after u (actions_in front)) entry
+  pub unit : entry.unit ≡ base + 1
+  pub own : entry.part ≢ Settles
 
-first_break : (base : ℕ) (k : Kept) (large : List ℕ) (t u : TargetState) → Follows k large t u → (c : Ask) → IsAskable c → (alone t large c).end ≡ Faulted → FirstBreak base k u c
+pub first_break : (base : ℕ) (k : Kept) (large : List ℕ) (t u : TargetState) → Follows k large t u → (c : Ask) → IsAskable c → (alone t large c).end ≡ Faulted → FirstBreak base k u c
 first_break base k large t u f c ok bad =
     let s : Stops base (base + 0 + 1) k u (c ∷ []) (alone t large c).next = list_stops IsAskable call_course base k large t u f [] c tt ok tt bad in
     record {

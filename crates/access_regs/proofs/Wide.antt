@@ -360,7 +360,7 @@ module _ (large : List ℕ) (size : ℕ) (read : Bool) (n address value : ℕ) (
           by_bit true e = big_course e
           by_bit false e = small_course e
 
-    -- The unit is answered, stops or ends for want of large addresses, as the plain unit does.
+    -- The unit is answered, stops or ends because its AP has no large addresses, as the plain unit does.
     pub wide_course : Course (cfg_issue (gives u (cfg_plan k n))) d call u
     wide_course = by_power (acknowledges t 0x1000_0000) refl
       where

@@ -9,3 +9,4 @@ pub mod Stops
 pub mod Entries
 pub mod Laws
 pub mod Neighbours
+pub mod Closed

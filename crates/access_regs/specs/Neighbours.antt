@@ -1,5 +1,5 @@
 -- Memory units of one size on one AP, at rising neighbouring addresses.
-use Rattle.std.specs.Prelude.{◌≡◌, ◌+◌, ◌*◌, ◌%◌, ◌^◌, ◌≤◌, ◌<◌, ◌⊎◌, ℕ, Bool, true, false, if◌then◌else◌, List, [], ◌∷◌, length}
+use Rattle.std.specs.Prelude.{◌≡◌, ◌+◌, ◌*◌, ◌%◌, ◌^◌, ◌≤◌, ◌<◌, ◌⊎◌, ℕ, Bool, false, nat_lt, if◌then◌else◌, List, [], ◌∷◌, length}
 use Rattle.target_machine.specs.State.{TargetState}
 use Rattle.target_machine.specs.declared.unit.Call.TheVariants.{Access}
 use Rattle.target_machine.specs.declared.unit.Unit.TheVariants as unit
@@ -24,10 +24,14 @@ abbrev pub AreNeighbours : ℕ → ℕ → ℕ → List Ask → Type 0
 AreNeighbours size ap address [] = Unit {0}
 AreNeighbours size ap address (c ∷ cs) = IsUnitAt size ap address c × AreNeighbours size ap (address + size) cs
 
--- Within one KiB, and where CFG is not read, n units have at most n + 4 own entries, and n + 5 on an AP that is known to have
--- large addresses.
+-- How many own entries neighbouring units have at most besides one each: more on an AP with large addresses, and most where CFG
+-- is read to learn of them.
+abbrev pub more_than_one_each : Bool → ℕ → ℕ
+more_than_one_each large address = if large then 5 else (if nat_lt address (2 ^ 32) then 4 else 7)
+
+-- Within one KiB n units have at most n + 4 own entries; n + 5 on an AP that is known to have large addresses; and n + 7 at
+-- addresses over 0xFFFFFFFF on an AP of which that is not known.
 abbrev pub NeighboursAreFew : Type 0
 NeighboursAreFew = (units : ℕ) (k : Kept) (t : TargetState) (size ap address : ℕ) (calls : List Ask) →
     length k.ports ≡ 256 → ap < 256 → ((size ≡ 1) ⊎ ((size ≡ 2) ⊎ (size ≡ 4))) → address % size ≡ 0 → address % 1024 + size * length calls ≤ 1024 →
-    AreNeighbours size ap address calls → (((known k ap).large ≡ true) ⊎ (address + 1024 ≤ 2 ^ 32)) →
-    own_entries (issued_from units k t calls) ≤ length calls + (if (known k ap).large then 5 else 4)
+    AreNeighbours size ap address calls → own_entries (issued_from units k t calls) ≤ length calls + more_than_one_each (known k ap).large address

@@ -1,4 +1,5 @@
 //! What follows from the definitions: each law is the contract of a function that does nothing.
+ghost use Rattle.access_regs.specs.Closed.{MemoryFollowsCalls};
 ghost use Rattle.access_regs.specs.Entries.{CallAnswers, JournalGrows, JournalMarks, JournalWeighs, LeadsAreGood, SelectIsGood, UnitsInRange};
 ghost use Rattle.access_regs.specs.Laws.{CallGoes, CallLeaves, FreshFollows, JournalAgrees, JournalAnswers, JournalFollows, JournalJoins, JournalPasses, JournalStops, KeptJoins, SettlingEnds, UnitKeepsMemory};
 ghost use Rattle.access_regs.specs.Stops.{FaultStops, PassingStops, WaitStops};
@@ -23,7 +24,7 @@ pub fn journals_follow_calls()
 {}
 
 /// Neighbouring memory units issue little more than one access each.
-#[tactic(auto, using(crate::proofs::Few::neighbours_few))]
+#[tactic(auto, using(crate::proofs::FewWide::neighbours_few))]
 pub fn neighbours_are_few()
     ensures { NeighboursAreFew }
 {}
@@ -70,4 +71,10 @@ pub fn leads_of_forgiving_units()
 /// memory.
 pub fn only_the_last_access_changes_memory()
     ensures { UnitKeepsMemory }
+{}
+
+/// After any first part of the journal the memory is that of the calls up to the last one whose own access or skip is in it.
+#[tactic(auto, using(crate::proofs::MemoryPoints::memory_follows))]
+pub fn memory_follows_calls()
+    ensures { MemoryFollowsCalls }
 {}

@@ -12,7 +12,7 @@ pub struct Plan {
     pub accesses: [RegAccess; 6],
 }
 
-// What stands after the accesses of a plan.
+// What fills a plan after its accesses.
 const NOTHING: RegAccess = RegAccess {
     ap: false,
     read: true,

@@ -1,6 +1,6 @@
 //! The lists that plans issue, with values worked out by hand.
 ghost use Rattle.std.specs.Prelude.{◌≡◌, ◌%◌};
-ghost use Rattle.target_machine.specs.Sound.{IsSound};
+ghost use Rattle.target_machine.specs.Sound.{IsSound, IsSoundMemory};
 
 use crate::*;
 use std::process::Abort;
@@ -125,94 +125,89 @@ fn the_upper_word_comes_before_drw(rt: HostRuntime) -> Result<(), Fail> {
     Ok(())
 }
 
-#[test]
-fn sizes_and_lanes_up_to_the_kib(rt: HostRuntime) -> Result<(), Fail> {
-    let mut managed = Managed::new(rt.alloc())?;
-    let unit = |size, read, address, value| Unit::Memory {
+// An access of AP 3, of a byte or a halfword.
+fn part_of_word(size: u8, read: bool, address: u64, value: u32) -> Unit
+    requires sound { IsSoundMemory size read address value }
+    ensures sound { IsSound result }
+{
+    Unit::Memory {
         size,
         read,
         ap: 3,
         address,
         value,
-    };
-    let first = unit(1, false, 0x2000_03FE, 0xAB);
-    learn(
-        &rt,
-        &mut managed,
-        first,
-        3,
-        0x2300_0042,
-        &[select(0x300_0000), ap_read(0)],
-    );
+    }
+}
+
+#[test]
+fn bytes_up_to_the_kib(rt: HostRuntime) -> Result<(), Fail> {
+    let mut managed = Managed::new(rt.alloc())?;
+    let first = part_of_word(1, false, 0x2000_03FE, 0xAB);
+    let learned = [select(0x300_0000), ap_read(0)];
+    learn(&rt, &mut managed, first, 3, 0x2300_0042, &learned);
     let lane_two = [
         ap_write(0, 0x2300_0050),
         ap_write(4, 0x2000_03FE),
         ap_write(12, 0xAB_0000),
     ];
     make(&rt, &mut managed, first, &lane_two);
-    make(
-        &rt,
-        &mut managed,
-        unit(1, false, 0x2000_03FF, 0xCD),
-        &[ap_write(12, 0xCD00_0000)],
-    );
+    let lane_three = [ap_write(12, 0xCD00_0000)];
+    let second = part_of_word(1, false, 0x2000_03FF, 0xCD);
+    make(&rt, &mut managed, second, &lane_three);
     // At a multiple of 1,024 TAR is not known.
     let lane_zero = [ap_write(4, 0x2000_0400), ap_write(12, 0xEF)];
-    make(
-        &rt,
-        &mut managed,
-        unit(1, false, 0x2000_0400, 0xEF),
-        &lane_zero,
-    );
-    let halfword = [
-        ap_write(0, 0x2300_0051),
-        ap_write(4, 0x2000_0402),
-        ap_read(12),
-    ];
-    make(&rt, &mut managed, unit(2, true, 0x2000_0402, 0), &halfword);
-    make(
-        &rt,
-        &mut managed,
-        unit(2, false, 0x2000_0404, 0x1234),
-        &[ap_write(12, 0x1234)],
-    );
-    make(
-        &rt,
-        &mut managed,
-        unit(2, false, 0x2000_0406, 0x5678),
-        &[ap_write(12, 0x5678_0000)],
-    );
-    same(
-        &rt,
-        managed.settle(),
-        &[ap_write(0, 0x2300_0041), ap_write(4, 0x2000_0406)],
-    );
+    let third = part_of_word(1, false, 0x2000_0400, 0xEF);
+    make(&rt, &mut managed, third, &lane_zero);
+    let settled = [ap_write(0, 0x2300_0040), ap_write(4, 0x2000_0400)];
+    same(&rt, managed.settle(), &settled);
     Ok(())
 }
 
 #[test]
-fn what_is_settled_first(rt: HostRuntime) -> Result<(), Fail> {
+fn halfwords_of_a_word(rt: HostRuntime) -> Result<(), Fail> {
     let mut managed = Managed::new(rt.alloc())?;
-    same(&rt, managed.settle(), &[]);
-    let first = word(0x2000_0000, 7);
-    learn(&rt, &mut managed, first, 0, 0x40, &[select(0), ap_read(0)]);
-    make(
-        &rt,
-        &mut managed,
-        first,
-        &[ap_write(0, 0x52), ap_write(4, 0x2000_0000), ap_write(12, 7)],
-    );
-    let dp = |read, addr| Unit::Dp {
-        read,
-        addr,
-        value: 0,
-    };
-    let port = |ap, addr| Unit::Ap {
+    let first = part_of_word(2, true, 0x2000_0402, 0);
+    let learned = [select(0x300_0000), ap_read(0)];
+    learn(&rt, &mut managed, first, 3, 0x2300_0042, &learned);
+    let read = [
+        ap_write(0, 0x2300_0051),
+        ap_write(4, 0x2000_0402),
+        ap_read(12),
+    ];
+    make(&rt, &mut managed, first, &read);
+    let low = part_of_word(2, false, 0x2000_0404, 0x1234);
+    make(&rt, &mut managed, low, &[ap_write(12, 0x1234)]);
+    let high = part_of_word(2, false, 0x2000_0406, 0x5678);
+    make(&rt, &mut managed, high, &[ap_write(12, 0x5678_0000)]);
+    let settled = [ap_write(0, 0x2300_0041), ap_write(4, 0x2000_0406)];
+    same(&rt, managed.settle(), &settled);
+    Ok(())
+}
+
+// A read of an AP register.
+fn port_read(ap: u8, addr: u8) -> Unit
+    requires aligned { addr % 4 ≡ 0 }
+    ensures sound { IsSound result }
+{
+    Unit::Ap {
         read: true,
         ap,
         addr,
         value: 0,
-    };
+    }
+}
+
+// An access of a DP register.
+fn dp(read: bool, addr: u8) -> Unit {
+    Unit::Dp {
+        read,
+        addr,
+        value: 0,
+    }
+}
+
+// Units after a word at 0x2000_0000 of AP 0, and whether its port is settled before them.
+fn units_and_settling() -> [(Unit, bool); 11] {
     let other = Unit::Memory {
         size: 4,
         read: true,
@@ -225,39 +220,53 @@ fn what_is_settled_first(rt: HostRuntime) -> Result<(), Fail> {
         value: 0xA000_0000,
         turns: 100,
     };
-    let table = [
+    [
         (word(0x3000_0000, 0), false),
         (word(0x1_0000_0000, 0), true),
         (other, true),
-        (port(0, 0x0C), true),
-        (port(1, 0xFC), true),
+        (port_read(0, 0x0C), true),
+        (port_read(1, 0xFC), true),
         (dp(true, 0), false),
         (dp(true, 4), false),
         (dp(false, 0), false),
         (dp(false, 4), true),
         (dp(false, 8), true),
         (poll, false),
-    ];
-    for (number, (unit, settles)) in table.iter().enumerate() {
+    ]
+}
+
+#[test]
+fn what_is_settled_first(rt: HostRuntime) -> Result<(), Fail> {
+    let mut managed = Managed::new(rt.alloc())?;
+    same(&rt, managed.settle(), &[]);
+    let first = word(0x2000_0000, 7);
+    learn(&rt, &mut managed, first, 0, 0x40, &[select(0), ap_read(0)]);
+    let whole = [ap_write(0, 0x52), ap_write(4, 0x2000_0000), ap_write(12, 7)];
+    make(&rt, &mut managed, first, &whole);
+    for (number, (unit, settles)) in units_and_settling().iter().enumerate() {
         assert_eq!(rt; managed.needs_settle(unit), *settles, "unit {number}");
     }
-    same(
-        &rt,
-        managed.settle(),
-        &[ap_write(0, 0x42), ap_write(4, 0x2000_0000)],
-    );
+    let settled = [ap_write(0, 0x42), ap_write(4, 0x2000_0000)];
+    same(&rt, managed.settle(), &settled);
     managed.settled();
-    for (number, (unit, _)) in table.iter().enumerate() {
-        assert!(rt; !managed.needs_settle(unit), "unit {number} after settling");
-    }
     same(&rt, managed.settle(), &[]);
     // CSW and TAR are known as the settling left them.
-    make(
-        &rt,
-        &mut managed,
-        word(0x2000_0000, 8),
-        &[ap_write(0, 0x52), ap_write(12, 8)],
-    );
+    let again = [ap_write(0, 0x52), ap_write(12, 8)];
+    make(&rt, &mut managed, word(0x2000_0000, 8), &again);
+    Ok(())
+}
+
+#[test]
+fn nothing_is_settled_twice(rt: HostRuntime) -> Result<(), Fail> {
+    let mut managed = Managed::new(rt.alloc())?;
+    let first = word(0x2000_0000, 7);
+    learn(&rt, &mut managed, first, 0, 0x40, &[select(0), ap_read(0)]);
+    let whole = [ap_write(0, 0x52), ap_write(4, 0x2000_0000), ap_write(12, 7)];
+    make(&rt, &mut managed, first, &whole);
+    managed.settled();
+    for (number, (unit, _)) in units_and_settling().iter().enumerate() {
+        assert!(rt; !managed.needs_settle(unit), "unit {number}");
+    }
     Ok(())
 }
 
@@ -273,12 +282,7 @@ fn what_is_noted_of_other_units(rt: HostRuntime) -> Result<(), Fail> {
     assert!(rt; managed.bank_zero());
     managed.learn(0, 0x40);
     // An AP unit forgets CSW, and not that addresses are large.
-    let identify = Unit::Ap {
-        read: true,
-        ap: 0,
-        addr: 0xFC,
-        value: 0,
-    };
+    let identify = port_read(0, 0xFC);
     same(&rt, managed.plan(&identify), &[select(0xF0), ap_read(0xC)]);
     managed.made(&identify);
     assert!(rt; managed.needs_csw(&first));

@@ -4,7 +4,7 @@ ghost use Rattle.target_machine.specs.Plain.{to_lanes};
 ghost use Rattle.access_regs.specs.Kept.{is_known};
 ghost use Rattle.access_regs.specs.Plan as plans;
 
-use target_machine::registers::{ADDRINC_SINGLE, CSW_OTHERS};
+use target_machine::registers::{ADDRINC_SINGLE, CSW_ADDRINC, CSW_OTHERS};
 
 // SELECT with this AP and this bank.
 pub(crate) fn select_value(ap: u8, bank: u8) -> u32
@@ -56,7 +56,7 @@ pub(crate) fn to_lanes(address: u64, value: u32) -> u32
 pub(crate) fn increment_off(csw: u32) -> u32
     ensures { result ≡ plans.increment_off csw }
 {
-    csw & 0xFFFF_FFCF
+    csw & !CSW_ADDRINC
 }
 
 // Whether the value is known, and is this one.

@@ -1,6 +1,7 @@
 //! The plans of a unit, and settling.
 ghost use Rattle.std.specs.Prelude.{◌≡◌, true};
-ghost use Rattle.target_machine.specs.Sound.{IsSound};
+ghost use Rattle.target_machine.specs.Sound.{IsSound, IsSoundMemory};
+ghost use Rattle.target_machine.specs.declared.unit.Unit.TheVariants.{Memory};
 ghost use Rattle.access_regs.specs.Journal.{port_of};
 ghost use Rattle.access_regs.specs.Plan.{cfg_plan, first_plan, needs_cfg, needs_csw, plan, settle};
 ghost use Rattle.access_regs.specs.Plans.{accesses_of};
@@ -16,7 +17,6 @@ impl Managed {
     /// The accesses of a unit in order, except those that are not needed: SELECT, CSW, the upper
     /// word of TAR, TAR, and then the access that the unit is for. Of a poll it is one read. The
     /// unit's sizes, addresses and counts are in their ranges.
-    #[tactic(auto, using(crate::proofs::PlanLemmas::lanes_fit, crate::proofs::PlanLemmas::memory_listed))]
     pub fn plan(&self, unit: &Unit) -> Plan
         requires sound { IsSound unit.now }
         ensures { accesses_of result ≡ plan self.now unit.now }
@@ -28,20 +28,7 @@ impl Managed {
                 ap,
                 address,
                 value,
-            } => {
-                let known = self.known(ap);
-                let select = select_value(ap, 0);
-                let csw = planned_csw(known.csw.unwrap_or(0), size);
-                let high = high_of(address);
-                let low = low_of(address);
-                let no_high = !known.large || is_known(known.high, high);
-                Plan::empty()
-                    .with_unless(self.is_selected(select), write_select(select))
-                    .with_unless(is_known(known.csw, csw), access_ap(false, CSW, csw))
-                    .with_unless(no_high, access_ap(false, TAR_HIGH, high))
-                    .with_unless(is_known(known.tar, low), access_ap(false, TAR, low))
-                    .with(access_drw(read, address, value))
-            }
+            } => self.plan_memory(size, read, ap, address, value),
             Unit::Ap {
                 read,
                 ap,
@@ -66,6 +53,26 @@ impl Managed {
                 value: 0,
             }),
         }
+    }
+
+    // The plan of a memory unit.
+    #[tactic(auto, using(call_terms::proofs::CallRanges::lanes_fit, crate::proofs::PlanLemmas::memory_listed))]
+    fn plan_memory(&self, size: u8, read: bool, ap: u8, address: u64, value: u32) -> Plan
+        requires sound { IsSoundMemory size read address value }
+        ensures { accesses_of result ≡ plan self.now (Memory size read ap address value) }
+    {
+        let known = self.known(ap);
+        let select = select_value(ap, 0);
+        let csw = planned_csw(known.csw.unwrap_or(0), size);
+        let high = high_of(address);
+        let low = low_of(address);
+        let no_high = !known.large || is_known(known.high, high);
+        Plan::empty()
+            .with_unless(self.is_selected(select), write_select(select))
+            .with_unless(is_known(known.csw, csw), access_ap(false, CSW, csw))
+            .with_unless(no_high, access_ap(false, TAR_HIGH, high))
+            .with_unless(is_known(known.tar, low), access_ap(false, TAR, low))
+            .with(access_drw(read, address, value))
     }
 
     /// SELECT with bank 0 where it differs, and a read of CSW. The unit is one for which `needs_csw`
