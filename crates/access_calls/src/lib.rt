@@ -1,0 +1,10 @@
+//! What runs know of an access to a target: calls are asked, and their results may come late.
+#![tactic(auto)]
+
+mod access;
+mod not_begun;
+mod stop;
+
+pub use access::Access;
+pub use not_begun::NotBegun;
+pub use stop::{Report, Stop, StopCause};
