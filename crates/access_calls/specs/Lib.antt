@@ -6,3 +6,4 @@ pub mod Standing
 pub mod Causes
 pub mod GoesOn
 pub mod Bounds
+pub mod Copy

@@ -4,6 +4,7 @@
 mod access;
 mod not_begun;
 mod stop;
+pub mod users;
 
 pub use access::Access;
 pub use not_begun::NotBegun;
