@@ -49,6 +49,7 @@ at_write w from to a old value is e = by_test (stops_here w (read_ask from)) ref
         → IsStopped a (cond x (record { stopped = Some 2; written = []; world = w }) (record { stopped = None; written = line; world = next_world w (write_ask to v) })) old old
     second w v true same e = record { place = inl e; written = Appends-nil old }
     second w v false same e = absurd (cc)
+
     by_test : (b : Bool) → stops_here w (read_ask from) ≡ b
         → value ≡ slice_index (cond b [] (end_result (done_now w (read_ask from)).end ∷ [])) 0
         → cond b (Some 1) (later_by 1 (stop (next_world w (read_ask from)) (write_ask to value ∷ []))) ≡ Some (a.lines + 1)
@@ -72,6 +73,7 @@ at_end w from to value is e = by_test (stops_here w (read_ask from)) refl is e
         → IsWhole (cond x (record { stopped = Some 2; written = []; world = w }) (record { stopped = None; written = line; world = next_world w (write_ask to v) })) (cond x (left_at w (write_ask to v)) (next_world w (write_ask to v)))
     second w v true same e = absurd (cc)
     second w v false same e = record { whole = refl; written = refl; world = refl }
+
     by_test : (b : Bool) → stops_here w (read_ask from) ≡ b
         → value ≡ slice_index (cond b [] (end_result (done_now w (read_ask from)).end ∷ [])) 0
         → cond b (Some 1) (later_by 1 (stop (next_world w (read_ask from)) (write_ask to value ∷ []))) ≡ None

@@ -92,3 +92,11 @@ left_by a = record { so = left_at_end a.end a.lines a.came }
     left_at_end (Some (BenchFault issued confirmed)) lines came = tt
     left_at_end (Some ReplyBad) lines came = tt
     left_at_end (Some OutOfMemory) lines came = tt
+
+-- after an end nothing but what was asked changes
+pub end_is_silent : (a b : Reported) (s : Stop) → GoesOn a b → a.end ≡ Some s → b ≡ record a { asks = b.asks }
+end_is_silent a b s goes is = (subst (StaysEnded a b) is goes.ended).same
+
+-- an end stays
+pub end_stays : (a b : Reported) (s : Stop) → GoesOn a b → a.end ≡ Some s → b.end ≡ Some s
+end_stays a b s goes is = ap (λ t. t.end) (end_is_silent a b s goes is) ∙ is

@@ -1,2 +1,3 @@
 pub mod KeepLemmas
 pub mod CopyLemmas
+pub mod IssuedLemmas

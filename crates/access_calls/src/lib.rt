@@ -2,10 +2,13 @@
 #![tactic(auto)]
 
 mod access;
+mod issued;
+pub mod laws;
 mod not_begun;
 mod stop;
 pub mod users;
 
 pub use access::Access;
+pub use issued::{Issued, StopReport, stop_report};
 pub use not_begun::NotBegun;
 pub use stop::{Report, Stop, StopCause};
