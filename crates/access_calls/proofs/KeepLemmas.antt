@@ -2,7 +2,9 @@
 use Rattle.std.proofs.Common.{◌≡◌, ◌∙◌, ℕ, ◌+◌, ◌-◌, ◌^◌, ◌≤◌, min, Option, Some, None, refl, sym, ap, subst, arith}
 use Rattle.dap_base.specs.Causes.{Rose}
 use Rattle.probe_core.proofs.RunLemmas.{keeps_own_runs, keeps_runs_on}
+use Rattle.probe_core.specs.Runs.{KeepsRuns}
 use Rattle.call_terms.specs.NeedPoints.{Asks}
+use Rattle.call_terms.specs.World.{AtLeast}
 use Rattle.access_calls.specs.Causes.{EndedBy}
 use Rattle.access_calls.specs.GoesOn.{GoesOn, IsSameButAsks, StaysEnded}
 use Rattle.access_calls.specs.Left.{IsLeft, IsLeftAt, IsLeftCut, answered_at, answered_by, answered_cut}
@@ -100,3 +102,19 @@ end_is_silent a b s goes is = (subst (StaysEnded a b) is goes.ended).same
 -- an end stays
 pub end_stays : (a b : Reported) (s : Stop) → GoesOn a b → a.end ≡ Some s → b.end ≡ Some s
 end_stays a b s goes is = ap (λ t. t.end) (end_is_silent a b s goes is) ∙ is
+
+-- the bench failed, which is the end
+pub goes_by_fault : (a b : Reported) (issued confirmed : ℕ) → a.end ≡ None → b.end ≡ Some (BenchFault issued confirmed) → b.bench.limits ≡ a.bench.limits
+    → a.bench.faults ≤ b.bench.faults → Rose a.bench.faults b.bench.faults → a.bench.exchanges ≤ b.bench.exchanges → KeepsRuns a.state b.state → a.came ≤ b.came → GoesOn a b
+goes_by_fault a b issued confirmed none end limits faults rose exchanges runs came = record {
+  limits = limits;
+  faults = faults;
+  exchanges = exchanges;
+  runs = runs;
+  left = λ n left. record { so = subst (λ e. IsLeftAt e a.lines a.came n) (sym none) (fewer n (subst (λ e. IsLeftAt e b.lines b.came n) end left.so)) };
+  ended = subst (StaysEnded a b) (sym none) (subst (EndedBy a b) (sym end) rose);
+}
+  where
+    fewer : (n : Option ℕ) → AtLeast b.came n → AtLeast a.came n
+    fewer None enough = tt
+    fewer (Some n) enough = omega (arith, came, enough)

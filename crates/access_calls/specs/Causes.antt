@@ -132,3 +132,15 @@ KeepsReplyAt (Some (Cut r)) a = ⊤
 KeepsReplyAt (Some (BenchFault issued confirmed)) a = KeepsNoReply a
 KeepsReplyAt (Some ReplyBad) a = ⊤
 KeepsReplyAt (Some OutOfMemory) a = KeepsNoReply a
+
+-- where none are kept
+keeps_nothing_at : (end : Option Stop) (a : Reported) → KeepsNoReply a → KeepsReplyAt end a
+keeps_nothing_at None a none = none
+keeps_nothing_at (Some (Cut r)) a none = tt
+keeps_nothing_at (Some (BenchFault issued confirmed)) a none = none
+keeps_nothing_at (Some ReplyBad) a none = tt
+keeps_nothing_at (Some OutOfMemory) a none = none
+
+-- an access that never keeps a packet and a reply
+pub keeps_nothing : (end : Option Stop) (a : Reported) → a.sent ≡ [] → a.got ≡ [] → KeepsReplyAt end a
+keeps_nothing end a sent got = keeps_nothing_at end a (record { sent = sent; got = got })

@@ -4,11 +4,16 @@
 mod access;
 mod issued;
 pub mod laws;
+mod marks;
 mod not_begun;
 mod stop;
 pub mod users;
 
 pub use access::Access;
 pub use issued::{Issued, StopReport, stop_report};
+pub use marks::mark_last;
 pub use not_begun::NotBegun;
 pub use stop::{Report, Stop, StopCause};
+
+#[cfg(test)]
+mod tests;
