@@ -1,0 +1,4 @@
+pub mod KeepLemmas
+pub mod MarkLemmas
+pub mod CopyLemmas
+pub mod IssuedLemmas

@@ -1,0 +1,43 @@
+-- How many calls are answered, as far as an access shows it.
+use Rattle.std.specs.Prelude.{◌≡◌, ℕ, Option, Some, None}
+use Rattle.call_terms.specs.World.{AtLeast}
+use Rattle.access_calls.specs.Reported.{Reported}
+use Rattle.access_calls.specs.declared.stop.Stop.{Stop}
+use Rattle.access_calls.specs.declared.stop.Stop.TheVariants.{Cut, BenchFault, ReplyBad, OutOfMemory}
+use Rattle.access_calls.specs.declared.stop.StopCause.{StopCause}
+use Rattle.access_calls.specs.declared.stop.StopCause.TheVariants.{Faulted, NoAnswer}
+
+-- after an ended retry exactly the calls are answered whose lines come before it; after a fault at least those that came
+abbrev pub IsLeftCut : StopCause → ℕ → ℕ → Option ℕ → Type 0
+IsLeftCut Faulted lines came answered = AtLeast came answered
+IsLeftCut NoAnswer lines came answered = answered ≡ Some lines
+
+-- the same by the end
+abbrev pub IsLeftAt : Option Stop → ℕ → ℕ → Option ℕ → Type 0
+IsLeftAt None lines came answered = AtLeast came answered
+IsLeftAt (Some (Cut r)) lines came answered = IsLeftCut r.cause lines came answered
+IsLeftAt (Some (BenchFault issued confirmed)) lines came answered = AtLeast came answered
+IsLeftAt (Some ReplyBad) lines came answered = AtLeast came answered
+IsLeftAt (Some OutOfMemory) lines came answered = AtLeast came answered
+
+-- By what the access reports, so many calls may be answered: at least those that came, and after an ended retry exactly those
+-- whose lines come before it.
+pub record IsLeft (a : Reported) (answered : Option ℕ) : Type 0 where
+  pub so : IsLeftAt a.end a.lines a.came answered
+
+-- after an ended retry so many calls are answered, and after a fault all may be
+abbrev pub answered_cut : StopCause → ℕ → Option ℕ
+answered_cut Faulted lines = None
+answered_cut NoAnswer lines = Some lines
+
+-- the same by the end
+abbrev pub answered_at : Option Stop → ℕ → Option ℕ
+answered_at None lines = None
+answered_at (Some (Cut r)) lines = answered_cut r.cause lines
+answered_at (Some (BenchFault issued confirmed)) lines = None
+answered_at (Some ReplyBad) lines = None
+answered_at (Some OutOfMemory) lines = None
+
+-- How many calls are answered, as a caller takes it at its end: all, or after an ended retry those whose lines come before it.
+abbrev pub answered_by : Reported → Option ℕ
+answered_by a = answered_at a.end a.lines

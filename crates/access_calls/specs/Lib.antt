@@ -1,0 +1,10 @@
+pub mod Reported
+pub mod Left
+pub mod Answers
+pub mod Numbers
+pub mod Issued
+pub mod Standing
+pub mod Causes
+pub mod GoesOn
+pub mod Bounds
+pub mod Copy

@@ -1,0 +1,48 @@
+-- What an access reports, and where it began.
+use Rattle.std.specs.Prelude.{ℕ, List, Option}
+use Rattle.target_machine.specs.State.{TargetState}
+use Rattle.probe_core.specs.Bench.{BenchState}
+use Rattle.probe_core.specs.Bench.{Reported as BenchReported}
+use Rattle.probe_core.specs.Probe.{target_of}
+use Rattle.call_terms.specs.NeedPoints.{Asks}
+use Rattle.call_terms.specs.World.{World, start_world}
+use Rattle.access_calls.specs.declared.stop.Stop.{Stop}
+
+-- What an access reports at a moment: what its bench reports, and the state of the bench where that is observable; what was
+-- asked; how many of the calls are known to have been answered; its end, where it has ended; at a cut, how many units have
+-- their lines before it; how many calls were skipped; how many entries of the journal were issued, and how many of them are
+-- confirmed; and the packet and the reply that ended it.
+pub record Reported : Type 0 where
+  pub bench : BenchReported
+  pub state : Option BenchState
+  pub asks : Asks
+  pub came : ℕ
+  pub end : Option Stop
+  pub lines : ℕ
+  pub skipped : ℕ
+  pub issued : ℕ
+  pub confirmed : ℕ
+  pub sent : List ℕ
+  pub got : List ℕ
+
+-- Where an access began: the state of its bench at that moment; and how many of its calls are answered, all, or so many,
+-- after which a retry ends.
+pub record Beginning : Type 0 where
+  pub state : BenchState
+  pub answered : Option ℕ
+
+-- an access began so
+abbrev pub began : BenchState → Option ℕ → Beginning
+began m answered = record { state = m; answered = answered }
+
+-- the world in which the calls of an access are made that began so
+abbrev pub world_from : BenchState → Option ℕ → World
+world_from m answered = start_world (target_of m.probe) answered
+
+-- the target at the beginning
+abbrev pub start_of : Beginning → TargetState
+start_of b = target_of b.state.probe
+
+-- the world at the beginning
+abbrev pub world_of : Beginning → World
+world_of b = world_from b.state b.answered

@@ -1,0 +1,115 @@
+-- How far the target has come with the journal, and what a report says of it.
+use Rattle.std.specs.Prelude.{◌≡◌, ◌⊎◌, ℕ, ◌+◌, ◌-◌, ◌*◌, ◌<◌, ◌≤◌, Bool, true, List, length, take, slice_get, Option, Some, None}
+use Rattle.target_machine.specs.Plain.{Action, Makes, Polls, Commands, commanded, polled}
+use Rattle.target_machine.specs.State.{TargetState, Agree}
+use Rattle.target_machine.specs.declared.unit.ProbeCall.TheVariants as probe
+use Rattle.probe_core.specs.Bench.{BenchState}
+use Rattle.probe_core.specs.Probe.{ended_retries_of, target_of, work_of}
+use Rattle.call_terms.specs.Asks.{is_settled}
+use Rattle.call_terms.specs.Journal.{Entry, first_fault, one_if, target_after}
+use Rattle.call_terms.specs.Weights.{commands_in, performed}
+use Rattle.call_terms.specs.World.{skips, world_after}
+use Rattle.call_terms.specs.declared.calls.Ask.{Ask}
+use Rattle.access_calls.specs.Numbers.{HasNumbers}
+use Rattle.access_calls.specs.Reported.{Beginning, Reported, start_of, world_of}
+use Rattle.access_calls.specs.declared.stop.Report.{Report}
+use Rattle.access_calls.specs.declared.stop.Stop.{Stop}
+use Rattle.access_calls.specs.declared.stop.Stop.TheVariants.{Cut, BenchFault, ReplyBad, OutOfMemory}
+use Rattle.access_calls.specs.declared.stop.StopCause.{StopCause}
+use Rattle.access_calls.specs.declared.stop.StopCause.TheVariants.{Faulted, NoAnswer}
+
+-- how many transfers that may wait were made, of all runs of the probe
+abbrev pub number_of : BenchState → ℕ
+number_of m = m.probe.executor.transfers.line.number
+
+-- the last ended retry left a read outstanding or a write unchecked
+abbrev pub pending_of : BenchState → Bool
+pending_of m = m.probe.executor.transfers.pending
+
+-- by how much the probe's work has grown since the beginning
+abbrev pub grown_since : Beginning → BenchState → ℕ
+grown_since b m = work_of m.probe - work_of b.state.probe
+
+-- Exactly the first so many entries were performed, by the probe's work, and the target agrees with the one after them.
+pub record HasPerformed (entries : List Entry) (count : ℕ) (b : Beginning) (m : BenchState) : Type 0 where
+  pub count_is : count ≡ performed (start_of b) entries (grown_since b m)
+  pub within : count ≤ length entries
+  pub target : Agree (target_of m.probe) (target_after (start_of b) (take count entries))
+
+-- From t only a part of the action was done, which leaves u: some reads of a poll, or some commands of a delay.
+abbrev pub IsPart : Action → TargetState → TargetState → Type 0
+IsPart (Makes a) t u = ⊥
+IsPart (Polls mask requested turns) t u = (made : ℕ) × (made < (polled turns mask requested t).reads) × Agree u (polled made mask requested t).next
+IsPart (Commands (probe.Delay micros)) t u = (done : ℕ) × (65535 * done < micros) × Agree u (commanded t (probe.Delay (65535 * done))).next
+IsPart (Commands (probe.Abort value)) t u = ⊥
+IsPart (Commands (probe.Pins output select wait)) t u = ⊥
+IsPart (Commands (probe.Clock hertz)) t u = ⊥
+IsPart (Commands (probe.Line count bits)) t u = ⊥
+
+-- the same of an entry, where there is one
+abbrev pub IsPartOf : Option Entry → TargetState → TargetState → Type 0
+IsPartOf None t u = ⊥
+IsPartOf (Some e) t u = IsPart e.action t u
+
+-- Without an end: all entries were issued. Those that are confirmed were performed, and no others; none of them gives a fault
+-- that its unit does not forgive. No retry ended. The skipped calls are counted. Once a `finish` was made after the last
+-- call, the target agrees with the one after the calls.
+pub record IsOpen (entries : List Entry) (a : Reported) (b : Beginning) (m : BenchState) : Type 0 where
+  pub issued : a.issued ≡ length entries
+  pub performed : HasPerformed entries a.confirmed b m
+  pub good : first_fault (start_of b) (take a.confirmed entries) ≡ None
+  pub retries : ended_retries_of m.probe ≡ ended_retries_of b.state.probe
+  pub skipped : a.skipped ≡ skips (world_of b) a.asks.calls
+  pub settled : is_settled a.asks.calls ≡ true → Agree (target_of m.probe) (world_after (world_of b) a.asks.calls).target
+
+-- At a fault: the entries were performed up to the first that gives a fault which its unit does not forgive; those before it
+-- are confirmed. No retry ended.
+pub record IsFaulted (entries : List Entry) (r : Report) (a : Reported) (b : Beginning) (m : BenchState) : Type 0 where
+  pub performed : HasPerformed entries r.accesses b m
+  pub first : first_fault (start_of b) entries ≡ Some r.accesses
+  pub confirmed : r.accesses ≡ r.confirmed + 1
+  pub numbers : HasNumbers entries a.asks.calls a.skipped a.lines r
+  pub retries : ended_retries_of m.probe ≡ ended_retries_of b.state.probe
+
+-- Where a retry ended: the performed entries are confirmed, except the last where a read was outstanding or a write
+-- unchecked. Just one retry ended. The transfer that it ended has at most the number of two for each register access and each
+-- read of a poll that was made: commands are no such transfers.
+pub record IsUnanswered (entries : List Entry) (r : Report) (a : Reported) (b : Beginning) (m : BenchState) : Type 0 where
+  pub performed : HasPerformed entries r.accesses b m
+  pub confirmed : r.accesses ≡ r.confirmed + one_if (pending_of m)
+  pub numbers : HasNumbers entries a.asks.calls a.skipped a.lines r
+  pub retries : ended_retries_of m.probe ≡ ended_retries_of b.state.probe + 1
+  pub number : number_of m + 2 * commands_in (take r.accesses entries) ≤ number_of b.state + 2 * grown_since b m + 1
+
+-- Where the bench failed: at least the confirmed entries were performed, and at most those that were issued. The target
+-- agrees with the one after the performed entries, or a part of the next one was done too.
+pub record IsBenchFault (entries : List Entry) (issued confirmed : ℕ) (b : Beginning) (m : BenchState) : Type 0 where
+  pub count : ℕ
+  pub count_is : count ≡ performed (start_of b) entries (grown_since b m)
+  pub low : confirmed ≤ count
+  pub high : count ≤ issued
+  pub within : issued ≤ length entries
+  pub target : let t = target_after (start_of b) (take count entries) in
+      Agree (target_of m.probe) t ⊎ IsPartOf (slice_get entries count) t (target_of m.probe)
+
+-- at a cut, by its cause
+abbrev pub IsCut : StopCause → List Entry → Report → Reported → Beginning → BenchState → Type 0
+IsCut Faulted entries r a b m = IsFaulted entries r a b m
+IsCut NoAnswer entries r a b m = IsUnanswered entries r a b m
+
+-- By the end. An observable bench gives no bad reply, and refused memory is no end.
+abbrev pub StandsAt : Option Stop → List Entry → Reported → Beginning → BenchState → Type 0
+StandsAt None entries a b m = IsOpen entries a b m
+StandsAt (Some (Cut r)) entries a b m = IsCut r.cause entries r a b m
+StandsAt (Some (BenchFault issued confirmed)) entries a b m = IsBenchFault entries issued confirmed b m
+StandsAt (Some ReplyBad) entries a b m = ⊥
+StandsAt (Some OutOfMemory) entries a b m = ⊥
+
+-- the bench is observable, and its state is so
+abbrev pub WhereObservable : Option BenchState → (BenchState → Type 0) → Type 0
+WhereObservable None P = ⊥
+WhereObservable (Some m) P = P m
+
+-- How far the target of an access has come that began so, by the journal of the calls that were asked.
+abbrev pub Stands : (TargetState → List Ask → List Entry) → Reported → Beginning → Type 0
+Stands journal a b = WhereObservable a.state (λ m. StandsAt a.end (journal (start_of b) a.asks.calls) a b m)

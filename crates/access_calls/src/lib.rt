@@ -1,0 +1,19 @@
+//! What runs know of an access to a target: calls are asked, and their results may come late.
+#![tactic(auto)]
+
+mod access;
+mod issued;
+pub mod laws;
+mod marks;
+mod not_begun;
+mod stop;
+pub mod users;
+
+pub use access::Access;
+pub use issued::{Issued, StopReport, stop_report};
+pub use marks::mark_last;
+pub use not_begun::NotBegun;
+pub use stop::{Report, Stop, StopCause};
+
+#[cfg(test)]
+mod tests;
