@@ -17,3 +17,4 @@ pub mod Ranges
 pub mod TransferAnswers
 pub mod GuardedAnswers
 pub mod ChainAnswers
+pub mod Polls

@@ -1,6 +1,7 @@
 //! What the forms of a flight do, in terms of accesses made one at a time.
 ghost use Rattle.std.specs.Prelude.{◌*◌, ◌∷◌, ◌≡◌, ◌<◌, ◌≤◌, ◌^◌, List, None, Some, [], false, length, true, ℕ};
 ghost use Rattle.std.specs.List.{AllByRecursion};
+ghost use Rattle.target_machine.specs.Attempt.{bank};
 ghost use Rattle.target_machine.specs.InRange.{IsInRange};
 ghost use Rattle.target_machine.specs.declared.access.RegAccess.{RegAccess};
 ghost use Rattle.dap_messages.specs.Replies.{Answers};
@@ -12,6 +13,7 @@ ghost use Rattle.flight_forms.specs.Flights.{DoesBlock, DoesTransfer, words_of};
 ghost use Rattle.flight_forms.specs.Forms.{capacity, fits_block, fits_guarded, fits_transfer, form_of, parts_of};
 ghost use Rattle.flight_forms.specs.Packets.{AnswerChain, FitChain, FitsPacket, block_answer, block_command, guarded_command, transfer_answer, transfer_command};
 ghost use Rattle.flight_forms.specs.Packing.{AreTaken, AreWords, requests_for};
+ghost use Rattle.flight_forms.specs.Polls.{PollsAtOnce};
 ghost use Rattle.flight_forms.specs.declared.form.Form.{Form};
 ghost use Rattle.flight_forms.specs.declared.form.Form.TheVariants as Form;
 
@@ -68,4 +70,11 @@ pub fn replies_may_come()
         → Answers (transfer_command accesses) (transfer_answer (transferred p (requests_for false accesses))) }
     ensures chain { (p : TransferState) (parts : List (List RegAccess)) → AllTaken parts → AllByRecursion AreWords parts → IsGuardOpen p → IsInRange p.line.target
         → AnswerChain parts (chain_replies p parts) }
+{}
+
+/// A portion of a poll in one packet is the polled reads, one at a time: its replies say whether the
+/// register matched, and after it the match mask and match retry are 0. This needs DPBANKSEL 0, so
+/// that address 0x4 is CTRL/STAT, whose reads never wait.
+pub fn a_poll_is_its_reads()
+    ensures { (p : TransferState) (retry mask requested turns : ℕ) → bank p.line.target ≡ 0 → 1 ≤ turns → PollsAtOnce p retry mask requested turns }
 {}
