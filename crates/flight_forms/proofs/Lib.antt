@@ -18,3 +18,4 @@ pub mod TransferAnswers
 pub mod GuardedAnswers
 pub mod ChainAnswers
 pub mod Polls
+pub mod GuardedPut

@@ -3,5 +3,7 @@
 
 mod form;
 pub mod laws;
+mod packing;
 
 pub use form::Form;
+pub use packing::{put_guarded_requests, put_requests};
