@@ -19,3 +19,4 @@ pub mod GuardedAnswers
 pub mod ChainAnswers
 pub mod Polls
 pub mod GuardedPut
+pub mod SizeLemmas
