@@ -20,3 +20,4 @@ pub mod ChainAnswers
 pub mod Polls
 pub mod GuardedPut
 pub mod SizeLemmas
+pub mod FirstParts

@@ -28,7 +28,7 @@ requests_more w (x ∷ rest) a =
     ap (λ rs. first ++ request_of x ∷ rs) (requests_more (writes_ap x) rest a)
     ∙ sym (append_assoc first (request_of x ∷ requests_for (writes_ap x) rest) more)
 
-write_more : (w : Bool) (accesses : List RegAccess) (a : RegAccess) → ap_write_at_end w (accesses ++ a ∷ []) ≡ writes_ap a
+pub write_more : (w : Bool) (accesses : List RegAccess) (a : RegAccess) → ap_write_at_end w (accesses ++ a ∷ []) ≡ writes_ap a
 write_more w [] a = refl
 write_more w (x ∷ rest) a = write_more (writes_ap x) rest a
 
@@ -176,7 +176,7 @@ none_counted : Counts [] no_tally
 none_counted = record { requests_are = refl; bytes_are = refl; reads_are = refl }
 
 -- the tally of a part that begins
-alone_counted : (a : RegAccess) → Counts (requests_for false (a ∷ [])) (with_access no_tally false a.read)
+pub alone_counted : (a : RegAccess) → Counts (requests_for false (a ∷ [])) (with_access no_tally false a.read)
 alone_counted a = counts_more [] a no_tally false (omega arith) refl none_counted
 
 abbrev PartsCounted : ℕ → List (List RegAccess) → ℕ → Tally → Type 0

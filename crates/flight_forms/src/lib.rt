@@ -7,5 +7,5 @@ mod packing;
 mod size;
 
 pub use form::Form;
-pub use size::FlightSize;
+pub use size::{FlightSize, first_part};
 pub use packing::{put_guarded_requests, put_requests};

@@ -1,8 +1,8 @@
 //! How large the requests of a list of accesses are, kept as the list grows.
-ghost use Rattle.std.specs.Prelude.{◌≡◌, ◌<◌, ◌∷◌, ◌++◌, ℕ, List, [], is_some, length};
+ghost use Rattle.std.specs.Prelude.{◌≡◌, ◌<◌, ◌≤◌, ◌&&◌, ◌∷◌, ◌++◌, List, [], drop, is_some, length, take};
 ghost use Rattle.target_machine.specs.declared.access.RegAccess.{RegAccess};
-ghost use Rattle.dap_transfer.specs.CommandEnds.{one_if};
-ghost use Rattle.flight_forms.specs.Forms.{fits_block, fits_chain, form_of, writes_drw};
+ghost use Rattle.dap_transfer.specs.CommandEnds.{may_be_free, one_if};
+ghost use Rattle.flight_forms.specs.Forms.{fits_block, fits_chain, form_of, parts_of, writes_drw};
 ghost use Rattle.flight_forms.specs.Sizes.{IsSizeOf, size_with, tally_fits, tally_fits_guarded, with_access};
 
 use crate::form::Form;
@@ -52,6 +52,13 @@ fn writes_drw(access: RegAccess) -> bool
     ensures { result ≡ writes_drw access }
 {
     access.ap && !access.read && access.addr & REGISTER == REGISTER
+}
+
+// Whether a check comes before an access, after a write of an access port or not.
+fn is_checked(after_write: bool, next: RegAccess) -> bool
+    ensures { result ≡ (after_write && may_be_free next) }
+{
+    after_write && may_be_free(next)
 }
 
 impl Tally {
@@ -120,7 +127,7 @@ impl FlightSize {
     fn grown(self, next: RegAccess) -> FlightSize
         ensures { result ≡ size_with self next }
     {
-        let checked = self.after_write && may_be_free(next);
+        let checked = is_checked(self.after_write, next);
         let more = self.last.with_access(checked, next.read);
         let (parts, last) = if self.parts > 0 && more.fits_guarded(self.packet_size) {
             (self.parts, more)
@@ -190,4 +197,27 @@ impl FlightSize {
     {
         self.with(next).form().is_some()
     }
+}
+
+/// How many of the accesses are the first part of a chain of them: as many as one guarded Transfer
+/// takes one after the other, and one at least.
+pub fn first_part(packet_size: u16, accesses: &[RegAccess]) -> usize
+    requires some { 1 ≤ length accesses.now }
+    requires few { length accesses.now < 65_535 }
+    ensures at_least { 1 ≤ result }
+    ensures at_most { result ≤ length accesses.now }
+    ensures parts { parts_of packet_size accesses.now ≡ take result accesses.now ∷ parts_of packet_size (drop result accesses.now) }
+{
+    let mut tally = Tally::NONE.with_access(false, accesses[0].read);
+    let mut after_write = writes_ap(accesses[0]);
+    for index in 1..accesses.len() {
+        let next = accesses[index];
+        let more = tally.with_access(is_checked(after_write, next), next.read);
+        if !more.fits_guarded(packet_size) {
+            return index;
+        }
+        tally = more;
+        after_write = writes_ap(next);
+    }
+    accesses.len()
 }
