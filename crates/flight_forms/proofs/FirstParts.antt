@@ -1,5 +1,5 @@
 -- The first part of a chain is filled access by access.
-use Rattle.std.proofs.Common.{◌≡◌, leb, ℕ, ◌+◌, ◌*◌, ◌-◌, ◌/◌, ◌≤◌, ◌<◌, ◌&&◌, Bool, true, false, cond, List, [], ◌∷◌, ◌++◌, length, take, drop, slice_index_or, refl, ap, sym, ◌∙◌, arith, suc, zero, subst}
+use Rattle.std.proofs.Common.{◌≡◌, ℕ, ◌+◌, ◌≤◌, ◌<◌, ◌&&◌, Bool, true, false, cond, List, [], ◌∷◌, ◌++◌, length, take, drop, slice_index_or, refl, ap, sym, ◌∙◌, arith, suc, zero, subst}
 use Rattle.target_machine.specs.declared.access.RegAccess.{RegAccess}
 use Rattle.dap_transfer.specs.CommandEnds.{may_be_free, writes_ap}
 use Rattle.flight_forms.specs.declared.size.Tally.{Tally}
@@ -23,8 +23,7 @@ place_split [] i d h = absurd (omega arith)
 place_split (a ∷ rest) zero d h = (refl, refl)
 place_split (a ∷ rest) (suc i) d h =
     let more = place_split rest i d (omega arith) in
-    let next : suc i + 1 ≡ suc (i + 1) = omega arith in
-    (
+    let next : suc i + 1 ≡ suc (i + 1) = omega arith in (
       more.0 ∙ ap (λ n. slice_index_or rest i d ∷ drop n (a ∷ rest)) (sym next),
       ap (λ n. take n (a ∷ rest)) next ∙ ap (λ xs. a ∷ xs) more.1,
     )

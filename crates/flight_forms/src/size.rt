@@ -76,9 +76,7 @@ impl Tally {
         let check = one_if(checked);
         Tally {
             requests: self.requests.saturating_add(check + 1),
-            bytes: self
-                .bytes
-                .saturating_add(check + if read { 1 } else { 5 }),
+            bytes: self.bytes.saturating_add(check + if read { 1 } else { 5 }),
             reads: self.reads.saturating_add(check + one_if(read)),
         }
     }
