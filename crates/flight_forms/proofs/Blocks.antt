@@ -58,7 +58,7 @@ drw_requests w (a ∷ rest) e =
     no_check w a (request_of a ∷ requests_for (writes_ap a) rest) first.0
     ∙ (λ i. first.1 i ∷ drw_requests (writes_ap a) rest two.1 i)
 
-drw_taken : (accesses : List RegAccess) → all_write_drw accesses ≡ true → AreTaken accesses
+pub drw_taken : (accesses : List RegAccess) → all_write_drw accesses ≡ true → AreTaken accesses
 drw_taken [] e = tt
 drw_taken (a ∷ rest) e =
     let two = both_true (writes_drw a) (all_write_drw rest) e in
@@ -67,7 +67,7 @@ drw_taken (a ∷ rest) e =
 
 -- ---- no word comes
 
-no_reads : (n : ℕ) (words : List ℕ) → reads_in (take n (writes_of 0x0D words)) ≡ 0
+pub no_reads : (n : ℕ) (words : List ℕ) → reads_in (take n (writes_of 0x0D words)) ≡ 0
 no_reads zero words = refl
 no_reads (suc n) [] = refl
 no_reads (suc n) (w ∷ words) =
@@ -110,7 +110,7 @@ does_block p size (a ∷ rest) e clear =
 
 -- ---- its reply is one that it may get
 
-length_writes : (words : List ℕ) → length (writes_of 0x0D words) ≡ length words
+pub length_writes : (words : List ℕ) → length (writes_of 0x0D words) ≡ length words
 length_writes [] = refl
 length_writes (w ∷ words) = ap suc (length_writes words)
 

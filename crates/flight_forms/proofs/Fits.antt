@@ -134,7 +134,7 @@ parts_fit_packets size accesses least small ranges =
 
 -- ---- a block
 
-length_words : (accesses : List RegAccess) → length (words_of accesses) ≡ length accesses
+pub length_words : (accesses : List RegAccess) → length (words_of accesses) ≡ length accesses
 length_words [] = refl
 length_words (a ∷ rest) = ap suc (length_words rest)
 

@@ -21,3 +21,4 @@ pub mod Polls
 pub mod GuardedPut
 pub mod SizeLemmas
 pub mod FirstParts
+pub mod Shortness

@@ -102,6 +102,16 @@ part_of executed response words =
       values = take confirmed (seen_values executed words);
     }
 
+-- What a reply to so many accesses shows that may come, whatever was done: all are confirmed where it is OK, and fewer where it
+-- is not; the values are those of the confirmed ones.
+pub record IsPartOf (count : ℕ) (part : Part) : Type 0 where
+  pub most : part.performed ≤ count
+  pub within : part.confirmed ≤ part.performed
+  pub near : part.performed ≤ part.confirmed + 1
+  pub whole : part.response ≡ Good → part.confirmed ≡ count
+  pub short : (part.response ≡ Good → ⊥) → part.confirmed < count
+  pub values : length part.values ≡ part.confirmed
+
 -- ---- commands without a guard
 
 -- One Transfer of these accesses does a part of them, which its reply shows, and the match mask stays.

@@ -202,9 +202,9 @@ impl FlightSize {
 pub fn first_part(packet_size: u16, accesses: &[RegAccess]) -> usize
     requires some { 1 ≤ length accesses.now }
     requires few { length accesses.now < 65_535 }
-    ensures at_least { 1 ≤ result }
-    ensures at_most { result ≤ length accesses.now }
-    ensures parts { parts_of packet_size accesses.now ≡ take result accesses.now ∷ parts_of packet_size (drop result accesses.now) }
+    ensures some { 1 ≤ result }
+    ensures within { result ≤ length accesses.now }
+    ensures part { parts_of packet_size accesses.now ≡ take result accesses.now ∷ parts_of packet_size (drop result accesses.now) }
 {
     let mut tally = Tally::NONE.with_access(false, accesses[0].read);
     let mut after_write = writes_ap(accesses[0]);
