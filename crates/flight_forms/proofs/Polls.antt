@@ -265,14 +265,13 @@ pub poll_fits : (idle retry mask requested turns : ℕ) → idle < 2 ^ 8 → ret
 poll_fits idle retry mask requested turns a b c d e = record {
   packet = record {
     count = (omega arith, omega arith);
-    commands =
-        (
-          (a, b, omega arith),
-          (
-            (omega arith, omega arith, (mask_is_request mask c, (match_is_request false 0x4 requested d, tt))),
-            ((omega arith, omega arith, (mask_is_request 0 (omega arith), tt)), ((a, b, omega arith), tt)),
-          ),
-        );
+    commands = (
+      (a, b, omega arith),
+      (
+        (omega arith, omega arith, (mask_is_request mask c, (match_is_request false 0x4 requested d, tt))),
+        ((omega arith, omega arith, (mask_is_request 0 (omega arith), tt)), ((a, b, omega arith), tt)),
+      ),
+    );
     size = omega arith;
   };
   bytes = refl;

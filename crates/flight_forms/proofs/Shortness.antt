@@ -1,5 +1,5 @@
 -- What replies show that may come, whatever the probe did.
-use Rattle.std.proofs.Common.{◌≡◌, eqb, leb, ltb, ℕ, ◌+◌, ◌*◌, ◌-◌, ◌≤◌, ◌<◌, ◌&&◌, ◌||◌, not, Bool, true, false, cond, List, [], ◌∷◌, ◌++◌, take, length, map, refl, ap, sym, ◌∙◌, arith, suc, zero, subst, ◌⊎◌, inl, inr, IsTrue, append-nil, length-append, Option, Some, None}
+use Rattle.std.proofs.Common.{◌≡◌, eqb, leb, ltb, ℕ, ◌+◌, ◌*◌, ◌-◌, ◌≤◌, ◌<◌, ◌&&◌, ◌||◌, not, Bool, true, false, cond, List, [], ◌∷◌, take, length, refl, ap, sym, ◌∙◌, arith, suc, zero, subst, ◌⊎◌, inl, inr, IsTrue, append-nil, Option}
 use Rattle.std.proofs.lemmas.Bool.{eqb-true, leb-true, lt-ltb, ltb-false, ltb-true}
 use Rattle.target_machine.specs.declared.access.RegAccess.{RegAccess}
 use Rattle.dap_messages.specs.declared.request.Request.{Request}
@@ -9,25 +9,22 @@ use Rattle.dap_messages.specs.declared.request.Response.{Response}
 use Rattle.dap_messages.specs.declared.request.Response.TheVariants.{Good, Wait, Fault, Mismatch}
 use Rattle.dap_messages.specs.Replies.{Answers, AnswersTransfer, kind_at, last_is_posted, may_end_block, may_end_by, may_stop, passes, progress_at}
 use Rattle.dap_messages.specs.Replies as reply
-use Rattle.dap_messages.specs.Requests.{ends_in_write, is_mask, is_match, is_posted, kind, reads_in, write_after, write_last}
+use Rattle.dap_messages.specs.Requests.{ends_in_write, is_mask, is_match, kind, reads_in, write_after}
 use Rattle.dap_messages.specs.Responses.{code_of, response_of}
 use Rattle.dap_transfer.specs.CommandEnds.{one_if, posted_last}
 use Rattle.dap_transfer.specs.Laws.{AreNormal, IsNormalKind, accesses_in}
 use Rattle.dap_transfer.specs.State.{is_good}
-use Rattle.flight_forms.specs.Flights.{IsPartOf, Part, doubts, part_of, seen_values}
-use Rattle.dap_messages.specs.Requests.{mask_request}
+use Rattle.flight_forms.specs.Flights.{IsPartOf, doubts, part_of, seen_values}
 use Rattle.dap_transfer.specs.Block.{writes_of}
 use Rattle.flight_forms.specs.Flights.{words_of}
 use Rattle.flight_forms.specs.Forms.{all_write_drw, fits_block}
-use Rattle.flight_forms.specs.Packets.{block_command, guarded_command, transfer_command}
-use Rattle.flight_forms.specs.Packing.{AreTaken, check_when, guarded, payload, requests_for, write_at_end}
+use Rattle.flight_forms.specs.Packets.{block_command, transfer_command}
+use Rattle.flight_forms.specs.Packing.{AreTaken, requests_for}
 use Rattle.flight_forms.proofs.Blocks.{drw_requests, drw_taken, length_writes, no_reads}
 use Rattle.flight_forms.proofs.Fits.{length_words}
-use Rattle.flight_forms.proofs.GuardedAnswers.{kind_in_front, reads_guarded, reads_masked, take_in_front}
-use Rattle.flight_forms.proofs.RequestSizes.{few_for, three_parts}
-use Rattle.flight_forms.proofs.AskedRequests.{accesses_asked, are_normal, asked_of, checks_follow, length_asked, payload_checked, payload_normal}
+use Rattle.flight_forms.proofs.RequestSizes.{three_parts}
+use Rattle.flight_forms.proofs.AskedRequests.{accesses_asked, are_normal, checks_follow, length_asked}
 use Rattle.flight_forms.proofs.OwnAccesses.{ChecksFollow, last_own, next_or_write, own_count, own_most}
-use Rattle.flight_forms.proofs.Rows.{take_past}
 use Rattle.flight_forms.proofs.SeenValues.{length_seen}
 use Rattle.flight_forms.proofs.TransferAnswers.{posted_at, take_length}
 

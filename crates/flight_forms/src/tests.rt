@@ -91,9 +91,21 @@ fn a_write_is_checked_before_what_may_act(rt: HostRuntime) {
     let write = ap_write(0x0C, 1);
     let check = request(0x0E, 0);
     let drw = request(0x0D, 1);
-    plain(&rt, &[write, read(false, 0x4)], &[drw, check, request(0x06, 0)]);
-    plain(&rt, &[write, read(false, 0x0)], &[drw, check, request(0x02, 0)]);
-    plain(&rt, &[write, dp_write(0x0, 4)], &[drw, check, request(0x00, 4)]);
+    plain(
+        &rt,
+        &[write, read(false, 0x4)],
+        &[drw, check, request(0x06, 0)],
+    );
+    plain(
+        &rt,
+        &[write, read(false, 0x0)],
+        &[drw, check, request(0x02, 0)],
+    );
+    plain(
+        &rt,
+        &[write, dp_write(0x0, 4)],
+        &[drw, check, request(0x00, 4)],
+    );
     // the others wait for STICKYERR
     plain(&rt, &[write, dp_write(0x8, 4)], &[drw, request(0x08, 4)]);
     plain(&rt, &[write, dp_write(0x4, 4)], &[drw, request(0x04, 4)]);
@@ -104,17 +116,34 @@ fn a_write_is_checked_before_what_may_act(rt: HostRuntime) {
         &[write, read(true, 0x0), read(false, 0x4)],
         &[drw, request(0x03, 0), request(0x06, 0)],
     );
-    plain(&rt, &[dp_write(0x8, 4), read(false, 0x0)], &[request(0x08, 4), request(0x02, 0)]);
+    plain(
+        &rt,
+        &[dp_write(0x8, 4), read(false, 0x0)],
+        &[request(0x08, 4), request(0x02, 0)],
+    );
     // a last write of any port is checked at the end of a guarded command
     guarded(
         &rt,
         &[dp_write(0x8, 4)],
-        &[request(0x12, 0), request(0x20, 1), request(0x08, 4), check, request(0x20, 0)],
+        &[
+            request(0x12, 0),
+            request(0x20, 1),
+            request(0x08, 4),
+            check,
+            request(0x20, 0),
+        ],
     );
     guarded(
         &rt,
         &[write, read(false, 0x0)],
-        &[request(0x12, 0), request(0x20, 1), drw, check, request(0x02, 0), request(0x20, 0)],
+        &[
+            request(0x12, 0),
+            request(0x20, 1),
+            drw,
+            check,
+            request(0x02, 0),
+            request(0x20, 0),
+        ],
     );
 }
 
