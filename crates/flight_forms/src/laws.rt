@@ -38,10 +38,11 @@ pub fn a_chain_does_a_part()
     ensures { (p : TransferState) (parts : List (List RegAccess)) → AllTaken parts → IsGuardOpen p → DoesChain p parts }
 {}
 
-/// The parts of a chain are its accesses, in order, and each of them has accesses that a flight
-/// takes where the whole has.
+/// The parts of a chain are its accesses, in order. Each of them has an access, and what is so of
+/// each access of the whole is so of each access of a part.
 pub fn parts_are_the_flight()
     ensures whole { (size : ℕ) (accesses : List RegAccess) → all_of (parts_of size accesses) ≡ accesses }
+    ensures some { (size : ℕ) (accesses : List RegAccess) → AllByRecursion (λ part. 1 ≤ length part) (parts_of size accesses) }
     ensures taken { (size : ℕ) (accesses : List RegAccess) → AreTaken accesses → AllTaken (parts_of size accesses) }
     ensures words { (size : ℕ) (accesses : List RegAccess) → AreWords accesses → AllByRecursion AreWords (parts_of size accesses) }
 {}
