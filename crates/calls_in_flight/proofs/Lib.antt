@@ -1,0 +1,2 @@
+pub mod UnderWayLemmas
+pub mod FlightLemmas

@@ -1,0 +1,14 @@
+//! What follows from the definitions: each law is the contract of a function that does nothing.
+ghost use Rattle.calls_in_flight.specs.Flights.{ValuesCame, WholeFlies};
+ghost use Rattle.calls_in_flight.specs.UnderWay.{FrontPerformed};
+
+/// Exactly the entries were performed that are made.
+pub fn made_entries_were_performed()
+    ensures front { FrontPerformed }
+{}
+
+/// A flight that came whole leaves its entries made, and gives the values of its accesses.
+pub fn a_whole_flight()
+    ensures whole { WholeFlies }
+    ensures values { ValuesCame }
+{}
