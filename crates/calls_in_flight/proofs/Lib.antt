@@ -1,2 +1,3 @@
 pub mod UnderWayLemmas
 pub mod FlightLemmas
+pub mod CutLemmas

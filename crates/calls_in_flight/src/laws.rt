@@ -1,5 +1,5 @@
 //! What follows from the definitions: each law is the contract of a function that does nothing.
-ghost use Rattle.calls_in_flight.specs.Flights.{ValuesCame, WholeFlies};
+ghost use Rattle.calls_in_flight.specs.Flights.{BenchFlies, FaultFlies, ValuesCame, WaitFlies, WholeFlies};
 ghost use Rattle.calls_in_flight.specs.UnderWay.{FrontPerformed};
 
 /// Exactly the entries were performed that are made.
@@ -11,4 +11,11 @@ pub fn made_entries_were_performed()
 pub fn a_whole_flight()
     ensures whole { WholeFlies }
     ensures values { ValuesCame }
+{}
+
+/// A flight that met a fault, in which a retry ended, or whose bench failed has performed what its report says.
+pub fn a_cut_flight()
+    ensures fault { FaultFlies }
+    ensures wait { WaitFlies }
+    ensures bench { BenchFlies }
 {}
