@@ -1,3 +1,4 @@
 pub mod UnderWayLemmas
 pub mod FlightLemmas
 pub mod CutLemmas
+pub mod OpenLemmas

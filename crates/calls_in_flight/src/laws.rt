@@ -1,5 +1,6 @@
 //! What follows from the definitions: each law is the contract of a function that does nothing.
 ghost use Rattle.calls_in_flight.specs.Flights.{BenchFlies, FaultFlies, ValuesCame, WaitFlies, WholeFlies};
+ghost use Rattle.calls_in_flight.specs.Flying.{CameStands, OpenStands};
 ghost use Rattle.calls_in_flight.specs.UnderWay.{FrontPerformed};
 
 /// Exactly the entries were performed that are made.
@@ -18,4 +19,10 @@ pub fn a_cut_flight()
     ensures fault { FaultFlies }
     ensures wait { WaitFlies }
     ensures bench { BenchFlies }
+{}
+
+/// An access that has no end has come as far as its confirmed entries, and has the results of the calls that came.
+pub fn an_access_without_an_end()
+    ensures open { OpenStands }
+    ensures came { CameStands }
 {}
