@@ -2,3 +2,4 @@ pub mod UnderWayLemmas
 pub mod FlightLemmas
 pub mod CutLemmas
 pub mod OpenLemmas
+pub mod PushLemmas

@@ -1,6 +1,7 @@
 //! What follows from the definitions: each law is the contract of a function that does nothing.
 ghost use Rattle.calls_in_flight.specs.Flights.{BenchFlies, FaultFlies, ValuesCame, WaitFlies, WholeFlies};
 ghost use Rattle.calls_in_flight.specs.Flying.{CameStands, OpenStands};
+ghost use Rattle.calls_in_flight.specs.Pushing.{EntryPushed, JournalGrew, PlanGives, ValueGiven};
 ghost use Rattle.calls_in_flight.specs.UnderWay.{FrontPerformed};
 
 /// Exactly the entries were performed that are made.
@@ -25,4 +26,16 @@ pub fn a_cut_flight()
 pub fn an_access_without_an_end()
     ensures open { OpenStands }
     ensures came { CameStands }
+{}
+
+/// What the journal gains is pushed entry by entry.
+pub fn entries_come_into_flights()
+    ensures grew { JournalGrew }
+    ensures pushed { EntryPushed }
+{}
+
+/// The values of a flight that came whole are what the entries of its reads give.
+pub fn values_of_a_flight()
+    ensures read { ValueGiven }
+    ensures plan { PlanGives }
 {}
