@@ -3,3 +3,4 @@ pub mod FlightLemmas
 pub mod CutLemmas
 pub mod OpenLemmas
 pub mod PushLemmas
+pub mod StopLemmas

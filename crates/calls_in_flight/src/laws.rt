@@ -2,6 +2,7 @@
 ghost use Rattle.calls_in_flight.specs.Flights.{BenchFlies, FaultFlies, ValuesCame, WaitFlies, WholeFlies};
 ghost use Rattle.calls_in_flight.specs.Flying.{CameStands, OpenStands};
 ghost use Rattle.calls_in_flight.specs.Pushing.{EntryPushed, JournalGrew, PlanGives, ValueGiven};
+ghost use Rattle.calls_in_flight.specs.Stopping.{CameBefore, ResultsStay, StopsAtFault, StopsAtWait};
 ghost use Rattle.calls_in_flight.specs.UnderWay.{FrontPerformed};
 
 /// Exactly the entries were performed that are made.
@@ -38,4 +39,12 @@ pub fn entries_come_into_flights()
 pub fn values_of_a_flight()
     ensures read { ValueGiven }
     ensures plan { PlanGives }
+{}
+
+/// Where the calls stop at a cut, by the numbers of its report; and what stays of those before it.
+pub fn where_calls_stop()
+    ensures fault { StopsAtFault }
+    ensures wait { StopsAtWait }
+    ensures lines { CameBefore }
+    ensures results { ResultsStay }
 {}
