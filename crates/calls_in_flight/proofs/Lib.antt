@@ -4,3 +4,4 @@ pub mod CutLemmas
 pub mod OpenLemmas
 pub mod PushLemmas
 pub mod StopLemmas
+pub mod ActionLemmas

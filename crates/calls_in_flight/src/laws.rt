@@ -1,6 +1,8 @@
 //! What follows from the definitions: each law is the contract of a function that does nothing.
+ghost use Rattle.calls_in_flight.specs.Actions.{ActionBench, ActionDone, ActionWait, FaultForgiven};
 ghost use Rattle.calls_in_flight.specs.Flights.{BenchFlies, FaultFlies, ValuesCame, WaitFlies, WholeFlies};
 ghost use Rattle.calls_in_flight.specs.Flying.{CameStands, OpenStands};
+ghost use Rattle.calls_in_flight.specs.Packets.{FewPackets, FullFlight};
 ghost use Rattle.calls_in_flight.specs.Pushing.{EntryPushed, JournalGrew, PlanGives, ValueGiven};
 ghost use Rattle.calls_in_flight.specs.Stopping.{CameBefore, ResultsStay, StopsAtFault, StopsAtWait};
 ghost use Rattle.calls_in_flight.specs.UnderWay.{FrontPerformed};
@@ -47,4 +49,18 @@ pub fn where_calls_stop()
     ensures wait { StopsAtWait }
     ensures lines { CameBefore }
     ensures results { ResultsStay }
+{}
+
+/// Polls and commands of the probe, whole or in part; and a fault that is forgiven.
+pub fn polls_and_commands()
+    ensures done { ActionDone }
+    ensures bench { ActionBench }
+    ensures wait { ActionWait }
+    ensures forgiven { FaultForgiven }
+{}
+
+/// Starting packets keep their bound, where each flight that was sent because there was no room is full.
+pub fn starting_packets()
+    ensures few { FewPackets }
+    ensures full { FullFlight }
 {}
