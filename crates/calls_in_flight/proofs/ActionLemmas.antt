@@ -1,39 +1,35 @@
 -- Polls, commands of the probe, and forgiven faults.
-use Rattle.std.proofs.Common.{◌≡◌, ◌≢◌, ◌⊎◌, inl, inr, ◌∙◌, ℕ, zero, suc, ◌+◌, ◌-◌, ◌*◌, ◌/◌, ◌^◌, ◌≤◌, ◌<◌, min, Bool, true, false, cond, not, ◌&&◌, nat_le, List, [], ◌∷◌, ◌++◌, length, take, drop, Option, Some, None, refl, sym, ap, subst, arith, append-nil, append_assoc, length-append}
+use Rattle.std.proofs.Common.{◌≡◌, ◌⊎◌, inl, inr, ◌∙◌, ℕ, suc, ◌+◌, ◌-◌, ◌*◌, ◌/◌, ◌^◌, ◌≤◌, ◌<◌, min, Bool, true, false, cond, not, ◌&&◌, List, [], ◌∷◌, ◌++◌, length, take, Option, Some, None, refl, sym, ap, subst, arith, append_assoc, length-append}
 use Rattle.std.proofs.lemmas.List.{take_all}
-use Rattle.std.proofs.lemmas.List.Sums.{sum_by-append, sum_by-cons}
+use Rattle.std.proofs.lemmas.List.Sums.{sum_by-cons}
 use Rattle.std.proofs.Math.Seq.{take-append_seam}
 use Rattle.std.proofs.lemmas.Bool.{cases_lt}
 use Rattle.std.proofs.Math.Nat.{le-div_iff_mul-le}
 use Rattle.std.specs.Prelude.{slice_get}
 use Rattle.call_terms.proofs.EntryLemmas.{commands_append, performed_part, registers_append, weight_append}
-use Rattle.access_calls.specs.Bounds.{starting_since}
 use Rattle.access_calls.specs.Numbers.{HasNumbers}
-use Rattle.access_calls.specs.Reported.{Beginning, Reported, began}
-use Rattle.access_calls.specs.Standing.{HasPerformed, IsBenchFault, IsPart, IsPartOf, IsUnanswered, number_of, pending_of}
+use Rattle.access_calls.specs.Reported.{Reported, began}
+use Rattle.access_calls.specs.Standing.{IsBenchFault, IsPart, IsPartOf, IsUnanswered, number_of, pending_of}
 use Rattle.access_regs.proofs.Seams.{after_split, passes_both}
 use Rattle.access_regs.specs.Entries.{NoneFault}
 use Rattle.access_regs.specs.Journal.{making}
 use Rattle.call_terms.specs.Journal.{Entry, Passes, actions_in, target_after}
-use Rattle.call_terms.specs.Weights.{AreWeighty, commands_in, commands_of, performed, registers_in, registers_of, weight, weight_in}
-use Rattle.calls_in_flight.proofs.CutLemmas.{Cutting, cut, cut_list, faults, front_target, one_more, work_is}
+use Rattle.call_terms.specs.Weights.{commands_in, commands_of, performed, registers_in, registers_of, weight, weight_in}
+use Rattle.calls_in_flight.proofs.CutLemmas.{Cutting, cut, faults, front_target, one_more, work_is}
 use Rattle.calls_in_flight.proofs.FlightLemmas.{commands_both, flight_length, head_makes, weight_both}
-use Rattle.calls_in_flight.specs.Actions.{ActionBench, ActionDone, ActionWait, AreForgiving, DoesAction, FaultForgiven}
-use Rattle.calls_in_flight.specs.Flights.{Flies, IsCutAt, transfers_of}
-use Rattle.calls_in_flight.specs.Packets.{FewPackets, FullFlight, IsSparing}
+use Rattle.calls_in_flight.specs.Actions.{ActionBench, ActionDone, ActionWait, AreForgiving, FaultForgiven}
+use Rattle.calls_in_flight.specs.Packets.{FewPackets, FullFlight}
 use Rattle.calls_in_flight.specs.UnderWay.{IsUnderWay}
 use Rattle.dap_transfer.specs.CommandEnds.{one_if}
 use Rattle.dap_transfer.specs.State.{is_wait}
-use Rattle.flight_forms.specs.Flights.{Part}
 use Rattle.probe_core.specs.Bench.{BenchState}
 use Rattle.probe_core.specs.Probe.{ended_retries_of, target_of, work_of}
-use Rattle.target_machine.specs.Attempt.{Attempt, attempt}
 use Rattle.target_machine.specs.Lists.{after}
-use Rattle.target_machine.specs.Plain.{Action, Commands, Makes, Polls, acted, forgives, is_fault}
+use Rattle.target_machine.specs.Plain.{Action, Commands, Makes, acted, forgives, is_fault}
 use Rattle.target_machine.specs.State.{Agree, TargetState}
 use Rattle.target_machine.specs.declared.access.RegAccess.{RegAccess}
 use Rattle.dap_messages.specs.declared.request.Response.{Response}
-use Rattle.dap_messages.specs.declared.request.Response.TheVariants.{Good, Wait, Fault, Mismatch}
+use Rattle.dap_messages.specs.declared.request.Response.TheVariants.{Good, Fault}
 use Rattle.access_calls.specs.declared.stop.Report.{Report}
 
 -- ---- one entry more
@@ -235,4 +231,3 @@ full_flight full capacity needs made flying accesses b m o h flight many one = r
   filled = (let f = h.filled in let r = registers_append made flying in let g = flight_registers flying accesses flight in
       let d : (full + 1) * capacity ≡ full * capacity + capacity = omega arith in omega (arith, f, r, g, many, d));
 }
-

@@ -1,34 +1,30 @@
 -- Where a flight is cut.
-use Rattle.std.proofs.Common.{◌≡◌, ◌≢◌, ◌⊎◌, inl, inr, ◌∙◌, ℕ, zero, suc, ◌+◌, ◌-◌, ◌*◌, ◌^◌, ◌≤◌, ◌<◌, min, max, Bool, true, false, cond, not, ◌&&◌, List, [], ◌∷◌, ◌++◌, length, take, drop, map, fold, Option, Some, None, refl, sym, ap, subst, arith, append-nil, append_assoc, length-append}
-use Rattle.std.proofs.lemmas.List.{take_all, length-take, take-append-drop}
-use Rattle.std.proofs.Math.Seq.{take-append_seam, take-append-add}
+use Rattle.std.proofs.Common.{◌≡◌, inl, inr, ◌∙◌, ℕ, zero, suc, ◌+◌, ◌-◌, ◌^◌, ◌≤◌, ◌<◌, min, Bool, true, false, cond, not, ◌&&◌, List, [], ◌∷◌, ◌++◌, length, take, drop, Option, Some, refl, sym, ap, subst, arith, append_assoc, length-append}
+use Rattle.std.proofs.lemmas.List.{length-take, take-append-drop}
+use Rattle.std.proofs.Math.Seq.{take-append_seam}
 use Rattle.call_terms.proofs.EntryLemmas.{fault_first}
 use Rattle.target_machine.proofs.FreshLemmas.{attempt_sets}
-use Rattle.access_calls.specs.Numbers.{HasNumbers}
-use Rattle.access_calls.specs.Reported.{Reported, began}
-use Rattle.access_calls.specs.Standing.{HasPerformed, IsBenchFault, IsFaulted, IsUnanswered, grown_since, number_of, pending_of}
+use Rattle.access_calls.specs.Reported.{began}
+use Rattle.access_calls.specs.Standing.{HasPerformed, pending_of}
 use Rattle.access_regs.proofs.Seams.{after_split, passes_both}
 use Rattle.access_regs.specs.Journal.{making}
 use Rattle.call_terms.specs.Journal.{Entry, Passes, actions_in, first_fault}
-use Rattle.call_terms.specs.Weights.{AreWeighty, commands_in, performed, weight_in}
+use Rattle.call_terms.specs.Weights.{AreWeighty, commands_in, weight_in}
 use Rattle.calls_in_flight.proofs.FlightLemmas.{clear_end, clear_passes, commands_both, flight_length, flight_take, head_makes, makes_after, room_grown, weight_both}
 use Rattle.calls_in_flight.proofs.UnderWayLemmas.{front_performed}
-use Rattle.calls_in_flight.specs.Flights.{AreStrict, BenchFlies, FaultFlies, Flies, IsCutAt, IsFaultAt, WaitFlies, transfers_of}
+use Rattle.calls_in_flight.specs.Flights.{AreStrict, BenchFlies, FaultFlies, IsCutAt, IsFaultAt, WaitFlies, transfers_of}
 use Rattle.calls_in_flight.specs.UnderWay.{IsUnderWay}
 use Rattle.dap_transfer.specs.CommandEnds.{one_if}
-use Rattle.dap_transfer.specs.Laws.{one_at_a_time}
-use Rattle.dap_transfer.specs.State.{TransferState, grown, is_wait}
-use Rattle.flight_forms.specs.Flights.{AreClear, DoesPart, Part, Performs, slot_values}
+use Rattle.dap_transfer.specs.State.{TransferState, is_wait}
+use Rattle.flight_forms.specs.Flights.{DoesPart, Part}
 use Rattle.probe_core.specs.Bench.{BenchState}
 use Rattle.probe_core.specs.Probe.{ended_retries_of, target_of, work_of}
-use Rattle.target_machine.specs.Attempt.{Attempt, attempt}
 use Rattle.target_machine.specs.Lists.{after}
-use Rattle.target_machine.specs.Plain.{Action, Commands, Makes, Polls, acted, is_fault}
-use Rattle.target_machine.specs.State.{Agree, TargetState}
+use Rattle.target_machine.specs.Plain.{Action, Makes, acted, is_fault}
+use Rattle.target_machine.specs.State.{TargetState}
 use Rattle.target_machine.specs.declared.access.RegAccess.{RegAccess}
 use Rattle.dap_messages.specs.declared.request.Response.{Response}
-use Rattle.dap_messages.specs.declared.request.Response.TheVariants.{Good, Wait, Fault, Mismatch}
-use Rattle.access_calls.specs.declared.stop.Report.{Report}
+use Rattle.dap_messages.specs.declared.request.Response.TheVariants.{Good, Wait, Fault}
 
 -- a list cut at a place within
 pub record Cutting {A : Type 0} (k : ℕ) (xs : List A) : Type 0 where
@@ -254,4 +250,3 @@ bench_flies entries made flying rest accesses n m0 m o part on (inr does) never 
 
     entries_within : length made + length flying ≤ length entries
     entries_within = (let l = ap length on.are ∙ length-append made (flying ++ rest) in let k = length-append flying rest in omega (arith, l, k))
-

@@ -1,30 +1,30 @@
 -- What a flight leaves of the calls whose entries lie in it.
-use Rattle.std.proofs.Common.{◌≡◌, ◌≢◌, ◌⊎◌, inl, inr, ◌∙◌, ℕ, zero, suc, ◌+◌, ◌-◌, ◌*◌, ◌^◌, ◌≤◌, ◌<◌, min, max, Bool, true, false, cond, not, ◌&&◌, List, [], ◌∷◌, ◌++◌, length, take, drop, map, fold, Option, Some, None, refl, sym, ap, subst, arith, append-nil, append_assoc, length-append}
-use Rattle.std.proofs.lemmas.List.{take_all, length-take}
-use Rattle.std.proofs.lemmas.List.Sums.{sum_by-append, sum_by-cons}
+use Rattle.std.proofs.Common.{◌≡◌, ◌∙◌, ℕ, zero, suc, ◌+◌, ◌-◌, ◌^◌, ◌≤◌, ◌<◌, min, Bool, true, false, cond, not, ◌&&◌, List, [], ◌∷◌, ◌++◌, length, take, refl, sym, ap, subst, arith, append_assoc}
+use Rattle.std.proofs.lemmas.List.{take_all}
+use Rattle.std.proofs.lemmas.List.Sums.{sum_by-cons}
 use Rattle.call_terms.proofs.EntryLemmas.{commands_append, weight_append}
 use Rattle.access_regs.proofs.Seams.{after_split, passes_both}
 use Rattle.access_regs.specs.Journal.{making}
-use Rattle.call_terms.specs.Journal.{Entry, Passes, actions_in, first_fault, target_after}
-use Rattle.call_terms.specs.Weights.{AreWeighty, commands_in, commands_of, weight, weight_in}
-use Rattle.calls_in_flight.specs.Flights.{Flies, ValuesCame, WholeFlies, transfers_of}
+use Rattle.call_terms.specs.Journal.{Entry, Passes, actions_in, target_after}
+use Rattle.call_terms.specs.Weights.{commands_in, commands_of, weight, weight_in}
+use Rattle.calls_in_flight.specs.Flights.{Flies}
 use Rattle.calls_in_flight.specs.UnderWay.{IsUnderWay}
 use Rattle.dap_transfer.specs.CommandEnds.{one_if}
 use Rattle.dap_transfer.specs.Laws.{one_at_a_time}
-use Rattle.dap_transfer.specs.State.{TransferState, grown, is_wait}
-use Rattle.flight_forms.specs.Flights.{AreClear, DoesPart, Part, Performs, slot_values}
+use Rattle.dap_transfer.specs.State.{grown, is_wait}
+use Rattle.flight_forms.specs.Flights.{AreClear, Part, slot_values}
 use Rattle.probe_core.specs.Bench.{BenchState}
 use Rattle.probe_core.specs.Probe.{ended_retries_of, target_of, work_of}
 use Rattle.target_machine.proofs.AccessLaws.{fault_sets}
-use Rattle.target_machine.specs.Attempt.{Attempt, attempt}
+use Rattle.target_machine.specs.Attempt.{attempt}
 use Rattle.target_machine.specs.Lists.{after}
-use Rattle.target_machine.specs.Plain.{Action, Commands, Makes, Polls, acted, is_fault}
+use Rattle.target_machine.specs.Plain.{Action, Makes, acted, is_fault}
 use Rattle.target_machine.specs.State.{TargetState}
 use Rattle.target_machine.specs.declared.access.RegAccess.{RegAccess}
 use Rattle.target_machine.specs.declared.access.Outcome.{Outcome}
 use Rattle.target_machine.specs.declared.access.Outcome.TheVariants as outcome
 use Rattle.dap_messages.specs.declared.request.Response.{Response}
-use Rattle.dap_messages.specs.declared.request.Response.TheVariants.{Good, Wait, Fault, Mismatch}
+use Rattle.dap_messages.specs.declared.request.Response.TheVariants.{Good}
 
 -- ---- entries that are register accesses
 
@@ -162,4 +162,3 @@ module _ (entries made flying rest : List Entry) (accesses : List RegAccess) (m0
 
     pub values_came : part.values ≡ slot_values (after t0 (actions_in made)) accesses
     values_came = flies.values ∙ ap (slot_values (target_of m.probe)) (take_all part.confirmed accesses (let c = confirmed_all in omega (arith, c))) ∙ ap (λ (s : TargetState). slot_values s accesses) at_made
-

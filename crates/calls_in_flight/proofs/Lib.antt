@@ -5,3 +5,5 @@ pub mod OpenLemmas
 pub mod PushLemmas
 pub mod StopLemmas
 pub mod ActionLemmas
+pub mod GoLemmas
+pub mod SmallLemmas

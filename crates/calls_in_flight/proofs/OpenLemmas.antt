@@ -1,5 +1,5 @@
 -- How far an access has come that has no end.
-use Rattle.std.proofs.Common.{◌≡◌, ◌∙◌, ℕ, zero, suc, ◌+◌, ◌-◌, ◌≤◌, ◌<◌, Bool, true, false, cond, List, [], ◌∷◌, ◌++◌, length, take, Option, Some, None, refl, sym, ap, subst, arith, append-nil, length-append}
+use Rattle.std.proofs.Common.{◌≡◌, ◌∙◌, ℕ, ◌≤◌, true, false, List, [], ◌∷◌, ◌++◌, length, take, Option, Some, None, refl, sym, ap, subst, arith, append-nil, length-append}
 use Rattle.std.proofs.Math.Seq.{take-append_seam}
 use Rattle.std.proofs.lemmas.List.{take_all}
 use Rattle.target_machine.specs.State.{Agree, TargetState}
@@ -14,7 +14,7 @@ use Rattle.call_terms.proofs.CallLists.{append_results, append_skips, count_of}
 use Rattle.call_terms.proofs.EndLemmas.{none_skipped}
 use Rattle.call_terms.proofs.EntryLemmas.{pass_front, pass_none}
 use Rattle.call_terms.proofs.WorldLemmas.{results_first, whole_least, whole_skips, whole_unlimited}
-use Rattle.access_regs.specs.Alone.{NoneFaults, alone, alone_after}
+use Rattle.access_regs.specs.Alone.{NoneFaults, alone, alone_after, large_of_all}
 use Rattle.access_regs.specs.Journal.{issued}
 use Rattle.access_regs.specs.Kept.{Kept}
 use Rattle.access_regs.specs.Stops.{NoneStops, world_at}
@@ -22,8 +22,7 @@ use Rattle.access_regs.proofs.AllCalls.{journal_agrees}
 use Rattle.access_regs.proofs.StopLists.{good_end, live_more, passing_stops}
 use Rattle.access_calls.specs.Reported.{Reported, began}
 use Rattle.access_calls.specs.Standing.{HasPerformed, IsOpen}
-use Rattle.calls_in_flight.specs.Flying.{CameStands, IsFlying, OpenStands}
-use Rattle.calls_in_flight.specs.UnderWay.{IsUnderWay}
+use Rattle.calls_in_flight.specs.Flying.{IsFlying}
 use Rattle.calls_in_flight.proofs.CutLemmas.{has_at}
 
 agree_sym : (t u : TargetState) → Agree t u → Agree u t
@@ -51,6 +50,14 @@ after_alone t large n (c ∷ calls) none enough =
     let live = live_more n (length calls) enough in
     let good : is_faulted (alone t large c).end ≡ false = good_end (alone t large c).end none.0 in
     rw (live.0, good) (after_alone (alone t large c).next (alone t large c).large (one_fewer n) calls none.1 live.1)
+
+-- and so are the APs that are known to have large addresses
+pub large_alone : (t : TargetState) (large : List ℕ) (n : Option ℕ) (calls : List Ask) → NoneFaults t large calls → AtLeast (length calls) n → (world_after (world_at t large n) calls).large ≡ large_of_all t large calls
+large_alone t large n [] none enough = refl
+large_alone t large n (c ∷ calls) none enough =
+    let live = live_more n (length calls) enough in
+    let good : is_faulted (alone t large c).end ≡ false = good_end (alone t large c).end none.0 in
+    rw (live.0, good) (large_alone (alone t large c).next (alone t large c).large (one_fewer n) calls none.1 live.1)
 
 module _ (a : Reported) (kept : Kept) (accesses : List RegAccess) (came : List ℕ) (n : Option ℕ) (m0 m : BenchState) (f : IsFlying a kept accesses came m0 m) (enough : AtLeast a.came n) where
   abbrev t0 : TargetState
@@ -85,7 +92,7 @@ module _ (a : Reported) (kept : Kept) (accesses : List RegAccess) (came : List �
       let sum = f.issued_is in
       omega (arith, all, split, rest, sum)
 
-  is_skipped : a.skipped ≡ skips w a.asks.calls
+  pub is_skipped : a.skipped ≡ skips w a.asks.calls
   is_skipped =
       let e = append_skips w f.front f.back front_whole in
       let z = none_skipped (world_after w f.front) f.back f.mild in

@@ -1,19 +1,17 @@
 -- How entries come into a flight, and what its values say of them.
-use Rattle.std.proofs.Common.{◌≡◌, ◌∙◌, ℕ, zero, suc, ◌+◌, ◌-◌, ◌≤◌, ◌<◌, Bool, true, cond, List, [], ◌∷◌, ◌++◌, length, Option, Some, None, refl, sym, ap, subst, arith, append-nil, append_assoc, length-append}
+use Rattle.std.proofs.Common.{◌≡◌, ◌∙◌, ℕ, ◌+◌, Bool, true, cond, List, [], ◌∷◌, ◌++◌, length, Some, None, refl, sym, ap, subst, arith, append-nil, append_assoc, length-append}
 use Rattle.std.proofs.lemmas.List.{map-append}
 use Rattle.target_machine.specs.Attempt.{Attempt, attempt}
 use Rattle.target_machine.specs.Lists.{PassTo, after}
-use Rattle.target_machine.specs.Plain.{Action, Makes, acted, given, in_order, is_fault}
+use Rattle.target_machine.specs.Plain.{Action, Makes, acted, given, in_order}
 use Rattle.target_machine.specs.State.{TargetState}
 use Rattle.target_machine.specs.declared.access.Outcome.{Outcome}
 use Rattle.target_machine.specs.declared.access.Outcome.TheVariants as outcome
 use Rattle.target_machine.specs.declared.access.RegAccess.{RegAccess}
 use Rattle.target_machine.proofs.ActionLists.{pass_last}
-use Rattle.dap_messages.specs.declared.request.Response.TheVariants.{Good}
 use Rattle.dap_transfer.specs.Laws.{value_now}
 use Rattle.dap_transfer.specs.WireTransfer.{value_of}
-use Rattle.flight_forms.specs.Flights.{Part, slot_values}
-use Rattle.probe_core.specs.Bench.{BenchState}
+use Rattle.flight_forms.specs.Flights.{slot_values}
 use Rattle.probe_core.specs.Probe.{target_of}
 use Rattle.call_terms.specs.Journal.{Entry, actions_in}
 use Rattle.call_terms.specs.Weights.{AreWeighty}
@@ -22,9 +20,7 @@ use Rattle.access_regs.specs.Journal.{making}
 use Rattle.access_regs.proofs.EntryLemmas.{weighty_both}
 use Rattle.access_regs.proofs.Lists.{actions_in_append}
 use Rattle.access_regs.proofs.Seams.{after_split}
-use Rattle.calls_in_flight.specs.Flights.{Flies}
 use Rattle.calls_in_flight.specs.Pushing.{EntryPushed, JournalGrew, PlanGives, ValueGiven, flat, value_at}
-use Rattle.calls_in_flight.specs.UnderWay.{IsUnderWay}
 use Rattle.calls_in_flight.proofs.CutLemmas.{Cutting, cut_list}
 use Rattle.calls_in_flight.proofs.FlightLemmas.{head_makes, values_came}
 

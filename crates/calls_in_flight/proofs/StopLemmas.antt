@@ -1,11 +1,10 @@
 -- Where the calls of an access stop whose flight was cut.
-use Rattle.std.proofs.Common.{◌≡◌, ◌≢◌, ◌⊎◌, inl, inr, ◌∙◌, ℕ, suc, ◌+◌, ◌-◌, ◌≤◌, ◌<◌, Bool, true, false, cond, List, [], ◌∷◌, ◌++◌, length, take, slice_get, Option, Some, None, refl, sym, ap, subst, arith, length-append}
-use Rattle.target_machine.specs.Fresh.{IsFresh}
+use Rattle.std.proofs.Common.{◌≡◌, ◌≢◌, ◌⊎◌, inl, inr, ◌∙◌, ℕ, suc, ◌+◌, ◌-◌, ◌≤◌, Bool, true, false, cond, List, [], ◌∷◌, ◌++◌, length, slice_get, Some, None, refl, sym, ap, subst, arith, length-append}
 use Rattle.target_machine.specs.Lists.{after}
 use Rattle.target_machine.specs.State.{TargetState}
-use Rattle.call_terms.specs.Asks.{AreAskable, is_forgiving, is_settled}
-use Rattle.call_terms.specs.Journal.{Entry, actions_in, lines_before, settles, target_after}
-use Rattle.call_terms.specs.World.{AtLeast, results, start_world, stop}
+use Rattle.call_terms.specs.Asks.{is_forgiving, is_settled}
+use Rattle.call_terms.specs.Journal.{Entry, lines_before, settles, target_after}
+use Rattle.call_terms.specs.World.{AtLeast, start_world, stop}
 use Rattle.call_terms.specs.declared.calls.Ask.{Ask}
 use Rattle.call_terms.specs.declared.journal.Part.{Part}
 use Rattle.call_terms.specs.declared.journal.Part.TheVariants.{Ends, Leads, Settles, Skips}
@@ -19,7 +18,7 @@ use Rattle.access_regs.proofs.Seams.{InFirst, InSecond, seam_in}
 use Rattle.access_regs.proofs.StopLists.{fault_stops, lines_own, numbered_unit, wait_stops}
 use Rattle.access_calls.specs.Numbers.{HasNumbers, lines_at}
 use Rattle.access_calls.specs.declared.stop.Report.{Report}
-use Rattle.calls_in_flight.specs.Flights.{IsCutAt, IsFaultAt}
+use Rattle.calls_in_flight.specs.Flights.{IsCutAt}
 use Rattle.calls_in_flight.specs.Stopping.{CameBefore, ResultsStay, StopsAtFault, StopsAtWait}
 
 -- the entry after the first ones

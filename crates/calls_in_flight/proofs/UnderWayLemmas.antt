@@ -1,14 +1,11 @@
 -- How far a bench has come with entries.
-use Rattle.std.proofs.Common.{◌≡◌, ◌∙◌, ℕ, ◌+◌, ◌-◌, ◌≤◌, List, [], ◌∷◌, ◌++◌, length, take, Option, refl, sym, ap, subst, arith, length-append}
+use Rattle.std.proofs.Common.{◌≡◌, ◌∙◌, ◌-◌, List, [], ◌∷◌, ◌++◌, length, take, sym, ap, arith, length-append}
 use Rattle.std.proofs.Math.Seq.{take-append_seam}
 use Rattle.target_machine.specs.State.{Agree, TargetState}
-use Rattle.probe_core.specs.Bench.{BenchState}
 use Rattle.probe_core.specs.Probe.{target_of, work_of}
 use Rattle.call_terms.specs.Journal.{Entry, target_after}
 use Rattle.call_terms.specs.Weights.{AreWeighty, performed, weight_in}
 use Rattle.call_terms.proofs.EntryLemmas.{performed_front}
-use Rattle.access_calls.specs.Reported.{began}
-use Rattle.access_calls.specs.Standing.{HasPerformed}
 use Rattle.calls_in_flight.specs.UnderWay.{FrontPerformed}
 
 pub agree_same : (t u : TargetState) → t ≡ u → Agree t u

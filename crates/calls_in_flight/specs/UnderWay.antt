@@ -1,6 +1,5 @@
 -- How far a bench has come with entries, some of which lie in a flight.
 use Rattle.std.specs.Prelude.{◌≡◌, ℕ, ◌+◌, ◌*◌, ◌^◌, ◌<◌, ◌≤◌, false, List, ◌++◌, length, Option}
-use Rattle.target_machine.specs.State.{TargetState}
 use Rattle.target_machine.specs.declared.access.RegAccess.{RegAccess}
 use Rattle.probe_core.specs.Bench.{BenchState}
 use Rattle.probe_core.specs.Probe.{ended_retries_of, target_of, work_of}

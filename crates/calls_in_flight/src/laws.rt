@@ -2,8 +2,10 @@
 ghost use Rattle.calls_in_flight.specs.Actions.{ActionBench, ActionDone, ActionWait, FaultForgiven};
 ghost use Rattle.calls_in_flight.specs.Flights.{BenchFlies, FaultFlies, ValuesCame, WaitFlies, WholeFlies};
 ghost use Rattle.calls_in_flight.specs.Flying.{CameStands, OpenStands};
+ghost use Rattle.calls_in_flight.specs.GoesOn.{FlushGoes, PushGoes};
 ghost use Rattle.calls_in_flight.specs.Packets.{FewPackets, FullFlight};
 ghost use Rattle.calls_in_flight.specs.Pushing.{EntryPushed, JournalGrew, PlanGives, ValueGiven};
+ghost use Rattle.calls_in_flight.specs.Small.{NotSmall};
 ghost use Rattle.calls_in_flight.specs.Stopping.{CameBefore, ResultsStay, StopsAtFault, StopsAtWait};
 ghost use Rattle.calls_in_flight.specs.UnderWay.{FrontPerformed};
 
@@ -63,4 +65,15 @@ pub fn polls_and_commands()
 pub fn starting_packets()
     ensures few { FewPackets }
     ensures full { FullFlight }
+{}
+
+/// What an access keeps goes on over a flight that came whole, and over a call whose accesses are pushed.
+pub fn an_access_goes_on()
+    ensures flush { FlushGoes }
+    ensures push { PushGoes }
+{}
+
+/// A unit for which CFG is not read does not end because its AP has no large addresses.
+pub fn units_without_a_read_of_cfg()
+    ensures small { NotSmall }
 {}
