@@ -7,3 +7,4 @@ pub mod StopLemmas
 pub mod ActionLemmas
 pub mod GoLemmas
 pub mod SmallLemmas
+pub mod SendLemmas

@@ -27,7 +27,7 @@ entry_at [] e more = refl
 entry_at (x ∷ front) e more = entry_at front e more
 
 -- the lines before a cut are those before its entry
-lines_cut : (entries : List Entry) (t : TargetState) (asks : List Ask) (skipped lines : ℕ) (r : Report) (cut : IsCutAt entries r.confirmed t) → HasNumbers entries asks skipped lines r → lines ≡ lines_before cut.entry
+pub lines_cut : (entries : List Entry) (t : TargetState) (asks : List Ask) (skipped lines : ℕ) (r : Report) (cut : IsCutAt entries r.confirmed t) → HasNumbers entries asks skipped lines r → lines ≡ lines_before cut.entry
 lines_cut entries t asks skipped lines r cut numbers =
     ap (λ x. x.lines) numbers.numbers
     ∙ (λ j. lines_at (slice_get (cut.is j) (sym cut.at j)))

@@ -7,3 +7,5 @@ pub mod Actions
 pub mod Packets
 pub mod GoesOn
 pub mod Small
+pub mod Sending
+pub mod Ending

@@ -5,6 +5,7 @@ ghost use Rattle.calls_in_flight.specs.Flying.{CameStands, OpenStands};
 ghost use Rattle.calls_in_flight.specs.GoesOn.{FlushGoes, PushGoes};
 ghost use Rattle.calls_in_flight.specs.Packets.{FewPackets, FullFlight};
 ghost use Rattle.calls_in_flight.specs.Pushing.{EntryPushed, JournalGrew, PlanGives, ValueGiven};
+ghost use Rattle.calls_in_flight.specs.Sending.{ActionSends, CallSends, FinishSends, FlyingSends, ForgivenSends, PushSends, WholeSends};
 ghost use Rattle.calls_in_flight.specs.Small.{NotSmall};
 ghost use Rattle.calls_in_flight.specs.Stopping.{CameBefore, ResultsStay, StopsAtFault, StopsAtWait};
 ghost use Rattle.calls_in_flight.specs.UnderWay.{FrontPerformed};
@@ -76,4 +77,15 @@ pub fn an_access_goes_on()
 /// A unit for which CFG is not read does not end because its AP has no large addresses.
 pub fn units_without_a_read_of_cfg()
     ensures small { NotSmall }
+{}
+
+/// What an access keeps in the middle of a call: a call or a `finish` adds entries, which are pushed, sent, or made by themselves.
+pub fn a_flight_is_sent()
+    ensures flying { FlyingSends }
+    ensures call { CallSends }
+    ensures finish { FinishSends }
+    ensures push { PushSends }
+    ensures whole { WholeSends }
+    ensures action { ActionSends }
+    ensures forgiven { ForgivenSends }
 {}
