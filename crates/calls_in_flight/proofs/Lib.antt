@@ -1,0 +1,10 @@
+pub mod UnderWayLemmas
+pub mod FlightLemmas
+pub mod CutLemmas
+pub mod OpenLemmas
+pub mod PushLemmas
+pub mod StopLemmas
+pub mod ActionLemmas
+pub mod GoLemmas
+pub mod SmallLemmas
+pub mod SendLemmas

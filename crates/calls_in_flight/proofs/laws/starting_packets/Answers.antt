@@ -1,0 +1,8 @@
+use Rattle.calls_in_flight.proofs.ActionLemmas.{few_packets, full_flight}
+use Rattle.calls_in_flight.proofs.laws.starting_packets.Goals as goal
+
+pub returns-clause-few : goal.returns-clause-few
+returns-clause-few c = few_packets
+
+pub returns-clause-full : goal.returns-clause-full
+returns-clause-full c = full_flight

@@ -1,0 +1,49 @@
+-- How what an access keeps goes on: over a flight that came whole, and over a call whose accesses are pushed.
+use Rattle.std.specs.Prelude.{◌≡◌, ℕ, ◌+◌, ◌-◌, ◌^◌, ◌<◌, false, List, [], ◌∷◌, ◌++◌, length, None}
+use Rattle.target_machine.specs.declared.access.RegAccess.{RegAccess}
+use Rattle.dap_messages.specs.declared.request.Response.TheVariants.{Good}
+use Rattle.flight_forms.specs.Flights.{Part}
+use Rattle.probe_core.specs.Bench.{BenchState}
+use Rattle.probe_core.specs.Probe.{target_of, work_of}
+use Rattle.call_terms.specs.Asks.{IsAskable, is_forgiving}
+use Rattle.call_terms.specs.World.{results, start_world}
+use Rattle.call_terms.specs.declared.calls.Ask.{Ask}
+use Rattle.access_regs.specs.Entries.{target_by}
+use Rattle.access_regs.specs.Journal.{actions_of, issue_of, making}
+use Rattle.access_regs.specs.Kept.{Kept}
+use Rattle.access_calls.specs.Reported.{Reported}
+use Rattle.calls_in_flight.specs.Flights.{Flies}
+use Rattle.calls_in_flight.specs.Flying.{IsFlying}
+
+-- The flight came whole: all calls came, and all entries that were issued are confirmed.
+pub record IsFlushed (a b : Reported) (came : List ℕ) (m0 : BenchState) : Type 0 where
+  pub calls : b.asks.calls ≡ a.asks.calls
+  pub confirmed : b.confirmed ≡ a.issued
+  pub issued : b.issued ≡ a.issued
+  pub came_all : b.came ≡ length a.asks.calls
+  pub skipped : b.skipped ≡ a.skipped
+  pub came_are : came ≡ results (start_world (target_of m0.probe) None) a.asks.calls
+
+-- After that nothing lies in the flight.
+abbrev pub FlushGoes : Type 0
+FlushGoes = (a b : Reported) (kept : Kept) (accesses : List RegAccess) (came flushed : List ℕ) (m0 m o : BenchState) (part : Part) →
+    IsFlying a kept accesses came m0 m → Flies accesses part m o → part.response ≡ Good → IsFlushed a b flushed m0 → IsFlying b kept [] flushed m0 o
+
+-- A call that forgives nothing was asked, and the accesses that it issues were pushed; nothing was sent.
+pub record IsPushed (a b : Reported) (ask : Ask) (kept learned : Kept) (more : List RegAccess) (m0 m : BenchState) : Type 0 where
+  pub calls : b.asks.calls ≡ a.asks.calls ++ ask ∷ []
+  pub unmarked : ask.settled ≡ false
+  pub mild : is_forgiving ask ≡ false
+  pub askable : IsAskable ask
+  pub accesses : actions_of (issue_of (target_by (target_of m0.probe) a.asks.calls) kept ask).steps ≡ making more
+  pub kept_is : learned ≡ (issue_of (target_by (target_of m0.probe) a.asks.calls) kept ask).kept
+  pub confirmed : b.confirmed ≡ a.confirmed
+  pub issued : b.issued ≡ a.issued + length more
+  pub came : b.came ≡ a.came
+  pub skipped : b.skipped ≡ a.skipped
+  pub room : work_of m.probe + (a.issued - a.confirmed) + length more < 2 ^ 64
+
+-- After that they lie in the flight too.
+abbrev pub PushGoes : Type 0
+PushGoes = (a b : Reported) (ask : Ask) (kept learned : Kept) (accesses more : List RegAccess) (came : List ℕ) (m0 m : BenchState) →
+    IsFlying a kept accesses came m0 m → IsPushed a b ask kept learned more m0 m → IsFlying b learned (accesses ++ more) came m0 m

@@ -1,0 +1,11 @@
+pub mod UnderWay
+pub mod Flights
+pub mod Flying
+pub mod Pushing
+pub mod Stopping
+pub mod Actions
+pub mod Packets
+pub mod GoesOn
+pub mod Small
+pub mod Sending
+pub mod Ending

@@ -1,0 +1,91 @@
+//! What follows from the definitions: each law is the contract of a function that does nothing.
+ghost use Rattle.calls_in_flight.specs.Actions.{ActionBench, ActionDone, ActionWait, FaultForgiven};
+ghost use Rattle.calls_in_flight.specs.Flights.{BenchFlies, FaultFlies, ValuesCame, WaitFlies, WholeFlies};
+ghost use Rattle.calls_in_flight.specs.Flying.{CameStands, OpenStands};
+ghost use Rattle.calls_in_flight.specs.GoesOn.{FlushGoes, PushGoes};
+ghost use Rattle.calls_in_flight.specs.Packets.{FewPackets, FullFlight};
+ghost use Rattle.calls_in_flight.specs.Pushing.{EntryPushed, JournalGrew, PlanGives, ValueGiven};
+ghost use Rattle.calls_in_flight.specs.Sending.{ActionSends, CallSends, FinishSends, FlyingSends, ForgivenSends, PushSends, WholeSends};
+ghost use Rattle.calls_in_flight.specs.Small.{NotSmall};
+ghost use Rattle.calls_in_flight.specs.Stopping.{CameBefore, ResultsStay, StopsAtFault, StopsAtWait};
+ghost use Rattle.calls_in_flight.specs.UnderWay.{FrontPerformed};
+
+/// Exactly the entries were performed that are made.
+pub fn made_entries_were_performed()
+    ensures front { FrontPerformed }
+{}
+
+/// A flight that came whole leaves its entries made, and gives the values of its accesses.
+pub fn a_whole_flight()
+    ensures whole { WholeFlies }
+    ensures values { ValuesCame }
+{}
+
+/// A flight that met a fault, in which a retry ended, or whose bench failed has performed what its report says.
+pub fn a_cut_flight()
+    ensures fault { FaultFlies }
+    ensures wait { WaitFlies }
+    ensures bench { BenchFlies }
+{}
+
+/// An access that has no end has come as far as its confirmed entries, and has the results of the calls that came.
+pub fn an_access_without_an_end()
+    ensures open { OpenStands }
+    ensures came { CameStands }
+{}
+
+/// What the journal gains is pushed entry by entry.
+pub fn entries_come_into_flights()
+    ensures grew { JournalGrew }
+    ensures pushed { EntryPushed }
+{}
+
+/// The values of a flight that came whole are what the entries of its reads give.
+pub fn values_of_a_flight()
+    ensures read { ValueGiven }
+    ensures plan { PlanGives }
+{}
+
+/// Where the calls stop at a cut, by the numbers of its report; and what stays of those before it.
+pub fn where_calls_stop()
+    ensures fault { StopsAtFault }
+    ensures wait { StopsAtWait }
+    ensures lines { CameBefore }
+    ensures results { ResultsStay }
+{}
+
+/// Polls and commands of the probe, whole or in part; and a fault that is forgiven.
+pub fn polls_and_commands()
+    ensures done { ActionDone }
+    ensures bench { ActionBench }
+    ensures wait { ActionWait }
+    ensures forgiven { FaultForgiven }
+{}
+
+/// Starting packets keep their bound, where each flight that was sent because there was no room is full.
+pub fn starting_packets()
+    ensures few { FewPackets }
+    ensures full { FullFlight }
+{}
+
+/// What an access keeps goes on over a flight that came whole, and over a call whose accesses are pushed.
+pub fn an_access_goes_on()
+    ensures flush { FlushGoes }
+    ensures push { PushGoes }
+{}
+
+/// A unit for which CFG is not read does not end because its AP has no large addresses.
+pub fn units_without_a_read_of_cfg()
+    ensures small { NotSmall }
+{}
+
+/// What an access keeps in the middle of a call: a call or a `finish` adds entries, which are pushed, sent, or made by themselves.
+pub fn a_flight_is_sent()
+    ensures flying { FlyingSends }
+    ensures call { CallSends }
+    ensures finish { FinishSends }
+    ensures push { PushSends }
+    ensures whole { WholeSends }
+    ensures action { ActionSends }
+    ensures forgiven { ForgivenSends }
+{}
