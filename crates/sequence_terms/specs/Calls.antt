@@ -178,7 +178,7 @@ module _ {V T : Type 0} (m : Machine V T) where
 
   -- ---- all functions
 
-  -- a call of a function, but for `Sequence`, with the numbers and the text among its arguments; a number that is not there is 0
+  -- a call of a function except `Sequence`, with the numbers and the text among its arguments; a number that is not there is 0
   unfoldable pub performed : Function → List ℕ → List ℕ → State V T → Out V T V
   performed f.Read8 text n s = memory 1 true (slice_index n 0) 0 s
   performed f.Read16 text n s = memory 2 true (slice_index n 0) 0 s

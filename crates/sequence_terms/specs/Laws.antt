@@ -9,7 +9,7 @@ use Rattle.target_machine.specs.State.{TargetState}
 use Rattle.target_machine.specs.declared.unit.Call.{Call}
 use Rattle.sequence_terms.specs.Alike.{Matches, Equal}
 use Rattle.sequence_terms.specs.Direct.{Now, direct}
-use Rattle.sequence_terms.specs.Late.{Late, ComesTo, SameRest, StoppedBy, Grows}
+use Rattle.sequence_terms.specs.Late.{Late, late, ComesTo, SameRest, StoppedBy, Grows, Later}
 use Rattle.sequence_terms.specs.Machine.{State, Out, end_state}
 use Rattle.sequence_terms.specs.Runs as ending
 use Rattle.sequence_terms.specs.Runs.{Program, Ending, Outcome, outcome_of, outcome, outcome_within, units_of, meaning, watched, late_meaning}
@@ -103,3 +103,24 @@ LimitsCutRuns = (m : ℕ) (p : Program) (t : TargetState) (written : Option (Lis
 abbrev pub WatchedIsTheMeaning : Type 0
 WatchedIsTheMeaning = (w : World) (p : Program) (written : Option (List ℕ))
     → (outcome_of (watched w p written) ≡ outcome_of (meaning w p written)) ⊎ ((outcome_of (watched w p written)).ending ≡ ending.Lost)
+
+-- ---- what was written before
+
+-- the outcome without what was written
+abbrev pub without_lines : Outcome → Outcome
+without_lines o = record { ending = o.ending; variables = o.variables; calls = o.calls; skipped = o.skipped; written = None; target = o.target }
+
+-- two runs of a program that differ in what was written before
+pub record SameButLines (cost : Costs) (w : World) (p : Program) (a b : Option (List ℕ)) : Type 0 where
+  pub outcome : without_lines (outcome_of (meaning w p b)) ≡ without_lines (outcome_of (meaning w p a))
+  pub asks : (end_state (late_meaning cost w p b)).rest.asks ≡ (end_state (late_meaning cost w p a)).rest.asks
+
+-- what was written before changes nothing but what is written
+abbrev pub LinesAreOnlyWritten : Type 0
+LinesAreOnlyWritten = (cost : Costs) (w : World) (p : Program) (a b : Option (List ℕ)) → SameButLines cost w p a b
+
+-- ---- results that come later, from any state
+
+-- a run with results that come later adds calls at the end, and lines, but none once the calls stop
+abbrev pub LateRunsOnlyAdd : Type 0
+LateRunsOnlyAdd = (cost : Costs) (w : World) (turn_us : ℕ) (set : SetTrees) (start : List ℕ) (s : State Value Late) → Goes (Later w) s (run_of (late cost w) turn_us set start s)

@@ -1,4 +1,4 @@
--- Which loops are one unit, a poll of CTRL/STAT: `while (ReadDP(0x4) & MASK) != VALUE` without steps, groups aside.
+-- Which loops are one unit, a poll of CTRL/STAT: `while (ReadDP(0x4) & MASK) != VALUE` without steps, apart from groups of parentheses.
 use Rattle.std.specs.Prelude.{ℕ, nat_le, nat_eq, Bool, true, false, ◌&&◌, codes, Option, Some, None, if◌then◌else◌}
 use Rattle.std.specs.Str.{bytes_eq}
 use Rattle.expr_grammar.specs.declared.code.BinaryOp.TheVariants as b

@@ -1,7 +1,7 @@
 //! What follows from the definitions: each law is the contract of a function that does nothing.
 
 ghost use Rattle.sequence_terms.specs.Rows.{Divides, HalfMade, Loops, CallsB, Writes};
-ghost use Rattle.sequence_terms.specs.Laws.{LateValuesChangeNothing, RunsOnlyAdd, CallsAreMade, LimitsCutRuns, WatchedIsTheMeaning};
+ghost use Rattle.sequence_terms.specs.Laws.{LateValuesChangeNothing, RunsOnlyAdd, CallsAreMade, LateRunsOnlyAdd, LimitsCutRuns, LinesAreOnlyWritten, WatchedIsTheMeaning};
 
 /// A run with results that come later comes to what the meaning comes to, in each world: the same ending, variables, counts, calls
 /// and lines. Where the meaning ends at a fault or at a call that is not answered, it has the same lines, and the first calls.
@@ -9,9 +9,17 @@ pub fn late_values_change_nothing()
     ensures { LateValuesChangeNothing }
 {}
 
-/// A run adds calls after those that were made, and lines after those that were written.
+/// A run adds calls after those that were made, and lines after those that were written. One with results that come later does so
+/// too, and adds no line once its calls stop.
 pub fn runs_only_add()
-    ensures { RunsOnlyAdd }
+    ensures direct { RunsOnlyAdd }
+    ensures late { LateRunsOnlyAdd }
+{}
+
+/// What was written before a run changes nothing but what is written: neither the outcome, nor the calls and need points of the run
+/// with results that come later.
+pub fn lines_are_only_written()
+    ensures { LinesAreOnlyWritten }
 {}
 
 /// Each unit of a run is a call, made after those before it; a run is over where its calls stop, and is Done or Halted where they

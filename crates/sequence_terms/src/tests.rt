@@ -36,17 +36,19 @@ fn formats_are_filled_with_numbers(rt: HostRuntime) -> Result<(), Fail> {
     Ok(())
 }
 
+const WIDEST: &str = "query 18446744073709551615 %d = 18446744073709551615\n";
+
 #[test]
 fn the_other_lines(rt: HostRuntime) -> Result<(), Fail> {
     let alloc = rt.alloc();
     let query = query_line(alloc, 0, "sure?", 1)?;
-    assert_eq!(rt; query.as_bytes(), b"query 0 sure? = 1\n");
+    assert_eq!(rt; query.as_bytes(), "query 0 sure? = 1\n".as_bytes());
     let value = value_line(alloc, "n", 5)?;
-    assert_eq!(rt; value.as_bytes(), b"value n = 5\n");
+    assert_eq!(rt; value.as_bytes(), "value n = 5\n".as_bytes());
     let load = load_line(alloc, "f.axf")?;
-    assert_eq!(rt; load.as_bytes(), b"load f.axf\n");
+    assert_eq!(rt; load.as_bytes(), "load f.axf\n".as_bytes());
     let widest = query_line(alloc, u64::MAX, "%d", u64::MAX)?;
-    assert_eq!(rt; widest.as_bytes(), b"query 18446744073709551615 %d = 18446744073709551615\n");
+    assert_eq!(rt; widest.as_bytes(), WIDEST.as_bytes());
     Ok(())
 }
 
