@@ -1,0 +1,15 @@
+pub mod Goes
+pub mod Matching
+pub mod LateLemmas
+pub mod Adding
+pub mod Starting
+pub mod LoopLemmas
+pub mod Made
+pub mod Limits
+pub mod Watching
+pub mod Writing
+pub mod LineLemmas
+pub mod PollLemmas
+pub mod VariableLemmas
+pub mod GlobalLemmas
+pub mod Rows
