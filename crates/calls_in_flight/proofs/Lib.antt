@@ -8,3 +8,4 @@ pub mod ActionLemmas
 pub mod GoLemmas
 pub mod SmallLemmas
 pub mod SendLemmas
+pub mod EndLemmas

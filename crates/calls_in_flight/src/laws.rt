@@ -1,5 +1,6 @@
 //! What follows from the definitions: each law is the contract of a function that does nothing.
 ghost use Rattle.calls_in_flight.specs.Actions.{ActionBench, ActionDone, ActionWait, FaultForgiven};
+ghost use Rattle.calls_in_flight.specs.Ending.{ActionFails, BegunCame, BegunStands, FlightEnds, FlightFails, PollEnds};
 ghost use Rattle.calls_in_flight.specs.Flights.{BenchFlies, FaultFlies, ValuesCame, WaitFlies, WholeFlies};
 ghost use Rattle.calls_in_flight.specs.Flying.{CameStands, OpenStands};
 ghost use Rattle.calls_in_flight.specs.GoesOn.{FlushGoes, PushGoes};
@@ -88,4 +89,18 @@ pub fn a_flight_is_sent()
     ensures whole { WholeSends }
     ensures action { ActionSends }
     ensures forgiven { ForgivenSends }
+{}
+
+/// From its beginning on, and after its end, an access has come as far as the contract of accesses says, and keeps its results.
+pub fn an_access_began()
+    ensures stands { BegunStands }
+    ensures came { BegunCame }
+{}
+
+/// An access ends where its flight or a poll is cut, or its bench fails: what is then true of it, and where its calls stop.
+pub fn an_access_ends()
+    ensures flight { FlightEnds }
+    ensures poll { PollEnds }
+    ensures flight_fails { FlightFails }
+    ensures action_fails { ActionFails }
 {}
