@@ -9,3 +9,4 @@ pub mod GoLemmas
 pub mod SmallLemmas
 pub mod SendLemmas
 pub mod EndLemmas
+pub mod ComeLemmas

@@ -9,3 +9,4 @@ pub mod GoesOn
 pub mod Small
 pub mod Sending
 pub mod Ending
+pub mod Coming

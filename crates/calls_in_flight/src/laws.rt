@@ -1,5 +1,6 @@
 //! What follows from the definitions: each law is the contract of a function that does nothing.
 ghost use Rattle.calls_in_flight.specs.Actions.{ActionBench, ActionDone, ActionWait, FaultForgiven};
+ghost use Rattle.calls_in_flight.specs.Coming.{AllCame, NoneStopped, ResultGiven};
 ghost use Rattle.calls_in_flight.specs.Ending.{ActionFails, BegunCame, BegunStands, FlightEnds, FlightFails, PollEnds};
 ghost use Rattle.calls_in_flight.specs.Flights.{BenchFlies, FaultFlies, ValuesCame, WaitFlies, WholeFlies};
 ghost use Rattle.calls_in_flight.specs.Flying.{CameStands, OpenStands};
@@ -103,4 +104,11 @@ pub fn an_access_ends()
     ensures poll { PollEnds }
     ensures flight_fails { FlightFails }
     ensures action_fails { ActionFails }
+{}
+
+/// Where all entries were made no call stops, and each result is given by an entry of its call.
+pub fn all_calls_came()
+    ensures none_stops { NoneStopped }
+    ensures came { AllCame }
+    ensures result { ResultGiven }
 {}
