@@ -10,3 +10,4 @@ pub mod SmallLemmas
 pub mod SendLemmas
 pub mod EndLemmas
 pub mod ComeLemmas
+pub mod CfgLemmas

@@ -52,7 +52,7 @@ never_stops t large n (ask ∷ asks) e =
     let r = never_stops (alone t large ask).next (alone t large ask).large (one_fewer n) asks h.1 in
     record { none = (not_faulted (alone t large ask).end g.1, r.none); enough = enough_more n (length asks) g.0 r.enough }
 
-not_small : (b forgive s : Bool) (v : ℕ) (t : TargetState) (l : List ℕ) (xs : List Action) → s ≡ false → is_small_end (ended b forgive s v t l xs).end ≡ false
+pub not_small : (b forgive s : Bool) (v : ℕ) (t : TargetState) (l : List ℕ) (xs : List Action) → s ≡ false → is_small_end (ended b forgive s v t l xs).end ≡ false
 not_small true true s v t l xs e = refl
 not_small true false s v t l xs e = refl
 not_small false forgive true v t l xs e = absurd (cc)

@@ -8,7 +8,7 @@ ghost use Rattle.calls_in_flight.specs.GoesOn.{FlushGoes, PushGoes};
 ghost use Rattle.calls_in_flight.specs.Packets.{FewPackets, FullFlight};
 ghost use Rattle.calls_in_flight.specs.Pushing.{EntryPushed, JournalGrew, PlanGives, ValueGiven};
 ghost use Rattle.calls_in_flight.specs.Sending.{ActionSends, CallSends, FinishSends, FlyingSends, ForgivenSends, PushSends, WholeSends};
-ghost use Rattle.calls_in_flight.specs.Small.{NotSmall};
+ghost use Rattle.calls_in_flight.specs.Small.{NotSmall, SmallByCfg};
 ghost use Rattle.calls_in_flight.specs.Stopping.{CameBefore, ResultsStay, StopsAtFault, StopsAtWait};
 ghost use Rattle.calls_in_flight.specs.UnderWay.{FrontPerformed};
 
@@ -76,9 +76,10 @@ pub fn an_access_goes_on()
     ensures push { PushGoes }
 {}
 
-/// A unit for which CFG is not read does not end because its AP has no large addresses.
-pub fn units_without_a_read_of_cfg()
-    ensures small { NotSmall }
+/// Which units end because their AP has no large addresses: none for which CFG is not read, and else by what it shows.
+pub fn small_units()
+    ensures none { NotSmall }
+    ensures cfg { SmallByCfg }
 {}
 
 /// What an access keeps in the middle of a call: a call or a `finish` adds entries, which are pushed, sent, or made by themselves.
