@@ -11,3 +11,4 @@ pub mod SendLemmas
 pub mod EndLemmas
 pub mod ComeLemmas
 pub mod CfgLemmas
+pub mod ForgivingLemmas

@@ -10,3 +10,4 @@ pub mod Small
 pub mod Sending
 pub mod Ending
 pub mod Coming
+pub mod Forgiving

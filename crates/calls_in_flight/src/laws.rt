@@ -4,6 +4,7 @@ ghost use Rattle.calls_in_flight.specs.Coming.{AllCame, NoneStopped, ResultGiven
 ghost use Rattle.calls_in_flight.specs.Ending.{ActionFails, BegunCame, BegunStands, FlightEnds, FlightFails, PollEnds};
 ghost use Rattle.calls_in_flight.specs.Flights.{BenchFlies, FaultFlies, ValuesCame, WaitFlies, WholeFlies};
 ghost use Rattle.calls_in_flight.specs.Flying.{CameStands, OpenStands};
+ghost use Rattle.calls_in_flight.specs.Forgiving.{ForgivingFlight};
 ghost use Rattle.calls_in_flight.specs.GoesOn.{FlushGoes, PushGoes};
 ghost use Rattle.calls_in_flight.specs.Packets.{FewPackets, FullFlight};
 ghost use Rattle.calls_in_flight.specs.Pushing.{EntryPushed, JournalGrew, PlanGives, ValueGiven};
@@ -112,4 +113,9 @@ pub fn all_calls_came()
     ensures none_stops { NoneStopped }
     ensures came { AllCame }
     ensures result { ResultGiven }
+{}
+
+/// The steps of a forgiving unit begin with those of a flight, whether that faults at its last access or not.
+pub fn flights_of_forgiving_units()
+    ensures steps { ForgivingFlight }
 {}
