@@ -28,6 +28,7 @@ goes_same a = record {
   faults = omega arith;
   exchanges = omega arith;
   runs = keeps_own_runs a.state;
+  known = omega arith;
   left = λ n left. left;
   ended = stays_same a.end a refl;
 }
@@ -76,6 +77,7 @@ goes_trans a b c first second = record {
   faults = let f = first.faults in let g = second.faults in omega (arith, f, g);
   exchanges = let f = first.exchanges in let g = second.exchanges in omega (arith, f, g);
   runs = keeps_runs_on a.state b.state c.state first.runs second.runs;
+  known = let f = first.known in let g = second.known in omega (arith, f, g);
   left = λ n left. first.left n (second.left n left);
   ended = stays_then a.end b.end a b c refl refl first.exchanges first.ended second.ended;
 }
@@ -105,12 +107,13 @@ end_stays a b s goes is = ap (λ t. t.end) (end_is_silent a b s goes is) ∙ is
 
 -- the bench failed, which is the end
 pub goes_by_fault : (a b : Reported) (issued confirmed : ℕ) → a.end ≡ None → b.end ≡ Some (BenchFault issued confirmed) → b.bench.limits ≡ a.bench.limits
-    → a.bench.faults ≤ b.bench.faults → Rose a.bench.faults b.bench.faults → a.bench.exchanges ≤ b.bench.exchanges → KeepsRuns a.state b.state → a.came ≤ b.came → GoesOn a b
-goes_by_fault a b issued confirmed none end limits faults rose exchanges runs came = record {
+    → a.bench.faults ≤ b.bench.faults → Rose a.bench.faults b.bench.faults → a.bench.exchanges ≤ b.bench.exchanges → KeepsRuns a.state b.state → a.known ≤ b.known → a.came ≤ b.came → GoesOn a b
+goes_by_fault a b issued confirmed none end limits faults rose exchanges runs known came = record {
   limits = limits;
   faults = faults;
   exchanges = exchanges;
   runs = runs;
+  known = known;
   left = λ n left. record { so = subst (λ e. IsLeftAt e a.lines a.came n) (sym none) (fewer n (subst (λ e. IsLeftAt e b.lines b.came n) end left.so)) };
   ended = subst (StaysEnded a b) (sym none) (subst (EndedBy a b) (sym end) rose);
 }

@@ -16,12 +16,13 @@ StaysEnded old new None = EndedBy old new new.end
 StaysEnded old new (Some s) = IsSameButAsks old new
 
 -- What each call keeps, and so each row of calls: the limits of the bench; counts that never fall; whether the bench is
--- observable, and the runs that its log is; how many calls may be answered only becomes fewer; and an end stays, and has
--- its cause.
+-- observable, and the runs that its log is; results that are known stay so; how many calls may be answered only becomes fewer;
+-- and an end stays, and has its cause.
 pub record GoesOn (old new : Reported) : Type 0 where
   pub limits : new.bench.limits ≡ old.bench.limits
   pub faults : old.bench.faults ≤ new.bench.faults
   pub exchanges : old.bench.exchanges ≤ new.bench.exchanges
   pub runs : KeepsRuns old.state new.state
+  pub known : old.known ≤ new.known
   pub left : (answered : Option ℕ) → IsLeft new answered → IsLeft old answered
   pub ended : StaysEnded old new old.end

@@ -93,6 +93,7 @@ pub trait Access {
             → OnOk result (stop (world_from m answered) ((reported self.old).asks.calls ++ probe_ask call ∷ []) ≡ None) }
         ensures stops { (m : BenchState) (answered : Option ℕ) → begun self.old m → IsLeft (reported self.new) answered → (reported self.old).end ≡ None
             → IfErr result (StopsCalls (world_from m answered) ((reported self.old).asks.calls ++ probe_ask call ∷ []) (reported self.new).lines) }
+        ensures known { OnOk result ((reported self.new).known ≡ length (reported self.new).asks.calls) }
         ensures open { OnOk result ((reported self.new).end ≡ None) }
         ensures memory { IfErr result (UnchangedByMemory (reported self.old) (reported self.new)) }
         ensures end { IfErr result (IsEnd (reported self.new).end) }
@@ -102,11 +103,14 @@ pub trait Access {
         ensures goes { GoesOn (reported self.old) (reported self.new) };
 
     /// The result of a call, below 2^32, and 0 for a place that was not answered by `ask`. Makes what
-    /// was asked where the result has not come. Takes no memory, and answers no `OutOfMemory`.
+    /// was asked where the result has not come; a result that was answered once, or came before, is
+    /// answered from then on, also after an end. Takes no memory, and answers no `OutOfMemory`.
     fn value(&mut self, slot: Slot) -> Result<u64, Stop>
         ensures bound { IfOk result (λ n. n < 2 ^ 32) }
         ensures value { (m : BenchState) (answered : Option ℕ) → begun self.old m → IsLeft (reported self.new) answered
             → IfOk result (λ n. n ≡ slice_index (results (world_from m answered) (reported self.old).asks.calls) slot.index) }
+        ensures came { slot.index < (reported self.old).known → IfErr result (λ s. ⊥) }
+        ensures known { slot.index < length (reported self.old).asks.calls → OnOk result (slot.index < (reported self.new).known) }
         ensures asks { OnOk result ((reported self.new).asks ≡ used slot (reported self.old).asks) }
         ensures calls { (reported self.new).asks.calls ≡ (reported self.old).asks.calls }
         ensures stops { (m : BenchState) (answered : Option ℕ) → begun self.old m → IsLeft (reported self.new) answered → (reported self.old).end ≡ None
@@ -127,6 +131,7 @@ pub trait Access {
         ensures calls { (reported self.new).asks.calls ≡ (reported self.old).asks.calls }
         ensures stops { (m : BenchState) (answered : Option ℕ) → begun self.old m → IsLeft (reported self.new) answered → (reported self.old).end ≡ None
             → IfErr result (StopsCalls (world_from m answered) (reported self.old).asks.calls (reported self.new).lines) }
+        ensures known { OnOk result ((reported self.new).known ≡ length (reported self.new).asks.calls) }
         ensures open { OnOk result ((reported self.new).end ≡ None) }
         ensures memory { IfErr result NoMemory }
         ensures end { IfErr result (IsEnd (reported self.new).end) }
@@ -145,6 +150,7 @@ pub trait Access {
         ensures calls { (reported self.new).asks.calls ≡ calls_finished (reported self.old) }
         ensures stops { (m : BenchState) (answered : Option ℕ) → begun self.old m → IsLeft (reported self.new) answered → (reported self.old).end ≡ None
             → IfErr result (StopsSettling (world_from m answered) (reported self.old).asks.calls (reported self.new).lines) }
+        ensures known { OnOk result ((reported self.new).known ≡ length (reported self.new).asks.calls) }
         ensures open { OnOk result ((reported self.new).end ≡ None) }
         ensures memory { IfErr result NoMemory }
         ensures end { IfErr result (IsEnd (reported self.new).end) }

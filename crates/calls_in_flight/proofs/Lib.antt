@@ -8,3 +8,7 @@ pub mod ActionLemmas
 pub mod GoLemmas
 pub mod SmallLemmas
 pub mod SendLemmas
+pub mod EndLemmas
+pub mod ComeLemmas
+pub mod CfgLemmas
+pub mod ForgivingLemmas

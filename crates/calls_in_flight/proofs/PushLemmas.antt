@@ -102,7 +102,7 @@ value_is_given entries made flying rest accesses m0 m o part front e more a plac
     ∙ ap (λ (s : TargetState). Some (given (acted s c.entry.action).outcome)) (sym (after_split t0 made c.front))
     ∙ (λ j. Some (given (acted (after t0 (actions_in (same.0 j))) (same.1 j).action).outcome))
 
-pass_makes : (u : TargetState) (lead : List RegAccess) → NoneFault u lead → PassTo u (making lead) (after u (making lead))
+pub pass_makes : (u : TargetState) (lead : List RegAccess) → NoneFault u lead → PassTo u (making lead) (after u (making lead))
 pass_makes u [] h = refl
 pass_makes u (a ∷ lead) h = (h.0, pass_makes (acted u (Makes a)).next lead h.1)
 

@@ -24,9 +24,9 @@ clash true e f = cc
 clash false e f = cc
 
 -- where calls do not stop, none ends at a fault, and all are answered
-record NeverStops (t : TargetState) (large : List ℕ) (n : Option ℕ) (asks : List Ask) : Type 0 where
-  none : NoneFaults t large asks
-  enough : AtLeast (length asks) n
+pub record NeverStops (t : TargetState) (large : List ℕ) (n : Option ℕ) (asks : List Ask) : Type 0 where
+  pub none : NoneFaults t large asks
+  pub enough : AtLeast (length asks) n
 
 not_faulted : (x : CallEnd) → is_faulted x ≡ false → x ≢ Faulted
 not_faulted x good e = clash (is_faulted x) (ap is_faulted e) good
@@ -44,7 +44,7 @@ never_at : (n : Option ℕ) → AtLeast 0 n
 never_at None = tt
 never_at (Some n) = omega arith
 
-never_stops : (t : TargetState) (large : List ℕ) (n : Option ℕ) (asks : List Ask) → stop (world_at t large n) asks ≡ None → NeverStops t large n asks
+pub never_stops : (t : TargetState) (large : List ℕ) (n : Option ℕ) (asks : List Ask) → stop (world_at t large n) asks ≡ None → NeverStops t large n asks
 never_stops t large n [] e = record { none = tt; enough = never_at n }
 never_stops t large n (ask ∷ asks) e =
     let h = head_of (stops_here (world_at t large n) ask) (stop (world_at (alone t large ask).next (alone t large ask).large (one_fewer n)) asks) e in
@@ -52,7 +52,7 @@ never_stops t large n (ask ∷ asks) e =
     let r = never_stops (alone t large ask).next (alone t large ask).large (one_fewer n) asks h.1 in
     record { none = (not_faulted (alone t large ask).end g.1, r.none); enough = enough_more n (length asks) g.0 r.enough }
 
-not_small : (b forgive s : Bool) (v : ℕ) (t : TargetState) (l : List ℕ) (xs : List Action) → s ≡ false → is_small_end (ended b forgive s v t l xs).end ≡ false
+pub not_small : (b forgive s : Bool) (v : ℕ) (t : TargetState) (l : List ℕ) (xs : List Action) → s ≡ false → is_small_end (ended b forgive s v t l xs).end ≡ false
 not_small true true s v t l xs e = refl
 not_small true false s v t l xs e = refl
 not_small false forgive true v t l xs e = absurd (cc)

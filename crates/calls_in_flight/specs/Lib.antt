@@ -9,3 +9,5 @@ pub mod GoesOn
 pub mod Small
 pub mod Sending
 pub mod Ending
+pub mod Coming
+pub mod Forgiving

@@ -1,12 +1,15 @@
 //! What follows from the definitions: each law is the contract of a function that does nothing.
 ghost use Rattle.calls_in_flight.specs.Actions.{ActionBench, ActionDone, ActionWait, FaultForgiven};
+ghost use Rattle.calls_in_flight.specs.Coming.{AllCame, NoneStopped, ResultGiven};
+ghost use Rattle.calls_in_flight.specs.Ending.{ActionFails, BegunCame, BegunStands, FlightEnds, FlightFails, PollEnds};
 ghost use Rattle.calls_in_flight.specs.Flights.{BenchFlies, FaultFlies, ValuesCame, WaitFlies, WholeFlies};
 ghost use Rattle.calls_in_flight.specs.Flying.{CameStands, OpenStands};
+ghost use Rattle.calls_in_flight.specs.Forgiving.{ForgivingFlight};
 ghost use Rattle.calls_in_flight.specs.GoesOn.{FlushGoes, PushGoes};
 ghost use Rattle.calls_in_flight.specs.Packets.{FewPackets, FullFlight};
 ghost use Rattle.calls_in_flight.specs.Pushing.{EntryPushed, JournalGrew, PlanGives, ValueGiven};
 ghost use Rattle.calls_in_flight.specs.Sending.{ActionSends, CallSends, FinishSends, FlyingSends, ForgivenSends, PushSends, WholeSends};
-ghost use Rattle.calls_in_flight.specs.Small.{NotSmall};
+ghost use Rattle.calls_in_flight.specs.Small.{NotSmall, SmallByCfg};
 ghost use Rattle.calls_in_flight.specs.Stopping.{CameBefore, ResultsStay, StopsAtFault, StopsAtWait};
 ghost use Rattle.calls_in_flight.specs.UnderWay.{FrontPerformed};
 
@@ -74,9 +77,10 @@ pub fn an_access_goes_on()
     ensures push { PushGoes }
 {}
 
-/// A unit for which CFG is not read does not end because its AP has no large addresses.
-pub fn units_without_a_read_of_cfg()
-    ensures small { NotSmall }
+/// Which units end because their AP has no large addresses: none for which CFG is not read, and else by what it shows.
+pub fn small_units()
+    ensures none { NotSmall }
+    ensures cfg { SmallByCfg }
 {}
 
 /// What an access keeps in the middle of a call: a call or a `finish` adds entries, which are pushed, sent, or made by themselves.
@@ -88,4 +92,30 @@ pub fn a_flight_is_sent()
     ensures whole { WholeSends }
     ensures action { ActionSends }
     ensures forgiven { ForgivenSends }
+{}
+
+/// From its beginning on, and after its end, an access has come as far as the contract of accesses says, and keeps its results.
+pub fn an_access_began()
+    ensures stands { BegunStands }
+    ensures came { BegunCame }
+{}
+
+/// An access ends where its flight or a poll is cut, or its bench fails: what is then true of it, and where its calls stop.
+pub fn an_access_ends()
+    ensures flight { FlightEnds }
+    ensures poll { PollEnds }
+    ensures flight_fails { FlightFails }
+    ensures action_fails { ActionFails }
+{}
+
+/// Where all entries were made no call stops, and each result is given by an entry of its call.
+pub fn all_calls_came()
+    ensures none_stops { NoneStopped }
+    ensures came { AllCame }
+    ensures result { ResultGiven }
+{}
+
+/// The steps of a forgiving unit begin with those of a flight, whether that faults at its last access or not.
+pub fn flights_of_forgiving_units()
+    ensures steps { ForgivingFlight }
 {}

@@ -96,6 +96,7 @@ impl Access for Scripted {
       state = None;
       asks = record { calls = s.calls.items; needs = s.needs; fence = s.fence };
       came = 0;
+      known = vec_len s.calls;
       end = if s.ended then Some (BenchFault 0 0) else None;
       lines = 0;
       skipped = 0;

@@ -1,0 +1,120 @@
+-- Calls all of whose entries were made.
+use Rattle.std.proofs.Common.{◌≡◌, ◌∙◌, ℕ, suc, ◌+◌, ◌-◌, ◌≤◌, ◌<◌, Bool, true, false, ◌||◌, List, [], ◌∷◌, ◌++◌, length, slice_index, Option, Some, None, refl, sym, ap, subst, arith, append-nil, append_assoc, length-append}
+use Rattle.target_machine.specs.Plain.{CallEnd, Answered, Faulted, Skipped, Small, acted, call_done, given, result_of}
+use Rattle.target_machine.specs.State.{TargetState}
+use Rattle.probe_core.specs.Bench.{BenchState}
+use Rattle.probe_core.specs.Probe.{target_of}
+use Rattle.call_terms.specs.Asks.{AreAskable, is_forgiving}
+use Rattle.call_terms.specs.Journal.{Entry, Passes, target_after}
+use Rattle.call_terms.specs.World.{AtLeast, World, done_now, end_result, is_faulted, is_small_end, results, small_now, start_world, stop, stops_here, world_after}
+use Rattle.call_terms.specs.declared.calls.Ask.{Ask}
+use Rattle.call_terms.proofs.CallLists.{count_of, results_front, whole_front}
+use Rattle.call_terms.proofs.EndLemmas.{skipped_forgives}
+use Rattle.call_terms.proofs.OneCall.{one_last, one_small, one_stops}
+use Rattle.access_regs.specs.Alone.{NoneFaults, alone, alone_after, large_of_all}
+use Rattle.access_regs.specs.Entries.{AnsweredAt, kept_by, target_by}
+use Rattle.access_regs.specs.Journal.{issue_of, issued}
+use Rattle.access_regs.proofs.EntryLemmas.{call_answers}
+use Rattle.access_regs.proofs.StopLists.{passing_stops}
+use Rattle.access_calls.specs.Reported.{world_from}
+use Rattle.calls_in_flight.specs.Coming.{AllCame, HasCome, NoneStopped, ResultGiven}
+use Rattle.calls_in_flight.specs.Sending.{IsSending}
+use Rattle.calls_in_flight.specs.UnderWay.{IsUnderWay}
+use Rattle.calls_in_flight.proofs.OpenLemmas.{after_alone, large_alone}
+use Rattle.calls_in_flight.proofs.PushLemmas.{same_cut}
+use Rattle.calls_in_flight.proofs.SmallLemmas.{NeverStops, never_stops}
+
+-- all entries were made
+all_made : (calls : List Ask) (confirmed count : ℕ) (came : List ℕ) (m0 m : BenchState) → (s : IsSending calls confirmed count [] [] [] came m0 m) → issued (target_of m0.probe) calls ≡ s.made
+all_made calls confirmed count came m0 m s = s.on.are ∙ append-nil s.made
+
+pub none_stopped : NoneStopped
+none_stopped calls confirmed count came m0 m n s enough =
+    (passing_stops (target_of m0.probe) calls s.fresh s.askable (subst (Passes (target_of m0.probe)) (sym (all_made calls confirmed count came m0 m s)) s.on.passes)).stops n enough
+
+pub all_came : AllCame
+all_came calls confirmed count old came m0 m b kept s h = record {
+  fresh = s.fresh;
+  askable = subst AreAskable (sym h.calls_are) s.askable;
+  made = s.made;
+  flying = [];
+  on = subst (λ (l : List Ask). IsUnderWay (issued (target_of m0.probe) l) s.made [] [] [] m0 m) (sym h.calls_are) s.on;
+  kept_is = ap (kept_by (target_of m0.probe)) h.calls_are ∙ h.kept_is;
+  confirmed = s.confirmed_is ∙ sym h.confirmed_is;
+  issued_is = (let c = s.confirmed_is in let i = h.issued_is in omega (arith, c, i));
+  strict = tt;
+  front = calls;
+  back = [];
+  calls = h.calls_are ∙ sym (append-nil calls);
+  part = [];
+  made_is = sym (all_made calls confirmed count old m0 m s) ∙ sym (append-nil (issued (target_of m0.probe) calls));
+  came_is = h.came_is;
+  came_are = h.came_are;
+  skipped_is = h.skipped_is;
+  mild = tt;
+  calm = λ _. (refl, refl);
+}
+
+-- ---- results
+
+clash : (b : Bool) → b ≡ true → b ≡ false → ⊥
+clash true e f = cc
+clash false e f = cc
+
+module _ (t : TargetState) (asks : List Ask) (ask : Ask) (more : List Ask) (whole : stop (start_world t None) (asks ++ ask ∷ more) ≡ None) where
+  abbrev w : World
+  w = start_world t None
+
+  abbrev u : World
+  u = world_after (start_world t None) asks
+
+  before_whole : stop w asks ≡ None
+  before_whole = whole_front w asks (ask ∷ more) whole
+
+  with_whole : stop w (asks ++ ask ∷ []) ≡ None
+  with_whole = whole_front w (asks ++ ask ∷ []) more (ap (stop w) (append_assoc asks (ask ∷ []) more) ∙ whole)
+
+  goes_here : stops_here u ask ≡ false
+  goes_here = by_test (stops_here u ask) refl
+    where
+      by_test : (b : Bool) → stops_here u ask ≡ b → b ≡ false
+      by_test true here = absurd (let x : ◌≡◌ {A = Option ℕ} None (Some (suc (length asks))) = sym with_whole ∙ one_stops w asks ask before_whole here in cc)
+      by_test false here = refl
+
+  -- the result is that of the call
+  result_there : slice_index (results w (asks ++ ask ∷ more)) (length asks) ≡ end_result (done_now u ask).end
+  result_there =
+      let count : length (results w (asks ++ ask ∷ [])) ≡ length (asks ++ ask ∷ []) = count_of w (asks ++ ask ∷ []) with_whole in
+      let long = length-append asks (ask ∷ []) in
+      ap (λ (l : List Ask). slice_index (results w l) (length asks)) (sym (append_assoc asks (ask ∷ []) more))
+      ∙ results_front w (asks ++ ask ∷ []) more (length asks) (omega (arith, count, long))
+      ∙ one_last w asks ask before_whole goes_here
+
+pub result_given : ResultGiven
+result_given t asks ask more front e rest fresh ok whole mild large is at = result_there t asks ask more whole ∙ by_end (done_now (world_after (start_world t None) asks) ask).end refl
+  where
+    never : NeverStops t [] None asks
+    never = never_stops t [] None asks (before_whole t asks ask more whole)
+
+    alone_is : (done_now (world_after (start_world t None) asks) ask).end ≡ (alone (alone_after t [] asks) (large_of_all t [] asks) ask).end
+    alone_is =
+        let target = after_alone t [] None asks never.none never.enough in
+        let larges = large_alone t [] None asks never.none never.enough in
+        (λ j. (call_done (target j) (larges j) ask.forgive ask.call).end)
+
+    by_end : (x : CallEnd) → (done_now (world_after (start_world t None) asks) ask).end ≡ x → end_result x ≡ result_of ask.call (given (acted (target_after t front) e.action).outcome)
+    by_end (Answered v) end =
+        let a : AnsweredAt t (issued t (asks ++ ask ∷ more)) asks ask v = call_answers t asks ask more v fresh ok never.none (sym alone_is ∙ end) in
+        let there = a.at in
+        let same = same_cut a.front front a.entry e a.more rest (sym a.is ∙ is) (omega (arith, there, at)) in
+        sym a.gives_it ∙ (λ j. result_of ask.call (given (acted (target_after t (same.0 j)) (same.1 j).action).outcome))
+    by_end Skipped end = absurd (clash (is_forgiving ask) (skipped_forgives (world_after (start_world t None) asks) ask end) mild)
+    by_end Faulted end = absurd (clash (stops_here (world_after (start_world t None) asks) ask) (faulted_here end) (goes_here t asks ask more whole))
+      where
+        faulted_here : (done_now (world_after (start_world t None) asks) ask).end ≡ Faulted → stops_here (world_after (start_world t None) asks) ask ≡ true
+        faulted_here end = rw end (or_true _)
+          where
+            or_true : (b : Bool) → (b || true) ≡ true
+            or_true true = refl
+            or_true false = refl
+    by_end Small end = absurd (clash (small_now (start_world t None) asks ask) (one_small (start_world t None) asks ask (before_whole t asks ask more whole) ∙ ap is_small_end end) large)

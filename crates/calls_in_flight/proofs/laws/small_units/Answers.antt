@@ -1,0 +1,9 @@
+use Rattle.calls_in_flight.proofs.CfgLemmas.{small_by_cfg}
+use Rattle.calls_in_flight.proofs.SmallLemmas.{not_small_now}
+use Rattle.calls_in_flight.proofs.laws.small_units.Goals as goal
+
+pub returns-clause-none : goal.returns-clause-none
+returns-clause-none c = not_small_now
+
+pub returns-clause-cfg : goal.returns-clause-cfg
+returns-clause-cfg c = small_by_cfg
