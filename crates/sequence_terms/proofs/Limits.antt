@@ -1,5 +1,5 @@
 -- A run of which only so many units are answered.
-use Rattle.std.proofs.Common.{◌≡◌, ℕ, zero, suc, ◌+◌, ◌-◌, ◌≤◌, ◌⊎◌, inl, inr, true, false, cond, List, [], ◌∷◌, ◌++◌, length, Option, None, Some, unwrap_or, Result, Ok, Err, refl, sym, ap, ◌∙◌, arith}
+use Rattle.std.proofs.Common.{◌≡◌, ℕ, zero, suc, ◌+◌, ◌-◌, ◌≤◌, ◌⊎◌, inl, inr, false, cond, List, [], ◌∷◌, ◌++◌, length, Option, None, Some, unwrap_or, Ok, Err, refl, sym, ap, ◌∙◌, arith}
 use Rattle.std.proofs.lemmas.List.{length-append, append_assoc, append-nil}
 use Rattle.call_terms.specs.Asks.{unit_ask, probe_ask}
 use Rattle.call_terms.specs.World.{World, start_world, done_now, next_world, one_fewer, is_over}
@@ -7,14 +7,13 @@ use Rattle.call_terms.specs.declared.calls.Ask.{Ask}
 use Rattle.target_machine.specs.Plain.{CallEnd, Answered, Skipped, Faulted, Small}
 use Rattle.target_machine.specs.State.{TargetState}
 use Rattle.sequence_terms.specs.declared.bindings.Binding.{Binding}
-use Rattle.sequence_terms.specs.Alike.{Binds, Alike, Ends, EndsAlone, EndsAlike, CallEnds, CallMatches, Matches, Equal, Tracks}
+use Rattle.sequence_terms.specs.Alike.{Binds, Ends, CallMatches, Matches, Equal, Tracks}
 use Rattle.sequence_terms.specs.Direct.{Now, now_at, with_call, with_line, answers, made, direct}
 use Rattle.sequence_terms.specs.Late.{Grows}
 use Rattle.sequence_terms.specs.Laws.{Adds, IsCutShort, IsWhole}
 use Rattle.sequence_terms.specs.Machine as machine
 use Rattle.sequence_terms.specs.Machine.{Over, State, Out}
-use Rattle.sequence_terms.specs.Runs as ending
-use Rattle.sequence_terms.specs.Runs.{Program, Outcome, outcome_at, outcome_over, outcome_of, outcome, outcome_within, meaning}
+use Rattle.sequence_terms.specs.Runs.{Program, Outcome, outcome_over, outcome_of, outcome, outcome_within}
 use Rattle.sequence_terms.proofs.Adding.{adds_direct}
 use Rattle.sequence_terms.proofs.LateLemmas.{grows_same, grows_on}
 use Rattle.sequence_terms.proofs.Starting.{runs_alike}

@@ -5,7 +5,7 @@ use Rattle.function_table.specs.Front.{read_conversion}
 use Rattle.sequence_terms.specs.Calls.{use_now, missing, given, guarded, lined, performed}
 use Rattle.sequence_terms.specs.Direct.{direct}
 use Rattle.sequence_terms.specs.Lines.{formatted, message_line, query_line, value_line, load_line}
-use Rattle.sequence_terms.specs.Values.{named, stored, assigned, used_now, of_unary, both, operands, result_of, strict_binary, truth_of, conjunction, disjunction, of_binary, choice, appended, chained, all_used, numbers_of, called, call_of, value}
+use Rattle.sequence_terms.specs.Values.{named, stored, assigned, used_now, of_unary, both, operands, result_of, strict_binary, truth_of, conjunction, disjunction, of_binary, appended, chained, all_used, numbers_of, called, call_of, value}
 use Rattle.sequence_terms.specs.Steps.{turn_count, counted, after_counted, declared, dropped, in_order, inside, turn, turns, statement, block, condition, looped, repeated, controlled, step, entered, steps_at, sequence_at, debugged, run_of}
 use Rattle.sequence_terms.specs.Rows.{Divides, HalfMade, Loops, CallsB, Writes}
 

@@ -1,5 +1,5 @@
 -- A watched run.
-use Rattle.std.proofs.Common.{◌≡◌, ℕ, ◌+◌, ◌⊎◌, inl, inr, true, false, List, [], ◌∷◌, Option, None, Some, unwrap_or, Result, Ok, Err, refl, sym, ap, ◌∙◌}
+use Rattle.std.proofs.Common.{◌≡◌, ℕ, ◌+◌, ◌⊎◌, inl, inr, true, false, List, [], ◌∷◌, Option, None, Some, unwrap_or, Result, Ok, Err, refl, sym, ap}
 use Rattle.std.specs.Bool.{⊤}
 use Rattle.call_terms.specs.World.{World}
 use Rattle.sequence_terms.specs.declared.bindings.Binding.{Binding}

@@ -1,8 +1,7 @@
 -- Runs that were worked out by hand. They ask nothing of the target, so they hold on each.
-use Rattle.std.specs.Prelude.{◌≡◌, ℕ, List, [], ◌∷◌, ◌++◌, map, codes, Option, None, Some}
+use Rattle.std.specs.Prelude.{◌≡◌, ℕ, List, [], ◌∷◌, map, codes, None, Some}
 use Rattle.dap_base.specs.declared.text.Place.{Place}
 use Rattle.expr_grammar.specs.declared.code.Name.{Name}
-use Rattle.expr_grammar.specs.declared.code.TextArg as string
 use Rattle.expr_grammar.specs.declared.code.BinaryOp.TheVariants as b
 use Rattle.expr_grammar.specs.Tree as t
 use Rattle.expr_grammar.specs.Tree.{Tree, ArgTree, ArgTrees, StmtTree}
@@ -12,7 +11,6 @@ use Rattle.sequence_code.specs.Trees.{CodeStep, CodeSteps, SequenceTrees}
 use Rattle.target_machine.specs.declared.unit.HaltCause.TheVariants.{DivideByZero}
 use Rattle.call_terms.specs.World.{World}
 use Rattle.sequence_terms.specs.declared.bindings.Binding.{Binding}
-use Rattle.sequence_terms.specs.Machine.{end_state}
 use Rattle.sequence_terms.specs.Runs as ending
 use Rattle.sequence_terms.specs.Runs.{Program, Ending, Outcome, outcome_of, watched}
 use Rattle.sequence_terms.specs.Variables.{bound}
@@ -90,11 +88,11 @@ pub record RunsTo (w : World) (p : Program) (how : Ending) (numbers bytes : List
 abbrev pub divides : Program
 divides = program
     (declare (codes "a") (t.Binary b.Shl (t.Number 1) (t.Number 64)) ∷ declare (codes "b") (t.Binary b.Sub (t.Number 0) (t.Number 1))
-      ∷ declare (codes "c") (t.Number 9) ∷ declare (codes "d") (t.Number 9) ∷ [])
+    ∷ declare (codes "c") (t.Number 9) ∷ declare (codes "d") (t.Number 9) ∷ [])
     (sequence (codes "Main")
-      (assign (codes "c") (t.Binary b.BitAnd (t.Number 2) (t.Binary b.Eq (t.Number 2) (t.Number 2)))
-        ∷ assign (codes "d") (t.Binary b.And (t.Number 0) (t.Call (name (codes "Read32")) (args (arg (t.Number 0x30000000) ∷ []))))
-        ∷ assign (codes "a") (t.Binary b.Div (t.Number 5) (v (codes "c"))) ∷ []) ∷ [])
+    (assign (codes "c") (t.Binary b.BitAnd (t.Number 2) (t.Binary b.Eq (t.Number 2) (t.Number 2)))
+    ∷ assign (codes "d") (t.Binary b.And (t.Number 0) (t.Call (name (codes "Read32")) (args (arg (t.Number 0x30000000) ∷ []))))
+    ∷ assign (codes "a") (t.Binary b.Div (t.Number 5) (v (codes "c"))) ∷ []) ∷ [])
 
 -- it halts at the division
 abbrev pub Divides : Type 0
@@ -124,7 +122,7 @@ Loops = (w : World) → RunsTo w loops ending.Done (0 ∷ 0 ∷ 0 ∷ 0 ∷ 0 �
 abbrev pub calls_b : Program
 calls_b = program []
     (sequence (codes "Main") (assign (codes "__ap") (t.Number 1) ∷ call (codes "Sequence") (text (codes "B") ∷ []) ∷ assign (codes "__traceout") (v (codes "__ap")) ∷ [])
-      ∷ sequence (codes "B") (assign (codes "__ap") (t.Binary b.Add (v (codes "__ap")) (t.Number 4)) ∷ assign (codes "__Result") (v (codes "__ap")) ∷ []) ∷ [])
+    ∷ sequence (codes "B") (assign (codes "__ap") (t.Binary b.Add (v (codes "__ap")) (t.Number 4)) ∷ assign (codes "__Result") (v (codes "__ap")) ∷ []) ∷ [])
 
 -- the called sequence starts with the caller's `__ap`, and gives it back; the others are shared
 abbrev pub CallsB : Type 0
@@ -134,10 +132,10 @@ CallsB = (w : World) → RunsTo w calls_b ending.Done (0 ∷ 0 ∷ 0 ∷ 1 ∷ 1
 abbrev pub writes : Program
 writes = program []
     (sequence (codes "Main")
-      (call (codes "Message") (arg (t.Number 1) ∷ text (codes "id 0x%08X") ∷ arg (t.Number 0xAB) ∷ [])
-        ∷ call (codes "Query") (arg (t.Number 0) ∷ text (codes "sure?") ∷ arg (t.Number 1) ∷ [])
-        ∷ call (codes "QueryValue") (text (codes "n") ∷ arg (t.Number 5) ∷ [])
-        ∷ call (codes "LoadDebugInfo") (text (codes "f.axf") ∷ []) ∷ []) ∷ [])
+    (call (codes "Message") (arg (t.Number 1) ∷ text (codes "id 0x%08X") ∷ arg (t.Number 0xAB) ∷ [])
+    ∷ call (codes "Query") (arg (t.Number 0) ∷ text (codes "sure?") ∷ arg (t.Number 1) ∷ [])
+    ∷ call (codes "QueryValue") (text (codes "n") ∷ arg (t.Number 5) ∷ [])
+    ∷ call (codes "LoadDebugInfo") (text (codes "f.axf") ∷ []) ∷ []) ∷ [])
 
 -- the four lines
 abbrev pub Writes : Type 0
