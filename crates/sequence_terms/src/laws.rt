@@ -1,6 +1,7 @@
 //! What follows from the definitions: each law is the contract of a function that does nothing.
 
-ghost use Rattle.sequence_terms.specs.Rows.{Divides, HalfMade, Loops, CallsB, Writes};
+ghost use Rattle.call_terms.specs.World.{World};
+ghost use Rattle.sequence_terms.specs.Rows.{Divides, HalfMade, Loops, LoopsUntil, Orders, CallsB, Writes, Halts};
 ghost use Rattle.sequence_terms.specs.Laws.{LateValuesChangeNothing, RunsOnlyAdd, CallsAreMade, LateRunsOnlyAdd, LimitsCutRuns, LinesAreOnlyWritten, WatchedIsTheMeaning};
 
 /// A run with results that come later comes to what the meaning comes to, in each world: the same ending, variables, counts, calls
@@ -39,11 +40,14 @@ pub fn watched_is_the_meaning()
     ensures { WatchedIsTheMeaning }
 {}
 
-/// The definitions compute: five runs that were worked out by hand.
+/// The definitions compute: runs that were worked out by hand.
 pub fn worked_rows()
     ensures divides { Divides }
     ensures half_made { HalfMade }
     ensures loops { Loops }
+    ensures loops_until { LoopsUntil }
+    ensures orders { Orders }
     ensures calls { CallsB }
     ensures writes { Writes }
+    ensures halts { (w : World) → Halts w }
 {}
