@@ -8,6 +8,7 @@ pub mod Made
 pub mod Limits
 pub mod Watching
 pub mod Writing
+pub mod Cuts
 pub mod LineLemmas
 pub mod PollLemmas
 pub mod VariableLemmas

@@ -23,7 +23,7 @@ late_pair cost w p written =
     (record { count = refl; whole = refl; world = refl; calls = refl; skipped = refl; written = refl })
 
 -- no need points
-no_cost : Costs
+pub no_cost : Costs
 no_cost t calls ask = record { before = 0; after = 0 }
 
 -- what is to be shown of an outcome and the last state
