@@ -1,13 +1,12 @@
 -- Cuts of a run.
-use Rattle.std.proofs.Common.{◌≡◌, ℕ, suc, ◌+◌, ◌⊎◌, inl, inr, List, [], ◌∷◌, ◌++◌, length, take, Option, None, refl, sym, ap, subst, ◌∙◌, arith}
+use Rattle.std.proofs.Common.{◌≡◌, ℕ, ◌+◌, ◌⊎◌, inl, inr, List, [], ◌∷◌, length, take, Option, None, refl, sym, ap, subst, ◌∙◌, arith}
 use Rattle.std.proofs.lemmas.List.{length-append}
-use Rattle.call_terms.specs.NeedPoints.{Costs}
-use Rattle.call_terms.specs.World.{World, start_world, world_after}
+use Rattle.call_terms.specs.World.{start_world, world_after}
 use Rattle.call_terms.specs.declared.calls.Ask.{Ask}
 use Rattle.target_machine.specs.State.{TargetState}
 use Rattle.sequence_terms.specs.Late.{Grows}
 use Rattle.sequence_terms.specs.Laws.{IsWhole, IsCutShort, IsCut}
-use Rattle.sequence_terms.specs.Runs.{Program, Outcome, Cut, outcome, outcome_within, units_of, target_at, written_before, cut}
+use Rattle.sequence_terms.specs.Runs.{Program, Outcome, outcome, outcome_within, units_of, target_at, written_before}
 use Rattle.sequence_terms.proofs.LateLemmas.{grows_same}
 use Rattle.sequence_terms.proofs.Limits.{limit_cuts}
 use Rattle.sequence_terms.proofs.Made.{no_cost, are_made}

@@ -3,6 +3,7 @@ pub mod Matching
 pub mod LateLemmas
 pub mod Adding
 pub mod Starting
+pub mod Same
 pub mod LoopLemmas
 pub mod Made
 pub mod Limits

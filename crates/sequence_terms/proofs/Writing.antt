@@ -1,5 +1,5 @@
 -- What was written before a run changes nothing of it but what is written.
-use Rattle.std.proofs.Common.{◌≡◌, ℕ, ◌+◌, Bool, true, false, cond, List, [], ◌∷◌, Option, None, Some, option_map, unwrap_or, Ok, Err, refl, sym, ap}
+use Rattle.std.proofs.Common.{◌≡◌, ℕ, ◌+◌, Bool, true, false, cond, List, Option, None, Some, option_map, Ok, Err, refl, ap}
 use Rattle.call_terms.specs.Asks.{unit_ask, probe_ask}
 use Rattle.call_terms.specs.NeedPoints.{Asks, Costs, nothing_asked}
 use Rattle.call_terms.specs.World.{World, is_over, done_now, next_world, small_now}
@@ -9,8 +9,7 @@ use Rattle.call_terms.specs.declared.calls.Value.TheVariants.{Number, Pending}
 use Rattle.target_machine.specs.Plain.{CallEnd, Answered, Skipped, Faulted, Small}
 use Rattle.target_machine.specs.declared.unit.HaltCause.TheVariants.{AddressTooLarge}
 use Rattle.target_machine.specs.declared.unit.Unit.{Unit as AccessUnit}
-use Rattle.sequence_terms.specs.declared.bindings.Binding.{Binding}
-use Rattle.sequence_terms.specs.Alike.{Binds, Ends, CallMatches, Matches, Equal, Tracks}
+use Rattle.sequence_terms.specs.Alike.{Ends, CallMatches, Matches, Equal, Tracks}
 use Rattle.sequence_terms.specs.Direct.{Now, now_at, with_call, with_line, line_after, answers, made, direct}
 use Rattle.sequence_terms.specs.Late.{Late, late_of, asks_with, used_late, asked_late, late, Later}
 use Rattle.sequence_terms.specs.Laws.{Adds, without_lines, LinesAreOnlyWritten}
@@ -20,6 +19,7 @@ use Rattle.sequence_terms.specs.Runs.{outcome_over, outcome_of, meaning, late_me
 use Rattle.sequence_terms.proofs.Adding.{adds_direct}
 use Rattle.sequence_terms.proofs.LateLemmas.{steady_late}
 use Rattle.sequence_terms.proofs.Starting.{runs_alike}
+use Rattle.sequence_terms.proofs.Same.{same_binds, none_is, here_is}
 
 -- ---- the meaning
 
@@ -35,12 +35,6 @@ WrittenEnds here t k (machine.Halted cause) u = ⊥
 WrittenEnds here t k (machine.Faulted call) u = (here ≡ Some (machine.Faulted call)) × Written k t u
 WrittenEnds here t k machine.Unanswered u = (here ≡ Some machine.Unanswered) × Written k t u
 WrittenEnds here t k machine.Lost u = ⊥
-
-none_is : {A : Type 0} {x : Over} → None ≡ Some x → A
-none_is e = absurd cc
-
-here_is : {x y : Over} → Some x ≡ Some y → x ≡ y
-here_is {x} e = ap (λ o. unwrap_or o x) e
 
 written_ended : (here : Option Over) (t t2 : Now) (k : ℕ) (over : Over) (u : Now) → Adds t t2 → WrittenEnds None t k over u → WrittenEnds here t2 k over u
 written_ended here t t2 k (machine.Halted cause) u p h = h
@@ -76,12 +70,6 @@ written_tracks = record {
   confirmed = λ k t u r. r;
   written = λ k t u line r. (option_map (line_after line) r.0, ap (with_line line) r.1);
 }
-
-same_binds : {V T : Type 0} (t : T) (bs cs : List (Binding V)) → Binds (Equal t) bs cs → cs ≡ bs
-same_binds t [] [] h = refl
-same_binds t [] (c ∷ cs) h = absurd h
-same_binds t (b ∷ bs) [] h = absurd h
-same_binds t (b ∷ bs) (c ∷ cs) h = rw (sym h.0, h.1, same_binds t bs cs h.2) refl
 
 abbrev Lines : Out ℕ Now (Unit {0}) → Out ℕ Now (Unit {0}) → Type 0
 Lines out q = Matches Equal Written WrittenEnds Equal out q
