@@ -1,5 +1,5 @@
 -- What each operation of a machine keeps of the rest is kept by all that is done on it.
-use Rattle.std.proofs.Common.{◌≡◌, ℕ, zero, suc, ◌+◌, ◌-◌, ◌*◌, ◌/◌, ◌%◌, ◌^◌, Bool, true, false, cond, not, ◌&&◌, ◌||◌, List, [], ◌∷◌, ◌++◌, length, take, drop, slice_index, codes, nat_lt, nat_eq, Option, None, Some, unwrap_or, Result, Ok, Err, refl}
+use Rattle.std.proofs.Common.{◌≡◌, ℕ, zero, suc, ◌%◌, Bool, true, false, cond, not, ◌&&◌, ◌||◌, List, [], ◌∷◌, codes, nat_lt, nat_eq, Option, None, Some, Result, Ok, Err, refl}
 use Rattle.expr_grammar.specs.declared.code.Name.{Name}
 use Rattle.expr_grammar.specs.declared.code.UnaryOp.{UnaryOp}
 use Rattle.expr_grammar.specs.declared.code.BinaryOp.{BinaryOp}
@@ -11,23 +11,18 @@ use Rattle.function_table.specs.declared.function.Function.TheVariants as f
 use Rattle.function_table.specs.Lookup.{function_named}
 use Rattle.sequence_code.specs.Trees as c
 use Rattle.sequence_code.specs.Trees.{CodeStep, CodeSteps, SequenceTrees, SetTrees, steps_named}
-use Rattle.target_machine.specs.declared.unit.HaltCause.TheVariants.{Unsupported, AddressTooLarge, Misaligned, ArgumentOutOfRange, AccessLimit, MessageLimit, DivideByZero, StepLimit}
+use Rattle.target_machine.specs.declared.unit.HaltCause.TheVariants.{AccessLimit}
 use Rattle.target_machine.specs.declared.unit.ProbeCall.{ProbeCall}
-use Rattle.target_machine.specs.declared.unit.ProbeCall.TheVariants as probe
 use Rattle.target_machine.specs.declared.unit.Unit.{Unit as AccessUnit}
-use Rattle.target_machine.specs.declared.unit.Unit.TheVariants as unit
-use Rattle.sequence_terms.specs.declared.bindings.Binding.{Binding}
-use Rattle.expr_grammar.specs.Arithmetic.{unary_value, binary_value, truth}
 use Rattle.dap_base.specs.Outcome.{◌>>=◌}
-use Rattle.sequence_terms.specs.Variables.{bound, has_in, value_in, set_in, newest_in, set_newest, with_new, with_all_new, is_visible, visible, set_visible}
+use Rattle.sequence_terms.specs.Variables.{has_in, value_in, is_visible, set_visible}
 use Rattle.sequence_terms.specs.Polls.{poll_of}
-use Rattle.sequence_terms.specs.Lines.{message_line, query_line, value_line, load_line}
 use Rattle.sequence_terms.specs.Machine as machine
 use Rattle.sequence_terms.specs.Machine.{Over, Machine, State, Out, halt, with_rest, unit_more, line_more, step_more, with_locals, with_variables, end_state, rest_of}
 use Rattle.sequence_terms.specs.Steady.{Steady, Goes}
-use Rattle.sequence_terms.specs.Calls.{Port, memory_unit, use_now, missing, given, guarded, global, port_with, port_from, port, answered, ask, numbered, command, zero_of, if_read, low_and_high, second_half, two_units, one_unit, memory_at, memory, ap_at, ap_register, dp_at, dp_register, abort_at, abort, delay, clock, pins, line_bits, lined, performed}
-use Rattle.sequence_terms.specs.Values.{text_in, text_of, named, stored, assigned, used_now, of_unary, both, operands, result_of, strict_binary, truth_of, conjunction, disjunction, of_binary, choice, appended, chained, all_used, numbers_of, is_call, called, call_of, value, argument, arguments}
-use Rattle.sequence_terms.specs.Steps.{timeout_of, turn_count, counted, declared, dropped, after_counted, in_order, inside, turn, turns, polled_at, polled, statement, block, condition, looped, repeated, controlled, step, done, given_back, entered, steps_at, sequence_at, debugged, run_of}
+use Rattle.sequence_terms.specs.Calls.{Port, use_now, missing, given, guarded, global, port_with, port_from, port, answered, ask, numbered, command, zero_of, if_read, low_and_high, second_half, two_units, one_unit, memory_at, memory, ap_at, ap_register, dp_at, dp_register, abort_at, abort, delay, clock, pins, line_bits, lined, performed}
+use Rattle.sequence_terms.specs.Values.{named, stored, assigned, used_now, of_unary, both, operands, result_of, strict_binary, truth_of, conjunction, disjunction, of_binary, choice, appended, chained, all_used, numbers_of, called, call_of, value, argument, arguments}
+use Rattle.sequence_terms.specs.Steps.{timeout_of, counted, declared, dropped, after_counted, in_order, inside, turn, turns, polled_at, polled, statement, block, condition, looped, repeated, controlled, step, done, given_back, entered, steps_at, sequence_at, debugged, run_of}
 
 module _ {V T : Type 0} (m : Machine V T) (P : T → T → Type 0) (h : Steady m P) where
   pub goes_ok : {A : Type 0} (s : State V T) (x : A) → Goes P s (Ok (x, s))
@@ -339,6 +334,7 @@ module _ {V T : Type 0} (m : Machine V T) (P : T → T → Type 0) (h : Steady m
 
     mutual
       unfolding value named
+
       pub goes_value : (e : Tree) (s : State V T) → Goes P s (value m seq e s)
       goes_value (t.Number n) s = goes_ok s _
       goes_value (t.Named name) s = goes_given _ _ s
@@ -390,6 +386,7 @@ module _ {V T : Type 0} (m : Machine V T) (P : T → T → Type 0) (h : Steady m
 
       mutual
         unfolding step
+
         pub goes_step : (st : CodeStep) (s : State V T) → Goes P s (step m turn_us seq st s)
         goes_step (c.Block code) s = goes_block code s
         goes_step (c.Control cond repeat timeout steps) s = goes_controlled cond repeat timeout steps _ s (λ r. goes_done steps r)

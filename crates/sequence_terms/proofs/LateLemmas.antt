@@ -7,11 +7,10 @@ use Rattle.target_machine.specs.Plain.{Action, CallEnd, Answered, Skipped, Fault
 use Rattle.target_machine.specs.declared.unit.HaltCause.TheVariants.{AddressTooLarge}
 use Rattle.target_machine.specs.declared.unit.ProbeCall.{ProbeCall}
 use Rattle.call_terms.specs.declared.calls.Ask.{Ask}
-use Rattle.call_terms.specs.declared.calls.Slot.{Slot}
 use Rattle.call_terms.specs.declared.calls.Value.{Value}
 use Rattle.call_terms.specs.declared.calls.Value.TheVariants.{Number, Pending}
 use Rattle.call_terms.specs.Asks.{unit_ask, probe_ask}
-use Rattle.call_terms.specs.NeedPoints.{Costs, used, needed}
+use Rattle.call_terms.specs.NeedPoints.{Costs}
 use Rattle.call_terms.specs.World.{World, is_over, done_now, next_world, stops_here, end_result, results, stop, left_at, world_after, one_if_skipped, skips, is_small_end, small_now}
 use Rattle.call_terms.proofs.CallLists.{append_results, append_skips, stop_stays, whole_front, count_of}
 use Rattle.call_terms.proofs.NeedLemmas.{used_calls, asked_calls}
@@ -102,13 +101,13 @@ module _ (cost : Costs) (w : World) where
       let whole : stop w t.asks.calls ≡ None = whole_front w t.asks.calls p.more (ap (stop w) (sym p.calls) ∙ r.whole) in
       let few : slot.index < length (results w t.asks.calls) = rw (count_of w t.asks.calls whole) h.1 in
       let same : slice_index (results w (t.asks.calls ++ p.more)) slot.index ≡ slice_index (results w t.asks.calls) slot.index
-            = rw (append_results w t.asks.calls p.more whole) (get_or-append (results w t.asks.calls) _ 0 slot.index few) in
+      = rw (append_results w t.asks.calls p.more whole) (get_or-append (results w t.asks.calls) _ 0 slot.index few) in
       let long : length t2.asks.calls ≡ length t.asks.calls + length p.more = ap length p.calls ∙ length-append t.asks.calls p.more in
       let below = h.1 in
       (h.0 ∙ sym same ∙ ap (λ c. slice_index (results w c) slot.index) (sym p.calls), omega (arith, long, below))
 
   -- the calls stop here too
-  stop_here : (b : Bool) (t : Late) (k : ℕ) (u : Now) → StoppedAt w b t k u → stop w t.asks.calls ≡ Some k
+  pub stop_here : (b : Bool) (t : Late) (k : ℕ) (u : Now) → StoppedAt w b t k u → stop w t.asks.calls ≡ Some k
   stop_here b t k u h = ap (stop w) h.calls ∙ stop_stays w u.calls h.more k h.first
 
   stopped_later : (b : Bool) (t t2 : Late) (k : ℕ) (u : Now) → Later w t t2 → StoppedAt w b t k u → StoppedAt w b t2 k u

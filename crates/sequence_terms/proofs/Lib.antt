@@ -3,11 +3,13 @@ pub mod Matching
 pub mod LateLemmas
 pub mod Adding
 pub mod Starting
+pub mod Same
 pub mod LoopLemmas
 pub mod Made
 pub mod Limits
 pub mod Watching
 pub mod Writing
+pub mod Cuts
 pub mod LineLemmas
 pub mod PollLemmas
 pub mod VariableLemmas

@@ -1,23 +1,22 @@
 -- A run of which only so many units are answered.
-use Rattle.std.proofs.Common.{◌≡◌, ℕ, zero, suc, ◌+◌, ◌-◌, ◌≤◌, ◌⊎◌, inl, inr, true, false, cond, List, [], ◌∷◌, ◌++◌, length, Option, None, Some, unwrap_or, Result, Ok, Err, refl, sym, ap, ◌∙◌, arith}
+use Rattle.std.proofs.Common.{◌≡◌, ℕ, zero, suc, ◌+◌, ◌-◌, ◌≤◌, ◌⊎◌, inl, inr, false, cond, List, [], ◌∷◌, ◌++◌, length, Option, None, Some, Ok, Err, refl, sym, ap, ◌∙◌, arith}
 use Rattle.std.proofs.lemmas.List.{length-append, append_assoc, append-nil}
 use Rattle.call_terms.specs.Asks.{unit_ask, probe_ask}
 use Rattle.call_terms.specs.World.{World, start_world, done_now, next_world, one_fewer, is_over}
 use Rattle.call_terms.specs.declared.calls.Ask.{Ask}
 use Rattle.target_machine.specs.Plain.{CallEnd, Answered, Skipped, Faulted, Small}
 use Rattle.target_machine.specs.State.{TargetState}
-use Rattle.sequence_terms.specs.declared.bindings.Binding.{Binding}
-use Rattle.sequence_terms.specs.Alike.{Binds, Alike, Ends, EndsAlone, EndsAlike, CallEnds, CallMatches, Matches, Equal, Tracks}
+use Rattle.sequence_terms.specs.Alike.{Ends, CallMatches, Matches, Equal, Tracks}
 use Rattle.sequence_terms.specs.Direct.{Now, now_at, with_call, with_line, answers, made, direct}
 use Rattle.sequence_terms.specs.Late.{Grows}
 use Rattle.sequence_terms.specs.Laws.{Adds, IsCutShort, IsWhole}
 use Rattle.sequence_terms.specs.Machine as machine
 use Rattle.sequence_terms.specs.Machine.{Over, State, Out}
-use Rattle.sequence_terms.specs.Runs as ending
-use Rattle.sequence_terms.specs.Runs.{Program, Outcome, outcome_at, outcome_over, outcome_of, outcome, outcome_within, meaning}
+use Rattle.sequence_terms.specs.Runs.{Program, Outcome, outcome_over, outcome_of, outcome, outcome_within}
 use Rattle.sequence_terms.proofs.Adding.{adds_direct}
 use Rattle.sequence_terms.proofs.LateLemmas.{grows_same, grows_on}
 use Rattle.sequence_terms.proofs.Starting.{runs_alike}
+use Rattle.sequence_terms.proofs.Same.{same_binds, none_is, here_is}
 
 -- the same, with so many further calls answered
 abbrev pub limited : ℕ → Now → Now
@@ -46,10 +45,7 @@ LimitEnds m here t k machine.Lost u = ⊥
 module _ (m : ℕ) where
   limit_ended : (here : Option Over) (t t2 : Now) (k : ℕ) (over : Over) (u : Now) → Adds t t2 → LimitEnds m None t k over u → LimitEnds m here t2 k over u
   limit_ended here t t2 k (machine.Halted cause) u p h = h
-  limit_ended here t t2 k (machine.Faulted call) u p h = none_some h.0
-    where
-      none_some : {A : Type 0} {x : Over} → None ≡ Some x → A
-      none_some e = absurd cc
+  limit_ended here t t2 k (machine.Faulted call) u p h = none_is h.0
   limit_ended here t t2 k machine.Unanswered u p h =
       record { units = h.units; more = h.more ++ p.more; calls = rw (p.calls, h.calls) (append_assoc u.calls h.more p.more); lines = grows_on _ _ _ h.lines p.lines }
   limit_ended here t t2 k machine.Lost u p h = h
@@ -134,20 +130,8 @@ module _ (m : ℕ) where
   abbrev Limit : Out ℕ Now (Unit {0}) → Out ℕ Now (Unit {0}) → Type 0
   Limit out q = Matches Equal (WithinLimit m) (LimitEnds m) Equal out q
 
-  same_binds : (t : Now) (bs cs : List (Binding ℕ)) → Binds (Equal t) bs cs → cs ≡ bs
-  same_binds t [] [] h = refl
-  same_binds t [] (c ∷ cs) h = absurd h
-  same_binds t (b ∷ bs) [] h = absurd h
-  same_binds t (b ∷ bs) (c ∷ cs) h = rw (sym h.0, h.1, same_binds t bs cs h.2) refl
-
   few : (k : ℕ) (t u : Now) → WithinLimit m k t u → length t.calls ≤ m
   few k t u h = let a = h.within in let b = h.count in omega (arith, a, b)
-
-  here_is : {x y : Over} → Some x ≡ Some y → x ≡ y
-  here_is {x} e = ap (λ o. unwrap_or o x) e
-
-  none_is : {A : Type 0} {x : Over} → None ≡ Some x → A
-  none_is e = absurd cc
 
   short_by : (o : Outcome) (k : ℕ) (t : Now) (r : State ℕ Now) → o.calls ≡ t.calls → o.written ≡ t.written → CutHere m k t r.rest → IsCutShort m o (outcome_over machine.Unanswered r)
   short_by o k t r e f h = record { ending = refl; units = h.units; more = h.more; calls = e ∙ h.calls; lines = rw f h.lines }

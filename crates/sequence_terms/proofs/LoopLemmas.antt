@@ -1,6 +1,6 @@
 -- Loops over lists and turns, scopes, and calls of sequences, on any machine: what is left of the whole after one item more. For runners
 -- that go over a list by an index, count turns down, and swap the variables of a sequence.
-use Rattle.std.proofs.Common.{◌≡◌, ℕ, zero, suc, ◌+◌, ◌-◌, ◌<◌, ◌≤◌, Bool, true, false, cond, List, [], ◌∷◌, ◌++◌, length, drop, take, get_or, Option, None, Some, unwrap_or, Ok, Err, codes, refl, sym, ap, subst, ◌∙◌, arith}
+use Rattle.std.proofs.Common.{◌≡◌, ℕ, zero, suc, ◌+◌, ◌-◌, ◌<◌, ◌≤◌, Bool, true, false, cond, List, [], ◌∷◌, ◌++◌, length, drop, take, get_or, Option, None, Some, unwrap_or, Ok, codes, refl, sym, ap, subst, ◌∙◌, arith}
 use Rattle.std.proofs.lemmas.List.{drop_more}
 use Rattle.dap_base.specs.Outcome.{◌>>=◌}
 use Rattle.expr_grammar.specs.declared.code.Arg.{Arg}

@@ -1,5 +1,5 @@
 -- The calls of a run, made one after the other.
-use Rattle.std.proofs.Common.{◌≡◌, ℕ, min, Bool, true, false, List, length, Option, None, Some, Result, Ok, Err, refl, sym, ap, ◌∙◌}
+use Rattle.std.proofs.Common.{◌≡◌, ℕ, min, Bool, true, false, List, length, Option, None, Some, Ok, Err, refl, sym, ap, ◌∙◌}
 use Rattle.call_terms.specs.declared.calls.Ask.{Ask}
 use Rattle.call_terms.specs.declared.calls.Value.{Value}
 use Rattle.call_terms.specs.NeedPoints.{Costs, nothing_asked}
@@ -7,8 +7,8 @@ use Rattle.call_terms.specs.World.{World, stop, world_after, skips}
 use Rattle.target_machine.specs.declared.unit.HaltCause.{HaltCause}
 use Rattle.sequence_terms.specs.Alike.{Alike}
 use Rattle.sequence_terms.specs.Direct.{Now, now_at, direct}
-use Rattle.sequence_terms.specs.Late.{Late, late_of, late, ComesTo, SameRest, StoppedAt, FaultedAt, StoppedBy, Later}
-use Rattle.sequence_terms.specs.Laws.{Pair, StopAtLast, FaultAtLast, StopBy, IsMadeIn, AreMade}
+use Rattle.sequence_terms.specs.Late.{Late, late_of, late, ComesTo, SameRest, StoppedAt, StoppedBy, Later}
+use Rattle.sequence_terms.specs.Laws.{Pair, StopAtLast, IsMadeIn, AreMade}
 use Rattle.sequence_terms.specs.Machine as machine
 use Rattle.sequence_terms.specs.Machine.{Over, State, Out, end_state}
 use Rattle.sequence_terms.specs.Runs as ending
@@ -20,10 +20,10 @@ use Rattle.sequence_terms.proofs.Starting.{runs_alike}
 pub late_pair : (cost : Costs) (w : World) (p : Program) (written : Option (List ℕ)) → Pair w (late_meaning cost w p written) (meaning w p written)
 late_pair cost w p written =
     runs_alike (late cost w) (direct false) (ComesTo w) (SameRest w) (Later w) (StoppedBy w) (late_tracks cost w) p (late_of nothing_asked written) (now_at w written)
-      (record { count = refl; whole = refl; world = refl; calls = refl; skipped = refl; written = refl })
+    (record { count = refl; whole = refl; world = refl; calls = refl; skipped = refl; written = refl })
 
 -- no need points
-no_cost : Costs
+pub no_cost : Costs
 no_cost t calls ask = record { before = 0; after = 0 }
 
 -- what is to be shown of an outcome and the last state

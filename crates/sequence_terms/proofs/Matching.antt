@@ -1,5 +1,5 @@
 -- Where each operation of two machines is related, so is all that is done on them.
-use Rattle.std.proofs.Common.{◌≡◌, sym, ap, subst, ◌∙◌, arith, bytes_eq, ℕ, zero, suc, ◌+◌, ◌-◌, ◌*◌, ◌/◌, ◌%◌, ◌^◌, Bool, true, false, cond, not, ◌&&◌, ◌||◌, List, [], ◌∷◌, ◌++◌, length, take, drop, slice_index, codes, nat_lt, nat_eq, Option, None, Some, unwrap_or, Result, Ok, Err, refl}
+use Rattle.std.proofs.Common.{◌≡◌, sym, ap, subst, bytes_eq, ℕ, zero, suc, ◌+◌, ◌/◌, ◌%◌, ◌^◌, Bool, true, false, cond, not, ◌&&◌, ◌||◌, List, [], ◌∷◌, ◌++◌, length, take, codes, nat_lt, nat_eq, Option, None, Some, unwrap_or, Result, Ok, Err, refl}
 use Rattle.expr_grammar.specs.declared.code.Name.{Name}
 use Rattle.expr_grammar.specs.declared.code.UnaryOp.{UnaryOp}
 use Rattle.expr_grammar.specs.declared.code.BinaryOp.{BinaryOp}
@@ -13,25 +13,21 @@ use Rattle.sequence_code.specs.Trees as c
 use Rattle.sequence_code.specs.Trees.{CodeStep, CodeSteps, SequenceTrees, SetTrees, steps_named}
 use Rattle.target_machine.specs.declared.unit.HaltCause.TheVariants.{Unsupported, AddressTooLarge, Misaligned, ArgumentOutOfRange, AccessLimit, MessageLimit, DivideByZero, StepLimit}
 use Rattle.target_machine.specs.declared.unit.ProbeCall.{ProbeCall}
-use Rattle.target_machine.specs.declared.unit.ProbeCall.TheVariants as probe
 use Rattle.target_machine.specs.declared.unit.Unit.{Unit as AccessUnit}
-use Rattle.target_machine.specs.declared.unit.Unit.TheVariants as unit
 use Rattle.sequence_terms.specs.declared.bindings.Binding.{Binding}
-use Rattle.expr_grammar.specs.Arithmetic.{unary_value, binary_value, truth}
 use Rattle.dap_base.specs.Outcome.{◌>>=◌}
 use Rattle.sequence_terms.specs.Variables.{bound, has_in, value_in, set_in, newest_in, set_newest, with_new, with_all_new, is_visible, visible, set_visible}
 use Rattle.sequence_terms.specs.Polls.{poll_of}
-use Rattle.sequence_terms.specs.Lines.{message_line, query_line, value_line, load_line}
 use Rattle.sequence_terms.specs.Machine as machine
 use Rattle.sequence_terms.specs.Machine.{Over, Machine, State, Out, halt, with_rest, unit_more, line_more, step_more, with_locals, with_variables, end_state, rest_of}
-use Rattle.sequence_terms.specs.Steady.{Steady, Goes}
+use Rattle.sequence_terms.specs.Steady.{Goes}
 use Rattle.sequence_terms.specs.Calls.{Port, memory_unit, use_now, missing, given, guarded, global, port_with, port_from, port, answered, ask, numbered, command, zero_of, if_read, low_and_high, second_half, two_units, one_unit, memory_at, memory, ap_at, ap_register, dp_at, dp_register, abort_at, abort, delay, clock, pins, line_bits, lined, performed}
-use Rattle.sequence_terms.specs.Values.{text_in, text_of, named, stored, assigned, used_now, of_unary, both, operands, result_of, strict_binary, truth_of, conjunction, disjunction, of_binary, choice, appended, chained, all_used, numbers_of, is_call, called, call_of, value, argument, arguments}
-use Rattle.sequence_terms.specs.Steps.{timeout_of, turn_count, counted, declared, dropped, after_counted, in_order, inside, turn, turns, polled_at, polled, statement, block, condition, looped, repeated, controlled, step, done, given_back, entered, steps_at, sequence_at, debugged, run_of}
+use Rattle.sequence_terms.specs.Values.{named, stored, assigned, used_now, of_unary, both, operands, result_of, strict_binary, truth_of, conjunction, disjunction, of_binary, choice, appended, chained, all_used, numbers_of, is_call, called, call_of, value, argument, arguments}
+use Rattle.sequence_terms.specs.Steps.{timeout_of, counted, declared, dropped, after_counted, in_order, inside, turn, turns, polled_at, polled, statement, block, condition, looped, repeated, controlled, step, done, given_back, entered, steps_at, sequence_at, debugged, run_of}
 use Rattle.std.specs.Bool.{⊤}
 use Rattle.std.specs.Option.{option_or}
 use Rattle.target_machine.specs.declared.unit.HaltCause.{HaltCause}
-use Rattle.sequence_terms.specs.Alike.{Binds, Alike, Ends, EndsAlone, EndsAlike, Matches, CallEnds, CallMatches, Equal, Tracks}
+use Rattle.sequence_terms.specs.Alike.{Binds, Alike, Ends, EndsAlone, Matches, CallEnds, CallMatches, Equal, Tracks}
 use Rattle.sequence_terms.proofs.Goes as g
 
 -- lists of related values
@@ -98,7 +94,7 @@ module _ {V W : Type 0} (Val : V → W → Type 0) where
     where
       one : (q p : Bool) → Binds Val (set_newest bs name v) (set_newest cs name w)
           → Binds Val (cond q (record { name = x.name; value = b.value } ∷ set_newest bs name v) (cond p (record { name = x.name; value = v } ∷ bs) (record { name = x.name; value = b.value } ∷ bs)))
-              (cond q (x ∷ set_newest cs name w) (cond p (record { name = x.name; value = w } ∷ cs) (x ∷ cs)))
+          (cond q (x ∷ set_newest cs name w) (cond p (record { name = x.name; value = w } ∷ cs) (x ∷ cs)))
       one true p k = (refl, h.1, k)
       one false true k = (refl, a, h.2)
       one false false k = (refl, h.1, h.2)
@@ -244,9 +240,9 @@ module _ {V W T U : Type 0} (m : Machine V T) (d : Machine W U) (Val : T → V �
   port_of s r al = match_then Equal Equal (global m (codes "__ap") s) (global d (codes "__ap") r) _ _ (global_of (codes "__ap") s r al)
       (λ x. g.goes_bind m P h.steady x.1 (global m (codes "__errorcontrol") x.1) _ (g.goes_global m P h.steady _ x.1) (λ y. g.goes_bind m P h.steady y.1 (global m (codes "__dp") y.1) _ (g.goes_global m P h.steady _ y.1) (λ z. g.goes_ok m P h.steady z.1 _)))
       (λ x y al2 a. match_then Equal Equal (global m (codes "__errorcontrol") x.1) (global d (codes "__errorcontrol") y.1) _ _ (global_of (codes "__errorcontrol") x.1 y.1 al2)
-        (λ z. g.goes_bind m P h.steady z.1 (global m (codes "__dp") z.1) _ (g.goes_global m P h.steady _ z.1) (λ u. g.goes_ok m P h.steady u.1 _))
-        (λ z u al3 b. match_then Equal Equal (global m (codes "__dp") z.1) (global d (codes "__dp") u.1) _ _ (global_of (codes "__dp") z.1 u.1 al3) (λ v. g.goes_ok m P h.steady v.1 _)
-          (λ v w al4 e. (al4, rw (a, b, e) refl))))
+      (λ z. g.goes_bind m P h.steady z.1 (global m (codes "__dp") z.1) _ (g.goes_global m P h.steady _ z.1) (λ u. g.goes_ok m P h.steady u.1 _))
+      (λ z u al3 b. match_then Equal Equal (global m (codes "__dp") z.1) (global d (codes "__dp") u.1) _ _ (global_of (codes "__dp") z.1 u.1 al3) (λ v. g.goes_ok m P h.steady v.1 _)
+      (λ v w al4 e. (al4, rw (a, b, e) refl))))
 
   -- how a unit or a command ends
   call_ended : (S : T → V → W → Type 0) (s : State V T) (r : State W U) (e : Over) (t2 : T) (over : Over) (u2 : U) → Sim s r → P s.rest t2 → CallEnds R D (s.units + 1) e t2 over u2
@@ -269,7 +265,7 @@ module _ {V W T U : Type 0} (m : Machine V T) (d : Machine W U) (Val : T → V �
       let x : Out V T V = answered m (m.asked u forgive s.rest) s in
       let y : Out V T V = halt AccessLimit s in
       subst (λ (k : ℕ). Comes Val (cond (nat_lt k 1000000) x y) (ask d u forgive r)) al.units
-        (match_if Val (nat_lt r.units 1000000) x y _ _ (answered_of _ _ s r al (h.steady.asked u forgive s.rest) (h.asked s.units s.rest r.rest u forgive al.rest)) (refl, al))
+      (match_if Val (nat_lt r.units 1000000) x y _ _ (answered_of _ _ s r al (h.steady.asked u forgive s.rest) (h.asked s.units s.rest r.rest u forgive al.rest)) (refl, al))
 
   numbered_of : (x : Result (ℕ × T) (Over × T)) (y : Result (ℕ × U) (Over × U)) (s : State V T) (r : State W U) → Sim s r → P s.rest (rest_of x) → CallMatches R D Equal (s.units + 1) x y → Comes Val (numbered m x s) (numbered d y r)
   unfolding numbered
@@ -284,7 +280,7 @@ module _ {V W T U : Type 0} (m : Machine V T) (d : Machine W U) (Val : T → V �
       let x : Out V T V = numbered m (m.commanded c s.rest) s in
       let y : Out V T V = halt AccessLimit s in
       subst (λ (k : ℕ). Comes Val (cond (nat_lt k 1000000) x y) (command d c r)) al.units
-        (match_if Val (nat_lt r.units 1000000) x y _ _ (numbered_of _ _ s r al (h.steady.commanded c s.rest) (h.commanded s.units s.rest r.rest c al.rest)) (refl, al))
+      (match_if Val (nat_lt r.units 1000000) x y _ _ (numbered_of _ _ s r al (h.steady.commanded c s.rest) (h.commanded s.units s.rest r.rest c al.rest)) (refl, al))
 
   zero_of_of : (out : Out V T V) (q : Out W U W) → Comes Val out q → Comes Val (zero_of m out) (zero_of d q)
   unfolding zero_of
@@ -305,25 +301,25 @@ module _ {V W T U : Type 0} (m : Machine V T) (d : Machine W U) (Val : T → V �
       let a2 = h.keeps s.units s.rest (m.confirmed s.rest) (d.confirmed r.rest) low low2 p k a in
       let b2 = h.keeps s.units s.rest (m.confirmed s.rest) (d.confirmed r.rest) high high2 p k b in
       match_bind Equal Val s2 (use_now m low s2) (use_now d low2 r2) _ _ (use_of low low2 s2 r2 (moved s r _ _ al p k) a2) (g.goes_use m P h.steady low s2)
-        (λ x. g.goes_bind m P h.steady x.1 (use_now m high x.1) _ (g.goes_use m P h.steady high x.1) (λ y. g.goes_ok m P h.steady y.1 _))
-        (λ x y al2 p2 e. match_then Equal Val (use_now m high x.1) (use_now d high2 y.1) _ _ (use_of high high2 x.1 y.1 al2 (h.keeps _ s2.rest x.1.rest y.1.rest high high2 p2 al2.rest b2))
-          (λ z. g.goes_ok m P h.steady z.1 _) (λ z w al3 e2. number_of _ _ z.1 w.1 (rw (e, e2) refl) al3))
+      (λ x. g.goes_bind m P h.steady x.1 (use_now m high x.1) _ (g.goes_use m P h.steady high x.1) (λ y. g.goes_ok m P h.steady y.1 _))
+      (λ x y al2 p2 e. match_then Equal Val (use_now m high x.1) (use_now d high2 y.1) _ _ (use_of high high2 x.1 y.1 al2 (h.keeps _ s2.rest x.1.rest y.1.rest high high2 p2 al2.rest b2))
+      (λ z. g.goes_ok m P h.steady z.1 _) (λ z w al3 e2. number_of _ _ z.1 w.1 (rw (e, e2) refl) al3))
 
   second_half_of : (read : Bool) (p : Port) (address n : ℕ) (low : V) (low2 : W) (s : State V T) (r : State W U) → Sim s r → Val s.rest low low2 → Comes Val (second_half m read p address n low s) (second_half d read p address n low2 r)
   unfolding second_half
   second_half_of read p address n low low2 s r al a =
       let u = memory_unit 4 read p.ap (address + 4) (n / 2 ^ 32) in
       match_bind Val Val s (ask m u p.forgive s) (ask d u p.forgive r) _ _ (ask_of u p.forgive s r al) (g.goes_ask m P h.steady u p.forgive s)
-        (λ x. g.goes_cond m P h.steady x.1 read _ _ (g.goes_low_and_high m P h.steady low x.0 x.1) (g.goes_ok m P h.steady x.1 _))
-        (λ x y al2 go b. match_if Val read (low_and_high m low x.0 x.1) (Ok (m.number 0, x.1)) (low_and_high d low2 y.0 y.1) (Ok (d.number 0, y.1))
-          (low_and_high_of low x.0 low2 y.0 x.1 y.1 al2 (h.keeps _ s.rest x.1.rest y.1.rest low low2 go al2.rest a) b) (number_of 0 0 x.1 y.1 refl al2))
+      (λ x. g.goes_cond m P h.steady x.1 read _ _ (g.goes_low_and_high m P h.steady low x.0 x.1) (g.goes_ok m P h.steady x.1 _))
+      (λ x y al2 go b. match_if Val read (low_and_high m low x.0 x.1) (Ok (m.number 0, x.1)) (low_and_high d low2 y.0 y.1) (Ok (d.number 0, y.1))
+      (low_and_high_of low x.0 low2 y.0 x.1 y.1 al2 (h.keeps _ s.rest x.1.rest y.1.rest low low2 go al2.rest a) b) (number_of 0 0 x.1 y.1 refl al2))
 
   two_units_of : (read : Bool) (p : Port) (address n : ℕ) (s : State V T) (r : State W U) → Sim s r → Comes Val (two_units m read p address n s) (two_units d read p address n r)
   unfolding two_units
   two_units_of read p address n s r al =
       let u = memory_unit 4 read p.ap address n in
       match_then Val Val (ask m u p.forgive s) (ask d u p.forgive r) _ _ (ask_of u p.forgive s r al) (λ x. g.goes_second_half m P h.steady read p address n x.0 x.1)
-        (λ x y al2 a. second_half_of read p address n x.0 y.0 x.1 y.1 al2 a)
+      (λ x y al2 a. second_half_of read p address n x.0 y.0 x.1 y.1 al2 a)
 
   memory_at_of : (size : ℕ) (read : Bool) (address n : ℕ) (p : Port) (s : State V T) (r : State W U) → Sim s r → Comes Val (memory_at m size read address n p s) (memory_at d size read address n p r)
   unfolding memory_at one_unit
@@ -396,8 +392,8 @@ module _ {V W T U : Type 0} (m : Machine V T) (d : Machine W U) (Val : T → V �
       let x : Out V T V = Ok (m.number n, line_more s (m.written line s.rest)) in
       let y : Out V T V = halt MessageLimit s in
       subst (λ (i : ℕ). Comes Val (cond (nat_lt i 100000) x y) (lined d line n r)) al.lines
-        (match_if Val (nat_lt r.lines 100000) x y _ _
-          (record { globals = binds_keep s.units s.rest _ _ _ _ p k al.globals; locals = binds_keep s.units s.rest _ _ _ _ p k al.locals; units = al.units; lines = ap (λ i. i + 1) al.lines; steps = al.steps; rest = k }, h.number _ n) (refl, al))
+      (match_if Val (nat_lt r.lines 100000) x y _ _
+      (record { globals = binds_keep s.units s.rest _ _ _ _ p k al.globals; locals = binds_keep s.units s.rest _ _ _ _ p k al.locals; units = al.units; lines = ap (λ i. i + 1) al.lines; steps = al.steps; rest = k }, h.number _ n) (refl, al))
 
   performed_of : (function : Function) (text n : List ℕ) (s : State V T) (r : State W U) → Sim s r → Comes Val (performed m function text n s) (performed d function text n r)
   unfolding performed
@@ -434,9 +430,9 @@ module _ {V W T U : Type 0} (m : Machine V T) (d : Machine W U) (Val : T → V �
   set_visible_of : (name : List ℕ) (v : V) (w : W) (s : State V T) (r : State W U) → Sim s r → Val s.rest v w → Sim (set_visible name v s) (set_visible name w r)
   set_visible_of name v w s r al a =
       rw (has_in_of (Val s.rest) s.locals r.locals name al.locals)
-        (sim_if (has_in r.locals name) _ _ _ _
-          (record { globals = al.globals; locals = set_newest_of (Val s.rest) _ _ name v w al.locals a; units = al.units; lines = al.lines; steps = al.steps; rest = al.rest })
-          (record { globals = set_in_of (Val s.rest) _ _ name v w al.globals a; locals = al.locals; units = al.units; lines = al.lines; steps = al.steps; rest = al.rest }))
+      (sim_if (has_in r.locals name) _ _ _ _
+      (record { globals = al.globals; locals = set_newest_of (Val s.rest) _ _ name v w al.locals a; units = al.units; lines = al.lines; steps = al.steps; rest = al.rest })
+      (record { globals = set_in_of (Val s.rest) _ _ name v w al.globals a; locals = al.locals; units = al.units; lines = al.lines; steps = al.steps; rest = al.rest }))
 
   guarded_at : {A B : Type 0} (S : T → A → B → Type 0) (s : State V T) (r : State W U) (x : Out V T A) (y : Out W U B) (p q ok : Bool) → p ≡ false → (q ≡ true → D None s.rest r.units machine.Lost r.rest) → Goes P s x → Comes S x y
       → Comes S (cond (p && not ok) (Err (machine.Lost, s)) x) (cond (q && not ok) (Err (machine.Lost, r)) y)
@@ -456,8 +452,8 @@ module _ {V W T U : Type 0} (m : Machine V T) (d : Machine W U) (Val : T → V �
   unfolding stored
   stored_of name v w s r al a =
       rw (is_visible_of name.text s r al) (guarded_of Val (is_visible name.text r) (λ q. Ok (v, set_visible name.text v q)) (λ q. Ok (w, set_visible name.text w q)) s r al
-        (record { so = rw (g.stored_rest m P h.steady name.text v s) (h.steady.same s.rest) })
-        (set_visible_of name.text v w s r al a, subst (λ t. Val t v w) (sym (g.stored_rest m P h.steady name.text v s)) a))
+      (record { so = rw (g.stored_rest m P h.steady name.text v s) (h.steady.same s.rest) })
+      (set_visible_of name.text v w s r al a, subst (λ t. Val t v w) (sym (g.stored_rest m P h.steady name.text v s)) a))
 
   named_of : (name : Name) (s : State V T) (r : State W U) → Sim s r → Comes Val (named m name s) (named d name r)
   unfolding named
@@ -481,7 +477,7 @@ module _ {V W T U : Type 0} (m : Machine V T) (d : Machine W U) (Val : T → V �
   both_of v v2 w w2 s r al a b = match_bind Equal Equal s (use_now m v s) (use_now d w r) _ _ (use_of v w s r al a) (g.goes_use m P h.steady v s)
       (λ x. g.goes_bind m P h.steady x.1 (use_now m v2 x.1) _ (g.goes_use m P h.steady v2 x.1) (λ y. g.goes_ok m P h.steady y.1 _))
       (λ x y al2 p e. match_then Equal Equal (use_now m v2 x.1) (use_now d w2 y.1) _ _ (use_of v2 w2 x.1 y.1 al2 (h.keeps _ s.rest x.1.rest y.1.rest v2 w2 p al2.rest b))
-        (λ z. g.goes_ok m P h.steady z.1 _) (λ z u al3 e2. (al3, rw (e, e2) refl)))
+      (λ z. g.goes_ok m P h.steady z.1 _) (λ z u al3 e2. (al3, rw (e, e2) refl)))
 
   abbrev Follows : {A B : Type 0} → (T → A → B → Type 0) → (State V T → Out V T A) → (State W U → Out W U B) → Type 0
   Follows S f k = (s : State V T) (r : State W U) → Sim s r → Comes S (f s) (k r)
@@ -493,7 +489,7 @@ module _ {V W T U : Type 0} (m : Machine V T) (d : Machine W U) (Val : T → V �
   unfolding operands
   operands_of s out q f k c go fol = match_then Val Equal out q _ _ c (λ x. g.goes_bind m P h.steady x.1 (f x.1) _ (go x.1) (λ y. g.goes_both m P h.steady x.0 y.0 y.1))
       (λ x y al a. match_bind Val Equal x.1 (f x.1) (k y.1) _ _ (fol x.1 y.1 al) (go x.1) (λ z. g.goes_both m P h.steady x.0 z.0 z.1)
-        (λ z w al2 p b. both_of x.0 z.0 y.0 w.0 z.1 w.1 al2 (h.keeps _ x.1.rest z.1.rest w.1.rest x.0 y.0 p al2.rest a) b))
+      (λ z w al2 p b. both_of x.0 z.0 y.0 w.0 z.1 w.1 al2 (h.keeps _ x.1.rest z.1.rest w.1.rest x.0 y.0 p al2.rest a) b))
 
   results_of : (o : Option ℕ) (s : State V T) (r : State W U) → Sim s r → Comes Val (result_of m o s) (result_of d o r)
   unfolding result_of
@@ -514,15 +510,15 @@ module _ {V W T U : Type 0} (m : Machine V T) (d : Machine W U) (Val : T → V �
   conjunction_of out q f k c go fol = match_then Equal Val (used_now m out) (used_now d q) _ _ (used_now_of out q c)
       (λ x. g.goes_cond m P h.steady x.1 (nat_eq x.0 0) _ _ (g.goes_ok m P h.steady x.1 _) (g.goes_truth_of m P h.steady (f x.1) x.1 (go x.1)))
       (λ x y al e. rw e (match_if Val (nat_eq x.0 0) _ _ _ _ (number_of 0 0 x.1 y.1 refl al)
-        (truth_of_of (f x.1) (k y.1) (fol x.1 y.1 al))))
+      (truth_of_of (f x.1) (k y.1) (fol x.1 y.1 al))))
 
   disjunction_of : (out : Out V T V) (q : Out W U W) (f : State V T → Out V T V) (k : State W U → Out W U W) → Comes Val out q → Goer f → Follows Val f k → Comes Val (disjunction m out f) (disjunction d q k)
   unfolding disjunction
   disjunction_of out q f k c go fol = match_then Equal Val (used_now m out) (used_now d q) _ _ (used_now_of out q c)
       (λ x. g.goes_cond m P h.steady x.1 (nat_eq x.0 0) _ _ (g.goes_truth_of m P h.steady (f x.1) x.1 (go x.1)) (g.goes_ok m P h.steady x.1 _))
       (λ x y al e. rw e (match_if Val (nat_eq x.0 0) _ _ _ _
-        (truth_of_of (f x.1) (k y.1) (fol x.1 y.1 al))
-        (number_of 1 1 x.1 y.1 refl al)))
+      (truth_of_of (f x.1) (k y.1) (fol x.1 y.1 al))
+      (number_of 1 1 x.1 y.1 refl al)))
 
   of_binary_of : (op : BinaryOp) (s : State V T) (out : Out V T V) (q : Out W U W) (f : State V T → Out V T V) (k : State W U → Out W U W) → Comes Val out q → Goer f → Follows Val f k → Comes Val (of_binary m op out f) (of_binary d op q k)
   unfolding of_binary
@@ -549,7 +545,7 @@ module _ {V W T U : Type 0} (m : Machine V T) (d : Machine W U) (Val : T → V �
   all_used_of (v ∷ vs) (w ∷ ws) s r al a = match_bind Equal Equal s (use_now m v s) (use_now d w r) _ _ (use_of v w s r al a.0) (g.goes_use m P h.steady v s)
       (λ x. g.goes_bind m P h.steady x.1 (all_used m vs x.1) _ (g.goes_all_used m P h.steady vs x.1) (λ y. g.goes_ok m P h.steady y.1 _))
       (λ x y al2 p e. match_then Equal Equal (all_used m vs x.1) (all_used d ws y.1) _ _ (all_used_of vs ws x.1 y.1 al2 (vals_keep _ s.rest x.1.rest y.1.rest vs ws p al2.rest a.1))
-        (λ z. g.goes_ok m P h.steady z.1 _) (λ z u al3 e2. (al3, rw (e, e2) refl)))
+      (λ z. g.goes_ok m P h.steady z.1 _) (λ z u al3 e2. (al3, rw (e, e2) refl)))
 
   numbers_of_of : (out : Out V T (List V)) (q : Out W U (List W)) → Comes Vals out q → Comes Equal (numbers_of m out) (numbers_of d q)
   unfolding numbers_of
@@ -571,8 +567,8 @@ module _ {V W T U : Type 0} (m : Machine V T) (d : Machine W U) (Val : T → V �
       let x : Out V T (Unit {0}) = Ok (tt, step_more s) in
       let y : Out V T (Unit {0}) = halt StepLimit s in
       subst (λ (i : ℕ). Comes Equal (cond (nat_lt i 100000000) x y) (counted d r)) al.steps
-        (match_if Equal (nat_lt r.steps 100000000) x y _ _
-          (record { globals = al.globals; locals = al.locals; units = al.units; lines = al.lines; steps = ap (λ i. i + 1) al.steps; rest = al.rest }, refl) (refl, al))
+      (match_if Equal (nat_lt r.steps 100000000) x y _ _
+      (record { globals = al.globals; locals = al.locals; units = al.units; lines = al.lines; steps = ap (λ i. i + 1) al.steps; rest = al.rest }, refl) (refl, al))
 
   declared_of : (name : Name) (out : Out V T V) (q : Out W U W) → Comes Val out q → Comes Equal (declared m name out) (declared d name q)
   unfolding declared
@@ -594,17 +590,25 @@ module _ {V W T U : Type 0} (m : Machine V T) (d : Machine W U) (Val : T → V �
   inside_of : (f : State V T → Out V T (Unit {0})) (k : State W U → Out W U (Unit {0})) → Follows Equal f k → Follows Equal (inside m f) (inside d k)
   unfolding inside
   inside_of f k fol s r al = match_then Equal Equal (f s) (k r) _ _ (fol s r al) (λ x. record { so = h.steady.same x.1.rest })
-      (λ x y al2 e. (record { globals = al2.globals;
+      (λ x y al2 e. (
+        record {
+          globals = al2.globals;
           locals = subst (λ i. Binds (Val x.1.rest) (take (length s.locals) x.1.locals) (take i y.1.locals)) (binds_length (Val s.rest) s.locals r.locals al.locals) (binds_take (Val x.1.rest) (length s.locals) x.1.locals y.1.locals al2.locals);
-          units = al2.units; lines = al2.lines; steps = al2.steps; rest = al2.rest }, refl))
+          units = al2.units;
+          lines = al2.lines;
+          steps = al2.steps;
+          rest = al2.rest;
+        },
+        refl,
+      ))
 
   turn_of : (test : State V T → Out V T V) (test2 : State W U → Out W U W) (f : State V T → Out V T (Unit {0})) (k : State W U → Out W U (Unit {0})) → Goer test → Follows Val test test2 → Goer f → Follows Equal f k → Follows Equal (turn m test f) (turn d test2 k)
   unfolding turn
   turn_of test test2 f k go fol go2 fol2 s r al = match_then Equal Equal (counted m s) (counted d r) _ _ (counted_of s r al)
       (λ c. g.goes_bind m P h.steady c.1 (used_now m (test c.1)) _ (g.goes_used_now m P h.steady (test c.1) c.1 (go c.1)) (λ x. rest_goes x.0 x.1))
       (λ c e al2 i. match_then Equal Equal (used_now m (test c.1)) (used_now d (test2 e.1)) _ _ (used_now_of _ _ (fol c.1 e.1 al2)) (λ x. rest_goes x.0 x.1)
-        (λ x y al3 j. rw j (match_if Equal (nat_eq x.0 0) _ _ _ _ (al3, refl)
-          (match_then Equal Equal (f x.1) (k y.1) _ _ (fol2 x.1 y.1 al3) (λ z. g.goes_ok m P h.steady z.1 true) (λ z w al4 e4. (al4, refl))))))
+      (λ x y al3 j. rw j (match_if Equal (nat_eq x.0 0) _ _ _ _ (al3, refl)
+      (match_then Equal Equal (f x.1) (k y.1) _ _ (fol2 x.1 y.1 al3) (λ z. g.goes_ok m P h.steady z.1 true) (λ z w al4 e4. (al4, refl))))))
     where
       rest_goes : (n : ℕ) (q : State V T) → Goes P q (cond (nat_eq n 0) (Ok (false, q)) (f q >>= λ y. Ok (true, y.1)))
       rest_goes n q = g.goes_cond m P h.steady q (nat_eq n 0) _ _ (g.goes_ok m P h.steady q false) (g.goes_bind m P h.steady q (f q) _ (go2 q) (λ y. g.goes_ok m P h.steady y.1 true))
@@ -625,7 +629,7 @@ module _ {V W T U : Type 0} (m : Machine V T) (d : Machine W U) (Val : T → V �
   polled_of form n s r al = match_then Equal Equal (counted m s) (counted d r) _ _ (counted_of s r al)
       (λ x. g.goes_bind m P h.steady x.1 (global m (codes "__dp") x.1) _ (g.goes_global m P h.steady _ x.1) (λ y. g.goes_polled_at m P h.steady form n y.0 y.1))
       (λ x y al2 e. match_then Equal Equal (global m (codes "__dp") x.1) (global d (codes "__dp") y.1) _ _ (global_of (codes "__dp") x.1 y.1 al2) (λ z. g.goes_polled_at m P h.steady form n z.0 z.1)
-        (λ z w al3 e2. rw e2 (polled_at_of form n z.0 z.1 w.1 al3)))
+      (λ z w al3 e2. rw e2 (polled_at_of form n z.0 z.1 w.1 al3)))
 
   both_same : {A : Type 0} (t : T) (o : Option A) → Both (Equal t) o o
   both_same t None = tt
@@ -647,6 +651,7 @@ module _ {V W T U : Type 0} (m : Machine V T) (d : Machine W U) (Val : T → V �
 
     mutual
       unfolding value
+
       value_of : (e : Tree) → Follows Val (value m seq e) (value d seq2 e)
       value_of (t.Number n) s r al = number_of n n s r refl al
       value_of (t.Named name) s r al = named_of name s r al
@@ -705,6 +710,7 @@ module _ {V W T U : Type 0} (m : Machine V T) (d : Machine W U) (Val : T → V �
 
       mutual
         unfolding step
+
         step_of : (st : CodeStep) → Follows Equal (step m turn_us seq st) (step d turn_us seq2 st)
         step_of (c.Block code) s r al = block_of code s r al
         step_of (c.Control cond repeat timeout steps) s r al = controlled_of cond repeat timeout steps _ _ (λ q. g.goes_done m P h.steady seq gs turn_us steps q) (λ q p al2. done_of steps q p al2) s r al
@@ -733,10 +739,17 @@ module _ {V W T U : Type 0} (m : Machine V T) (d : Machine W U) (Val : T → V �
   entered_of f k go fol s r al = match_bind Equal Equal (with_locals s []) (f (with_locals s [])) (k (with_locals r [])) _ _
       (fol (with_locals s []) (with_locals r []) (record { globals = al.globals; locals = tt; units = al.units; lines = al.lines; steps = al.steps; rest = al.rest }))
       (go (with_locals s [])) (λ x. record { so = h.steady.same x.1.rest })
-      (λ x y al2 p e. (record {
+      (λ x y al2 p e. (
+        record {
           globals = given_back_of x.1.rest s.globals x.1.globals r.globals y.1.globals (binds_keep _ s.rest x.1.rest y.1.rest _ _ p al2.rest al.globals) al2.globals;
           locals = binds_keep _ s.rest x.1.rest y.1.rest _ _ p al2.rest al.locals;
-          units = al2.units; lines = al2.lines; steps = al2.steps; rest = al2.rest }, refl))
+          units = al2.units;
+          lines = al2.lines;
+          steps = al2.steps;
+          rest = al2.rest;
+        },
+        refl,
+      ))
 
   module _ (turn_us : ℕ) (set : SetTrees) where
     steps_at_of : (name : List ℕ) → Follows Equal (steps_at m turn_us set name) (steps_at d turn_us set name)
@@ -749,8 +762,8 @@ module _ {V W T U : Type 0} (m : Machine V T) (d : Machine W U) (Val : T → V �
     sequence_of (suc i) name s r al = entered_of _ _
         (λ q. g.goes_bind m P h.steady q (steps_at m turn_us set name q) _ (g.goes_steps_at m P h.steady turn_us set name q) (λ x. g.goes_done m P h.steady _ (λ n p. g.goes_sequence m P h.steady turn_us set i n p) turn_us x.0 x.1))
         (λ q p al2. match_then Equal Equal (steps_at m turn_us set name q) (steps_at d turn_us set name p) _ _ (steps_at_of name q p al2)
-          (λ x. g.goes_done m P h.steady _ (λ n y. g.goes_sequence m P h.steady turn_us set i n y) turn_us x.0 x.1)
-          (λ x y al3 e. rw e (done_of (λ n z. sequence_at m turn_us set i n z) (λ n z. sequence_at d turn_us set i n z) (λ n z. g.goes_sequence m P h.steady turn_us set i n z) (λ n. sequence_of i n) turn_us x.0 x.1 y.1 al3))) s r al
+        (λ x. g.goes_done m P h.steady _ (λ n y. g.goes_sequence m P h.steady turn_us set i n y) turn_us x.0 x.1)
+        (λ x y al3 e. rw e (done_of (λ n z. sequence_at m turn_us set i n z) (λ n z. sequence_at d turn_us set i n z) (λ n z. g.goes_sequence m P h.steady turn_us set i n z) (λ n. sequence_of i n) turn_us x.0 x.1 y.1 al3))) s r al
 
     pub debugged_of : (code : List StmtTree) → Follows Equal (debugged m turn_us set code) (debugged d turn_us set code)
     unfolding debugged
@@ -760,7 +773,7 @@ module _ {V W T U : Type 0} (m : Machine V T) (d : Machine W U) (Val : T → V �
         (value_of (λ n q. sequence_at m turn_us set 0 n q) (λ n q. sequence_at d turn_us set 0 n q) (λ n q. g.goes_sequence m P h.steady turn_us set 0 n q) (λ n. sequence_of 0 n) e s r al)
         (λ x. g.goes_bind m P h.steady x.1 (stored m name x.0 x.1) _ (g.goes_stored m P h.steady name x.0 x.1) (λ y. g.goes_debugged m P h.steady turn_us set code y.1))
         (λ x y al2 a. match_then Val Equal (stored m name x.0 x.1) (stored d name y.0 y.1) _ _ (stored_of name x.0 y.0 x.1 y.1 al2 a) (λ z. g.goes_debugged m P h.steady turn_us set code z.1)
-          (λ z w al3 b. debugged_of code z.1 w.1 al3))
+        (λ z w al3 b. debugged_of code z.1 w.1 al3))
     debugged_of (t.Plain at e ∷ code) s r al = debugged_of code s r al
 
     -- a whole run
@@ -769,5 +782,5 @@ module _ {V W T U : Type 0} (m : Machine V T) (d : Machine W U) (Val : T → V �
     run_of_of start s r al = match_then Equal Equal (debugged m turn_us set set.debugvars s) (debugged d turn_us set set.debugvars r) _ _ (debugged_of set.debugvars s r al)
         (λ x. g.goes_bind m P h.steady x.1 (steps_at m turn_us set start x.1) _ (g.goes_steps_at m P h.steady turn_us set start x.1) (λ y. g.goes_done m P h.steady _ (λ n p. g.goes_sequence m P h.steady turn_us set 31 n p) turn_us y.0 y.1))
         (λ x y al2 e. match_then Equal Equal (steps_at m turn_us set start x.1) (steps_at d turn_us set start y.1) _ _ (steps_at_of start x.1 y.1 al2)
-          (λ z. g.goes_done m P h.steady _ (λ n p. g.goes_sequence m P h.steady turn_us set 31 n p) turn_us z.0 z.1)
-          (λ z w al3 e2. rw e2 (done_of (λ n q. sequence_at m turn_us set 31 n q) (λ n q. sequence_at d turn_us set 31 n q) (λ n x2. g.goes_sequence m P h.steady turn_us set 31 n x2) (λ n. sequence_of 31 n) turn_us z.0 z.1 w.1 al3)))
+        (λ z. g.goes_done m P h.steady _ (λ n p. g.goes_sequence m P h.steady turn_us set 31 n p) turn_us z.0 z.1)
+        (λ z w al3 e2. rw e2 (done_of (λ n q. sequence_at m turn_us set 31 n q) (λ n q. sequence_at d turn_us set 31 n q) (λ n x2. g.goes_sequence m P h.steady turn_us set 31 n x2) (λ n. sequence_of 31 n) turn_us z.0 z.1 w.1 al3)))

@@ -1,5 +1,5 @@
 -- A run on two machines starts alike.
-use Rattle.std.proofs.Common.{◌≡◌, ℕ, List, [], ◌∷◌, Option, refl, ap}
+use Rattle.std.proofs.Common.{ℕ, List, [], ◌∷◌, refl}
 use Rattle.sequence_terms.specs.declared.bindings.Binding.{Binding}
 use Rattle.sequence_terms.specs.Alike.{Binds, Alike, Ends, Matches, Equal, Tracks}
 use Rattle.sequence_terms.specs.Machine.{Machine}

@@ -1,5 +1,5 @@
 -- What was written before a run changes nothing of it but what is written.
-use Rattle.std.proofs.Common.{◌≡◌, ℕ, ◌+◌, Bool, true, false, cond, List, [], ◌∷◌, Option, None, Some, option_map, unwrap_or, Result, Ok, Err, refl, sym, ap, ◌∙◌}
+use Rattle.std.proofs.Common.{◌≡◌, ℕ, ◌+◌, Bool, true, false, cond, List, Option, None, Some, option_map, Ok, Err, refl, ap}
 use Rattle.call_terms.specs.Asks.{unit_ask, probe_ask}
 use Rattle.call_terms.specs.NeedPoints.{Asks, Costs, nothing_asked}
 use Rattle.call_terms.specs.World.{World, is_over, done_now, next_world, small_now}
@@ -9,17 +9,17 @@ use Rattle.call_terms.specs.declared.calls.Value.TheVariants.{Number, Pending}
 use Rattle.target_machine.specs.Plain.{CallEnd, Answered, Skipped, Faulted, Small}
 use Rattle.target_machine.specs.declared.unit.HaltCause.TheVariants.{AddressTooLarge}
 use Rattle.target_machine.specs.declared.unit.Unit.{Unit as AccessUnit}
-use Rattle.sequence_terms.specs.declared.bindings.Binding.{Binding}
-use Rattle.sequence_terms.specs.Alike.{Binds, Ends, CallMatches, Matches, Equal, Tracks}
+use Rattle.sequence_terms.specs.Alike.{Ends, CallMatches, Matches, Equal, Tracks}
 use Rattle.sequence_terms.specs.Direct.{Now, now_at, with_call, with_line, line_after, answers, made, direct}
-use Rattle.sequence_terms.specs.Late.{Late, late_of, line_unless, asks_with, used_late, asked_late, written_late, late, Later}
+use Rattle.sequence_terms.specs.Late.{Late, late_of, asks_with, used_late, asked_late, late, Later}
 use Rattle.sequence_terms.specs.Laws.{Adds, without_lines, LinesAreOnlyWritten}
 use Rattle.sequence_terms.specs.Machine as machine
 use Rattle.sequence_terms.specs.Machine.{Over, State, Out, end_state}
-use Rattle.sequence_terms.specs.Runs.{Program, Outcome, outcome_over, outcome_of, meaning, late_meaning}
+use Rattle.sequence_terms.specs.Runs.{outcome_over, outcome_of, meaning, late_meaning}
 use Rattle.sequence_terms.proofs.Adding.{adds_direct}
 use Rattle.sequence_terms.proofs.LateLemmas.{steady_late}
 use Rattle.sequence_terms.proofs.Starting.{runs_alike}
+use Rattle.sequence_terms.proofs.Same.{same_binds, none_is, here_is}
 
 -- ---- the meaning
 
@@ -36,12 +36,6 @@ WrittenEnds here t k (machine.Faulted call) u = (here ≡ Some (machine.Faulted 
 WrittenEnds here t k machine.Unanswered u = (here ≡ Some machine.Unanswered) × Written k t u
 WrittenEnds here t k machine.Lost u = ⊥
 
-none_is : {A : Type 0} {x : Over} → None ≡ Some x → A
-none_is e = absurd cc
-
-here_is : {x y : Over} → Some x ≡ Some y → x ≡ y
-here_is {x} e = ap (λ o. unwrap_or o x) e
-
 written_ended : (here : Option Over) (t t2 : Now) (k : ℕ) (over : Over) (u : Now) → Adds t t2 → WrittenEnds None t k over u → WrittenEnds here t2 k over u
 written_ended here t t2 k (machine.Halted cause) u p h = h
 written_ended here t t2 k (machine.Faulted call) u p h = none_is h.0
@@ -50,7 +44,7 @@ written_ended here t t2 k machine.Lost u p h = h
 
 call_by : (ask : Ask) (k : ℕ) (n : World) (t : Now) (x : Option (List ℕ)) (o : Bool) (e : CallEnd)
     → CallMatches Written WrittenEnds Equal k (cond o (Err (machine.Unanswered, with_call ask t.world t)) (answers ask e (with_call ask n t)))
-        (cond o (Err (machine.Unanswered, with_call ask t.world (with_written x t))) (answers ask e (with_call ask n (with_written x t))))
+    (cond o (Err (machine.Unanswered, with_call ask t.world (with_written x t))) (answers ask e (with_call ask n (with_written x t))))
 call_by ask k n t x true e = (refl, (x, refl))
 call_by ask k n t x false (Answered i) = ((x, refl), refl)
 call_by ask k n t x false Skipped = ((x, refl), refl)
@@ -76,12 +70,6 @@ written_tracks = record {
   confirmed = λ k t u r. r;
   written = λ k t u line r. (option_map (line_after line) r.0, ap (with_line line) r.1);
 }
-
-same_binds : {V T : Type 0} (t : T) (bs cs : List (Binding V)) → Binds (Equal t) bs cs → cs ≡ bs
-same_binds t [] [] h = refl
-same_binds t [] (c ∷ cs) h = absurd h
-same_binds t (b ∷ bs) [] h = absurd h
-same_binds t (b ∷ bs) (c ∷ cs) h = rw (sym h.0, h.1, same_binds t bs cs h.2) refl
 
 abbrev Lines : Out ℕ Now (Unit {0}) → Out ℕ Now (Unit {0}) → Type 0
 Lines out q = Matches Equal Written WrittenEnds Equal out q
@@ -115,7 +103,7 @@ NoEnd here t k over u = ⊥
 module _ (cost : Costs) (w : World) where
   late_by : (ask : Ask) (k : ℕ) (asks : Asks) (a b : Option (List ℕ)) (v : Value) (small : Bool)
       → CallMatches LateWritten NoEnd Equal k (cond small (Err (machine.Halted AddressTooLarge, late_of (asks_with cost w ask asks) a)) (Ok (v, late_of (asks_with cost w ask asks) a)))
-          (cond small (Err (machine.Halted AddressTooLarge, late_of (asks_with cost w ask asks) b)) (Ok (v, late_of (asks_with cost w ask asks) b)))
+      (cond small (Err (machine.Halted AddressTooLarge, late_of (asks_with cost w ask asks) b)) (Ok (v, late_of (asks_with cost w ask asks) b)))
   late_by ask k asks a b v true = (refl, refl)
   late_by ask k asks a b v false = (refl, refl)
 

@@ -1,7 +1,6 @@
 -- When two machines do the same: how their states are related, and how what comes of them is.
 use Rattle.std.specs.Prelude.{◌≡◌, ℕ, ◌+◌, Bool, true, false, List, [], ◌∷◌, Option, Some, None, Result, Ok, Err}
 use Rattle.std.specs.Bool.{⊤}
-use Rattle.target_machine.specs.declared.unit.HaltCause.{HaltCause}
 use Rattle.target_machine.specs.declared.unit.ProbeCall.{ProbeCall}
 use Rattle.target_machine.specs.declared.unit.Unit.{Unit as AccessUnit}
 use Rattle.sequence_terms.specs.declared.bindings.Binding.{Binding}

@@ -1,8 +1,7 @@
 -- What a call of a function does, once its arguments are numbers.
-use Rattle.std.specs.Prelude.{ℕ, ◌+◌, ◌-◌, ◌*◌, ◌/◌, ◌%◌, ◌^◌, Bool, true, false, not, ◌&&◌, ◌||◌, ◌==◌, List, [], ◌∷◌, drop, slice_index, codes, Option, Some, None, unwrap_or, Result, Ok, Err, if◌then◌else◌, nat_lt, nat_eq}
+use Rattle.std.specs.Prelude.{ℕ, ◌+◌, ◌*◌, ◌/◌, ◌%◌, ◌^◌, Bool, true, false, not, ◌&&◌, ◌||◌, List, drop, slice_index, codes, Option, Some, None, Result, Ok, Err, if◌then◌else◌, nat_lt, nat_eq}
 use Rattle.function_table.specs.declared.function.Function.{Function}
 use Rattle.function_table.specs.declared.function.Function.TheVariants as f
-use Rattle.target_machine.specs.declared.unit.HaltCause.{HaltCause}
 use Rattle.target_machine.specs.declared.unit.HaltCause.TheVariants.{Unsupported, AddressTooLarge, Misaligned, ArgumentOutOfRange, AccessLimit, MessageLimit}
 use Rattle.target_machine.specs.declared.unit.ProbeCall.{ProbeCall}
 use Rattle.target_machine.specs.declared.unit.ProbeCall.TheVariants as probe

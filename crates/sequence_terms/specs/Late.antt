@@ -9,7 +9,7 @@ use Rattle.call_terms.specs.declared.calls.Ask.{Ask}
 use Rattle.call_terms.specs.declared.calls.Value.{Value}
 use Rattle.call_terms.specs.declared.calls.Value.TheVariants.{Number, Pending}
 use Rattle.call_terms.specs.Asks.{unit_ask, probe_ask}
-use Rattle.call_terms.specs.NeedPoints.{Asks, Cost, Costs, asked, used, needed}
+use Rattle.call_terms.specs.NeedPoints.{Asks, Costs, asked, used, needed}
 use Rattle.call_terms.specs.Values.{number_of, IsAsked}
 use Rattle.call_terms.specs.World.{World, results, stop, world_after, skips, small_now, is_over}
 use Rattle.sequence_terms.specs.Machine as machine

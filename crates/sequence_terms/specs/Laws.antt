@@ -12,7 +12,7 @@ use Rattle.sequence_terms.specs.Direct.{Now, direct}
 use Rattle.sequence_terms.specs.Late.{Late, late, ComesTo, SameRest, StoppedBy, Grows, Later}
 use Rattle.sequence_terms.specs.Machine.{State, Out, end_state}
 use Rattle.sequence_terms.specs.Runs as ending
-use Rattle.sequence_terms.specs.Runs.{Program, Ending, Outcome, outcome_of, outcome, outcome_within, units_of, meaning, watched, late_meaning}
+use Rattle.sequence_terms.specs.Runs.{Program, Ending, Outcome, outcome_of, outcome, outcome_within, units_of, meaning, watched, late_meaning, target_at, written_before}
 use Rattle.sequence_terms.specs.Steady.{Goes}
 use Rattle.sequence_terms.specs.Steps.{run_of}
 
@@ -124,3 +124,15 @@ LinesAreOnlyWritten = (cost : Costs) (w : World) (p : Program) (a b : Option (Li
 -- a run with results that come later adds calls at the end, and lines, but none once the calls stop
 abbrev pub LateRunsOnlyAdd : Type 0
 LateRunsOnlyAdd = (cost : Costs) (w : World) (turn_us : ℕ) (set : SetTrees) (start : List ℕ) (s : State Value Late) → Goes (Later w) s (run_of (late cost w) turn_us set start s)
+
+-- ---- cuts
+
+-- The cut after all units of a run is what the run leaves and wrote, and what is written before a unit comes first in what the run wrote.
+pub record IsCut (p : Program) (t : TargetState) (lines : Option (List ℕ)) : Type 0 where
+  pub target : target_at (units_of (outcome p t lines)) p t ≡ (outcome p t lines).target
+  pub written : written_before (units_of (outcome p t lines)) p t lines ≡ (outcome p t lines).written
+  pub front : (m : ℕ) → Grows (written_before m p t lines) (outcome p t lines).written
+
+-- that is so of each program on each target
+abbrev pub CutsAreFronts : Type 0
+CutsAreFronts = (p : Program) (t : TargetState) (written : Option (List ℕ)) → IsCut p t written

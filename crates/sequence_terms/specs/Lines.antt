@@ -1,5 +1,5 @@
 -- The lines that sequences write.
-use Rattle.std.specs.Prelude.{ℕ, zero, suc, ◌-◌, Bool, true, false, List, [], ◌∷◌, ◌++◌, length, drop, slice_index, replicate, codes, decimal, Option, Some, None, if◌then◌else◌}
+use Rattle.std.specs.Prelude.{ℕ, zero, suc, ◌-◌, true, false, List, [], ◌∷◌, ◌++◌, length, replicate, codes, decimal, Option, Some, None, if◌then◌else◌}
 use Rattle.std.specs.Fmt.{digits}
 use Rattle.function_table.specs.declared.format.FormatPiece.{FormatPiece}
 use Rattle.function_table.specs.declared.format.FormatPiece.TheVariants as piece

@@ -1,5 +1,5 @@
 -- Which loops are one unit, a poll of CTRL/STAT: `while (ReadDP(0x4) & MASK) != VALUE` without steps, apart from groups of parentheses.
-use Rattle.std.specs.Prelude.{ℕ, nat_le, nat_eq, Bool, true, false, ◌&&◌, codes, Option, Some, None, if◌then◌else◌}
+use Rattle.std.specs.Prelude.{ℕ, nat_le, nat_eq, Bool, false, ◌&&◌, codes, Option, Some, None, if◌then◌else◌}
 use Rattle.std.specs.Str.{bytes_eq}
 use Rattle.expr_grammar.specs.declared.code.BinaryOp.TheVariants as b
 use Rattle.expr_grammar.specs.Tree as t

@@ -1,9 +1,7 @@
 -- Whole runs, what they come to, and what a stop leaves.
-use Rattle.std.specs.Prelude.{◌≡◌, ℕ, true, false, List, [], ◌∷◌, map, take, length, Option, Some, None, Ok, Err}
-use Rattle.call_terms.specs.Asks.{settled_last}
+use Rattle.std.specs.Prelude.{ℕ, true, false, List, [], map, take, length, Option, Some, None, Ok, Err}
 use Rattle.call_terms.specs.declared.calls.Ask.{Ask}
 use Rattle.call_terms.specs.declared.calls.Value.{Value}
-use Rattle.call_terms.specs.declared.calls.Value.TheVariants.{Number}
 use Rattle.call_terms.specs.NeedPoints.{Asks, Costs, nothing_asked, needed, finished}
 use Rattle.call_terms.specs.World.{World, start_world, world_after}
 use Rattle.sequence_code.specs.Trees.{SetTrees}

@@ -16,7 +16,7 @@ pub struct Globals<V> {
 }
 
 impl<V: Copy> Globals<V> {
-    /// No variables. Nothing is allocated.
+    /// No variables.
     pub fn new(alloc: Global) -> Globals<V>
         ensures { bindings_of result ≡ [] }
     {

@@ -1,7 +1,8 @@
 //! What follows from the definitions: each law is the contract of a function that does nothing.
 
-ghost use Rattle.sequence_terms.specs.Rows.{Divides, HalfMade, Loops, CallsB, Writes};
-ghost use Rattle.sequence_terms.specs.Laws.{LateValuesChangeNothing, RunsOnlyAdd, CallsAreMade, LateRunsOnlyAdd, LimitsCutRuns, LinesAreOnlyWritten, WatchedIsTheMeaning};
+ghost use Rattle.call_terms.specs.World.{World};
+ghost use Rattle.sequence_terms.specs.Rows.{Divides, HalfMade, Loops, LoopsUntil, Orders, CallsB, Writes, Halts};
+ghost use Rattle.sequence_terms.specs.Laws.{LateValuesChangeNothing, RunsOnlyAdd, CallsAreMade, CutsAreFronts, LateRunsOnlyAdd, LimitsCutRuns, LinesAreOnlyWritten, WatchedIsTheMeaning};
 
 /// A run with results that come later comes to what the meaning comes to, in each world: the same ending, variables, counts, calls
 /// and lines. Where the meaning ends at a fault or at a call that is not answered, it has the same lines, and the first calls.
@@ -34,16 +35,24 @@ pub fn limits_cut_runs()
     ensures { LimitsCutRuns }
 {}
 
+/// The cut after all units of a run is what the run leaves and wrote; what is written before a unit comes first in what the run wrote.
+pub fn cuts_are_fronts()
+    ensures { CutsAreFronts }
+{}
+
 /// A run that ends where something is missing which every valid set has comes to what the meaning comes to, unless it ends so.
 pub fn watched_is_the_meaning()
     ensures { WatchedIsTheMeaning }
 {}
 
-/// The definitions compute: five runs that were worked out by hand.
+/// The definitions compute: runs that were worked out by hand.
 pub fn worked_rows()
     ensures divides { Divides }
     ensures half_made { HalfMade }
     ensures loops { Loops }
+    ensures loops_until { LoopsUntil }
+    ensures orders { Orders }
     ensures calls { CallsB }
     ensures writes { Writes }
+    ensures halts { (w : World) → Halts w }
 {}

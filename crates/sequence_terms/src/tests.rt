@@ -1,13 +1,45 @@
-//! Lines, polls, turns and variables, worked out by hand from the rules of the language.
+//! Operators at the ends of 64 bits, lines, polls, turns and variables, worked out by hand from the rules of the language.
 use crate::{
     Binding, Globals, has_in, load_line, message_line, newest_in, poll_of, query_line, set_newest,
     text_of, turn_count, value_line,
 };
 use dap_base::{ItemList, NameText};
-use expr_grammar::{Expr, parse_code, parse_expr, tokens};
+use expr_grammar::{BinaryOp, Expr, binary_value, parse_code, parse_expr, tokens};
 use sequence_code::CheckedStep;
 use std::alloc::Global;
 use std::test::Fail;
+
+// Operators at the ends of their range: two operands and the result.
+const RESULTS: [(BinaryOp, u64, u64, Option<u64>); 16] = [
+    (BinaryOp::Shl, 1, 63, Some(0x8000_0000_0000_0000)),
+    (BinaryOp::Shl, 3, 63, Some(0x8000_0000_0000_0000)),
+    (BinaryOp::Shl, 1, 64, Some(0)),
+    (BinaryOp::Shr, u64::MAX, 63, Some(1)),
+    (BinaryOp::Shr, u64::MAX, 64, Some(0)),
+    (BinaryOp::Shr, u64::MAX, u64::MAX, Some(0)),
+    (BinaryOp::Add, u64::MAX, 2, Some(1)),
+    (BinaryOp::Sub, 0, u64::MAX, Some(1)),
+    (BinaryOp::Mul, u64::MAX, u64::MAX, Some(1)),
+    (BinaryOp::Div, u64::MAX, 2, Some(0x7FFF_FFFF_FFFF_FFFF)),
+    (BinaryOp::Div, 0, 0, None),
+    (BinaryOp::Rem, u64::MAX, 10, Some(5)),
+    (BinaryOp::Rem, 0, 0, None),
+    (
+        BinaryOp::Lt,
+        0x7FFF_FFFF_FFFF_FFFF,
+        0x8000_0000_0000_0000,
+        Some(1),
+    ),
+    (BinaryOp::Ge, u64::MAX, 0, Some(1)),
+    (BinaryOp::BitXor, u64::MAX, 1, Some(0xFFFF_FFFF_FFFF_FFFE)),
+];
+
+#[test]
+fn operators_at_the_ends(rt: HostRuntime) {
+    for (op, left, right, result) in RESULTS {
+        assert_eq!(rt; binary_value(op, left, right), result);
+    }
+}
 
 // Formats, and what each is with the numbers 171 and 2^64 - 1.
 const FORMATS: [(&str, &str); 12] = [
@@ -17,7 +49,10 @@ const FORMATS: [(&str, &str); 12] = [
     ("%5d|%05d", "  171|18446744073709551615"),
     ("%2d|%021d", "171|018446744073709551615"),
     ("%lx %llX", "ab FFFFFFFFFFFFFFFF"),
-    ("%099x", "0000000000000000000000000000000000000000000000000000000000000000000000000000000000000000000000000ab"),
+    (
+        "%099x",
+        "0000000000000000000000000000000000000000000000000000000000000000000000000000000000000000000000000ab",
+    ),
     ("%x %d %d", "ab 18446744073709551615 0"),
     ("", ""),
     ("a\\n\u{e9}", "a\\\\n\\xc3\\xa9"),
