@@ -1,0 +1,4 @@
+pub mod StateSteps
+pub mod ExchangeLemmas
+
+pub mod QueueLemmas

@@ -1,0 +1,3 @@
+pub mod SlotList
+pub mod Exchanges
+pub mod Queues
