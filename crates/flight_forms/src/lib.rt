@@ -1,0 +1,6 @@
+//! The forms in which accesses are packed into packets, and what each of them does.
+#![tactic(auto)]
+
+mod form;
+
+pub use form::Form;
