@@ -2,3 +2,4 @@ pub mod StateSteps
 pub mod ExchangeLemmas
 
 pub mod QueueLemmas
+pub mod PacketLemmas

@@ -1,3 +1,4 @@
 pub mod SlotList
 pub mod Exchanges
 pub mod Queues
+pub mod Readings

@@ -2,8 +2,9 @@
 #![tactic(auto)]
 
 mod exchange;
+mod part;
 mod queue;
-
+mod reply;
 mod slots;
 
 pub use slots::Slots;
