@@ -1,0 +1,10 @@
+pub mod RequestFacts
+pub mod OwnAccesses
+pub mod AskedRequests
+pub mod SeenValues
+pub mod Numbers
+pub mod OwnParts
+pub mod Transfers
+pub mod Rows
+pub mod Guarded
+pub mod Chains

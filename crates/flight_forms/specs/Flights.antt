@@ -68,9 +68,9 @@ abbrev pub next_word : List ℕ → Option ℕ
 next_word [] = None
 next_word (word ∷ words) = Some word
 
--- a request whose access is one of the flight's own, and no check
-abbrev pub is_own : Request → Bool
-is_own r = not (reads_rdbuff_itself (access_of r))
+-- an access of the flight's own: it is no read of RDBUFF, which checks a write
+abbrev pub is_own : RegAccess → Bool
+is_own a = not (reads_rdbuff_itself a)
 
 -- What words say of the own accesses among these requests: each read takes a word, that of a check is dropped, and a write gives
 -- none.
@@ -78,8 +78,12 @@ abbrev pub seen_values : List Request → List ℕ → List (Option ℕ)
 seen_values [] words = []
 seen_values (r ∷ rs) words =
     if reads_value (kind r)
-    then (if is_own r then next_word words ∷ seen_values rs (drop 1 words) else seen_values rs (drop 1 words))
+    then (if is_own (access_of r) then next_word words ∷ seen_values rs (drop 1 words) else seen_values rs (drop 1 words))
     else None ∷ seen_values rs words
+
+-- what one of these requests adds, where the next word is found or not
+abbrev pub seen_one : Request → Option ℕ → List (Option ℕ)
+seen_one r found = if reads_value (kind r) then (if is_own (access_of r) then found ∷ [] else []) else None ∷ []
 
 -- whether it is not known of the last executed request that it was good: the command did not end well, and the request is a write
 -- or its word is missing

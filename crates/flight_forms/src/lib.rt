@@ -2,5 +2,6 @@
 #![tactic(auto)]
 
 mod form;
+pub mod laws;
 
 pub use form::Form;
