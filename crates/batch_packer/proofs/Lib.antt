@@ -3,3 +3,5 @@ pub mod ExchangeLemmas
 
 pub mod QueueLemmas
 pub mod PacketLemmas
+pub mod RangeLemmas
+pub mod AloneLemmas

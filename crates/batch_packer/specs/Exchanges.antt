@@ -1,6 +1,6 @@
 -- One packet and its reply.
 use Rattle.std.specs.Prelude.{◌≡◌, ◌⊎◌, List, ℕ, []}
-use Rattle.probe_core.specs.Bench.{BenchState, Reported}
+use Rattle.probe_core.specs.Bench.{BenchState, Reported, counted}
 use Rattle.probe_core.specs.Packet.{answered}
 
 -- a bench that may be sent a packet: none is held, and no reply waits
@@ -18,6 +18,7 @@ pub record HasAnswered (packet reply : List ℕ) (m n : BenchState) : Type 0 whe
   pub answer : reply ≡ (answered m.probe.executor packet).reply
   pub executor : n.probe.executor ≡ (answered m.probe.executor packet).next
   pub idle : IsIdle n
+  pub starting : n.starting ≡ counted m.starting
 
 -- the packet was executed or not
 abbrev pub MayHaveRun : List ℕ → BenchState → BenchState → Type 0

@@ -2,3 +2,5 @@ pub mod SlotList
 pub mod Exchanges
 pub mod Queues
 pub mod Readings
+pub mod Flying
+pub mod Alone

@@ -1,5 +1,6 @@
 -- What the reply to a packet says of the accesses of its command.
-use Rattle.std.specs.Prelude.{◌≡◌, ℕ, ◌-◌, ◌≤◌, List, [], ◌∷◌, ◌++◌, length, take, Option, Some, None, Result, Ok, Err}
+use Rattle.std.specs.Prelude.{◌≡◌, ℕ, ◌-◌, ◌≤◌, List, ◌++◌, length, take, Option, Some, None, Result, Ok, Err}
+use Rattle.std.specs.List.{AllByRecursion}
 use Rattle.dap_messages.specs.declared.command.PacketKind.{PacketKind}
 use Rattle.dap_messages.specs.declared.command_value.CommandValue.{CommandValue}
 use Rattle.dap_messages.specs.declared.error.MessageError.{MessageError}
@@ -12,11 +13,11 @@ use Rattle.dap_messages.specs.Responses.{response_of}
 use Rattle.flight_forms.specs.Flights.{Part, part_of}
 use Rattle.batch_packer.specs.declared.part.Progress.{Progress}
 
--- The packet is this one command, run in this way, and is read as such.
-pub record IsPacketOf (kind : PacketKind) (command : CommandValue) (packet : List ℕ) : Type 0 where
-  pub count : IsCount kind 1
-  pub command_in_range : IsCommand command
-  pub bytes : packet ≡ bytes_of_kind kind (command ∷ [])
+-- The packet is of these commands, run in this way, and is read as such.
+pub record IsPacketOf (kind : PacketKind) (commands : List CommandValue) (packet : List ℕ) : Type 0 where
+  pub count : IsCount kind (length commands)
+  pub in_range : AllByRecursion IsCommand commands
+  pub bytes : packet ≡ bytes_of_kind kind commands
   pub short : length packet ≤ 1024
 
 -- what a reply shows, where it is one that its command may get

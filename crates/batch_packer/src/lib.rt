@@ -2,6 +2,8 @@
 #![tactic(auto)]
 
 mod exchange;
+pub mod laws;
+mod packing;
 mod part;
 mod queue;
 mod reply;

@@ -1,5 +1,5 @@
 //! What the reply to a packet says of the accesses of its command.
-ghost use Rattle.std.specs.Prelude.{◌≡◌, ◌+◌, ◌≤◌, length, Some};
+ghost use Rattle.std.specs.Prelude.{◌≡◌, ◌+◌, ◌≤◌, List, [], ◌∷◌, length, slice_get};
 ghost use Rattle.dap_messages.specs.declared.command.PacketKind.{PacketKind};
 ghost use Rattle.dap_messages.specs.declared.command_value.CommandValue.{CommandValue};
 ghost use Rattle.dap_messages.specs.ReplyReading.{reply_read};
@@ -11,18 +11,18 @@ use crate::part::{Progress, progress_by};
 use crate::slots::Slots;
 use dap_messages::{CommandView, ReplyView, Request, Response, packet_view, reply_view};
 
-// The one command of a packet.
-fn command_in<'a>(packet: &'a [u8]) -> Option<CommandView<'a>>
-    ensures { (kind : PacketKind) (command : CommandValue) → IsPacketOf kind command packet.now → result ≡ Some command }
+// The command of a packet at this index.
+pub fn command_in<'a>(packet: &'a [u8], index: u8) -> Option<CommandView<'a>>
+    ensures { (kind : PacketKind) (commands : List CommandValue) → IsPacketOf kind commands packet.now → result ≡ slice_get commands index }
 {
     match packet_view(packet) {
-        Ok(view) => view.command(0),
+        Ok(view) => view.command(index),
         Err(_) => None,
     }
 }
 
 // What a reply shows, where it is one that the command may get.
-fn view_in<'a>(command: &CommandView<'_>, reply: &'a [u8]) -> Option<ReplyView<'a>>
+pub fn view_in<'a>(command: &CommandView<'_>, reply: &'a [u8]) -> Option<ReplyView<'a>>
     ensures { result ≡ shown_in (reply_read command.now reply.now) }
 {
     match reply_view(command, reply) {
@@ -66,11 +66,11 @@ pub fn read_reply(
     requires normal { AreNormal requests.now }
     requires few { length requests.now ≤ 255 }
     requires room { length slots.old.values + length requests.now ≤ slots.old.room }
-    ensures shown { (kind : PacketKind) (command : CommandValue) → IsPacketOf kind command packet.now
+    ensures shown { (kind : PacketKind) (command : CommandValue) → IsPacketOf kind (command ∷ []) packet.now
         → IsShown (reading command before requests.now reply.now) result slots.old.values slots.new.values }
     ensures room { slots.new.room ≡ slots.old.room }
 {
-    match command_in(packet) {
+    match command_in(packet, 0) {
         None => None,
         Some(command) => match view_in(&command, reply) {
             None => None,
