@@ -8,3 +8,7 @@ pub mod Transfers
 pub mod Rows
 pub mod Guarded
 pub mod Chains
+pub mod RequestSizes
+pub mod Capacity
+pub mod PartLists
+pub mod Fits

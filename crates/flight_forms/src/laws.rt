@@ -1,10 +1,14 @@
 //! What the forms of a flight do, in terms of accesses made one at a time.
-ghost use Rattle.std.specs.Prelude.{◌≡◌, List, false};
+ghost use Rattle.std.specs.Prelude.{◌*◌, ◌∷◌, ◌≡◌, ◌<◌, ◌≤◌, ◌^◌, List, None, Some, [], false, length, true, ℕ};
 ghost use Rattle.target_machine.specs.declared.access.RegAccess.{RegAccess};
 ghost use Rattle.dap_transfer.specs.State.{TransferState};
-ghost use Rattle.flight_forms.specs.Chains.{AllTaken, DoesChain, IsGuardOpen};
+ghost use Rattle.flight_forms.specs.Chains.{AllTaken, DoesChain, IsGuardOpen, all_of};
 ghost use Rattle.flight_forms.specs.Flights.{DoesTransfer};
-ghost use Rattle.flight_forms.specs.Packing.{AreTaken};
+ghost use Rattle.flight_forms.specs.Forms.{capacity, fits_block, fits_guarded, fits_transfer, form_of, parts_of};
+ghost use Rattle.flight_forms.specs.Packets.{FitChain, FitsPacket, block_command, guarded_command, transfer_command};
+ghost use Rattle.flight_forms.specs.Packing.{AreTaken, AreWords};
+ghost use Rattle.flight_forms.specs.declared.form.Form.{Form};
+ghost use Rattle.flight_forms.specs.declared.form.Form.TheVariants as Form;
 
 /// One Transfer makes the first of its accesses, and its reply shows how many, and what they gave.
 pub fn a_transfer_does_a_part()
@@ -16,4 +20,28 @@ pub fn a_transfer_does_a_part()
 /// checked.
 pub fn a_chain_does_a_part()
     ensures { (p : TransferState) (parts : List (List RegAccess)) → AllTaken parts → IsGuardOpen p → DoesChain p parts }
+{}
+
+/// The parts of a chain are its accesses, in order, and each of them has accesses that a flight
+/// takes where the whole has.
+pub fn parts_are_the_flight()
+    ensures whole { (size : ℕ) (accesses : List RegAccess) → all_of (parts_of size accesses) ≡ accesses }
+    ensures taken { (size : ℕ) (accesses : List RegAccess) → AreTaken accesses → AllTaken (parts_of size accesses) }
+{}
+
+/// What fits a form fits its packets, with its command and the longest reply: a block, one
+/// Transfer, a guarded Transfer with the two bytes before it, and each part of a chain.
+pub fn what_fits_can_be_sent()
+    ensures block { (size : ℕ) (accesses : List RegAccess) → size < 2 ^ 16 → AreWords accesses → fits_block size accesses ≡ true → FitsPacket size 0 (block_command accesses) }
+    ensures transfer { (size : ℕ) (a : RegAccess) (rest : List RegAccess) → AreWords (a ∷ rest) → fits_transfer size (a ∷ rest) ≡ true → FitsPacket size 0 (transfer_command (a ∷ rest)) }
+    ensures guarded { (size : ℕ) (accesses : List RegAccess) → AreWords accesses → fits_guarded size accesses ≡ true → FitsPacket size 2 (guarded_command accesses) }
+    ensures chain { (size : ℕ) (accesses : List RegAccess) → 64 ≤ size → size ≤ 1024 → AreWords accesses → FitChain size (parts_of size accesses) }
+{}
+
+/// How many accesses a form holds: each single one; where none holds a list, this list has as many
+/// as the capacity at least; and never more than 255 for each packet.
+pub fn how_many_fit()
+    ensures single { (size count : ℕ) (a : RegAccess) → 64 ≤ size → size ≤ 1024 → form_of size count (a ∷ []) ≡ Some Form.Transfer }
+    ensures full { (size count : ℕ) (accesses : List RegAccess) → 21 ≤ size → size ≤ 1024 → form_of size count accesses ≡ None → capacity size count ≤ length accesses }
+    ensures most { (size count : ℕ) (accesses : List RegAccess) (f : Form) → 64 ≤ size → size ≤ 1024 → 1 ≤ count → form_of size count accesses ≡ Some f → length accesses ≤ 255 * count }
 {}
