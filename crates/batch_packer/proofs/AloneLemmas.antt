@@ -21,15 +21,19 @@ use Rattle.probe_core.specs.Bench.{BenchState, StepsTo}
 use Rattle.probe_core.specs.Commands.{done, with_transfers}
 use Rattle.probe_core.specs.Packet.{Answered, answered}
 use Rattle.probe_core.specs.Probe.{ExecutorState}
+use Rattle.probe_core.specs.Ranges.{AreLimits}
 use Rattle.probe_core.specs.declared.job.Limits.{Limits}
 use Rattle.flight_forms.specs.declared.form.Form.{Form}
 use Rattle.flight_forms.specs.Flights.{DoesPart, Part, part_of, words_of}
+use Rattle.flight_forms.proofs.Blocks.{block_answers, does_block}
+use Rattle.flight_forms.proofs.TransferAnswers.{transfer_answers}
+use Rattle.flight_forms.proofs.Transfers.{does_transfer}
 use Rattle.flight_forms.specs.Packets.{FitsPacket, block_answer, transfer_answer}
-use Rattle.flight_forms.specs.Packing.{AreWords, requests_for}
+use Rattle.flight_forms.specs.Packing.{AreTaken, AreWords, requests_for}
 use Rattle.batch_packer.proofs.PacketLemmas.{answered_one}
-use Rattle.batch_packer.proofs.RangeLemmas.{accesses_in_range, all_taken}
+use Rattle.batch_packer.proofs.RangeLemmas.{taken_in_range}
 use Rattle.batch_packer.proofs.StateSteps.{steps_map}
-use Rattle.batch_packer.specs.Alone.{one_command, one_form}
+use Rattle.batch_packer.specs.Alone.{IsBlock, one_command, one_form}
 use Rattle.batch_packer.specs.Exchanges.{HasAnswered, IsIdle, MayHaveRun}
 use Rattle.batch_packer.specs.Flying.{HasFlown, HasFlownBy, IsReady, MayHaveFlown, part_with, transfers_of}
 use Rattle.batch_packer.specs.Readings.{IsPart, IsShown, part_as, part_in, reading, shown_in}
@@ -104,13 +108,23 @@ answered_alone b e accesses packet short fits is =
     ∙ ap (λ bytes. record { reply = bytes; next = with_transfers e (one_done b e.transfers accesses).next }) (append-nil (reply_bytes (one_answer b (one_done b e.transfers accesses))))
 
 -- the target after it
-after_in_range : (p q : TransferState) (accesses : List RegAccess) (part : Part) → DoesPart p q accesses part → IsInRange p.line.target → AreWords accesses → IsInRange q.line.target
+pub after_in_range : (p q : TransferState) (accesses : List RegAccess) (part : Part) → DoesPart p q accesses part → IsInRange p.line.target → AreWords accesses → IsInRange q.line.target
 after_in_range p q accesses part does h words =
     let made = does.made in
-    subst (λ (t : TargetState). IsInRange t) (sym made.target) (accesses_in_range p.line.target (take part.performed accesses) h (all_taken (λ a. a.value < 2 ^ 32) part.performed accesses words))
+    subst (λ (t : TargetState). IsInRange t) (sym made.target) (taken_in_range p.line.target part.performed accesses h words)
 
-abbrev AllOne : Bool → List RegAccess → BenchState → Type 0
-AllOne b accesses m = DoesOne b (transfers_of m) accesses
+pub one_does : (b : Bool) (p : TransferState) (accesses : List RegAccess) → (b ≡ true → IsBlock accesses) → AreTaken accesses → AreWords accesses → p.line.target.sticky ≡ false →
+    IsInRange p.line.target → DoesOne b p accesses
+one_does true p accesses block taken words clear h = record {
+  answers = (let is = block refl in block_answers p is.0 accesses is.2 clear);
+  does = (let is = block refl in (does_block p is.0 accesses is.2 clear).0);
+  mask = (let is = block refl in (does_block p is.0 accesses is.2 clear).1);
+}
+one_does false p accesses block taken words clear h = record {
+  answers = transfer_answers p accesses taken words clear h;
+  does = (does_transfer p accesses taken clear).0;
+  mask = (does_transfer p accesses taken clear).1;
+}
 
 -- after an exchange: what the reply shows, and what was done
 pub flown_alone : (b : Bool) (given : Limits) (accesses : List RegAccess) (packet reply : List ℕ) (m n : BenchState) → given.packet_size ≤ 1024 → AreWords accesses →
@@ -174,3 +188,32 @@ flown_by form accesses (Some found) (Some progress) old new part m n is none e h
     part_or : Part → Option Part → Part
     part_or d None = d
     part_or d (Some x) = x
+
+-- ---- over a bench
+
+pub flew_alone : (b : Bool) (given : Limits) (accesses : List RegAccess) (packet reply : List ℕ) (progress : Option Progress) (old new : List (Option ℕ)) (x y : Option BenchState) →
+    AreLimits given → (b ≡ true → IsBlock accesses) → AreTaken accesses → AreWords accesses → FitsPacket given.packet_size 0 (one_command b accesses) →
+    packet ≡ command_bytes (one_command b accesses) → old ≡ [] → IsShown (reading (one_command b accesses) 0 (requests_for false accesses) reply) progress old new →
+    StepsTo (λ m o. IsIdle m → HasAnswered packet reply m o) x y → StepsTo (λ m n. IsReady given m → HasFlownBy (one_form b) accesses progress new m n) x y
+flew_alone b given accesses packet reply progress old new x y limits block taken words fits is none read steps =
+    steps_map one x y steps
+  where
+    one : (m n : BenchState) → (IsIdle m → HasAnswered packet reply m n) → IsReady given m → HasFlownBy (one_form b) accesses progress new m n
+    one m n has ready =
+        let flies = ready.flies in
+        let guard = flies.guard in
+        let flown = flown_alone b given accesses packet reply m n limits.size_high words fits is ready (one_does b (transfers_of m) accesses block taken words guard.clear flies.in_range) (has ready.idle) in
+        flown_by (one_form b) accesses (reading (one_command b accesses) 0 (requests_for false accesses) reply) progress old new flown.0 m n read none flown.1 flown.2
+
+pub may_have_flown : (b : Bool) (given : Limits) (accesses : List RegAccess) (packet : List ℕ) (x y : Option BenchState) →
+    AreLimits given → (b ≡ true → IsBlock accesses) → AreTaken accesses → AreWords accesses → FitsPacket given.packet_size 0 (one_command b accesses) →
+    packet ≡ command_bytes (one_command b accesses) →
+    StepsTo (λ m o. IsIdle m → MayHaveRun packet m o) x y → StepsTo (λ m n. IsReady given m → MayHaveFlown accesses m n) x y
+may_have_flown b given accesses packet x y limits block taken words fits is steps =
+    steps_map one x y steps
+  where
+    one : (m n : BenchState) → (IsIdle m → MayHaveRun packet m n) → IsReady given m → MayHaveFlown accesses m n
+    one m n may ready =
+        let flies = ready.flies in
+        let guard = flies.guard in
+        ran_alone b given accesses packet m n limits.size_high fits is ready (one_does b (transfers_of m) accesses block taken words guard.clear flies.in_range) (may ready.idle)

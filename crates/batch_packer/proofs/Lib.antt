@@ -5,3 +5,4 @@ pub mod QueueLemmas
 pub mod PacketLemmas
 pub mod RangeLemmas
 pub mod AloneLemmas
+pub mod FlightFacts

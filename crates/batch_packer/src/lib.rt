@@ -1,6 +1,7 @@
 //! Flights of register accesses over a bench: many accesses in few packets, cut at any place.
 #![tactic(auto)]
 
+mod alone;
 mod exchange;
 pub mod laws;
 mod packing;
