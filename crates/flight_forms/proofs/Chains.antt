@@ -88,7 +88,7 @@ part_front p q xs ys a bad h =
       number = h.number;
     }
 
-shut_now : (q : TransferState) (accesses : List RegAccess) → IsGuardShut q → transferred q (guarded_requests accesses) ≡ record { executed = 0; response = Mismatch; words = []; next = q }
+pub shut_now : (q : TransferState) (accesses : List RegAccess) → IsGuardShut q → transferred q (guarded_requests accesses) ≡ record { executed = 0; response = Mismatch; words = []; next = q }
 shut_now q accesses shut =
     match_shuts q 0 (mask_request 1 ∷ payload accesses ++ mask_request 0 ∷ []) shut.matches (ap (λ m. eqb (bit_and q.line.target.dpidr m) 0) shut.mask ∙ shut.dpidr)
 

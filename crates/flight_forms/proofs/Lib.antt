@@ -12,3 +12,9 @@ pub mod RequestSizes
 pub mod Capacity
 pub mod PartLists
 pub mod Fits
+pub mod Blocks
+pub mod Ranges
+pub mod TransferAnswers
+pub mod GuardedAnswers
+pub mod ChainAnswers
+pub mod Polls

@@ -24,7 +24,7 @@ says_by : (read_is ap_is : Bool) (addr v : ℕ) → Says (cond read_is (read_req
 says_by true ap_is addr v = read_says ap_is addr
 says_by false ap_is addr v = write_says ap_is addr v
 
-word_by : (read_is ap_is : Bool) (addr v : ℕ) → (cond read_is (read_request ap_is addr) (write_request ap_is addr v)).word ≡ cond read_is 0 v
+pub word_by : (read_is ap_is : Bool) (addr v : ℕ) → (cond read_is (read_request ap_is addr) (write_request ap_is addr v)).word ≡ cond read_is 0 v
 word_by true ap_is addr v = refl
 word_by false ap_is addr v = refl
 

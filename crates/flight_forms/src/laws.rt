@@ -1,18 +1,31 @@
 //! What the forms of a flight do, in terms of accesses made one at a time.
 ghost use Rattle.std.specs.Prelude.{◌*◌, ◌∷◌, ◌≡◌, ◌<◌, ◌≤◌, ◌^◌, List, None, Some, [], false, length, true, ℕ};
+ghost use Rattle.std.specs.List.{AllByRecursion};
+ghost use Rattle.target_machine.specs.Attempt.{bank};
+ghost use Rattle.target_machine.specs.InRange.{IsInRange};
 ghost use Rattle.target_machine.specs.declared.access.RegAccess.{RegAccess};
+ghost use Rattle.dap_messages.specs.Replies.{Answers};
+ghost use Rattle.dap_transfer.specs.Block.{blocked};
 ghost use Rattle.dap_transfer.specs.State.{TransferState};
-ghost use Rattle.flight_forms.specs.Chains.{AllTaken, DoesChain, IsGuardOpen, all_of};
-ghost use Rattle.flight_forms.specs.Flights.{DoesTransfer};
+ghost use Rattle.dap_transfer.specs.Transfer.{transferred};
+ghost use Rattle.flight_forms.specs.Chains.{AllTaken, DoesChain, IsGuardOpen, all_of, chain_replies};
+ghost use Rattle.flight_forms.specs.Flights.{DoesBlock, DoesTransfer, words_of};
 ghost use Rattle.flight_forms.specs.Forms.{capacity, fits_block, fits_guarded, fits_transfer, form_of, parts_of};
-ghost use Rattle.flight_forms.specs.Packets.{FitChain, FitsPacket, block_command, guarded_command, transfer_command};
-ghost use Rattle.flight_forms.specs.Packing.{AreTaken, AreWords};
+ghost use Rattle.flight_forms.specs.Packets.{AnswerChain, FitChain, FitsPacket, block_answer, block_command, guarded_command, transfer_answer, transfer_command};
+ghost use Rattle.flight_forms.specs.Packing.{AreTaken, AreWords, requests_for};
+ghost use Rattle.flight_forms.specs.Polls.{PollsAtOnce};
 ghost use Rattle.flight_forms.specs.declared.form.Form.{Form};
 ghost use Rattle.flight_forms.specs.declared.form.Form.TheVariants as Form;
 
 /// One Transfer makes the first of its accesses, and its reply shows how many, and what they gave.
 pub fn a_transfer_does_a_part()
     ensures { (p : TransferState) (accesses : List RegAccess) → AreTaken accesses → p.line.target.sticky ≡ false → DoesTransfer p accesses }
+{}
+
+/// So does a block of writes of DRW, which does what the Transfer of the same writes does; its reply
+/// gives no words.
+pub fn a_block_does_a_part()
+    ensures { (p : TransferState) (size : ℕ) (accesses : List RegAccess) → fits_block size accesses ≡ true → p.line.target.sticky ≡ false → DoesBlock p accesses }
 {}
 
 /// A guarded chain makes the first of its accesses, and its replies show how many, and what they
@@ -27,6 +40,7 @@ pub fn a_chain_does_a_part()
 pub fn parts_are_the_flight()
     ensures whole { (size : ℕ) (accesses : List RegAccess) → all_of (parts_of size accesses) ≡ accesses }
     ensures taken { (size : ℕ) (accesses : List RegAccess) → AreTaken accesses → AllTaken (parts_of size accesses) }
+    ensures words { (size : ℕ) (accesses : List RegAccess) → AreWords accesses → AllByRecursion AreWords (parts_of size accesses) }
 {}
 
 /// What fits a form fits its packets, with its command and the longest reply: a block, one
@@ -44,4 +58,23 @@ pub fn how_many_fit()
     ensures single { (size count : ℕ) (a : RegAccess) → 64 ≤ size → size ≤ 1024 → form_of size count (a ∷ []) ≡ Some Form.Transfer }
     ensures full { (size count : ℕ) (accesses : List RegAccess) → 21 ≤ size → size ≤ 1024 → form_of size count accesses ≡ None → capacity size count ≤ length accesses }
     ensures most { (size count : ℕ) (accesses : List RegAccess) (f : Form) → 64 ≤ size → size ≤ 1024 → 1 ≤ count → form_of size count accesses ≡ Some f → length accesses ≤ 255 * count }
+{}
+
+/// The reply to each form is one that its commands may get: from a probe that lets a guarded command
+/// make its accesses, or without a guard from one where STICKYERR is clear, and whose target has
+/// numbers in their ranges.
+pub fn replies_may_come()
+    ensures block { (p : TransferState) (size : ℕ) (accesses : List RegAccess) → fits_block size accesses ≡ true → p.line.target.sticky ≡ false
+        → Answers (block_command accesses) (block_answer (blocked p 0x0D (words_of accesses))) }
+    ensures transfer { (p : TransferState) (accesses : List RegAccess) → AreTaken accesses → AreWords accesses → p.line.target.sticky ≡ false → IsInRange p.line.target
+        → Answers (transfer_command accesses) (transfer_answer (transferred p (requests_for false accesses))) }
+    ensures chain { (p : TransferState) (parts : List (List RegAccess)) → AllTaken parts → AllByRecursion AreWords parts → IsGuardOpen p → IsInRange p.line.target
+        → AnswerChain parts (chain_replies p parts) }
+{}
+
+/// A portion of a poll in one packet is the polled reads, one at a time: its replies say whether the
+/// register matched, and after it the match mask and match retry are 0. This needs DPBANKSEL 0, so
+/// that address 0x4 is CTRL/STAT, whose reads never wait.
+pub fn a_poll_is_its_reads()
+    ensures { (p : TransferState) (retry mask requested turns : ℕ) → bank p.line.target ≡ 0 → 1 ≤ turns → PollsAtOnce p retry mask requested turns }
 {}
