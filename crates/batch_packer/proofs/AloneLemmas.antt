@@ -35,8 +35,8 @@ use Rattle.batch_packer.proofs.RangeLemmas.{taken_in_range}
 use Rattle.batch_packer.proofs.StateSteps.{steps_map}
 use Rattle.batch_packer.specs.Alone.{IsBlock, one_command, one_form}
 use Rattle.batch_packer.specs.Exchanges.{HasAnswered, IsIdle, MayHaveRun}
-use Rattle.batch_packer.specs.Flying.{HasFlown, HasFlownBy, IsReady, MayHaveFlown, part_with, transfers_of}
-use Rattle.batch_packer.specs.Readings.{IsPart, IsShown, part_as, part_in, reading, shown_in}
+use Rattle.batch_packer.specs.Flying.{HasFlown, HasFlownBy, IsReady, MayHaveFlown, transfers_of}
+use Rattle.batch_packer.specs.Readings.{IsPart, IsSeen, IsShown, part_as, part_in, part_with, reading, shown_in}
 use Rattle.batch_packer.specs.declared.part.Progress.{Progress}
 
 -- what the command does
@@ -174,15 +174,22 @@ part_same : (part : Part) (progress : Progress) (old new : List (Option ℕ)) �
 part_same part progress old new is none =
     λ i. record { performed = is.performed i; confirmed = is.confirmed i; response = is.response i; values = (is.values ∙ ap (λ xs. xs ++ part.values) none) i }
 
-pub flown_by : (form : Form) (accesses : List RegAccess) (found : Option Part) (progress : Option Progress) (old new : List (Option ℕ)) (part : Part) (m n : BenchState) →
-    IsShown found progress old new → old ≡ [] → found ≡ Some part → HasFlown form accesses part m n → HasFlownBy form accesses progress new m n
-flown_by form accesses None progress old new part m n is none e has = absurd (not_both e)
+-- what was shown with no value before it
+pub seen_shown : (found : Option Part) (progress : Option Progress) (new : List (Option ℕ)) → IsShown found progress [] new → IsSeen found progress new
+seen_shown None None new is = tt
+seen_shown None (Some progress) new is = absurd is
+seen_shown (Some part) None new is = absurd is
+seen_shown (Some part) (Some progress) new is = sym (part_same part progress [] new is refl)
+
+pub flown_by : (form : Form) (accesses : List RegAccess) (found : Option Part) (progress : Option Progress) (new : List (Option ℕ)) (part : Part) (m n : BenchState) →
+    IsSeen found progress new → found ≡ Some part → HasFlown form accesses part m n → HasFlownBy form accesses progress new m n
+flown_by form accesses None progress new part m n is e has = absurd (not_both e)
   where
     not_both : ◌≡◌ {A = Option Part} None (Some part) → ⊥
     not_both g = cc
-flown_by form accesses (Some found) None old new part m n is none e has = absurd is
-flown_by form accesses (Some found) (Some progress) old new part m n is none e has =
-    let same : part_with progress new ≡ part = part_same found progress old new is none ∙ ap (part_or found) e in
+flown_by form accesses (Some found) None new part m n is e has = absurd is
+flown_by form accesses (Some found) (Some progress) new part m n is e has =
+    let same : part_with progress new ≡ part = sym is ∙ ap (part_or found) e in
     subst (λ (x : Part). HasFlown form accesses x m n) (sym same) has
   where
     part_or : Part → Option Part → Part
@@ -191,11 +198,11 @@ flown_by form accesses (Some found) (Some progress) old new part m n is none e h
 
 -- ---- over a bench
 
-pub flew_alone : (b : Bool) (given : Limits) (accesses : List RegAccess) (packet reply : List ℕ) (progress : Option Progress) (old new : List (Option ℕ)) (x y : Option BenchState) →
+pub flew_alone : (b : Bool) (given : Limits) (accesses : List RegAccess) (packet reply : List ℕ) (progress : Option Progress) (new : List (Option ℕ)) (x y : Option BenchState) →
     AreLimits given → (b ≡ true → IsBlock accesses) → AreTaken accesses → AreWords accesses → FitsPacket given.packet_size 0 (one_command b accesses) →
-    packet ≡ command_bytes (one_command b accesses) → old ≡ [] → IsShown (reading (one_command b accesses) 0 (requests_for false accesses) reply) progress old new →
+    packet ≡ command_bytes (one_command b accesses) → IsSeen (reading (one_command b accesses) 0 (requests_for false accesses) reply) progress new →
     StepsTo (λ m o. IsIdle m → HasAnswered packet reply m o) x y → StepsTo (λ m n. IsReady given m → HasFlownBy (one_form b) accesses progress new m n) x y
-flew_alone b given accesses packet reply progress old new x y limits block taken words fits is none read steps =
+flew_alone b given accesses packet reply progress new x y limits block taken words fits is read steps =
     steps_map one x y steps
   where
     one : (m n : BenchState) → (IsIdle m → HasAnswered packet reply m n) → IsReady given m → HasFlownBy (one_form b) accesses progress new m n
@@ -203,7 +210,7 @@ flew_alone b given accesses packet reply progress old new x y limits block taken
         let flies = ready.flies in
         let guard = flies.guard in
         let flown = flown_alone b given accesses packet reply m n limits.size_high words fits is ready (one_does b (transfers_of m) accesses block taken words guard.clear flies.in_range) (has ready.idle) in
-        flown_by (one_form b) accesses (reading (one_command b accesses) 0 (requests_for false accesses) reply) progress old new flown.0 m n read none flown.1 flown.2
+        flown_by (one_form b) accesses (reading (one_command b accesses) 0 (requests_for false accesses) reply) progress new flown.0 m n read flown.1 flown.2
 
 pub may_have_flown : (b : Bool) (given : Limits) (accesses : List RegAccess) (packet : List ℕ) (x y : Option BenchState) →
     AreLimits given → (b ≡ true → IsBlock accesses) → AreTaken accesses → AreWords accesses → FitsPacket given.packet_size 0 (one_command b accesses) →

@@ -16,9 +16,10 @@ use Rattle.flight_forms.specs.Flights.{words_of}
 use Rattle.flight_forms.specs.Forms.{all_write_drw, fits_block}
 use Rattle.flight_forms.specs.Packets.{FitsPacket}
 use Rattle.flight_forms.specs.Packing.{requests_for}
+use Rattle.batch_packer.proofs.AloneLemmas.{seen_shown}
 use Rattle.batch_packer.proofs.PacketLemmas.{fits_packet}
 use Rattle.batch_packer.specs.Alone.{IsBlock, one_command, one_reading}
-use Rattle.batch_packer.specs.Readings.{IsPacketOf, IsShown, reading}
+use Rattle.batch_packer.specs.Readings.{IsPacketOf, IsSeen, IsShown, reading}
 use Rattle.batch_packer.specs.declared.part.Progress.{Progress}
 
 some_is : (x y : List ℕ) → Some x ≡ Some y → y ≡ x
@@ -61,13 +62,13 @@ normal_front rs accesses is = subst AreNormal (sym is) (are_normal false accesse
 pub shown_alone : (b : Bool) (size : ℕ) (accesses : List RegAccess) (packet reply : List ℕ) (rs : List Request) (progress : Option Progress) (old new : List (Option ℕ)) → size ≤ 1024 →
     FitsPacket size 0 (one_command b accesses) → packet ≡ command_bytes (one_command b accesses) → rs ≡ requests_for false accesses →
     ((kind : PacketKind) (command : CommandValue) → IsPacketOf kind (command ∷ []) packet → IsShown (reading command 0 rs reply) progress old new) → old ≡ [] →
-    IsShown (reading (one_command b accesses) 0 (requests_for false accesses) reply) progress [] new
+    IsSeen (reading (one_command b accesses) 0 (requests_for false accesses) reply) progress new
 shown_alone b size accesses packet reply rs progress old new short fits is front shown none =
     let c : CommandValue = one_command b accesses in
-    subst (λ (xs : List (Option ℕ)). IsShown (reading c 0 (requests_for false accesses) reply) progress xs new) none
+    seen_shown (reading c 0 (requests_for false accesses) reply) progress new (subst (λ (xs : List (Option ℕ)). IsShown (reading c 0 (requests_for false accesses) reply) progress xs new) none
     (subst (λ (ys : List Request). IsShown (reading c 0 ys reply) progress old new) front
-    (shown Plain c (fits_packet Plain c packet size short fits (is ∙ sym (append-nil (command_bytes c))))))
+    (shown Plain c (fits_packet Plain c packet size short fits (is ∙ sym (append-nil (command_bytes c)))))))
 
 pub read_alone : (b : Bool) (accesses : List RegAccess) (reply : List ℕ) (replies : List (List ℕ)) (progress : Option Progress) (new : List (Option ℕ)) → replies ≡ reply ∷ [] →
-    IsShown (reading (one_command b accesses) 0 (requests_for false accesses) reply) progress [] new → IsShown (one_reading b accesses replies) progress [] new
-read_alone b accesses reply replies progress new is shown = subst (λ (xs : List (List ℕ)). IsShown (one_reading b accesses xs) progress [] new) (sym is) shown
+    IsSeen (reading (one_command b accesses) 0 (requests_for false accesses) reply) progress new → IsSeen (one_reading b accesses replies) progress new
+read_alone b accesses reply replies progress new is shown = subst (λ (xs : List (List ℕ)). IsSeen (one_reading b accesses xs) progress new) (sym is) shown

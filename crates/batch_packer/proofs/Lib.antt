@@ -6,3 +6,4 @@ pub mod PacketLemmas
 pub mod RangeLemmas
 pub mod AloneLemmas
 pub mod FlightFacts
+pub mod ChainLemmas

@@ -12,6 +12,7 @@ use Rattle.flight_forms.specs.Flights.{DoesPart, Part}
 use Rattle.flight_forms.specs.declared.form.Form.{Form}
 use Rattle.flight_forms.specs.declared.form.Form.TheVariants.{Block, Transfer, Chain}
 use Rattle.batch_packer.specs.Exchanges.{IsIdle}
+use Rattle.batch_packer.specs.Readings.{part_with}
 use Rattle.batch_packer.specs.declared.part.Progress.{Progress}
 
 -- what makes the transfers of a bench
@@ -44,15 +45,6 @@ pub record HasFlown (form : Form) (accesses : List RegAccess) (part : Part) (m n
   pub idle : IsIdle n
   pub starting : n.starting ≡ counted m.starting
   pub in_range : IsInRange (target_of n.probe)
-
--- the part that the numbers and values say
-abbrev pub part_with : Progress → List (Option ℕ) → Part
-part_with progress values = record {
-  performed = progress.performed;
-  confirmed = progress.confirmed;
-  response = progress.response;
-  values = values;
-}
 
 -- what a flight did whose replies were read so; each of them is one that its command may get
 abbrev pub HasFlownBy : Form → List RegAccess → Option Progress → List (Option ℕ) → BenchState → BenchState → Type 0

@@ -4,3 +4,4 @@ pub mod Queues
 pub mod Readings
 pub mod Flying
 pub mod Alone
+pub mod ChainReadings

@@ -52,3 +52,18 @@ abbrev pub IsShown : Option Part → Option Progress → List (Option ℕ) → L
 IsShown None None old new = new ≡ old
 IsShown (Some part) (Some progress) old new = IsPart part progress old new
 IsShown _ _ old new = ⊥
+
+-- the part that the numbers and values say
+abbrev pub part_with : Progress → List (Option ℕ) → Part
+part_with progress values = record {
+  performed = progress.performed;
+  confirmed = progress.confirmed;
+  response = progress.response;
+  values = values;
+}
+
+-- The numbers and the values are what was shown, where something was.
+abbrev pub IsSeen : Option Part → Option Progress → List (Option ℕ) → Type 0
+IsSeen None None values = Unit {0}
+IsSeen (Some part) (Some progress) values = part ≡ part_with progress values
+IsSeen _ _ values = ⊥

@@ -12,7 +12,7 @@ ghost use Rattle.batch_packer.specs.Alone.{IsBlock, one_command, one_form, one_r
 ghost use Rattle.batch_packer.specs.Exchanges.{IsOpen};
 ghost use Rattle.batch_packer.specs.Flying.{HasFlownBy, IsReady, MayHaveFlown};
 ghost use Rattle.batch_packer.specs.Queues.{IsFresh};
-ghost use Rattle.batch_packer.specs.Readings.{IsShown};
+ghost use Rattle.batch_packer.specs.Readings.{IsSeen};
 
 use crate::exchange::exchange;
 use crate::packing::{CHECK, put_requests, put_words};
@@ -108,7 +108,7 @@ pub fn fly_alone<B: Bench>(
     ensures flown { IfOk result (λ progress. StepsTo (λ m n. IsReady (B.reported bench.old).limits m
         → HasFlownBy (one_form is_block) accesses.now progress slots.new.values m n) (B.state bench.old) (B.state bench.new)) }
     ensures failed { OnErr result (StepsTo (λ m n. IsReady (B.reported bench.old).limits m → MayHaveFlown accesses.now m n) (B.state bench.old) (B.state bench.new)) }
-    ensures read { IfOk result (λ progress. IsShown (one_reading is_block accesses.now replies.new.items) progress [] slots.new.values) }
+    ensures read { IfOk result (λ progress. IsSeen (one_reading is_block accesses.now replies.new.items) progress slots.new.values) }
     ensures last { OnOk result ((B.reported bench.new).last ≡ record { packets = packets.new.items; replies = replies.new.items }) }
     ensures exchanges { OnOk result ((B.reported bench.new).exchanges ≡ counted (B.reported bench.old).exchanges) }
     ensures open { OnOk result (IsOpen (B.reported bench.new)) }

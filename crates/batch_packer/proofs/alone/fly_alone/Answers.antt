@@ -1,4 +1,4 @@
-use Rattle.std.proofs.Common.{◌≡◌, ℕ, List, [], ◌∷◌, ◌++◌, ap, sym, ◌∙◌, take, refl, subst}
+use Rattle.std.proofs.Common.{◌≡◌, ℕ, List, [], ◌∷◌, ◌++◌, ap, sym, ◌∙◌, take, subst}
 use Rattle.dap_messages.specs.Commands.{command_bytes}
 use Rattle.dap_messages.specs.declared.request.Request.{Request}
 use Rattle.probe_core.specs.Bench.{StepsTo}
@@ -40,9 +40,9 @@ returns-in-Ok-clause-flown g c =
     let reply : c.get-in-Ok-2.result.now ≡ take c.in-Ok.len c.exchange.new.out =
     first_kept c.args.replies.now.items c.push-in-Ok.new.self.items (take c.in-Ok.len c.exchange.new.out) c.get-in-Ok-2.result.now c.requires.replies.none (ap (λ (p : Packets). p.items) c.push-in-Ok.ensures) c.get-in-Ok-2.ensures in
     let rs : List Request = take c.put_requests-count.result c.put_requests-count.new.requests in
-    flew_alone c.args.is_block limits c.args.accesses.now c.get.result.now c.get-in-Ok-2.result.now c.read_reply.result [] c.read_reply.new.slots.values
+    flew_alone c.args.is_block limits c.args.accesses.now c.get.result.now c.get-in-Ok-2.result.now c.read_reply.result c.read_reply.new.slots.values
     (g.B.Bench.state c.args.bench.now) (g.B.Bench.state c.exchange.new.bench)
-    c.requires.limits c.requires.block c.requires.taken c.requires.words c.requires.fits packet refl
+    c.requires.limits c.requires.block c.requires.taken c.requires.words c.requires.fits packet
     (shown_alone c.args.is_block size c.args.accesses.now c.get-in-Ok.result.now c.get-in-Ok-2.result.now rs c.read_reply.result c.args.slots.now.values c.read_reply.new.slots.values in_range.size_high c.requires.fits again c.put_requests-count.ensures.front
     c.read_reply.ensures.shown c.requires.slots)
     (subst (λ (xs : List ℕ). StepsTo (λ m o. IsIdle m → HasAnswered c.get.result.now xs m o) (g.B.Bench.state c.args.bench.now) (g.B.Bench.state c.exchange.new.bench)) (sym reply) c.in-Ok.ensures.state)
