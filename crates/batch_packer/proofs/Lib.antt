@@ -7,3 +7,4 @@ pub mod RangeLemmas
 pub mod AloneLemmas
 pub mod FlightFacts
 pub mod ChainLemmas
+pub mod ChainBench
