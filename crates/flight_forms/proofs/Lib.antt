@@ -18,3 +18,5 @@ pub mod TransferAnswers
 pub mod GuardedAnswers
 pub mod ChainAnswers
 pub mod Polls
+pub mod GuardedPut
+pub mod SizeLemmas

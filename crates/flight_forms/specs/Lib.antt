@@ -4,3 +4,4 @@ pub mod Flights
 pub mod Chains
 pub mod Packets
 pub mod Polls
+pub mod Sizes

@@ -3,5 +3,9 @@
 
 mod form;
 pub mod laws;
+mod packing;
+mod size;
 
 pub use form::Form;
+pub use size::FlightSize;
+pub use packing::{put_guarded_requests, put_requests};
