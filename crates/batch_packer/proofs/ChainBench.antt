@@ -1,15 +1,16 @@
 -- A chain of held packets over a bench.
-use Rattle.std.proofs.Common.{◌≡◌, ℕ, zero, suc, ◌+◌, ◌-◌, ◌*◌, ◌<◌, ◌≤◌, ◌⊎◌, inl, inr, arith, take, drop, length, length-append, Bool, true, false, cond, eqb, Option, Some, None, List, [], ◌∷◌, ◌++◌, fold, map, refl, ap, sym, ◌∙◌, subst, append_assoc, append-nil, slice_get}
+use Rattle.std.proofs.Common.{◌≡◌, ℕ, zero, suc, ◌+◌, ◌-◌, ◌*◌, ◌<◌, ◌≤◌, ◌⊎◌, inl, inr, arith, take, drop, length, length-append, Bool, true, false, cond, eqb, not, Option, Some, None, List, [], ◌∷◌, ◌++◌, fold, map, refl, ap, sym, ◌∙◌, subst, append_assoc, append-nil, slice_get}
+use Rattle.std.proofs.lemmas.Bool.Decides.{nat_tests}
 use Rattle.std.specs.List.{AllByRecursion}
 use Rattle.target_machine.specs.InRange.{IsInRange}
 use Rattle.target_machine.specs.declared.access.RegAccess.{RegAccess}
 use Rattle.dap_messages.specs.declared.command.PacketKind.{PacketKind}
 use Rattle.dap_messages.specs.declared.command.PacketKind.TheVariants.{Plain, Execute, Queue}
 use Rattle.dap_messages.specs.declared.request.Response.{Response}
-use Rattle.dap_messages.specs.declared.request.Response.TheVariants.{Good}
+use Rattle.dap_messages.specs.declared.request.Response.TheVariants.{Good, Wait, Fault, Mismatch}
 use Rattle.dap_messages.specs.Commands.{bytes_of_kind, command_bytes}
 use Rattle.dap_transfer.specs.State.{TransferState, is_good}
-use Rattle.probe_core.specs.Bench.{BenchState, Exchange, Reported, StepsTo, counted, received, sent, served}
+use Rattle.probe_core.specs.Bench.{BenchState, Exchange, Reported, StepsTo, counted, handed, received, sent, served}
 use Rattle.probe_core.specs.Commands.{with_transfers}
 use Rattle.probe_core.specs.Packet.{accepted}
 use Rattle.probe_core.specs.Probe.{ExecutorState, ProbeState, is_queued}
@@ -108,16 +109,17 @@ ExchangeWith r packets u = record {
   faults : u.faults ≡ r.faults;
 }
 
-by_held : (b : Bool) (packet : List ℕ) (rest : List (List ℕ)) (x : Exchange) →
-    (record { packets = (cond b (record { packets = packet ∷ []; replies = [] }) (record { packets = x.packets ++ packet ∷ []; replies = x.replies })).packets ++ rest;
-      replies = (cond b (record { packets = packet ∷ []; replies = [] }) (record { packets = x.packets ++ packet ∷ []; replies = x.replies })).replies })
-    ≡ cond b (record { packets = packet ∷ rest; replies = [] }) (record { packets = x.packets ++ packet ∷ rest; replies = x.replies })
+abbrev begun : Bool → List ℕ → Exchange → Exchange
+begun b packet x = cond b (record { packets = packet ∷ []; replies = [] }) (record { packets = x.packets ++ packet ∷ []; replies = x.replies })
+
+by_held : (b : Bool) (packet : List ℕ) (rest : List (List ℕ)) (x : Exchange) → ◌≡◌ {A = Exchange}
+    (record { packets = (begun b packet x).packets ++ rest; replies = (begun b packet x).replies })
+    (cond b (record { packets = packet ∷ rest; replies = [] }) (record { packets = x.packets ++ packet ∷ rest; replies = x.replies }))
 by_held true packet rest x = refl
 by_held false packet rest x = ap (λ ps. record { packets = ps; replies = x.replies }) (append_assoc x.packets (packet ∷ []) rest)
 
 not_none : (n : ℕ) → eqb (n + 1) 0 ≡ false
-not_none zero = refl
-not_none (suc n) = refl
+not_none n = grind (arith, nat_tests)
 
 chain_sent : (r : Reported) (accesses : List RegAccess) (parts : List (List RegAccess)) → r.waiting ≡ 0 → ExchangeWith r (chain_packets (accesses ∷ parts)) (fold sent r (chain_packets (accesses ∷ parts)))
 chain_sent r accesses [] none = record {
@@ -209,3 +211,147 @@ chain_done r u v (accesses ∷ parts) packets replies opened some is sent_is tak
       last = ap (λ (x : Reported). x.last) taken_is ∙ some_taken.last ∙ ap (λ (x : Exchange). record { packets = x.packets; replies = x.replies ++ replies }) last_sent ∙ ap (λ ps. record { packets = ps; replies = replies }) (sym is);
       exchanges = ap (λ (x : Reported). x.exchanges) taken_is ∙ some_taken.exchanges ∙ ap (λ (x : Reported). x.exchanges) u_is ∙ all.exchanges ∙ ap (λ b. cond b (counted r.exchanges) r.exchanges) first;
     }
+
+-- ---- what was done
+
+mask_opened : (x : Response) (q : TransferState) → LeavesGuard x q → not (is_good x) ≡ false → q.mask ≡ 0
+mask_opened Good q guard opened = guard.mask
+mask_opened Wait q guard opened = absurd (cc)
+mask_opened Fault q guard opened = absurd (cc)
+mask_opened Mismatch q guard opened = absurd (cc)
+
+handed_executor : (n : BenchState) (replies : List (List ℕ)) → (fold handed n replies).probe.executor ≡ n.probe.executor
+handed_executor n [] = refl
+handed_executor n (x ∷ replies) = handed_executor (handed n x) replies
+
+-- after a chain whose replies were taken: what they show, and what was done
+pub flown_chain : (given : Limits) (accesses : List RegAccess) (parts : List (List RegAccess)) (replies : List (List ℕ)) (m n o : BenchState) → given.packet_size ≤ 1024 →
+    0 < length parts → all_of parts ≡ accesses → AreWords accesses → AllTaken parts → AllByRecursion AreWords parts → FitChain given.packet_size parts → IsReady given m →
+    n ≡ fold served m (chain_packets parts) → HandedSome replies n o → length replies ≡ length parts →
+    (part : Part) × (readings_after (Some nothing_yet) parts replies ≡ Some part) × HasFlown Chain accesses part m o
+flown_chain given accesses [] replies m n o short some all words taken part_words fits ready sent_is handed_is count = absurd (omega arith)
+flown_chain given accesses (first ∷ rest) replies m n o short some all words taken part_words fits ready sent_is handed_is count =
+    let parts : List (List RegAccess) = first ∷ rest in
+    let e : ExecutorState = m.probe.executor in
+    let p : TransferState = e.transfers in
+    let idle = ready.idle in
+    let flies = ready.flies in
+    let guard = flies.guard in
+    let short_here : e.limits.packet_size ≤ 1024 = subst (λ (l : Limits). l.packet_size ≤ 1024) (sym ready.limits) short in
+    let fits_here : FitChain e.limits.packet_size parts = subst (λ (l : Limits). FitChain l.packet_size parts) (sym ready.limits) fits in
+    let gone = chain_flown m n o first rest replies idle.held idle.waiting short_here fits_here sent_is handed_is count in
+    let chain = does_chain p parts taken guard in
+    let part : Part = chain_part parts (chain_replies p parts) in
+    let executor : o.probe.executor ≡ with_transfers e (chain_after p parts) = ap (λ (x : ProbeState). x.executor) gone.probe in
+    let transfers : transfers_of o ≡ chain_after p parts = ap (λ (x : ExecutorState). x.transfers) executor in
+    let made : DoesPart p (transfers_of o) accesses part =
+    subst (λ (q : TransferState). DoesPart p q accesses part) (sym transfers) (subst (λ (xs : List RegAccess). DoesPart p (chain_after p parts) xs part) all chain.part) in (
+      part,
+      ap (readings_after (Some nothing_yet) parts) gone.replies_are
+      ∙ whole_chain_shows p parts given.packet_size fits (chain_answers p parts taken part_words guard flies.in_range) chain.cut,
+      record {
+        does = made;
+        mask = λ opened. ap (λ (q : TransferState). q.mask) transfers ∙ mask_opened part.response (chain_after p parts) chain.guard opened;
+        executor = executor ∙ ap (with_transfers e) (sym transfers);
+        idle = record { held = ap (λ (x : ProbeState). x.held) gone.probe; waiting = ap (λ (x : ProbeState). x.waiting) gone.probe };
+        starting = gone.starting;
+        in_range = after_in_range p (transfers_of o) accesses part made flies.in_range words;
+      },
+    )
+
+-- ---- where a call failed
+
+-- held packets are not executed
+held_only : (m : BenchState) (k : ℕ) (parts : List (List RegAccess)) → k < length parts → (fold served m (take k (chain_packets parts))).probe.executor ≡ m.probe.executor
+held_only m zero parts below = refl
+held_only m (suc k) [] below = absurd (omega arith)
+held_only m (suc k) (accesses ∷ []) below = absurd (omega arith)
+held_only m (suc k) (accesses ∷ next ∷ parts) below = held_only (served m (bytes_of_kind Queue (guarded_command accesses ∷ []))) k (next ∷ parts) (omega arith)
+
+chain_executed : (given : Limits) (accesses : List RegAccess) (parts : List (List RegAccess)) (m n : BenchState) → given.packet_size ≤ 1024 → 0 < length parts → all_of parts ≡ accesses → AllTaken parts →
+    FitChain given.packet_size parts → IsReady given m → n ≡ fold served m (chain_packets parts) → MayHaveFlown accesses m n
+chain_executed given accesses [] m n short some all taken fits ready is = absurd (omega arith)
+chain_executed given accesses (first ∷ rest) m n short some all taken fits ready is =
+    let parts : List (List RegAccess) = first ∷ rest in
+    let e : ExecutorState = m.probe.executor in
+    let p : TransferState = e.transfers in
+    let idle = ready.idle in
+    let flies = ready.flies in
+    let short_here : e.limits.packet_size ≤ 1024 = subst (λ (l : Limits). l.packet_size ≤ 1024) (sym ready.limits) short in
+    let fits_here : FitChain e.limits.packet_size parts = subst (λ (l : Limits). FitChain l.packet_size parts) (sym ready.limits) fits in
+    let chain = does_chain p parts taken flies.guard in
+    let part : Part = chain_part parts (chain_replies p parts) in
+    let probe : n.probe ≡ chain_taken m.probe parts = ap (λ (b : BenchState). b.probe) is ∙ served_probe m (chain_packets parts) ∙ chain_ran m.probe first rest idle.held idle.waiting short_here fits_here in
+    let transfers : transfers_of n ≡ chain_after p parts = ap (λ (x : ProbeState). x.executor.transfers) probe in
+    inr (part, subst (λ (q : TransferState). DoesPart p q accesses part) (sym transfers) (subst (λ (xs : List RegAccess). DoesPart p (chain_after p parts) xs part) all chain.part))
+
+take_most : (k : ℕ) (xs : List (List ℕ)) → length xs ≤ k → take k xs ≡ xs
+take_most zero [] h = refl
+take_most zero (x ∷ xs) h = absurd (omega arith)
+take_most (suc k) [] h = refl
+take_most (suc k) (x ∷ xs) h = ap (λ ys. x ∷ ys) (take_most k xs (omega arith))
+
+by_count : (k n : ℕ) → (k < n) ⊎ (n ≤ k)
+by_count k zero = inr (omega arith)
+by_count zero (suc n) = inl (omega arith)
+by_count (suc k) (suc n) = either (by_count k n)
+  where
+    either : (k < n) ⊎ (n ≤ k) → (suc k < suc n) ⊎ (suc n ≤ suc k)
+    either (inl h) = inl (omega arith)
+    either (inr h) = inr (omega arith)
+
+pub some_sent : (given : Limits) (accesses : List RegAccess) (parts : List (List RegAccess)) (packets : List (List ℕ)) (m n : BenchState) → given.packet_size ≤ 1024 → 0 < length parts → all_of parts ≡ accesses →
+    AllTaken parts → FitChain given.packet_size parts → packets ≡ chain_packets parts → IsReady given m → ServedSome packets m n → MayHaveFlown accesses m n
+some_sent given accesses parts packets m n short some all taken fits is ready served_some =
+    by_cases (by_count served_some.count (length parts))
+  where
+    next : n ≡ fold served m (take served_some.count (chain_packets parts))
+    next = served_some.next ∙ ap (λ xs. fold served m (take served_some.count xs)) is
+
+    by_cases : (served_some.count < length parts) ⊎ (length parts ≤ served_some.count) → MayHaveFlown accesses m n
+    by_cases (inl below) = inl (ap (λ (b : BenchState). b.probe.executor.transfers) next ∙ ap (λ (x : ExecutorState). x.transfers) (held_only m served_some.count parts below))
+    by_cases (inr most) =
+        chain_executed given accesses parts m n short some all taken fits ready
+        (next ∙ ap (fold served m) (take_most served_some.count (chain_packets parts) (let c = packet_count parts in omega arith)))
+
+-- replies that were taken change no transfers
+handed_transfers : (replies : List (List ℕ)) (n o : BenchState) → HandedSome replies n o → o.probe.executor ≡ n.probe.executor
+handed_transfers replies n o handed_is = ap (λ (b : BenchState). b.probe.executor) handed_is.next ∙ handed_executor n replies
+
+pub not_all_taken : (given : Limits) (accesses : List RegAccess) (parts : List (List RegAccess)) (packets replies : List (List ℕ)) (m n o : BenchState) → given.packet_size ≤ 1024 → 0 < length parts → all_of parts ≡ accesses →
+    AllTaken parts → FitChain given.packet_size parts → packets ≡ chain_packets parts → IsReady given m → n ≡ fold served m packets → HandedSome replies n o → MayHaveFlown accesses m o
+not_all_taken given accesses parts packets replies m n o short some all taken fits is ready sent_is handed_is =
+    after_taken (chain_executed given accesses parts m n short some all taken fits ready (sent_is ∙ ap (fold served m) is))
+  where
+    same : transfers_of o ≡ transfers_of n
+    same = ap (λ (x : ExecutorState). x.transfers) (handed_transfers replies n o handed_is)
+
+    after_taken : MayHaveFlown accesses m n → MayHaveFlown accesses m o
+    after_taken (inl kept) = inl (same ∙ kept)
+    after_taken (inr made) = inr (made.0, subst (λ (q : TransferState). DoesPart (transfers_of m) q accesses made.0) (sym same) made.1)
+
+-- ---- over a bench
+
+pub flew_chain : (given : Limits) (accesses : List RegAccess) (parts : List (List RegAccess)) (packets replies : List (List ℕ)) (progress : Option Progress) (new : List (Option ℕ)) (a b c : Option BenchState) →
+    given.packet_size ≤ 1024 → 0 < length parts → all_of parts ≡ accesses → AreWords accesses → AllTaken parts → AllByRecursion AreWords parts → FitChain given.packet_size parts → packets ≡ chain_packets parts →
+    length replies ≡ length packets → IsSeen (readings_after (Some nothing_yet) parts replies) progress new →
+    StepsTo (λ m n. n ≡ fold served m packets) a b → StepsTo (HandedSome replies) b c → StepsTo (λ m o. IsReady given m → HasFlownBy Chain accesses progress new m o) a c
+flew_chain given accesses parts packets replies progress new a b c short some all words taken part_words fits is count read first second =
+    steps_then one a b c first second
+  where
+    one : (m n o : BenchState) → n ≡ fold served m packets → HandedSome replies n o → IsReady given m → HasFlownBy Chain accesses progress new m o
+    one m n o sent_is handed_is ready =
+        let flown = flown_chain given accesses parts replies m n o short some all words taken part_words fits ready (sent_is ∙ ap (fold served m) is) handed_is (count ∙ ap length is ∙ packet_count parts) in
+        flown_by Chain accesses (readings_after (Some nothing_yet) parts replies) progress new flown.0 m o read flown.1 flown.2
+
+pub send_failed : (given : Limits) (accesses : List RegAccess) (parts : List (List RegAccess)) (packets : List (List ℕ)) (a b : Option BenchState) →
+    given.packet_size ≤ 1024 → 0 < length parts → all_of parts ≡ accesses → AllTaken parts → FitChain given.packet_size parts → packets ≡ chain_packets parts →
+    StepsTo (ServedSome packets) a b → StepsTo (λ m n. IsReady given m → MayHaveFlown accesses m n) a b
+send_failed given accesses parts packets a b short some all taken fits is h =
+    steps_map (λ m n s ready. some_sent given accesses parts packets m n short some all taken fits is ready s) a b h
+
+pub receive_failed : (given : Limits) (accesses : List RegAccess) (parts : List (List RegAccess)) (packets replies : List (List ℕ)) (a b c : Option BenchState) →
+    given.packet_size ≤ 1024 → 0 < length parts → all_of parts ≡ accesses → AllTaken parts → FitChain given.packet_size parts → packets ≡ chain_packets parts →
+    StepsTo (λ m n. n ≡ fold served m packets) a b → StepsTo (HandedSome replies) b c → StepsTo (λ m o. IsReady given m → MayHaveFlown accesses m o) a c
+receive_failed given accesses parts packets replies a b c short some all taken fits is first second =
+    steps_then (λ m n o s t ready. not_all_taken given accesses parts packets replies m n o short some all taken fits is ready s t) a b c first second

@@ -93,7 +93,7 @@ chain_ran p accesses parts held waiting size fits =
     ∙ ap (λ hs. queue_run p (hs ++ chain_packets (accesses ∷ parts))) held
     ∙ (λ i. record { executor = ran.1 i; held = []; waiting = ran.0 i })
 
-served_probe : (m : BenchState) (packets : List (List ℕ)) → (fold served m packets).probe ≡ fold accepted m.probe packets
+pub served_probe : (m : BenchState) (packets : List (List ℕ)) → (fold served m packets).probe ≡ fold accepted m.probe packets
 served_probe m [] = refl
 served_probe m (x ∷ packets) = served_probe (served m x) packets
 
