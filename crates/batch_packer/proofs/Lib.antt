@@ -3,8 +3,10 @@ pub mod ExchangeLemmas
 
 pub mod QueueLemmas
 pub mod PacketLemmas
+pub mod FewLemmas
 pub mod RangeLemmas
 pub mod AloneLemmas
 pub mod FlightFacts
 pub mod ChainLemmas
+pub mod PartLemmas
 pub mod ChainBench

@@ -1,5 +1,5 @@
 -- What the replies to the packets of a chain show.
-use Rattle.std.specs.Prelude.{ℕ, Bool, true, false, ◌&&◌, ◌||◌, ◌==◌, if◌then◌else◌, List, [], ◌∷◌, Option, Some, None}
+use Rattle.std.specs.Prelude.{ℕ, Bool, true, false, ◌&&◌, ◌||◌, ◌==◌, if◌then◌else◌, List, [], ◌∷◌, ◌++◌, Option, Some, None}
 use Rattle.target_machine.specs.declared.access.RegAccess.{RegAccess}
 use Rattle.dap_messages.specs.declared.request.Response.{Response}
 use Rattle.dap_messages.specs.declared.request.Response.TheVariants.{Good, Wait, Fault, Mismatch}
@@ -10,9 +10,13 @@ use Rattle.flight_forms.specs.Packets.{guarded_command}
 use Rattle.flight_forms.specs.Packing.{payload}
 use Rattle.batch_packer.specs.Readings.{reading}
 
+-- whether a reply begins with DAP_ExecuteCommands, or DAP_QueueCommands, and the number 1
+abbrev pub is_of_one : ℕ → ℕ → Bool
+is_of_one id count = ((id == 0x7F) || (id == 0x7E)) && (count == 1)
+
 -- The reply to the one command of a packet of several: DAP_ExecuteCommands (or DAP_QueueCommands) and the number 1 come before it.
 abbrev pub inner_reply : List ℕ → Option (List ℕ)
-inner_reply (id ∷ count ∷ reply) = if ((id == 0x7F) || (id == 0x7E)) && (count == 1) then Some reply else None
+inner_reply (id ∷ count ∷ reply) = if is_of_one id count then Some reply else None
 inner_reply _ = None
 
 -- what such a reply to a guarded command of these accesses shows, where there is one: two requests are before theirs
@@ -47,3 +51,8 @@ readings_after None parts replies = None
 readings_after (Some sofar) [] [] = Some sofar
 readings_after (Some sofar) (accesses ∷ parts) (reply ∷ replies) = readings_after (then_reading sofar (guarded_reading accesses reply)) parts replies
 readings_after (Some sofar) _ _ = None
+
+-- the values after a reply: where a value match was not met, none is added
+abbrev pub values_kept : Bool → List (Option ℕ) → List (Option ℕ) → List (Option ℕ)
+values_kept true before values = before
+values_kept false before values = before ++ values

@@ -1,5 +1,5 @@
 -- What the reply to a packet says of the accesses of its command.
-use Rattle.std.specs.Prelude.{◌≡◌, ℕ, ◌-◌, ◌≤◌, List, ◌++◌, length, take, Option, Some, None, Result, Ok, Err}
+use Rattle.std.specs.Prelude.{◌≡◌, ℕ, ◌+◌, ◌-◌, ◌≤◌, List, ◌++◌, length, take, Option, Some, None, Result, Ok, Err}
 use Rattle.std.specs.List.{AllByRecursion}
 use Rattle.dap_messages.specs.declared.command.PacketKind.{PacketKind}
 use Rattle.dap_messages.specs.declared.command_value.CommandValue.{CommandValue}
@@ -67,3 +67,14 @@ abbrev pub IsSeen : Option Part → Option Progress → List (Option ℕ) → Ty
 IsSeen None None values = Unit {0}
 IsSeen (Some part) (Some progress) values = part ≡ part_with progress values
 IsSeen _ _ values = ⊥
+
+-- The numbers are those of one command, and so many values were added.
+pub record IsFew (progress : Progress) (old new : List (Option ℕ)) : Type 0 where
+  pub performed : progress.performed ≤ 255
+  pub confirmed : progress.confirmed ≤ 255
+  pub values : length new ≤ length old + 255
+
+-- The numbers have grown by those of one command.
+pub record IsNear (so_far progress : Progress) : Type 0 where
+  pub performed : progress.performed ≤ so_far.performed + 255
+  pub confirmed : progress.confirmed ≤ so_far.confirmed + 255

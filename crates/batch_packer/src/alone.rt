@@ -1,13 +1,11 @@
 //! A flight in one packet over a bench: a block of writes, or one Transfer.
-ghost use Rattle.std.specs.Prelude.{◌≡◌, ◌≤◌, [], true, false, length, take, IfOk, OnOk, OnErr};
+ghost use Rattle.std.specs.Prelude.{◌≡◌, ◌≤◌, [], true, length, IfOk, OnOk, OnErr};
 ghost use Rattle.dap_base.specs.Causes.{HasCause};
-ghost use Rattle.dap_messages.specs.declared.command_value.CommandValue.TheVariants.{Transfer};
-ghost use Rattle.dap_messages.specs.Commands.{IsCommand, command_bytes};
 ghost use Rattle.probe_core.specs.Bench.{StepsTo, counted};
 ghost use Rattle.probe_core.specs.Ranges.{AreLimits};
 ghost use Rattle.probe_core.specs.Runs.{KeepsRuns};
 ghost use Rattle.flight_forms.specs.Packets.{FitsPacket};
-ghost use Rattle.flight_forms.specs.Packing.{AreTaken, AreWords, requests_for};
+ghost use Rattle.flight_forms.specs.Packing.{AreTaken, AreWords};
 ghost use Rattle.batch_packer.specs.Alone.{IsBlock, one_command, one_form, one_reading};
 ghost use Rattle.batch_packer.specs.Exchanges.{IsOpen};
 ghost use Rattle.batch_packer.specs.Flying.{HasFlownBy, IsReady, MayHaveFlown};
@@ -15,72 +13,14 @@ ghost use Rattle.batch_packer.specs.Queues.{IsFresh};
 ghost use Rattle.batch_packer.specs.Readings.{IsSeen};
 
 use crate::exchange::exchange;
-use crate::packing::{CHECK, put_requests, put_words};
+use crate::packing::{MOST_REQUESTS, UNUSED, write_one};
 use crate::part::Progress;
 use crate::reply::read_reply;
 use crate::slots::Slots;
 use dap_base::Failed;
-use dap_messages::{Command, Request, write_command};
+use flight_forms::put_requests;
 use probe_core::{Bench, PacketList};
 use target_machine::RegAccess;
-
-// The request byte of a block of writes of DRW.
-const WRITE_DRW: u8 = 0x0D;
-
-// Writes a block of these accesses into the front of a buffer, and answers how many bytes it has.
-fn write_block(accesses: &[RegAccess], bytes: &mut [u8]) -> usize
-    requires command { IsCommand (one_command true accesses.now) }
-    requires fits { length (command_bytes (one_command true accesses.now)) ≤ length bytes.old }
-    requires few { length accesses.now ≤ 254 }
-    ensures within { result ≤ length bytes.new }
-    ensures front { take result bytes.new ≡ command_bytes (one_command true accesses.now) }
-{
-    let mut words = [0u32; 254];
-    let count = put_words(accesses, &mut words);
-    let command = Command::WriteBlock {
-        request: WRITE_DRW,
-        words: &words[..count],
-    };
-    match write_command(&command, bytes) {
-        Some(size) => size,
-        None => 0,
-    }
-}
-
-// Writes a Transfer of these requests into the front of a buffer, and answers how many bytes it has.
-fn write_transfer(requests: &[Request], bytes: &mut [u8]) -> usize
-    requires command { IsCommand (Transfer requests.now) }
-    requires fits { length (command_bytes (Transfer requests.now)) ≤ length bytes.old }
-    ensures within { result ≤ length bytes.new }
-    ensures front { take result bytes.new ≡ command_bytes (Transfer requests.now) }
-{
-    match write_command(&Command::Transfer(requests), bytes) {
-        Some(size) => size,
-        None => 0,
-    }
-}
-
-// Writes the command of a flight in one packet, and answers how many bytes it has. The requests are
-// those of the accesses.
-fn write_one(
-    is_block: bool,
-    accesses: &[RegAccess],
-    requests: &[Request],
-    bytes: &mut [u8],
-) -> usize
-    requires requests { requests.now ≡ requests_for false accesses.now }
-    requires command { IsCommand (one_command is_block accesses.now) }
-    requires fits { length (command_bytes (one_command is_block accesses.now)) ≤ length bytes.old }
-    requires few { is_block ≡ true → length accesses.now ≤ 254 }
-    ensures within { result ≤ length bytes.new }
-    ensures front { take result bytes.new ≡ command_bytes (one_command is_block accesses.now) }
-{
-    if is_block {
-        write_block(accesses, bytes)
-    } else {
-        write_transfer(requests, bytes)
-    }
-}
 
 /// Sends a flight in one packet, a block or one Transfer, reads its reply, and adds the values of the
 /// confirmed accesses to the slots. `None` where the reply is none that the packet may get. The packet
@@ -119,7 +59,7 @@ pub fn fly_alone<B: Bench>(
     ensures identity { B.identity bench.new ≡ B.identity bench.old }
     ensures cause { HasCause (B.reported bench.old).faults (B.reported bench.new).faults result }
 {
-    let mut requests = [CHECK; 255];
+    let mut requests = [UNUSED; MOST_REQUESTS];
     let count = put_requests(accesses, &mut requests);
     let size = write_one(is_block, accesses, &requests[..count], bytes);
     packets.push(&bytes[..size]);

@@ -2,6 +2,7 @@
 #![tactic(auto)]
 
 mod alone;
+mod chain;
 mod exchange;
 pub mod laws;
 mod packing;

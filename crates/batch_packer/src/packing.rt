@@ -1,63 +1,37 @@
-//! The requests and the words of a flight's accesses.
-ghost use Rattle.std.specs.Prelude.{◌≡◌, ◌≤◌, ◌++◌, ◌∷◌, [], false, length, take, drop, not, fold};
-ghost use Rattle.dap_transfer.specs.CommandEnds.{may_be_free, writes_ap};
+//! The words, the packets and the parts of a flight's accesses.
+ghost use Rattle.std.specs.Prelude.{◌≡◌, ◌≤◌, ◌<◌, ◌+◌, ◌++◌, ◌∷◌, [], true, false, length, take, drop};
+ghost use Rattle.dap_messages.specs.declared.command_value.CommandValue.TheVariants.{Transfer};
+ghost use Rattle.dap_messages.specs.Commands.{IsCommand, bytes_of_kind, command_bytes};
 ghost use Rattle.flight_forms.specs.Flights.{words_of};
-ghost use Rattle.flight_forms.specs.Packing.{check, request_of, requests_for};
+ghost use Rattle.flight_forms.specs.Forms.{parts_of};
+ghost use Rattle.flight_forms.specs.Packets.{FitChain, FitsPacket, chain_packets, guarded_command};
+ghost use Rattle.flight_forms.specs.Packing.{requests_for};
+ghost use Rattle.batch_packer.specs.Alone.{one_command};
+ghost use Rattle.batch_packer.specs.Queues.{IsFresh, last_id, last_kind};
 
-use dap_messages::Request;
+use dap_messages::{Command, Request, write_command};
+use flight_forms::{FlightSize, put_guarded_requests};
+use probe_core::PacketList;
 use target_machine::RegAccess;
 
-/// A read of RDBUFF (0xC), after which it is known that the write before was good.
-pub const CHECK: Request = Request {
-    byte: 0x0E,
+/// A request to fill a buffer with.
+pub const UNUSED: Request = Request {
+    byte: 0,
     word: 0,
 };
 
-// The request that asks for an access.
-fn request_of(access: RegAccess) -> Request
-    ensures { result ≡ request_of access }
-{
-    if access.read {
-        Request::read(access.ap, access.addr)
-    } else {
-        Request::write(access.ap, access.addr, access.value)
-    }
-}
+/// The most requests of a Transfer.
+pub const MOST_REQUESTS: usize = 255;
 
-// Whether an access may act where STICKYERR is set: a read of DPIDR or CTRL/STAT, a write of ABORT.
-fn may_be_free(access: RegAccess) -> bool
-    ensures { result ≡ may_be_free access }
-{
-    !access.ap
-        && if access.read {
-            access.addr == 0 || access.addr == 4
-        } else {
-            access.addr == 0
-        }
-}
+// The request byte of a block of writes of DRW.
+const WRITE_DRW: u8 = 0x0D;
 
-/// Puts the requests of these accesses into the front of a buffer, and answers how many they are.
-pub fn put_requests(accesses: &[RegAccess], requests: &mut [Request]) -> usize
-    requires { length (requests_for false accesses.now) ≤ length requests.old }
-    ensures count { result ≡ length (requests_for false accesses.now) }
-    ensures front { take result requests.new ≡ requests_for false accesses.now }
-{
-    let mut count = 0;
-    let mut after_write = false;
-    for access in accesses {
-        if after_write && may_be_free(*access) {
-            requests[count] = CHECK;
-            count += 1;
-        }
-        requests[count] = request_of(*access);
-        count += 1;
-        after_write = access.ap && !access.read;
-    }
-    count
-}
+// DAP_ExecuteCommands and DAP_QueueCommands.
+const EXECUTE: u8 = 0x7F;
+const QUEUE: u8 = 0x7E;
 
-/// Puts what these accesses write into the front of a buffer, and answers how many words they are.
-pub fn put_words(accesses: &[RegAccess], words: &mut [u32]) -> usize
+// Puts what these accesses write into the front of a buffer, and answers how many words they are.
+fn put_words(accesses: &[RegAccess], words: &mut [u32]) -> usize
     requires { length accesses.now ≤ length words.old }
     ensures count { result ≡ length (words_of accesses.now) }
     ensures front { take result words.new ≡ words_of accesses.now }
@@ -68,4 +42,138 @@ pub fn put_words(accesses: &[RegAccess], words: &mut [u32]) -> usize
         count += 1;
     }
     count
+}
+
+// Writes a block of these accesses into the front of a buffer, and answers how many bytes it has.
+fn write_block(accesses: &[RegAccess], bytes: &mut [u8]) -> usize
+    requires command { IsCommand (one_command true accesses.now) }
+    requires fits { length (command_bytes (one_command true accesses.now)) ≤ length bytes.old }
+    requires few { length accesses.now ≤ 254 }
+    ensures within { result ≤ length bytes.new }
+    ensures front { take result bytes.new ≡ command_bytes (one_command true accesses.now) }
+{
+    let mut words = [0u32; 254];
+    let count = put_words(accesses, &mut words);
+    let command = Command::WriteBlock {
+        request: WRITE_DRW,
+        words: &words[..count],
+    };
+    match write_command(&command, bytes) {
+        Some(size) => size,
+        None => 0,
+    }
+}
+
+// Writes a Transfer of these requests into the front of a buffer, and answers how many bytes it has.
+fn write_transfer(requests: &[Request], bytes: &mut [u8]) -> usize
+    requires command { IsCommand (Transfer requests.now) }
+    requires fits { length (command_bytes (Transfer requests.now)) ≤ length bytes.old }
+    ensures within { result ≤ length bytes.new }
+    ensures front { take result bytes.new ≡ command_bytes (Transfer requests.now) }
+{
+    match write_command(&Command::Transfer(requests), bytes) {
+        Some(size) => size,
+        None => 0,
+    }
+}
+
+/// Writes the command of a flight in one packet into the front of a buffer, and answers how many
+/// bytes it has. The requests are those of the accesses.
+pub fn write_one(
+    is_block: bool,
+    accesses: &[RegAccess],
+    requests: &[Request],
+    bytes: &mut [u8],
+) -> usize
+    requires requests { requests.now ≡ requests_for false accesses.now }
+    requires command { IsCommand (one_command is_block accesses.now) }
+    requires fits { length (command_bytes (one_command is_block accesses.now)) ≤ length bytes.old }
+    requires few { is_block ≡ true → length accesses.now ≤ 254 }
+    ensures within { result ≤ length bytes.new }
+    ensures front { take result bytes.new ≡ command_bytes (one_command is_block accesses.now) }
+{
+    if is_block {
+        write_block(accesses, bytes)
+    } else {
+        write_transfer(requests, bytes)
+    }
+}
+
+// Writes two parts, one after the other, into the front of a buffer, and answers how many bytes they have.
+fn put(out: &mut [u8], head: &[u8], tail: &[u8]) -> usize
+    requires { length head.now + length tail.now ≤ length out.old }
+    ensures within { result ≤ length out.new }
+    ensures front { take result out.new ≡ head.now ++ tail.now }
+{
+    let size = head.len() + tail.len();
+    out[..head.len()].copy_from_slice(head);
+    out[head.len()..size].copy_from_slice(tail);
+    size
+}
+
+// The id of the packet of a chain: the last lets all run, and the others are held.
+fn id_of(is_last: bool) -> u8
+    ensures { result ≡ last_id is_last }
+{
+    if is_last { EXECUTE } else { QUEUE }
+}
+
+// Writes a packet of a chain, the last of it or a held one, into the front of a buffer, and answers
+// how many bytes it has.
+#[tactic(auto, using(crate::proofs::PartLemmas::part_bytes, crate::proofs::PartLemmas::part_fits))]
+fn write_part(is_last: bool, accesses: &[RegAccess], bytes: &mut [u8]) -> usize
+    requires fits { FitsPacket 1024 2 (guarded_command accesses.now) }
+    requires room { length bytes.old ≡ 1024 }
+    ensures within { result ≤ length bytes.new }
+    ensures front { take result bytes.new ≡ bytes_of_kind (last_kind is_last) (guarded_command accesses.now ∷ []) }
+{
+    let mut requests = [UNUSED; MOST_REQUESTS];
+    let count = put_guarded_requests(accesses, &mut requests);
+    let mut command = [0u8; 1024];
+    let size = write_transfer(&requests[..count], &mut command);
+    put(bytes, &[id_of(is_last), 1], &command[..size])
+}
+
+/// How many of these accesses the first part of a chain has.
+pub fn first_part(packet_size: u16, accesses: &[RegAccess]) -> usize
+    requires some { 0 < length accesses.now }
+    requires few { length accesses.now < 65535 }
+    ensures some { 0 < result }
+    ensures within { result ≤ length accesses.now }
+    ensures part { parts_of packet_size accesses.now ≡ take result accesses.now ∷ parts_of packet_size (drop result accesses.now) }
+{
+    let mut size = FlightSize::new(packet_size, 1);
+    let mut count = 0;
+    for access in accesses {
+        size = size.with(*access);
+        if size.parts() > 1 {
+            return count;
+        }
+        count += 1;
+    }
+    count
+}
+
+/// Makes the packets of a chain of these accesses. `bytes` is room for one.
+pub fn put_packets(
+    packet_size: u16,
+    accesses: &[RegAccess],
+    packets: &mut PacketList,
+    bytes: &mut [u8],
+)
+    requires few { length accesses.now < 65535 }
+    requires fits { FitChain 1024 (parts_of packet_size accesses.now) }
+    requires packets { IsFresh packets.old (length (parts_of packet_size accesses.now)) }
+    requires bytes { length bytes.old ≡ 1024 }
+    ensures items { packets.new.items ≡ chain_packets (parts_of packet_size accesses.now) }
+    ensures room { packets.new.room ≡ packets.old.room }
+{
+    let mut start = 0;
+    while start < accesses.len() {
+        let rest = &accesses[start..];
+        let len = first_part(packet_size, rest);
+        let size = write_part(len == rest.len(), &rest[..len], bytes);
+        packets.push(&bytes[..size]);
+        start += len;
+    }
 }

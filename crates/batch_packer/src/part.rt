@@ -7,6 +7,7 @@ ghost use Rattle.dap_transfer.specs.Private.{word_of};
 ghost use Rattle.dap_transfer.specs.State.{is_good};
 ghost use Rattle.dap_transfer.specs.Wires.{access_of};
 ghost use Rattle.flight_forms.specs.Flights.{is_own, part_of, seen_one, seen_values};
+ghost use Rattle.batch_packer.specs.Readings.{IsFew};
 ghost use Rattle.batch_packer.specs.SlotList.{SlotList};
 
 use crate::slots::Slots;
@@ -80,6 +81,7 @@ fn put_values(executed: &[Request], view: &ReplyView<'_>, slots: &mut Slots) -> 
 
 /// How far the accesses came, by a reply that names these requests as executed. The values of the
 /// confirmed ones are added to the slots.
+#[tactic(auto, using(crate::proofs::FewLemmas::few_part))]
 pub fn progress_by(
     executed: &[Request],
     response: Response,
@@ -93,6 +95,7 @@ pub fn progress_by(
     ensures confirmed { result.confirmed ≡ (part_of executed.now response view.now.words).confirmed }
     ensures response { result.response ≡ response }
     ensures values { slots.new ≡ record slots.old { values = slots.old.values ++ (part_of executed.now response view.now.words).values } }
+    ensures few { IsFew result slots.old.values slots.new.values }
 {
     let before = slots.len();
     let (reads, is_write) = put_values(executed, view, slots);

@@ -1,11 +1,11 @@
 //! What the reply to a packet says of the accesses of its command.
-ghost use Rattle.std.specs.Prelude.{◌≡◌, ◌+◌, ◌≤◌, List, [], ◌∷◌, length, slice_get};
+ghost use Rattle.std.specs.Prelude.{◌≡◌, ◌+◌, ◌≤◌, List, [], ◌∷◌, length, slice_get, IfSome};
 ghost use Rattle.dap_messages.specs.declared.command.PacketKind.{PacketKind};
 ghost use Rattle.dap_messages.specs.declared.command_value.CommandValue.{CommandValue};
 ghost use Rattle.dap_messages.specs.ReplyReading.{reply_read};
 ghost use Rattle.dap_messages.specs.Responses.{response_of};
 ghost use Rattle.dap_transfer.specs.Laws.{AreNormal};
-ghost use Rattle.batch_packer.specs.Readings.{IsPacketOf, IsShown, part_as, reading, shown_in};
+ghost use Rattle.batch_packer.specs.Readings.{IsFew, IsPacketOf, IsShown, part_as, reading, shown_in};
 
 use crate::part::{Progress, progress_by};
 use crate::slots::Slots;
@@ -42,6 +42,7 @@ fn read_view(
     requires few { length requests.now ≤ 255 }
     requires room { length slots.old.values + length requests.now ≤ slots.old.room }
     ensures shown { IsShown (part_as before requests.now view.now (response_of view.now.response)) result slots.old.values slots.new.values }
+    ensures few { IfSome result (λ p. IsFew p slots.old.values slots.new.values) }
     ensures room { slots.new.room ≡ slots.old.room }
 {
     match Response::from_code(view.response()) {
@@ -68,6 +69,7 @@ pub fn read_reply(
     requires room { length slots.old.values + length requests.now ≤ slots.old.room }
     ensures shown { (kind : PacketKind) (command : CommandValue) → IsPacketOf kind (command ∷ []) packet.now
         → IsShown (reading command before requests.now reply.now) result slots.old.values slots.new.values }
+    ensures few { IfSome result (λ p. IsFew p slots.old.values slots.new.values) }
     ensures room { slots.new.room ≡ slots.old.room }
 {
     match command_in(packet, 0) {

@@ -2,7 +2,7 @@
 ghost use Rattle.std.specs.Prelude.{◌≡◌, ◌<◌, ◌∷◌, ◌++◌, ℕ, List, [], is_some, length};
 ghost use Rattle.target_machine.specs.declared.access.RegAccess.{RegAccess};
 ghost use Rattle.dap_transfer.specs.CommandEnds.{one_if};
-ghost use Rattle.flight_forms.specs.Forms.{fits_block, fits_chain, form_of, writes_drw};
+ghost use Rattle.flight_forms.specs.Forms.{fits_block, fits_chain, form_of, parts_of, writes_drw};
 ghost use Rattle.flight_forms.specs.Sizes.{IsSizeOf, size_with, tally_fits, tally_fits_guarded, with_access};
 
 use crate::form::Form;
@@ -165,6 +165,13 @@ impl FlightSize {
         ensures { (accesses : List RegAccess) → IsSizeOf accesses self → result ≡ fits_chain self.packet_size self.packet_count accesses }
     {
         self.packet_count >= 2 && self.parts <= u32::from(self.packet_count)
+    }
+
+    /// How many parts a chain of the accesses has.
+    pub fn parts(self) -> u32
+        ensures { (accesses : List RegAccess) → IsSizeOf accesses self → result ≡ length (parts_of self.packet_size accesses) }
+    {
+        self.parts
     }
 
     /// The first form that holds the accesses: a block, one Transfer, or a chain. `None` where none
