@@ -9,4 +9,5 @@ pub mod AloneLemmas
 pub mod FlightFacts
 pub mod ChainLemmas
 pub mod PartLemmas
+pub mod ReadLemmas
 pub mod ChainBench

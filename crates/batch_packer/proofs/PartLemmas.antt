@@ -203,3 +203,7 @@ one_longer old new x e = ap length e ∙ length-append old (x ∷ [])
 -- a slice up to the end
 pub slice_rest : (n : ℕ) (xs : List RegAccess) → n ≤ length xs → take (length xs - n) (drop n xs) ≡ drop n xs
 slice_rest n xs h = let l = length_left n xs h in take_whole (length xs - n) (drop n xs) (omega arith)
+
+pub parts_some : (size : ℕ) (xs : List RegAccess) → 0 < length xs → 0 < length (parts_of size xs)
+parts_some size [] h = absurd (omega arith)
+parts_some size (x ∷ xs) h = some_filled size (x ∷ []) xs

@@ -152,6 +152,7 @@ fn read_packets(
     requires fits { FitChain 1024 (parts_of packet_size accesses.now) }
     requires packets { packets.now.items ≡ chain_packets (parts_of packet_size accesses.now) }
     requires replies { length replies.now.items ≡ length packets.now.items }
+    requires many { length packets.now.items ≤ 255 }
     requires slots { slots.old.values ≡ [] }
     requires room { 255 * length packets.now.items ≤ slots.old.room }
     ensures seen { IsSeen (readings_after (Some nothing_yet) (parts_of packet_size accesses.now) replies.now.items) result slots.new.values }
@@ -212,11 +213,11 @@ pub fn fly_chain<B: Bench>(
     ensures cause { HasCause (B.reported bench.old).faults (B.reported bench.new).faults result }
 {
     put_packets(packet_size, accesses, packets, bytes);
-    if let Err(Failed) = send_all(packets, bench) {
-        return Err(Failed);
+    match send_all(packets, bench) {
+        Err(Failed) => Err(Failed),
+        Ok(()) => match receive_all(packets.len(), replies, bytes, bench) {
+            Err(Failed) => Err(Failed),
+            Ok(()) => Ok(read_packets(packet_size, accesses, packets, replies, slots)),
+        },
     }
-    if let Err(Failed) = receive_all(packets.len(), replies, bytes, bench) {
-        return Err(Failed);
-    }
-    Ok(read_packets(packet_size, accesses, packets, replies, slots))
 }

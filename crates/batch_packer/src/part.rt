@@ -81,7 +81,6 @@ fn put_values(executed: &[Request], view: &ReplyView<'_>, slots: &mut Slots) -> 
 
 /// How far the accesses came, by a reply that names these requests as executed. The values of the
 /// confirmed ones are added to the slots.
-#[tactic(auto, using(crate::proofs::FewLemmas::few_part))]
 pub fn progress_by(
     executed: &[Request],
     response: Response,

@@ -6,6 +6,7 @@ use Rattle.dap_transfer.specs.Laws.{accesses_in}
 use Rattle.flight_forms.specs.Flights.{doubts, seen_values}
 use Rattle.batch_packer.specs.SlotList.{SlotList}
 use Rattle.flight_forms.proofs.SeenValues.{counted, kept}
+use Rattle.batch_packer.proofs.FewLemmas.{few_part}
 use Rattle.batch_packer.proofs.part.progress_by.Goals as goal
 
 pub returns-clause-performed : goal.returns-clause-performed
@@ -32,3 +33,8 @@ returns-clause-values c =
           c.len-before.ensures (ap (λ (s : SlotList). s.values) c.put_values-reads.ensures.values) (confirmed_is c) i;
       room = ap (λ (s : SlotList). s.room) c.put_values-reads.ensures.values i;
     })
+
+pub returns-clause-few : goal.returns-clause-few
+returns-clause-few c =
+    few_part c.args.executed.now c.args.response c.args.view.now.words c.args.slots.now.values c.cut.new.self.values _ c.requires.few (returns-clause-performed c) (returns-clause-confirmed c)
+    (ap (λ (s : SlotList). s.values) (returns-clause-values c))
