@@ -1,5 +1,5 @@
 -- A block of writes of DRW.
-use Rattle.std.proofs.Common.{◌≡◌, eqb, leb, ℕ, ◌+◌, ◌*◌, ◌≤◌, ◌&&◌, ◌||◌, not, Bool, true, false, cond, List, [], ◌∷◌, ◌++◌, length, take, refl, ap, sym, ◌∙◌, arith, suc, zero, subst, IsTrue}
+use Rattle.std.proofs.Common.{◌≡◌, eqb, leb, ℕ, ◌+◌, ◌*◌, ◌&&◌, ◌||◌, not, Bool, true, false, cond, List, [], ◌∷◌, ◌++◌, length, take, refl, ap, sym, ◌∙◌, arith, suc, zero, subst, IsTrue}
 use Rattle.std.specs.Prelude.{bit_and}
 use Rattle.std.proofs.lemmas.Bool.{eq-eqb, eqb-true}
 use Rattle.target_machine.specs.declared.access.RegAccess.{RegAccess}
@@ -7,7 +7,7 @@ use Rattle.dap_messages.specs.declared.request.Request.{Request}
 use Rattle.dap_messages.specs.declared.request.Response.{Response}
 use Rattle.dap_messages.specs.declared.request.Response.TheVariants.{Good, Wait, Fault, Mismatch}
 use Rattle.dap_messages.specs.Replies.{Answers, may_end_block}
-use Rattle.dap_messages.specs.Requests.{reads_in, write_request}
+use Rattle.dap_messages.specs.Requests.{reads_in}
 use Rattle.dap_messages.specs.Responses.{code_of, response_of}
 use Rattle.dap_transfer.specs.Block.{blocked, writes_of}
 use Rattle.dap_transfer.specs.CommandEnds.{Ends, EndsAt, in_doubt, may_be_free, writes_ap}
@@ -16,7 +16,7 @@ use Rattle.dap_transfer.specs.Transfer.{transferred}
 use Rattle.dap_transfer.proofs.BlockTransfers.{block_is_transfer}
 use Rattle.dap_transfer.proofs.CommandEnds.{command_ends}
 use Rattle.dap_transfer.proofs.Words.{reads_first}
-use Rattle.flight_forms.specs.Flights.{DoesBlock, DoesPart, DoesTransfer, part_of, words_of}
+use Rattle.flight_forms.specs.Flights.{DoesBlock, DoesPart, part_of, words_of}
 use Rattle.flight_forms.specs.Forms.{all_write_drw, fits_block, writes_drw}
 use Rattle.flight_forms.specs.Packets.{block_answer, block_command}
 use Rattle.flight_forms.specs.Packing.{AreTaken, check_when, request_of, requests_for}
@@ -30,8 +30,7 @@ drw_request : (a : RegAccess) → writes_drw a ≡ true → (a.ap ≡ true) × (
 drw_request a e =
     let parts = three_parts a.ap (not a.read) (eqb (bit_and a.addr 12) 12) e in
     let write : a.read ≡ false = not_true a.read parts.1 in
-    let addr : bit_and a.addr 12 ≡ 12 = eqb-true (bit_and a.addr 12) 12 parts.2 in
-    (
+    let addr : bit_and a.addr 12 ≡ 12 = eqb-true (bit_and a.addr 12) 12 parts.2 in (
       parts.0,
       (λ i. cond (write i) (record { byte = cond (parts.0 i) 1 0 + 2 + bit_and a.addr 12; word = 0 }) (record { byte = cond (parts.0 i) 1 0 + 0 + addr i; word = a.value })),
     )
@@ -59,7 +58,7 @@ drw_requests w (a ∷ rest) e =
     no_check w a (request_of a ∷ requests_for (writes_ap a) rest) first.0
     ∙ (λ i. first.1 i ∷ drw_requests (writes_ap a) rest two.1 i)
 
-drw_taken : (accesses : List RegAccess) → all_write_drw accesses ≡ true → AreTaken accesses
+pub drw_taken : (accesses : List RegAccess) → all_write_drw accesses ≡ true → AreTaken accesses
 drw_taken [] e = tt
 drw_taken (a ∷ rest) e =
     let two = both_true (writes_drw a) (all_write_drw rest) e in
@@ -68,7 +67,7 @@ drw_taken (a ∷ rest) e =
 
 -- ---- no word comes
 
-no_reads : (n : ℕ) (words : List ℕ) → reads_in (take n (writes_of 0x0D words)) ≡ 0
+pub no_reads : (n : ℕ) (words : List ℕ) → reads_in (take n (writes_of 0x0D words)) ≡ 0
 no_reads zero words = refl
 no_reads (suc n) [] = refl
 no_reads (suc n) (w ∷ words) =
@@ -111,7 +110,7 @@ does_block p size (a ∷ rest) e clear =
 
 -- ---- its reply is one that it may get
 
-length_writes : (words : List ℕ) → length (writes_of 0x0D words) ≡ length words
+pub length_writes : (words : List ℕ) → length (writes_of 0x0D words) ≡ length words
 length_writes [] = refl
 length_writes (w ∷ words) = ap suc (length_writes words)
 

@@ -1,5 +1,5 @@
 -- How many accesses a form holds.
-use Rattle.std.proofs.Common.{◌≡◌, leb, ℕ, ◌+◌, ◌*◌, ◌-◌, ◌/◌, ◌≤◌, ◌<◌, ◌&&◌, Bool, true, false, cond, List, [], ◌∷◌, ◌++◌, length, refl, ap, sym, ◌∙◌, arith, suc, zero, subst, length-append, Option, Some, None, ◌⊎◌, inl, inr}
+use Rattle.std.proofs.Common.{◌≡◌, leb, ℕ, ◌+◌, ◌*◌, ◌-◌, ◌/◌, ◌≤◌, ◌<◌, Bool, true, false, cond, List, [], ◌∷◌, ◌++◌, length, refl, ap, sym, ◌∙◌, arith, suc, length-append, Option, Some, None, inl, inr}
 use Rattle.std.proofs.Math.Nat.{mul_comm, mul-suc, mul-zero}
 use Rattle.std.proofs.lemmas.Nat.{mul-le}
 use Rattle.std.proofs.lemmas.Bool.{and_cases, and_parts, le-leb, leb-false, leb-true}
@@ -10,7 +10,7 @@ use Rattle.flight_forms.specs.declared.form.Form.{Form}
 use Rattle.flight_forms.specs.declared.form.Form.TheVariants.{Block, Transfer, Chain}
 use Rattle.flight_forms.specs.Forms.{all_write_drw, bytes_in, capacity, filled, fits_block, fits_chain, fits_guarded, fits_transfer, form_of, parts_of}
 use Rattle.flight_forms.specs.Packing.{requests_for}
-use Rattle.flight_forms.proofs.RequestSizes.{FewFor, few_for, three_from, three_parts}
+use Rattle.flight_forms.proofs.RequestSizes.{few_for, three_from, three_parts}
 
 -- ---- few accesses fit
 

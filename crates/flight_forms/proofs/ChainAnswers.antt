@@ -1,5 +1,5 @@
 -- The replies to a guarded chain are ones that its commands may get.
-use Rattle.std.proofs.Common.{◌≡◌, ℕ, ◌+◌, ◌^◌, ◌≤◌, ◌<◌, ◌&&◌, false, true, List, [], ◌∷◌, ◌++◌, take, length, refl, ap, sym, ◌∙◌, arith, suc, zero, subst, ◌⊎◌, inl, inr, length-append}
+use Rattle.std.proofs.Common.{◌≡◌, ℕ, ◌+◌, ◌&&◌, false, List, [], ◌∷◌, take, length, refl, ap, sym, ◌∙◌, arith, suc, zero, subst, ◌⊎◌, inl, inr, length-append}
 use Rattle.std.specs.List.{AllByRecursion}
 use Rattle.target_machine.specs.InRange.{IsInRange, IsWord}
 use Rattle.target_machine.specs.State.{TargetState}
@@ -10,8 +10,8 @@ use Rattle.dap_messages.specs.declared.request.Response.TheVariants.{Good, Wait,
 use Rattle.dap_messages.specs.Replies.{Answers, AnswersTransfer}
 use Rattle.dap_messages.specs.Requests.{mask_request, reads_in, write_after}
 use Rattle.dap_messages.specs.Responses.{code_of}
-use Rattle.dap_transfer.specs.CommandEnds.{EndsAt, counted_from, doubted, in_doubt, masked, masked_by, one_if, posted_last}
-use Rattle.dap_transfer.specs.Laws.{AreNormal, one_at_a_time}
+use Rattle.dap_transfer.specs.CommandEnds.{EndsAt, counted_from, doubted, masked_by, one_if, posted_last}
+use Rattle.dap_transfer.specs.Laws.{AreNormal}
 use Rattle.dap_transfer.specs.State.{TransferState, Transferred}
 use Rattle.dap_transfer.specs.Transfer.{transferred}
 use Rattle.dap_transfer.proofs.CommandEnds.{command_ends}
@@ -72,8 +72,7 @@ shut_answers q [] shut = tt
 shut_answers q (accesses ∷ parts) shut =
     let d : Transferred = transferred q (guarded_requests accesses) in
     let is = shut_now q accesses shut in
-    let next : d.next ≡ q = ap (λ (x : Transferred). x.next) is in
-    (
+    let next : d.next ≡ q = ap (λ (x : Transferred). x.next) is in (
       subst (AnswersBy (guarded_requests accesses)) (sym is) (answers_shut (payload accesses)),
       subst (λ (v : TransferState). AnswerChain parts (chain_replies v parts)) (sym next) (shut_answers q parts shut),
     )
@@ -98,8 +97,7 @@ chain_answers p (accesses ∷ parts) taken ranges opened h =
     let part = one.part in
     let made = part.made in
     let n : ℕ = (guarded_part accesses d).performed in
-    let next : IsInRange d.next.line.target = subst IsInRange (sym made.target) (stays_in_range p.line.target (take n accesses) h (taken_ranges n accesses ranges.0)) in
-    (
+    let next : IsInRange d.next.line.target = subst IsInRange (sym made.target) (stays_in_range p.line.target (take n accesses) h (taken_ranges n accesses ranges.0)) in (
       guarded_answers p accesses taken.0 ranges.0 opened h,
       elim (good_or_shut d.response d.next one.never one.guard) [
         | inl open_next ↦ chain_answers d.next parts taken.1 ranges.1 open_next.1 next

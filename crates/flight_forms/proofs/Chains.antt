@@ -1,5 +1,5 @@
 -- Guarded chains.
-use Rattle.std.proofs.Common.{◌≡◌, eqb, ℕ, ◌+◌, ◌*◌, ◌-◌, ◌^◌, ◌≤◌, false, cond, List, [], ◌∷◌, ◌++◌, take, length, refl, ap, sym, ◌∙◌, arith, subst, ◌⊎◌, inl, inr, length-append}
+use Rattle.std.proofs.Common.{◌≡◌, eqb, ℕ, ◌+◌, ◌-◌, ◌^◌, ◌≤◌, false, cond, List, [], ◌∷◌, ◌++◌, take, length, refl, ap, sym, ◌∙◌, arith, subst, ◌⊎◌, inl, inr, length-append}
 use Rattle.std.specs.Prelude.{bit_and, min}
 use Rattle.std.specs.List.{AllByRecursion}
 use Rattle.target_machine.specs.State.{TargetState}

@@ -1,5 +1,5 @@
 -- What fits a form fits its packets.
-use Rattle.std.proofs.Common.{◌≡◌, leb, ℕ, ◌+◌, ◌*◌, ◌-◌, ◌/◌, ◌^◌, ◌≤◌, ◌<◌, ◌&&◌, Bool, true, false, cond, List, [], ◌∷◌, ◌++◌, length, map, refl, ap, sym, ◌∙◌, arith, suc, subst, length-append}
+use Rattle.std.proofs.Common.{◌≡◌, leb, ℕ, ◌+◌, ◌*◌, ◌-◌, ◌/◌, ◌^◌, ◌≤◌, ◌<◌, ◌&&◌, Bool, true, false, List, [], ◌∷◌, ◌++◌, length, refl, ap, arith, suc, subst, length-append}
 use Rattle.std.specs.List.{AllByRecursion}
 use Rattle.std.proofs.lemmas.Bool.{leb-true}
 use Rattle.target_machine.specs.declared.access.RegAccess.{RegAccess}
@@ -7,12 +7,12 @@ use Rattle.dap_messages.specs.declared.request.Request.{Request}
 use Rattle.dap_messages.specs.Requests.{IsRequest, mask_request, match_request, reads_in, request_bytes}
 use Rattle.dap_messages.proofs.RequestBits.{mask_is_request, match_is_request, read_is_request}
 use Rattle.dap_messages.proofs.WordLemmas.{length-word_bytes}
-use Rattle.dap_transfer.specs.CommandEnds.{may_be_free, one_if, writes_ap}
+use Rattle.dap_transfer.specs.CommandEnds.{may_be_free, writes_ap}
 use Rattle.dap_transfer.proofs.Words.{reads_first}
 use Rattle.flight_forms.specs.Flights.{words_of}
 use Rattle.flight_forms.specs.Forms.{all_write_drw, bytes_in, fits_block, fits_guarded, fits_transfer, parts_of}
 use Rattle.flight_forms.specs.Packets.{FitChain, FitsPacket, block_command, guarded_command, transfer_command}
-use Rattle.flight_forms.specs.Packing.{AreWords, check_when, guarded, guarded_requests, payload, request_of, requests_for, write_at_end}
+use Rattle.flight_forms.specs.Packing.{AreWords, check_when, guarded_requests, payload, request_of, requests_for, write_at_end}
 use Rattle.flight_forms.proofs.PartLists.{parts_fit, parts_have}
 use Rattle.flight_forms.proofs.RequestFacts.{request_is}
 use Rattle.flight_forms.proofs.RequestSizes.{bytes-append, bytes_first, check_bytes, check_length, check_reads, few_for, one_most, reads-append, three_parts}
@@ -106,6 +106,10 @@ guarded_size accesses =
           omega arith);
     }
 
+-- four requests more in a guarded command, at most
+pub guarded_most : (accesses : List RegAccess) → length (guarded_requests accesses) ≤ length (requests_for false accesses) + 4
+guarded_most accesses = (let h = guarded_size accesses in h.requests)
+
 pub guarded_fits : (size : ℕ) (accesses : List RegAccess) → AreWords accesses → fits_guarded size accesses ≡ true → FitsPacket size 2 (guarded_command accesses)
 guarded_fits size accesses ranges fits =
     let rs : List Request = requests_for false accesses in
@@ -130,7 +134,7 @@ parts_fit_packets size accesses least small ranges =
 
 -- ---- a block
 
-length_words : (accesses : List RegAccess) → length (words_of accesses) ≡ length accesses
+pub length_words : (accesses : List RegAccess) → length (words_of accesses) ≡ length accesses
 length_words [] = refl
 length_words (a ∷ rest) = ap suc (length_words rest)
 

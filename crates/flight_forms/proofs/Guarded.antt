@@ -1,5 +1,5 @@
 -- A guarded command of accesses.
-use Rattle.std.proofs.Common.{◌≡◌, eqb, ℕ, ◌+◌, ◌-◌, ◌≤◌, true, false, cond, List, [], ◌∷◌, ◌++◌, take, length, refl, ap, sym, ◌∙◌, arith, subst}
+use Rattle.std.proofs.Common.{◌≡◌, eqb, ℕ, ◌+◌, ◌-◌, true, false, List, [], ◌∷◌, ◌++◌, take, length, refl, ap, sym, ◌∙◌, arith, subst}
 use Rattle.std.specs.Prelude.{bit_and}
 use Rattle.std.specs.Int.Bits.{and_zero_r}
 use Rattle.target_machine.specs.State.{TargetState}
@@ -8,14 +8,14 @@ use Rattle.dap_messages.specs.declared.request.Request.{Request}
 use Rattle.dap_messages.specs.declared.request.Response.{Response}
 use Rattle.dap_messages.specs.declared.request.Response.TheVariants.{Good, Wait, Fault, Mismatch}
 use Rattle.dap_messages.specs.Requests.{mask_request}
-use Rattle.dap_transfer.specs.CommandEnds.{EndsAt, counted_from, doubted, in_doubt, masked, masked_by}
+use Rattle.dap_transfer.specs.CommandEnds.{EndsAt, counted_from, in_doubt, masked, masked_by}
 use Rattle.dap_transfer.specs.State.{Setting, TransferState, Transferred}
 use Rattle.dap_transfer.specs.Transfer.{transferred}
 use Rattle.dap_transfer.specs.Laws.{AreNormal, accesses_in}
 use Rattle.dap_transfer.proofs.CommandEnds.{command_ends}
 use Rattle.dap_transfer.proofs.Guards.{match_opens}
 use Rattle.dap_transfer.proofs.LastMask.{mask_after_last, mask_stays}
-use Rattle.flight_forms.specs.Packing.{AreTaken, check_when, guarded, guarded_requests, payload, requests_for, write_at_end}
+use Rattle.flight_forms.specs.Packing.{AreTaken, guarded_requests, payload, write_at_end}
 use Rattle.flight_forms.specs.Flights.{DoesPart, Part, part_of}
 use Rattle.flight_forms.specs.Chains.{IsGuardOpen, IsGuardShut, LeavesGuard, guarded_part}
 use Rattle.flight_forms.proofs.AskedRequests.{accesses_asked, are_guarded, checks_follow, payload_checked, payload_normal}

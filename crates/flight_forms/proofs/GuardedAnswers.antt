@@ -16,23 +16,23 @@ use Rattle.dap_transfer.specs.CommandEnds.{EndsAt, posted_last, doubted}
 use Rattle.flight_forms.specs.Packing.{guarded}
 use Rattle.flight_forms.proofs.TransferAnswers.{count_missing, missing_posted, next_waits, or_first, take_length}
 
-reads_masked : (rs : List Request) (v : ℕ) → reads_in (rs ++ mask_request v ∷ []) ≡ reads_in rs
+pub reads_masked : (rs : List Request) (v : ℕ) → reads_in (rs ++ mask_request v ∷ []) ≡ reads_in rs
 reads_masked [] v = reads_first (mask_request v ∷ []) [] (mask_request v) refl
 reads_masked (r ∷ rs) v =
     reads_first (r ∷ rs ++ mask_request v ∷ []) (rs ++ mask_request v ∷ []) r refl ∙ ap (λ n. word_of (kind r) + n) (reads_masked rs v) ∙ sym (reads_first (r ∷ rs) rs r refl)
 
-reads_guarded : (rs : List Request) → reads_in (match_request false 0x0 0 ∷ mask_request 1 ∷ rs) ≡ reads_in rs
+pub reads_guarded : (rs : List Request) → reads_in (match_request false 0x0 0 ∷ mask_request 1 ∷ rs) ≡ reads_in rs
 reads_guarded rs =
     let a : reads_in (match_request false 0x0 0 ∷ mask_request 1 ∷ rs) ≡ 0 + reads_in (mask_request 1 ∷ rs) = reads_first (match_request false 0x0 0 ∷ mask_request 1 ∷ rs) (mask_request 1 ∷ rs) (match_request false 0x0 0) refl in
     let b : reads_in (mask_request 1 ∷ rs) ≡ 0 + reads_in rs = reads_first (mask_request 1 ∷ rs) rs (mask_request 1) refl in
     omega arith
 
-take_in_front : (n : ℕ) (rs : List Request) (v : ℕ) → n ≤ length rs → take n (rs ++ mask_request v ∷ []) ≡ take n rs
+pub take_in_front : (n : ℕ) (rs : List Request) (v : ℕ) → n ≤ length rs → take n (rs ++ mask_request v ∷ []) ≡ take n rs
 take_in_front zero rs v h = refl
 take_in_front (suc n) [] v h = absurd (omega arith)
 take_in_front (suc n) (r ∷ rs) v h = ap (λ xs. r ∷ xs) (take_in_front n rs v (omega arith))
 
-kind_in_front : (n : ℕ) (rs : List Request) (v : ℕ) → n < length rs → kind_at (rs ++ mask_request v ∷ []) n ≡ kind_at rs n
+pub kind_in_front : (n : ℕ) (rs : List Request) (v : ℕ) → n < length rs → kind_at (rs ++ mask_request v ∷ []) n ≡ kind_at rs n
 kind_in_front n [] v h = absurd (omega arith)
 kind_in_front zero (r ∷ rs) v h = refl
 kind_in_front (suc n) (r ∷ rs) v h = kind_in_front n rs v (omega arith)

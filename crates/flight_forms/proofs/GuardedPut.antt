@@ -1,5 +1,5 @@
 -- A guarded command is put into a buffer.
-use Rattle.std.proofs.Common.{◌≡◌, ℕ, ◌+◌, ◌-◌, ◌≤◌, ◌<◌, List, [], ◌∷◌, ◌++◌, length, take, drop, slice_set, refl, ap, sym, ◌∙◌, arith, suc, zero, length-append}
+use Rattle.std.proofs.Common.{◌≡◌, ℕ, ◌+◌, ◌-◌, ◌≤◌, ◌<◌, List, [], ◌∷◌, ◌++◌, length, take, drop, slice_set, refl, ap, sym, ◌∙◌, arith, suc, length-append}
 use Rattle.std.proofs.lemmas.List.{length-take-le, take-append-le, take_more_set}
 use Rattle.dap_messages.specs.declared.request.Request.{Request}
 use borrow.Rule.Slice.PartMut.{put_mid, post_of}
@@ -14,8 +14,7 @@ front_put [] ys k r a b two fits = absurd (omega arith)
 front_put (x ∷ []) ys k r a b two fits = absurd (omega arith)
 front_put (x ∷ y ∷ rest) ys k r a b two fits =
     let more : List Request = post_of 2 k (slice_set (slice_set (x ∷ y ∷ rest) 0 a) 1 b) in
-    let count : 2 + r ≡ suc (suc r) = omega arith in
-    (
+    let count : 2 + r ≡ suc (suc r) = omega arith in (
       ap (λ n. take n (two_put (x ∷ y ∷ rest) k a b ys)) count ∙ ap (λ zs. a ∷ b ∷ zs) (take-append-le r ys more fits),
       (let h = length-append ys more in omega arith),
     )

@@ -20,3 +20,5 @@ pub mod ChainAnswers
 pub mod Polls
 pub mod GuardedPut
 pub mod SizeLemmas
+pub mod FirstParts
+pub mod Shortness

@@ -1,14 +1,13 @@
 -- A portion of a poll is the polled reads, one at a time.
-use Rattle.std.proofs.Common.{◌≡◌, eqb, ltb, ℕ, ◌+◌, ◌-◌, ◌^◌, ◌≤◌, ◌&&◌, ◌||◌, not, Bool, true, false, cond, List, [], ◌∷◌, length, refl, ap, sym, ◌∙◌, arith, suc, zero, subst, IsTrue}
+use Rattle.std.proofs.Common.{◌≡◌, eqb, ltb, ℕ, ◌+◌, ◌-◌, ◌^◌, ◌≤◌, ◌&&◌, not, Bool, true, false, cond, List, [], ◌∷◌, refl, ap, sym, ◌∙◌, arith, suc, zero, subst}
 use Rattle.std.specs.Prelude.{bit_and, min, slice_index}
 use Rattle.target_machine.specs.Attempt.{Attempt, answers, attempt, bank, ctrl_stat, dp_read, is_free}
-use Rattle.target_machine.specs.Plain.{Polled, dp_read_of, given, is_fault, looked, polled}
+use Rattle.target_machine.specs.Plain.{Polled, dp_read_of, is_fault, looked, polled}
 use Rattle.target_machine.specs.State.{TargetState}
-use Rattle.target_machine.specs.declared.access.Outcome.{Outcome}
 use Rattle.target_machine.specs.declared.access.Outcome.TheVariants as outcome
 use Rattle.target_machine.specs.declared.access.RegAccess.{RegAccess}
 use Rattle.dap_messages.specs.declared.request.Request.{Request}
-use Rattle.dap_messages.specs.declared.request.RequestKind.TheVariants.{Match, Mask}
+use Rattle.dap_messages.specs.declared.request.RequestKind.TheVariants.{Match}
 use Rattle.dap_messages.specs.declared.request.Response.{Response}
 use Rattle.dap_messages.specs.declared.request.Response.TheVariants.{Good, Wait, Fault, Mismatch}
 use Rattle.dap_messages.specs.Replies.{AnswersTransfer}
@@ -18,14 +17,14 @@ use Rattle.dap_transfer.specs.CommandEnds.{counted_from}
 use Rattle.dap_transfer.specs.Lines.{configured}
 use Rattle.dap_transfer.specs.Private.{first_then, mask_if, request_ran, run, served}
 use Rattle.dap_transfer.specs.State.{Setting, TransferState, Transferred, WireState, grown}
-use Rattle.dap_transfer.specs.Transfer.{RunResult, ending, transferred}
-use Rattle.dap_transfer.specs.ValueMatch.{match_ending, match_ending_as, one_more}
+use Rattle.dap_transfer.specs.Transfer.{RunResult, transferred}
+use Rattle.dap_transfer.specs.ValueMatch.{match_ending, match_ending_as}
 use Rattle.dap_transfer.specs.WireTransfer.{Ending, ends, made, next_number, value, value_of}
 use Rattle.dap_transfer.specs.Wires.{Matches, Wire, access_of, item}
 use Rattle.dap_transfer.specs.declared.notes.Notes.{Notes}
 use Rattle.dap_transfer.proofs.Counting.{counts_from}
 use Rattle.dap_transfer.proofs.Steps.{breaks_off, closes, continued, ended_here, from_start, goes_on, start_notes}
-use Rattle.flight_forms.specs.Polls.{DoesPoll, PollsAtOnce, clear_mask, has_matched, poll_after, poll_cleared, poll_matched, poll_requests}
+use Rattle.flight_forms.specs.Polls.{PollsAtOnce, clear_mask, has_matched, poll_cleared, poll_matched, poll_requests}
 
 -- ---- one read of CTRL/STAT with DPBANKSEL 0
 

@@ -1,5 +1,5 @@
 -- The words of a reply are of 32 bits where the target's numbers are in range.
-use Rattle.std.proofs.Common.{◌≡◌, ℕ, ◌+◌, ◌^◌, ◌<◌, ◌&&◌, Bool, true, false, cond, List, [], ◌∷◌, ◌++◌, take, refl, ap, sym, arith, suc, zero, subst}
+use Rattle.std.proofs.Common.{◌≡◌, ℕ, ◌&&◌, Bool, true, false, cond, List, [], ◌∷◌, ◌++◌, take, refl, ap, sym, arith, suc, zero, subst}
 use Rattle.std.specs.List.{AllByRecursion}
 use Rattle.target_machine.specs.Attempt.{attempt}
 use Rattle.target_machine.specs.InRange.{IsAttemptInRange, IsInRange, IsWord}

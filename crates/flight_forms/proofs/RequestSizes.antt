@@ -1,19 +1,16 @@
 -- How many bytes, reads and requests the accesses of a flight take.
-use Rattle.std.proofs.Common.{◌≡◌, eqb, ℕ, ◌+◌, ◌*◌, ◌≤◌, ◌&&◌, ◌||◌, not, Bool, true, false, cond, List, [], ◌∷◌, ◌++◌, length, refl, ap, sym, ◌∙◌, arith, suc, subst, length-append}
-use Rattle.std.specs.Int.{w32, to_le_bytes}
+use Rattle.std.proofs.Common.{◌≡◌, eqb, ℕ, ◌+◌, ◌*◌, ◌≤◌, ◌&&◌, ◌||◌, not, Bool, true, false, cond, List, [], ◌∷◌, ◌++◌, length, refl, ap, ◌∙◌, arith, suc, length-append}
 use Rattle.std.specs.List.{flat_map}
 use Rattle.std.proofs.lemmas.Grind.{flat_map-append}
 use Rattle.std.proofs.lemmas.List.Concat.{flat_map-cons}
 use Rattle.target_machine.specs.declared.access.RegAccess.{RegAccess}
 use Rattle.dap_messages.specs.declared.request.Request.{Request}
-use Rattle.dap_messages.specs.declared.request.RequestKind.{RequestKind}
-use Rattle.dap_messages.specs.declared.request.RequestKind.TheVariants.{Posted, Read, Match, Mask, Write}
 use Rattle.dap_messages.specs.Requests.{kind, reads_in, request_bytes, takes_word, word_if}
 use Rattle.dap_transfer.specs.CommandEnds.{may_be_free, one_if, writes_ap}
 use Rattle.dap_transfer.specs.Private.{word_of}
 use Rattle.dap_transfer.proofs.Words.{reads_first}
 use Rattle.flight_forms.specs.Forms.{bytes_in}
-use Rattle.flight_forms.specs.Packing.{check, check_when, request_of, requests_for}
+use Rattle.flight_forms.specs.Packing.{check_when, request_of, requests_for}
 use Rattle.flight_forms.proofs.RequestFacts.{kind_carried, kind_for}
 
 -- ---- three facts of a form
@@ -179,3 +176,7 @@ few_for w (a ∷ rest) =
           omega arith);
       some = (let x = length-append (check_when b) (r ∷ rs) in let v = more.some in omega arith);
     }
+
+-- three requests for two accesses at most
+pub requests_most : (accesses : List RegAccess) → 2 * length (requests_for false accesses) ≤ 3 * length accesses
+requests_most accesses = (let h = few_for false accesses in let n = h.requests in omega arith)

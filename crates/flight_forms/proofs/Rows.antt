@@ -1,5 +1,5 @@
 -- Accesses one after the other, where all before them were good.
-use Rattle.std.proofs.Common.{◌≡◌, ℕ, ◌+◌, ◌≤◌, false, cond, List, [], ◌∷◌, ◌++◌, take, length, refl, ap, sym, ◌∙◌, arith, suc, zero, subst, Some, None}
+use Rattle.std.proofs.Common.{◌≡◌, ℕ, ◌+◌, ◌≤◌, false, cond, List, [], ◌∷◌, ◌++◌, take, length, refl, ap, ◌∙◌, arith, suc, zero, subst, Some, None}
 use Rattle.target_machine.specs.State.{TargetState}
 use Rattle.target_machine.specs.Attempt.{attempt}
 use Rattle.target_machine.proofs.AccessLaws.{attempt_keeps}
@@ -60,4 +60,3 @@ good_whole {t = t} {u = u} {xs = xs} {k = k} {c = c} h e =
       h.target ∙ ap (λ n. one_at_a_time t (take n xs)) k_is ∙ ap (one_at_a_time t) (take_all xs),
       subst (AreClear t) (ap (λ n. take n xs) c_is ∙ take_all xs) h.clear,
     )
-

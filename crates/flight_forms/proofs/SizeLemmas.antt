@@ -1,14 +1,12 @@
 -- The size of accesses as the list grows.
-use Rattle.std.proofs.Common.{◌≡◌, leb, ltb, ℕ, ◌+◌, ◌*◌, ◌-◌, ◌/◌, ◌^◌, ◌≤◌, ◌<◌, ◌&&◌, Bool, true, false, cond, List, [], ◌∷◌, ◌++◌, length, fold, refl, ap, sym, ◌∙◌, arith, suc, zero, subst, length-append, append-nil, append_assoc}
-use Rattle.std.specs.Prelude.{min}
+use Rattle.std.proofs.Common.{◌≡◌, leb, ltb, ℕ, ◌+◌, ◌-◌, ◌/◌, ◌≤◌, ◌<◌, ◌&&◌, Bool, true, false, cond, List, [], ◌∷◌, ◌++◌, length, fold, refl, ap, sym, ◌∙◌, arith, suc, subst, length-append, append_assoc}
 use Rattle.std.proofs.lemmas.Bool.{lt-ltb}
 use Rattle.target_machine.specs.declared.access.RegAccess.{RegAccess}
 use Rattle.dap_messages.specs.declared.request.Request.{Request}
-use Rattle.dap_messages.specs.Requests.{reads_in}
 use Rattle.dap_transfer.specs.CommandEnds.{may_be_free, one_if, writes_ap}
 use Rattle.flight_forms.specs.declared.size.FlightSize.{FlightSize}
 use Rattle.flight_forms.specs.declared.size.Tally.{Tally}
-use Rattle.flight_forms.specs.Forms.{all_write_drw, bytes_in, filled, fits_guarded, parts_of, writes_drw}
+use Rattle.flight_forms.specs.Forms.{all_write_drw, filled, fits_guarded, parts_of, writes_drw}
 use Rattle.flight_forms.specs.Packing.{check_when, request_of, requests_for}
 use Rattle.flight_forms.specs.Sizes.{Counts, IsSizeOf, ends_in_ap_write, last_of, no_tally, plus, size_with, tally_fits_guarded, with_access}
 use Rattle.flight_forms.proofs.RequestSizes.{few_for, one_added}
@@ -28,7 +26,7 @@ requests_more w (x ∷ rest) a =
     ap (λ rs. first ++ request_of x ∷ rs) (requests_more (writes_ap x) rest a)
     ∙ sym (append_assoc first (request_of x ∷ requests_for (writes_ap x) rest) more)
 
-write_more : (w : Bool) (accesses : List RegAccess) (a : RegAccess) → ap_write_at_end w (accesses ++ a ∷ []) ≡ writes_ap a
+pub write_more : (w : Bool) (accesses : List RegAccess) (a : RegAccess) → ap_write_at_end w (accesses ++ a ∷ []) ≡ writes_ap a
 write_more w [] a = refl
 write_more w (x ∷ rest) a = write_more (writes_ap x) rest a
 
@@ -176,7 +174,7 @@ none_counted : Counts [] no_tally
 none_counted = record { requests_are = refl; bytes_are = refl; reads_are = refl }
 
 -- the tally of a part that begins
-alone_counted : (a : RegAccess) → Counts (requests_for false (a ∷ [])) (with_access no_tally false a.read)
+pub alone_counted : (a : RegAccess) → Counts (requests_for false (a ∷ [])) (with_access no_tally false a.read)
 alone_counted a = counts_more [] a no_tally false (omega arith) refl none_counted
 
 abbrev PartsCounted : ℕ → List (List RegAccess) → ℕ → Tally → Type 0
@@ -186,17 +184,15 @@ PartsCounted size parts n t = (n ≡ length parts) × Counts (requests_for false
 parts_grow : (size n : ℕ) (a : RegAccess) (before after : List (List RegAccess)) (t : Tally) (b : Bool) → PartsGrow size a before after →
     b ≡ fits_guarded size (last_of before ++ a ∷ []) → n ≡ length before → n < 65536 → Counts (requests_for false (last_of before ++ a ∷ [])) t →
     PartsCounted size after (cond b n (plus n 1)) (cond b t (with_access no_tally false a.read))
-parts_grow size n a before after t true grow is count few counts =
-    (
-      (let x = grow.count ∙ ap (λ (c : Bool). length before + cond {A = ℕ} c 0 1) (sym is) in omega arith),
-      subst (λ (part : List RegAccess). Counts (requests_for false part) t) (sym (grow.last ∙ ap (λ (c : Bool). cond c (last_of before ++ a ∷ []) (a ∷ [])) (sym is))) counts,
-    )
-parts_grow size n a before after t false grow is count few counts =
-    (
-      (let x = grow.count ∙ ap (λ (c : Bool). length before + cond {A = ℕ} c 0 1) (sym is) in omega arith),
-      subst (λ (part : List RegAccess). Counts (requests_for false part) (with_access no_tally false a.read))
-          (sym (grow.last ∙ ap (λ (c : Bool). cond c (last_of before ++ a ∷ []) (a ∷ [])) (sym is))) (alone_counted a),
-    )
+parts_grow size n a before after t true grow is count few counts = (
+  (let x = grow.count ∙ ap (λ (c : Bool). length before + cond {A = ℕ} c 0 1) (sym is) in omega arith),
+  subst (λ (part : List RegAccess). Counts (requests_for false part) t) (sym (grow.last ∙ ap (λ (c : Bool). cond c (last_of before ++ a ∷ []) (a ∷ [])) (sym is))) counts,
+)
+parts_grow size n a before after t false grow is count few counts = (
+  (let x = grow.count ∙ ap (λ (c : Bool). length before + cond {A = ℕ} c 0 1) (sym is) in omega arith),
+  subst (λ (part : List RegAccess). Counts (requests_for false part) (with_access no_tally false a.read))
+      (sym (grow.last ∙ ap (λ (c : Bool). cond c (last_of before ++ a ∷ []) (a ∷ [])) (sym is))) (alone_counted a),
+)
 
 and_first : (x y : Bool) → x ≡ true → (x && y) ≡ y
 and_first true y e = refl

@@ -24,7 +24,7 @@ use Rattle.flight_forms.specs.Packing.{AreTaken, AreWords, requests_for}
 use Rattle.flight_forms.proofs.AskedRequests.{all_guarded, are_normal}
 use Rattle.flight_forms.proofs.Ranges.{plain_words, words_in_range}
 
-posted_at : (n : ℕ) (o : Bool) (rs : List Request) → suc n ≤ length rs → posted_last o (take (suc n) rs) ≡ last_is_posted rs (suc n)
+pub posted_at : (n : ℕ) (o : Bool) (rs : List Request) → suc n ≤ length rs → posted_last o (take (suc n) rs) ≡ last_is_posted rs (suc n)
 posted_at n o [] h = absurd (omega arith)
 posted_at zero o (r ∷ rs) h = refl
 posted_at (suc n) o (r ∷ rs) h = posted_at n (is_posted (kind r)) rs (omega arith)

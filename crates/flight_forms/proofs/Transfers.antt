@@ -1,5 +1,5 @@
 -- Commands without a guard: one Transfer, and one block.
-use Rattle.std.proofs.Common.{◌≡◌, ℕ, ◌+◌, ◌≤◌, false, List, length, map, take, refl, ap, sym, ◌∙◌, arith, subst, append-nil, ◌++◌}
+use Rattle.std.proofs.Common.{◌≡◌, ℕ, false, List, map, take, ap, sym, ◌∙◌, arith, subst, append-nil, ◌++◌}
 use Rattle.target_machine.specs.State.{TargetState}
 use Rattle.target_machine.specs.declared.access.RegAccess.{RegAccess}
 use Rattle.dap_messages.specs.declared.request.Request.{Request}

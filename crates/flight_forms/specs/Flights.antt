@@ -10,7 +10,7 @@ use Rattle.dap_messages.specs.Requests.{kind, reads_in, write_after}
 use Rattle.dap_transfer.specs.Block.{blocked}
 use Rattle.dap_transfer.specs.CommandEnds.{one_if}
 use Rattle.dap_transfer.specs.Laws.{accesses_in, one_at_a_time, reads_value, value_now}
-use Rattle.dap_transfer.specs.State.{TransferState, Transferred, grown, is_good, is_wait}
+use Rattle.dap_transfer.specs.State.{TransferState, grown, is_good, is_wait}
 use Rattle.dap_transfer.specs.Transfer.{transferred}
 use Rattle.dap_transfer.specs.WireTransfer.{reads_rdbuff_itself}
 use Rattle.dap_transfer.specs.Wires.{access_of}
@@ -101,6 +101,16 @@ part_of executed response words =
       response = response;
       values = take confirmed (seen_values executed words);
     }
+
+-- What a reply to so many accesses shows that may come, whatever was done: all are confirmed where it is OK, and fewer where it
+-- is not; the values are those of the confirmed ones.
+pub record IsPartOf (count : ℕ) (part : Part) : Type 0 where
+  pub most : part.performed ≤ count
+  pub within : part.confirmed ≤ part.performed
+  pub near : part.performed ≤ part.confirmed + 1
+  pub whole : part.response ≡ Good → part.confirmed ≡ count
+  pub short : (part.response ≡ Good → ⊥) → part.confirmed < count
+  pub values : length part.values ≡ part.confirmed
 
 -- ---- commands without a guard
 

@@ -1,5 +1,5 @@
 -- The commands of a flight, and the replies to them.
-use Rattle.std.specs.Prelude.{◌≡◌, ℕ, ◌+◌, ◌≤◌, false, List, [], ◌∷◌, length}
+use Rattle.std.specs.Prelude.{ℕ, ◌+◌, ◌≤◌, false, List, [], ◌∷◌, length}
 use Rattle.std.specs.List.{AllByRecursion}
 use Rattle.target_machine.specs.declared.access.RegAccess.{RegAccess}
 use Rattle.dap_messages.specs.declared.command.PacketKind.{PacketKind}
@@ -10,8 +10,7 @@ use Rattle.dap_messages.specs.Commands.{IsCommand, bytes_of_kind, command_bytes,
 use Rattle.dap_messages.specs.Replies.{Answers, ReplyValue}
 use Rattle.dap_messages.specs.Replies as reply
 use Rattle.dap_messages.specs.Responses.{code_of}
-use Rattle.dap_transfer.specs.State.{TransferState, Transferred}
-use Rattle.flight_forms.specs.Chains.{chain_replies}
+use Rattle.dap_transfer.specs.State.{Transferred}
 use Rattle.flight_forms.specs.Flights.{words_of}
 use Rattle.flight_forms.specs.Packing.{guarded_requests, requests_for}
 

@@ -1,5 +1,5 @@
 -- The requests of the accesses of a flight: one for each access, and checks of writes between them.
-use Rattle.std.specs.Prelude.{◌≡◌, ◌⊎◌, ℕ, Bool, true, false, not, ◌&&◌, if◌then◌else◌, List, [], ◌∷◌, ◌++◌, fold}
+use Rattle.std.specs.Prelude.{◌≡◌, ◌⊎◌, Bool, true, false, not, ◌&&◌, if◌then◌else◌, List, [], ◌∷◌, ◌++◌, fold}
 use Rattle.std.specs.List.{AllByRecursion}
 use Rattle.target_machine.specs.InRange.{IsWord}
 use Rattle.target_machine.specs.declared.access.RegAccess.{RegAccess}

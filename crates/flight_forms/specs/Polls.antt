@@ -1,5 +1,5 @@
 -- A portion of a poll of CTRL/STAT, as one packet of four commands.
-use Rattle.std.specs.Prelude.{◌≡◌, ℕ, ◌-◌, false, Bool, true, ◌==◌, if◌then◌else◌, List, [], ◌∷◌}
+use Rattle.std.specs.Prelude.{◌≡◌, ℕ, ◌-◌, false, Bool, ◌==◌, if◌then◌else◌, List, [], ◌∷◌}
 use Rattle.target_machine.specs.Plain.{Polled, given, is_fault, polled}
 use Rattle.dap_messages.specs.declared.request.Request.{Request}
 use Rattle.dap_messages.specs.declared.request.Response.TheVariants.{Good, Mismatch}

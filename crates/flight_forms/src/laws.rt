@@ -1,15 +1,18 @@
 //! What the forms of a flight do, in terms of accesses made one at a time.
-ghost use Rattle.std.specs.Prelude.{◌*◌, ◌∷◌, ◌≡◌, ◌<◌, ◌≤◌, ◌^◌, List, None, Some, [], false, length, true, ℕ};
+ghost use Rattle.std.specs.Prelude.{◌*◌, ◌∷◌, ◌≡◌, ◌<◌, ◌≤◌, ◌^◌, List, None, Some, [], false, length, take, true, ℕ};
 ghost use Rattle.std.specs.List.{AllByRecursion};
 ghost use Rattle.target_machine.specs.Attempt.{bank};
 ghost use Rattle.target_machine.specs.InRange.{IsInRange};
 ghost use Rattle.target_machine.specs.declared.access.RegAccess.{RegAccess};
 ghost use Rattle.dap_messages.specs.Replies.{Answers};
+ghost use Rattle.dap_messages.specs.Replies as reply;
+ghost use Rattle.dap_messages.specs.Responses.{code_of};
+ghost use Rattle.dap_messages.specs.declared.request.Response.{Response};
 ghost use Rattle.dap_transfer.specs.Block.{blocked};
 ghost use Rattle.dap_transfer.specs.State.{TransferState};
 ghost use Rattle.dap_transfer.specs.Transfer.{transferred};
 ghost use Rattle.flight_forms.specs.Chains.{AllTaken, DoesChain, IsGuardOpen, all_of, chain_replies};
-ghost use Rattle.flight_forms.specs.Flights.{DoesBlock, DoesTransfer, words_of};
+ghost use Rattle.flight_forms.specs.Flights.{DoesBlock, DoesTransfer, IsPartOf, part_of, words_of};
 ghost use Rattle.flight_forms.specs.Forms.{capacity, fits_block, fits_guarded, fits_transfer, form_of, parts_of};
 ghost use Rattle.flight_forms.specs.Packets.{AnswerChain, FitChain, FitsPacket, block_answer, block_command, guarded_command, transfer_answer, transfer_command};
 ghost use Rattle.flight_forms.specs.Packing.{AreTaken, AreWords, requests_for};
@@ -50,6 +53,15 @@ pub fn what_fits_can_be_sent()
     ensures transfer { (size : ℕ) (a : RegAccess) (rest : List RegAccess) → AreWords (a ∷ rest) → fits_transfer size (a ∷ rest) ≡ true → FitsPacket size 0 (transfer_command (a ∷ rest)) }
     ensures guarded { (size : ℕ) (accesses : List RegAccess) → AreWords accesses → fits_guarded size accesses ≡ true → FitsPacket size 2 (guarded_command accesses) }
     ensures chain { (size : ℕ) (accesses : List RegAccess) → 64 ≤ size → size ≤ 1024 → AreWords accesses → FitChain size (parts_of size accesses) }
+{}
+
+/// What a reply shows of the accesses of its command that may come from any probe, one to a guarded
+/// command among them: all are confirmed where it is OK, and else fewer.
+pub fn what_a_reply_shows()
+    ensures block { (size : ℕ) (accesses : List RegAccess) (n : ℕ) (x : Response) → fits_block size accesses ≡ true → Answers (block_command accesses) (reply.Block n (code_of x))
+        → IsPartOf (length accesses) (part_of (take n (requests_for false accesses)) x []) }
+    ensures transfer { (accesses : List RegAccess) (n : ℕ) (x : Response) (words : List ℕ) → AreTaken accesses → Answers (transfer_command accesses) (reply.Transfer n (code_of x) words)
+        → IsPartOf (length accesses) (part_of (take n (requests_for false accesses)) x words) }
 {}
 
 /// How many accesses a form holds: each single one; where none holds a list, this list has as many

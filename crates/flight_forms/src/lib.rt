@@ -7,5 +7,8 @@ mod packing;
 mod size;
 
 pub use form::Form;
-pub use size::FlightSize;
 pub use packing::{put_guarded_requests, put_requests};
+pub use size::{FlightSize, first_part};
+
+#[cfg(test)]
+mod tests;

@@ -1,7 +1,7 @@
 //! How large the requests of a list of accesses are, kept as the list grows.
-ghost use Rattle.std.specs.Prelude.{◌≡◌, ◌<◌, ◌∷◌, ◌++◌, ℕ, List, [], is_some, length};
+ghost use Rattle.std.specs.Prelude.{◌≡◌, ◌<◌, ◌≤◌, ◌&&◌, ◌∷◌, ◌++◌, List, [], drop, is_some, length, take};
 ghost use Rattle.target_machine.specs.declared.access.RegAccess.{RegAccess};
-ghost use Rattle.dap_transfer.specs.CommandEnds.{one_if};
+ghost use Rattle.dap_transfer.specs.CommandEnds.{may_be_free, one_if};
 ghost use Rattle.flight_forms.specs.Forms.{fits_block, fits_chain, form_of, parts_of, writes_drw};
 ghost use Rattle.flight_forms.specs.Sizes.{IsSizeOf, size_with, tally_fits, tally_fits_guarded, with_access};
 
@@ -54,6 +54,13 @@ fn writes_drw(access: RegAccess) -> bool
     access.ap && !access.read && access.addr & REGISTER == REGISTER
 }
 
+// Whether a check comes before an access, after a write of an access port or not.
+fn is_checked(after_write: bool, next: RegAccess) -> bool
+    ensures { result ≡ (after_write && may_be_free next) }
+{
+    after_write && may_be_free(next)
+}
+
 impl Tally {
     // The tally of no requests.
     const NONE: Tally = Tally {
@@ -69,9 +76,7 @@ impl Tally {
         let check = one_if(checked);
         Tally {
             requests: self.requests.saturating_add(check + 1),
-            bytes: self
-                .bytes
-                .saturating_add(check + if read { 1 } else { 5 }),
+            bytes: self.bytes.saturating_add(check + if read { 1 } else { 5 }),
             reads: self.reads.saturating_add(check + one_if(read)),
         }
     }
@@ -120,7 +125,7 @@ impl FlightSize {
     fn grown(self, next: RegAccess) -> FlightSize
         ensures { result ≡ size_with self next }
     {
-        let checked = self.after_write && may_be_free(next);
+        let checked = is_checked(self.after_write, next);
         let more = self.last.with_access(checked, next.read);
         let (parts, last) = if self.parts > 0 && more.fits_guarded(self.packet_size) {
             (self.parts, more)
@@ -167,13 +172,6 @@ impl FlightSize {
         self.packet_count >= 2 && self.parts <= u32::from(self.packet_count)
     }
 
-    /// How many parts a chain of the accesses has.
-    pub fn parts(self) -> u32
-        ensures { (accesses : List RegAccess) → IsSizeOf accesses self → result ≡ length (parts_of self.packet_size accesses) }
-    {
-        self.parts
-    }
-
     /// The first form that holds the accesses: a block, one Transfer, or a chain. `None` where none
     /// does.
     pub fn form(self) -> Option<Form>
@@ -197,4 +195,27 @@ impl FlightSize {
     {
         self.with(next).form().is_some()
     }
+}
+
+/// How many of the accesses are the first part of a chain of them: as many as one guarded Transfer
+/// takes one after the other, and one at least.
+pub fn first_part(packet_size: u16, accesses: &[RegAccess]) -> usize
+    requires some { 1 ≤ length accesses.now }
+    requires few { length accesses.now < 65_535 }
+    ensures some { 1 ≤ result }
+    ensures within { result ≤ length accesses.now }
+    ensures part { parts_of packet_size accesses.now ≡ take result accesses.now ∷ parts_of packet_size (drop result accesses.now) }
+{
+    let mut tally = Tally::NONE.with_access(false, accesses[0].read);
+    let mut after_write = writes_ap(accesses[0]);
+    for index in 1..accesses.len() {
+        let next = accesses[index];
+        let more = tally.with_access(is_checked(after_write, next), next.read);
+        if !more.fits_guarded(packet_size) {
+            return index;
+        }
+        tally = more;
+        after_write = writes_ap(next);
+    }
+    accesses.len()
 }

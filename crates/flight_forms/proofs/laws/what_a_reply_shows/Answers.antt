@@ -1,0 +1,5 @@
+use Rattle.flight_forms.proofs.Shortness.{block_shows, transfer_shows}
+use Rattle.flight_forms.proofs.laws.what_a_reply_shows.Goals as goal
+
+pub returns : goal.returns
+returns c = record { block = block_shows; transfer = transfer_shows }
