@@ -11,3 +11,4 @@ pub mod ChainLemmas
 pub mod PartLemmas
 pub mod ReadLemmas
 pub mod ChainBench
+pub mod FormLemmas

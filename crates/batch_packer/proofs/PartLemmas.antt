@@ -17,10 +17,7 @@ part_bytes false accesses command bytes c e = e ∙ ap (λ xs. 0x7E ∷ 1 ∷ xs
 pub part_fits : (accesses : List RegAccess) (command : List ℕ) → FitsPacket 1024 2 (guarded_command accesses) → command ≡ command_bytes (guarded_command accesses) → length command + 2 ≤ 1024
 part_fits accesses command fits is = let a = ap length is in let b = fits.bytes in omega arith
 
--- ---- the first part
-
-one_more : (n : ℕ) → suc n ≡ 1 → n ≡ 0
-one_more n e = omega arith
+-- ---- lists of parts
 
 some_filled : (size : ℕ) (part rest : List RegAccess) → 0 < length (filled size part rest)
 some_filled size part [] = omega arith
@@ -30,94 +27,11 @@ some_filled size part (a ∷ rest) = by_fit (fits_guarded size (part ++ a ∷ []
     by_fit true h = h
     by_fit false h = omega arith
 
--- where all joins the first part
-pub one_filled : (size : ℕ) (part rest : List RegAccess) → length (filled size part rest) ≡ 1 → filled size part rest ≡ (part ++ rest) ∷ []
-one_filled size part [] e = ap (λ xs. xs ∷ []) (sym (append-nil part))
-one_filled size part (a ∷ rest) e = by_fit (fits_guarded size (part ++ a ∷ [])) e (λ f. one_filled size (part ++ a ∷ []) rest f)
-  where
-    by_fit : (b : Bool) → length (cond b (filled size (part ++ a ∷ []) rest) (part ∷ filled size (a ∷ []) rest)) ≡ 1 →
-        (length (filled size (part ++ a ∷ []) rest) ≡ 1 → filled size (part ++ a ∷ []) rest ≡ ((part ++ a ∷ []) ++ rest) ∷ []) →
-        cond b (filled size (part ++ a ∷ []) rest) (part ∷ filled size (a ∷ []) rest) ≡ (part ++ a ∷ rest) ∷ []
-    by_fit true f ih = ih f ∙ ap (λ xs. xs ∷ []) (append_assoc part (a ∷ []) rest)
-    by_fit false f ih = absurd (let s = some_filled size (a ∷ []) rest in omega arith)
-
--- where the next access begins another
-next_filled : (size : ℕ) (part rest : List RegAccess) (a : RegAccess) (more : List RegAccess) → length (filled size part rest) ≡ 1 → 1 < length (filled size part (rest ++ a ∷ [])) →
-    filled size part (rest ++ a ∷ more) ≡ (part ++ rest) ∷ filled size (a ∷ []) more
-next_filled size part [] a more one two = by_fit (fits_guarded size (part ++ a ∷ [])) two
-  where
-    by_fit : (b : Bool) → 1 < length (cond b (filled size (part ++ a ∷ []) []) (part ∷ filled size (a ∷ []) [])) →
-        cond b (filled size (part ++ a ∷ []) more) (part ∷ filled size (a ∷ []) more) ≡ (part ++ []) ∷ filled size (a ∷ []) more
-    by_fit true h = absurd (omega arith)
-    by_fit false h = ap (λ xs. xs ∷ filled size (a ∷ []) more) (sym (append-nil part))
-next_filled size part (c ∷ rest) a more one two = by_fit (fits_guarded size (part ++ c ∷ [])) one two (λ f g. next_filled size (part ++ c ∷ []) rest a more f g)
-  where
-    by_fit : (b : Bool) → length (cond b (filled size (part ++ c ∷ []) rest) (part ∷ filled size (c ∷ []) rest)) ≡ 1 →
-        1 < length (cond b (filled size (part ++ c ∷ []) (rest ++ a ∷ [])) (part ∷ filled size (c ∷ []) (rest ++ a ∷ []))) →
-        (length (filled size (part ++ c ∷ []) rest) ≡ 1 → 1 < length (filled size (part ++ c ∷ []) (rest ++ a ∷ [])) →
-        filled size (part ++ c ∷ []) (rest ++ a ∷ more) ≡ ((part ++ c ∷ []) ++ rest) ∷ filled size (a ∷ []) more) →
-        cond b (filled size (part ++ c ∷ []) (rest ++ a ∷ more)) (part ∷ filled size (c ∷ []) (rest ++ a ∷ more)) ≡ (part ++ c ∷ rest) ∷ filled size (a ∷ []) more
-    by_fit true f g ih = ih f g ∙ ap (λ xs. xs ∷ filled size (a ∷ []) more) (append_assoc part (c ∷ []) rest)
-    by_fit false f g ih = absurd (let s = some_filled size (c ∷ []) rest in omega arith)
-
-next_parts : (size : ℕ) (front : List RegAccess) (a : RegAccess) (more : List RegAccess) → length (parts_of size front) ≡ 1 → 1 < length (parts_of size (front ++ a ∷ [])) →
-    parts_of size (front ++ a ∷ more) ≡ front ∷ parts_of size (a ∷ more)
-next_parts size [] a more one two = absurd (omega arith)
-next_parts size (c ∷ front) a more one two = next_filled size (c ∷ []) front a more one two
-
-one_part : (size : ℕ) (xs : List RegAccess) → length (parts_of size xs) ≡ 1 → parts_of size xs ≡ xs ∷ []
-one_part size [] one = absurd (omega arith)
-one_part size (c ∷ xs) one = one_filled size (c ∷ []) xs one
-
-take_drop : (n : ℕ) (xs : List RegAccess) → take n xs ++ drop n xs ≡ xs
-take_drop zero [] = refl
-take_drop zero (x ∷ xs) = refl
-take_drop (suc n) [] = refl
-take_drop (suc n) (x ∷ xs) = ap (λ ys. x ∷ ys) (take_drop n xs)
-
--- the next access does not join the first n
-pub part_ends : (size n : ℕ) (xs : List RegAccess) (a : RegAccess) (more : List RegAccess) → drop n xs ≡ a ∷ more → (0 < n → length (parts_of size (take n xs)) ≡ 1) →
-    1 < length (parts_of size (take n xs ++ a ∷ [])) → parts_of size xs ≡ take n xs ∷ parts_of size (drop n xs)
-part_ends size zero [] a more is one two = absurd (omega arith)
-part_ends size zero (x ∷ xs) a more is one two = absurd (omega arith)
-part_ends size (suc n) xs a more is one two =
-    ap (parts_of size) (sym (take_drop (suc n) xs) ∙ ap (λ ys. take (suc n) xs ++ ys) is)
-    ∙ next_parts size (take (suc n) xs) a more (one (omega arith)) two
-    ∙ ap (λ ys. take (suc n) xs ∷ parts_of size ys) (sym is)
-
--- with one access more there is a part
-pub some_parts : (size : ℕ) (front : List RegAccess) (a : RegAccess) → 0 < length (parts_of size (front ++ a ∷ []))
-some_parts size [] a = omega arith
-some_parts size (c ∷ front) a = some_filled size (c ∷ []) (front ++ a ∷ [])
-
 take_whole : (n : ℕ) (xs : List RegAccess) → length xs ≤ n → take n xs ≡ xs
 take_whole zero [] h = refl
 take_whole zero (x ∷ xs) h = absurd (omega arith)
 take_whole (suc n) [] h = refl
 take_whole (suc n) (x ∷ xs) h = ap (λ ys. x ∷ ys) (take_whole n xs (omega arith))
-
-drop_whole : (n : ℕ) (xs : List RegAccess) → length xs ≤ n → drop n xs ≡ []
-drop_whole zero [] h = refl
-drop_whole zero (x ∷ xs) h = absurd (omega arith)
-drop_whole (suc n) [] h = refl
-drop_whole (suc n) (x ∷ xs) h = drop_whole n xs (omega arith)
-
--- all accesses are one part
-pub part_whole : (size n : ℕ) (xs : List RegAccess) → length xs ≤ n → length (parts_of size (take n xs)) ≡ 1 → parts_of size xs ≡ take n xs ∷ parts_of size (drop n xs)
-part_whole size n xs h one =
-    one_part size xs (ap (λ ys. length (parts_of size ys)) (sym (take_whole n xs h)) ∙ one)
-    ∙ (λ i. sym (take_whole n xs h) i ∷ parts_of size (sym (drop_whole n xs h) i))
-
--- one access more
-pub take_next : (n : ℕ) (xs : List RegAccess) (a : RegAccess) (more : List RegAccess) → drop n xs ≡ a ∷ more → take (n + 1) xs ≡ take n xs ++ a ∷ []
-take_next zero [] a more e = absurd (let f = ap length e in omega arith)
-take_next zero (x ∷ xs) a more e = ap (λ ys. take 1 ys) e ∙ one a more
-  where
-    one : (b : RegAccess) (rest : List RegAccess) → take 1 (b ∷ rest) ≡ b ∷ []
-    one b [] = refl
-    one b (c ∷ rest) = refl
-take_next (suc n) [] a more e = absurd (let f = ap length e in omega arith)
-take_next (suc n) (x ∷ xs) a more e = let s : suc n + 1 ≡ suc (n + 1) = omega arith in ap (λ k. take k (x ∷ xs)) s ∙ ap (λ ys. x ∷ ys) (take_next n xs a more e)
 
 -- ---- the packets
 
@@ -191,11 +105,6 @@ packets_go before new packet part parts left all is_last pushed bytes kind is wh
 
 pub fits_left : (size : ℕ) (part : List RegAccess) (parts left : List (List RegAccess)) → parts ≡ part ∷ left → FitChain size parts → FitsPacket size 2 (guarded_command part) × FitChain size left
 fits_left size part parts left is fits = subst (λ (xs : List (List RegAccess)). FitChain size xs) is fits
-
-pub length-take_most : (n : ℕ) (xs : List RegAccess) → length (take n xs) ≤ length xs
-length-take_most zero xs = omega arith
-length-take_most (suc n) [] = omega arith
-length-take_most (suc n) (x ∷ xs) = let h = length-take_most n xs in omega arith
 
 pub one_longer : (old new : List (List ℕ)) (x : List ℕ) → new ≡ old ++ x ∷ [] → length new ≡ length old + 1
 one_longer old new x e = ap length e ∙ length-append old (x ∷ [])

@@ -1,5 +1,5 @@
 -- What a flight does to a bench.
-use Rattle.std.specs.Prelude.{◌≡◌, ◌⊎◌, ℕ, Bool, true, false, not, ◌&&◌, List, Option, Some, None}
+use Rattle.std.specs.Prelude.{◌≡◌, ◌≤◌, ◌⊎◌, ℕ, Bool, true, false, not, ◌&&◌, List, Option, Some, None}
 use Rattle.target_machine.specs.InRange.{IsInRange}
 use Rattle.target_machine.specs.declared.access.RegAccess.{RegAccess}
 use Rattle.dap_transfer.specs.State.{TransferState, is_good}
@@ -54,3 +54,8 @@ HasFlownBy form accesses (Some progress) values m n = HasFlown form accesses (pa
 -- a flight of which a bench call failed: it did nothing, or a part of its accesses
 abbrev pub MayHaveFlown : List RegAccess → BenchState → BenchState → Type 0
 MayHaveFlown accesses m n = (transfers_of n ≡ transfers_of m) ⊎ ((part : Part) × DoesPart (transfers_of m) (transfers_of n) accesses part)
+
+-- limits of at most these
+pub record IsWithin (limits given : Limits) : Type 0 where
+  pub size : limits.packet_size ≤ given.packet_size
+  pub count : limits.packet_count ≤ given.packet_count

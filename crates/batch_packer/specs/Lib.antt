@@ -5,3 +5,4 @@ pub mod Readings
 pub mod Flying
 pub mod Alone
 pub mod ChainReadings
+pub mod FlightEnds

@@ -1,5 +1,5 @@
 //! A guarded chain over a bench: its packets, its replies, and what they show.
-ghost use Rattle.std.specs.Prelude.{◌≡◌, ◌+◌, ◌*◌, ◌^◌, ◌≤◌, ◌<◌, ◌++◌, ℕ, List, [], Option, Some, length, IfSome, IfOk, OnOk, OnErr};
+ghost use Rattle.std.specs.Prelude.{◌≡◌, ◌+◌, ◌*◌, ◌^◌, ◌≤◌, ◌<◌, ◌++◌, ℕ, List, [], Option, Some, if◌then◌else◌, length, IfSome, IfOk, OnOk, OnErr};
 ghost use Rattle.dap_base.specs.Causes.{HasCause};
 ghost use Rattle.dap_transfer.specs.State.{is_good};
 ghost use Rattle.probe_core.specs.Bench.{StepsTo, counted};
@@ -12,18 +12,19 @@ ghost use Rattle.flight_forms.specs.Packing.{AreTaken, AreWords};
 ghost use Rattle.flight_forms.specs.declared.form.Form.TheVariants.{Chain};
 ghost use Rattle.batch_packer.specs.ChainReadings.{guarded_reading, is_mismatch, is_of_one, joined_if, readings_after, then_reading, values_kept};
 ghost use Rattle.batch_packer.specs.Exchanges.{IsOpen};
+ghost use Rattle.batch_packer.specs.FlightEnds.{IsSmall};
 ghost use Rattle.batch_packer.specs.Flying.{HasFlownBy, IsReady, MayHaveFlown};
 ghost use Rattle.batch_packer.specs.Queues.{IsChain, IsFresh, IsPartPacket};
 ghost use Rattle.batch_packer.specs.Readings.{IsFew, IsNear, IsSeen, IsShown, part_with};
 
-use crate::packing::{MOST_REQUESTS, UNUSED, first_part, put_packets};
+use crate::packing::{MOST_REQUESTS, UNUSED, put_packets};
 use crate::part::Progress;
 use crate::queue::{receive_all, send_all};
 use crate::reply::read_reply;
 use crate::slots::Slots;
 use dap_base::Failed;
 use dap_messages::Response;
-use flight_forms::put_guarded_requests;
+use flight_forms::{first_part, put_guarded_requests};
 use probe_core::{Bench, PacketList};
 use target_machine::RegAccess;
 
@@ -140,13 +141,24 @@ fn read_next(
     }
 }
 
+// Notes at which reply a chain ended, as long as all before it came to their end.
+fn mark(so_far: Progress, index: usize, at: &mut usize)
+    ensures { at.new ≡ (if is_good so_far.response then index else at.old) }
+{
+    if is_good(so_far.response) {
+        *at = index;
+    }
+}
+
 // Reads the replies to the packets of a chain in order. `None` at the first that breaks the rules.
+// `at` is the reply at which the chain ended.
 fn read_packets(
     packet_size: u16,
     accesses: &[RegAccess],
     packets: &PacketList,
     replies: &PacketList,
     slots: &mut Slots,
+    at: &mut usize,
 ) -> Option<Progress>
     requires few { length accesses.now < 65535 }
     requires fits { FitChain 1024 (parts_of packet_size accesses.now) }
@@ -156,6 +168,7 @@ fn read_packets(
     requires slots { slots.old.values ≡ [] }
     requires room { 255 * length packets.now.items ≤ slots.old.room }
     ensures seen { IsSeen (readings_after (Some nothing_yet) (parts_of packet_size accesses.now) replies.now.items) result slots.new.values }
+    ensures few { IfSome result IsSmall }
     ensures room { slots.new.room ≡ slots.old.room }
 {
     let mut so_far = Progress {
@@ -167,8 +180,12 @@ fn read_packets(
     for i in 0..replies.len() {
         let rest = &accesses[start..];
         let len = first_part(packet_size, rest);
+        mark(so_far, i, at);
         match read_next(so_far, &rest[..len], packets.get(i), replies.get(i), slots) {
-            None => return None,
+            None => {
+                *at = i;
+                return None;
+            }
             Some(progress) => so_far = progress,
         }
         start += len;
@@ -178,13 +195,14 @@ fn read_packets(
 
 /// Sends a flight as a guarded chain, reads its replies, and adds the values of the confirmed accesses
 /// to the slots. `None` where a reply breaks the rules of replies, or the two on chains. The packets and
-/// the replies are kept; `bytes` is room for one.
+/// the replies are kept, and `at` is the number of those at which it ended; `bytes` is room for one.
 pub fn fly_chain<B: Bench>(
     packet_size: u16,
     accesses: &[RegAccess],
     packets: &mut PacketList,
     replies: &mut PacketList,
     bytes: &mut [u8],
+    at: &mut usize,
     slots: &mut Slots,
     bench: &mut B,
 ) -> Result<Option<Progress>, Failed>
@@ -202,6 +220,7 @@ pub fn fly_chain<B: Bench>(
         → HasFlownBy Chain accesses.now progress slots.new.values m n) (B.state bench.old) (B.state bench.new)) }
     ensures failed { OnErr result (StepsTo (λ m n. IsReady (B.reported bench.old).limits m → MayHaveFlown accesses.now m n) (B.state bench.old) (B.state bench.new)) }
     ensures read { IfOk result (λ progress. IsSeen (readings_after (Some nothing_yet) (parts_of packet_size accesses.now) replies.new.items) progress slots.new.values) }
+    ensures few { IfOk result (λ progress. IfSome progress IsSmall) }
     ensures last { OnOk result ((B.reported bench.new).last ≡ record { packets = packets.new.items; replies = replies.new.items }) }
     ensures exchanges { OnOk result ((B.reported bench.new).exchanges ≡ counted (B.reported bench.old).exchanges) }
     ensures open { OnOk result (IsOpen (B.reported bench.new)) }
@@ -217,7 +236,7 @@ pub fn fly_chain<B: Bench>(
         Err(Failed) => Err(Failed),
         Ok(()) => match receive_all(packets.len(), replies, bytes, bench) {
             Err(Failed) => Err(Failed),
-            Ok(()) => Ok(read_packets(packet_size, accesses, packets, replies, slots)),
+            Ok(()) => Ok(read_packets(packet_size, accesses, packets, replies, slots, at)),
         },
     }
 }

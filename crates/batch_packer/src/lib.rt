@@ -3,7 +3,9 @@
 
 mod alone;
 mod chain;
+mod ends;
 mod exchange;
+mod flying;
 pub mod laws;
 mod packing;
 mod part;
@@ -11,4 +13,5 @@ mod queue;
 mod reply;
 mod slots;
 
+pub use ends::{Cut, FlightEnd};
 pub use slots::Slots;

@@ -1,5 +1,5 @@
 //! The words, the packets and the parts of a flight's accesses.
-ghost use Rattle.std.specs.Prelude.{◌≡◌, ◌≤◌, ◌<◌, ◌+◌, ◌++◌, ◌∷◌, [], true, false, length, take, drop};
+ghost use Rattle.std.specs.Prelude.{◌≡◌, ◌≤◌, ◌<◌, ◌+◌, ◌++◌, ◌∷◌, [], true, false, length, take};
 ghost use Rattle.dap_messages.specs.declared.command_value.CommandValue.TheVariants.{Transfer};
 ghost use Rattle.dap_messages.specs.Commands.{IsCommand, bytes_of_kind, command_bytes};
 ghost use Rattle.flight_forms.specs.Flights.{words_of};
@@ -10,7 +10,7 @@ ghost use Rattle.batch_packer.specs.Alone.{one_command};
 ghost use Rattle.batch_packer.specs.Queues.{IsFresh, last_id, last_kind};
 
 use dap_messages::{Command, Request, write_command};
-use flight_forms::{FlightSize, put_guarded_requests};
+use flight_forms::{first_part, put_guarded_requests};
 use probe_core::PacketList;
 use target_machine::RegAccess;
 
@@ -132,26 +132,6 @@ fn write_part(is_last: bool, accesses: &[RegAccess], bytes: &mut [u8]) -> usize
     let mut command = [0u8; 1024];
     let size = write_transfer(&requests[..count], &mut command);
     put(bytes, &[id_of(is_last), 1], &command[..size])
-}
-
-/// How many of these accesses the first part of a chain has.
-pub fn first_part(packet_size: u16, accesses: &[RegAccess]) -> usize
-    requires some { 0 < length accesses.now }
-    requires few { length accesses.now < 65535 }
-    ensures some { 0 < result }
-    ensures within { result ≤ length accesses.now }
-    ensures part { parts_of packet_size accesses.now ≡ take result accesses.now ∷ parts_of packet_size (drop result accesses.now) }
-{
-    let mut size = FlightSize::new(packet_size, 1);
-    let mut count = 0;
-    for access in accesses {
-        size = size.with(*access);
-        if size.parts() > 1 {
-            return count;
-        }
-        count += 1;
-    }
-    count
 }
 
 /// Makes the packets of a chain of these accesses. `bytes` is room for one.
