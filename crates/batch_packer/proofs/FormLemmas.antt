@@ -21,7 +21,7 @@ use Rattle.flight_forms.specs.declared.form.Form.TheVariants.{Block, Transfer, C
 use Rattle.batch_packer.proofs.PacketLemmas.{fits_more}
 use Rattle.batch_packer.proofs.StateSteps.{steps_map}
 use Rattle.batch_packer.specs.ChainReadings.{is_mismatch}
-use Rattle.batch_packer.specs.FlightEnds.{EndsBy, Flew, end_at, flight_reading, form_reading, unless_mismatch, whole_part}
+use Rattle.batch_packer.specs.FlightEnds.{EndsBy, Flew, end_at, end_of, flight_reading, form_reading, unless_mismatch, whole_part}
 use Rattle.batch_packer.specs.Flying.{HasFlown, HasFlownBy, IsReady, IsWithin}
 use Rattle.batch_packer.specs.Queues.{IsChain}
 use Rattle.batch_packer.specs.Readings.{IsSeen, part_with}
@@ -116,10 +116,15 @@ flew_one form accesses progress values m n has = by_response progress.response r
     by_response Fault e = ((λ f. absurd (cc)), moved Fault e)
     by_response Mismatch e = let does = has.does in let made = does.made in absurd (made.never e)
 
-pub flew_some : (form : Form) (given : Limits) (accesses : List RegAccess) (progress : Progress) (end : Option FlightEnd) (values : List (Option ℕ)) (a b : Option BenchState) → end ≡ end_at progress.response progress →
-    StepsTo (λ m n. IsReady given m → HasFlownBy form accesses (Some progress) values m n) a b → StepsTo (λ m n. IsReady given m → Flew form accesses end values m n) a b
-flew_some form given accesses progress end values a b is steps =
-    steps_map (λ m n h ready. subst (λ (e : Option FlightEnd). Flew form accesses e values m n) (sym is) (flew_one form accesses progress values m n (h ready))) a b steps
+flew_found : (form : Form) (accesses : List RegAccess) (progress : Option Progress) (values : List (Option ℕ)) (m n : BenchState) → HasFlownBy form accesses progress values m n →
+    Flew form accesses (end_of progress) values m n
+flew_found form accesses None values m n has = absurd has
+flew_found form accesses (Some progress) values m n has = flew_one form accesses progress values m n has
+
+pub flew_so : (form : Form) (given : Limits) (accesses : List RegAccess) (progress : Option Progress) (end : Option FlightEnd) (values : List (Option ℕ)) (a b : Option BenchState) → end ≡ end_of progress →
+    StepsTo (λ m n. IsReady given m → HasFlownBy form accesses progress values m n) a b → StepsTo (λ m n. IsReady given m → Flew form accesses end values m n) a b
+flew_so form given accesses progress end values a b is steps =
+    steps_map (λ m n h ready. subst (λ (e : Option FlightEnd). Flew form accesses e values m n) (sym is) (flew_found form accesses progress values m n (h ready))) a b steps
 
 ends_one : (progress : Progress) (values : List (Option ℕ)) → EndsBy (unless_mismatch (Some (part_with progress values))) (end_at progress.response progress) values
 ends_one progress values = by_response progress.response refl
@@ -134,21 +139,18 @@ ends_seen : (found : Option Part) (progress : Progress) (values : List (Option �
 ends_seen None progress values h = absurd h
 ends_seen (Some part) progress values h = subst (λ (x : Part). EndsBy (unless_mismatch (Some x)) (end_at progress.response progress) values) (sym h) (ends_one progress values)
 
-pub ends_some : (form : Form) (size : ℕ) (accesses : List RegAccess) (packets replies : List (List ℕ)) (last : Exchange) (progress : Progress) (end : Option FlightEnd) (values : List (Option ℕ)) →
-    last ≡ record { packets = packets; replies = replies } → end ≡ end_at progress.response progress → IsSeen (form_reading form size accesses replies) (Some progress) values →
+ends_found : (found : Option Part) (progress : Option Progress) (values : List (Option ℕ)) → IsSeen found progress values → EndsBy (unless_mismatch found) (end_of progress) values
+ends_found None None values h = tt
+ends_found None (Some progress) values h = absurd h
+ends_found (Some part) None values h = absurd h
+ends_found (Some part) (Some progress) values h = ends_seen (Some part) progress values h
+
+pub ends_so : (form : Form) (size : ℕ) (accesses : List RegAccess) (packets replies : List (List ℕ)) (last : Exchange) (progress : Option Progress) (end : Option FlightEnd) (values : List (Option ℕ)) →
+    last ≡ record { packets = packets; replies = replies } → end ≡ end_of progress → IsSeen (form_reading form size accesses replies) progress values →
     EndsBy (flight_reading form size accesses last.replies) end values
-ends_some form size accesses packets replies last progress end values kept is seen =
+ends_so form size accesses packets replies last progress end values kept is seen =
     subst (λ (x : Exchange). EndsBy (flight_reading form size accesses x.replies) end values) (sym kept)
-    (subst (λ (e : Option FlightEnd). EndsBy (flight_reading form size accesses replies) e values) (sym is) (ends_seen (form_reading form size accesses replies) progress values seen))
-
-ends_unseen : (found : Option Part) (values : List (Option ℕ)) → IsSeen found None values → EndsBy (unless_mismatch found) (Some ends.ReplyBad) values
-ends_unseen None values h = tt
-ends_unseen (Some part) values h = absurd h
-
-pub ends_none : (form : Form) (size : ℕ) (accesses : List RegAccess) (packets replies : List (List ℕ)) (last : Exchange) (values : List (Option ℕ)) →
-    last ≡ record { packets = packets; replies = replies } → IsSeen (form_reading form size accesses replies) None values → EndsBy (flight_reading form size accesses last.replies) (Some ends.ReplyBad) values
-ends_none form size accesses packets replies last values kept seen =
-    subst (λ (x : Exchange). EndsBy (flight_reading form size accesses x.replies) (Some ends.ReplyBad) values) (sym kept) (ends_unseen (form_reading form size accesses replies) values seen)
+    (subst (λ (e : Option FlightEnd). EndsBy (flight_reading form size accesses replies) e values) (sym is) (ends_found (form_reading form size accesses replies) progress values seen))
 
 ends_failed : (found : Option Part) (values : List (Option ℕ)) → EndsBy found (Some ends.BenchFault) values
 ends_failed None values = tt

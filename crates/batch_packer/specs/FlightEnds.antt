@@ -99,3 +99,8 @@ abbrev pub end_at : Response → Progress → Option FlightEnd
 end_at Good progress = None
 end_at Mismatch progress = Some ends.ReplyBad
 end_at response progress = Some (ends.Cut (record { performed = progress.performed; confirmed = progress.confirmed; response = code_of response }))
+
+-- the same by what its replies said; they are bad where they said nothing
+abbrev pub end_of : Option Progress → Option FlightEnd
+end_of None = Some ends.ReplyBad
+end_of (Some progress) = end_at progress.response progress

@@ -6,3 +6,5 @@ pub mod Flying
 pub mod Alone
 pub mod ChainReadings
 pub mod FlightEnds
+pub mod AccessLists
+pub mod FlightStates

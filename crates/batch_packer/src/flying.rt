@@ -7,7 +7,7 @@ ghost use Rattle.probe_core.specs.Runs.{KeepsRuns};
 ghost use Rattle.flight_forms.specs.Forms.{form_of};
 ghost use Rattle.flight_forms.specs.Packing.{AreTaken, AreWords};
 ghost use Rattle.batch_packer.specs.Exchanges.{IsOpen};
-ghost use Rattle.batch_packer.specs.FlightEnds.{EndsBy, Flew, HasEndCause, IsSmall, end_at, flight_reading, form_reading, got_replies};
+ghost use Rattle.batch_packer.specs.FlightEnds.{EndsBy, Flew, HasEndCause, IsSmall, end_at, end_of, flight_reading, form_reading, got_replies};
 ghost use Rattle.batch_packer.specs.Flying.{HasFlownBy, IsReady, IsWithin, MayHaveFlown};
 ghost use Rattle.batch_packer.specs.Queues.{IsFresh};
 ghost use Rattle.batch_packer.specs.Readings.{IsSeen};
@@ -96,6 +96,17 @@ fn end_at(progress: Progress) -> Option<FlightEnd>
     }
 }
 
+// The same by what its replies said; they are bad where they said nothing.
+fn end_of(progress: Option<Progress>) -> Option<FlightEnd>
+    requires { IfSome progress IsSmall }
+    ensures { result ≡ end_of progress }
+{
+    match progress {
+        None => Some(FlightEnd::ReplyBad),
+        Some(progress) => end_at(progress),
+    }
+}
+
 /// Sends a flight in this form, reads its replies, and answers how it ended, or `None` where it came
 /// to its end. The values of the confirmed accesses are added to the slots. The packets and the replies
 /// are kept, and `at` is the number of those at which a chain ended; `bytes` is room for one.
@@ -137,7 +148,6 @@ pub fn fly<B: Bench>(
 {
     match fly_in(form, limits, accesses, packets, replies, bytes, at, slots, bench) {
         Err(Failed) => Some(FlightEnd::BenchFault),
-        Ok(None) => Some(FlightEnd::ReplyBad),
-        Ok(Some(progress)) => end_at(progress),
+        Ok(progress) => end_of(progress),
     }
 }

@@ -1,10 +1,12 @@
 //! Flights of register accesses over a bench: many accesses in few packets, cut at any place.
 #![tactic(auto)]
 
+mod accesses;
 mod alone;
 mod chain;
 mod ends;
 mod exchange;
+mod flight;
 mod flying;
 pub mod laws;
 mod packing;
@@ -14,4 +16,5 @@ mod reply;
 mod slots;
 
 pub use ends::{Cut, FlightEnd};
+pub use flight::Flight;
 pub use slots::Slots;
