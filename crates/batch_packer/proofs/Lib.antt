@@ -12,3 +12,4 @@ pub mod PartLemmas
 pub mod ReadLemmas
 pub mod ChainBench
 pub mod FormLemmas
+pub mod FlightLemmas

@@ -1,16 +1,20 @@
 -- What is kept of a flight.
-use Rattle.std.specs.Prelude.{◌≡◌, ℕ, ◌+◌, ◌*◌, ◌<◌, ◌≤◌, true, false, Bool, is_some, List, [], ◌++◌, ◌∷◌, length, slice_get, Option, Some, None}
+use Rattle.std.specs.Prelude.{◌≡◌, ◌==◌, ℕ, ◌*◌, ◌<◌, ◌≤◌, true, false, Bool, is_some, List, [], ◌++◌, ◌∷◌, length, slice_get, Option, Some, None}
 use Rattle.target_machine.specs.declared.access.RegAccess.{RegAccess}
-use Rattle.probe_core.specs.Bench.{Exchange}
+use Rattle.probe_core.specs.Bench.{BenchState}
 use Rattle.probe_core.specs.Packets.{Packets}
 use Rattle.probe_core.specs.Ranges.{AreLimits}
 use Rattle.probe_core.specs.declared.job.Limits.{Limits}
 use Rattle.flight_forms.specs.Forms.{form_of}
 use Rattle.flight_forms.specs.Packing.{AreTaken, AreWords}
 use Rattle.flight_forms.specs.Sizes.{IsSizeOf}
+use Rattle.flight_forms.specs.declared.form.Form.{Form}
+use Rattle.flight_forms.specs.declared.form.Form.TheVariants.{Transfer}
 use Rattle.flight_forms.specs.declared.size.FlightSize.{FlightSize}
 use Rattle.batch_packer.specs.AccessLists.{Accesses}
+use Rattle.batch_packer.specs.FlightEnds.{EndsBy, Flew, flight_reading}
 use Rattle.batch_packer.specs.declared.ends.FlightEnd.{FlightEnd}
+use Rattle.batch_packer.specs.declared.ends.FlightEnd.TheVariants as ends
 
 -- The limits of a flight, the accesses that were pushed and not sent, how it ended, whether it can be used again after that, and the
 -- packets and replies of its end with the number of the one that it ended at.
@@ -53,3 +57,34 @@ pub record IsSoundFlight (limits : Limits) (size : FlightSize) (accesses : Acces
   pub room : 255 * limits.packet_count ≤ accesses.room
   pub packets_room : limits.packet_count ≤ packets.room
   pub replies_room : limits.packet_count ≤ replies.room
+
+-- the form in which a flight is sent; none where there is nothing to send
+abbrev pub sent_form : Limits → List RegAccess → Option Form
+sent_form limits [] = None
+sent_form limits (a ∷ rest) = form_of limits.packet_size limits.packet_count (a ∷ rest)
+
+-- What was done: what a flight in this form does that ends so, or nothing.
+abbrev pub SentBy : Option Form → List RegAccess → Option FlightEnd → List (Option ℕ) → BenchState → BenchState → Type 0
+SentBy None accesses end values m n = (n ≡ m) × (end ≡ None) × (values ≡ [])
+SentBy (Some form) accesses end values m n = Flew form accesses end values m n
+
+-- How a flight ends by its replies; one that sends nothing comes to its end.
+abbrev pub ReadBy : Option Form → ℕ → List RegAccess → List (List ℕ) → Option FlightEnd → List (Option ℕ) → Type 0
+ReadBy None size accesses replies end values = (end ≡ None) × (values ≡ [])
+ReadBy (Some form) size accesses replies end values = EndsBy (flight_reading form size accesses replies) end values
+
+-- whether a flight that was sent in this form can be used again: one Transfer that was answered FAULT
+abbrev pub can_resume : Form → Option FlightEnd → Bool
+can_resume Transfer (Some (ends.Cut cut)) = cut.response == 0x04
+can_resume form end = false
+
+abbrev pub can_resume_by : Option Form → Option FlightEnd → Bool
+can_resume_by None end = false
+can_resume_by (Some form) end = can_resume form end
+
+-- the packets or replies that are kept after this end
+abbrev pub items_kept : Option FlightEnd → List (List ℕ) → List (List ℕ)
+items_kept None items = []
+items_kept (Some (ends.Cut cut)) items = items
+items_kept (Some ends.BenchFault) items = []
+items_kept (Some ends.ReplyBad) items = items
