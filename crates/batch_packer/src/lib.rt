@@ -8,7 +8,6 @@ mod ends;
 mod exchange;
 mod flight;
 mod flying;
-pub mod laws;
 mod packing;
 mod part;
 mod queue;
@@ -18,3 +17,6 @@ mod slots;
 pub use ends::{Cut, FlightEnd};
 pub use flight::Flight;
 pub use slots::Slots;
+
+#[cfg(test)]
+mod tests;
