@@ -240,6 +240,13 @@ impl Flight {
         }
     }
 
+    /// Whether the flight was cut with the response 04 as one unguarded Transfer, and not resumed since.
+    pub fn can_resume(&self) -> bool
+        ensures { result ≡ self.now.resumable }
+    {
+        self.resumable
+    }
+
     /// Makes a flight usable again that was cut with the response 04 as one unguarded Transfer. It is
     /// empty afterwards.
     pub fn resume(&mut self)

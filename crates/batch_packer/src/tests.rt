@@ -1,10 +1,9 @@
 //! Flights over benches in memory, against packets and numbers worked out from the standards.
-ghost use Rattle.std.specs.Prelude.{◌≡◌, ◌≤◌, IfOk};
+ghost use Rattle.std.specs.Prelude.{◌≡◌, ◌≤◌, length, IfOk};
 ghost use Rattle.std.specs.List.{All};
 ghost use Rattle.target_machine.specs.Ranges.{IsTargetJob};
-ghost use Rattle.probe_core.specs.Ranges.{AreLimits, IsBenchJob};
+ghost use Rattle.probe_core.specs.Ranges.{IsBenchJob};
 ghost use Rattle.batch_packer.specs.Exchanges.{IsOpen};
-ghost use Rattle.batch_packer.specs.Flying.{IsWithin};
 
 use crate::*;
 use dap_base::{ItemList, OutOfMemory};
@@ -109,6 +108,7 @@ fn flies<B: Bench>(
     values: &[Option<u32>],
     got: &[u8],
 ) -> Result<(), OutOfMemory>
+    requires few { length values.now ≤ 255 }
     requires open { IsOpen (B.reported bench.old) }
     requires size { 64 ≤ (B.reported bench.old).limits.packet_size }
     requires count { 4 ≤ (B.reported bench.old).limits.packet_count }
@@ -130,8 +130,10 @@ fn flies<B: Bench>(
     assert_eq!(rt; flight.send(bench, &mut slots), answer);
     assert_eq!(rt; flight.count(), 0);
     assert_eq!(rt; *flight.got(), *got);
-    for (place, value) in values.iter().enumerate() {
-        assert_eq!(rt; slots.get(place as u32), *value);
+    let mut place = 0;
+    for value in values {
+        assert_eq!(rt; slots.get(place), *value);
+        place += 1;
     }
     Ok(())
 }
@@ -187,11 +189,102 @@ fn a_chain_comes_to_its_end(rt: HostRuntime) -> Result<(), Fail> {
     let lengths = [
         probe_core::Shown::Sent(61),
         probe_core::Shown::Sent(46),
-        probe_core::Shown::Replied(5),
-        probe_core::Shown::Replied(5),
+        probe_core::Shown::Replied(9),
+        probe_core::Shown::Replied(9),
     ];
-    for (index, shown) in lengths.iter().enumerate() {
-        assert_eq!(rt; memory.show(index as u32, &mut out), Ok(*shown));
+    for index in 0..4 {
+        assert_eq!(rt; memory.show(index, &mut out), Ok(lengths[index as usize]));
+    }
+    Ok(())
+}
+
+// The fetch of the check in the first packet is answered WAIT too often, so the later packets do nothing.
+#[test]
+fn a_chain_is_cut_in_its_first_packet(rt: HostRuntime) -> Result<(), Fail> {
+    let job = bench(rt.alloc(), &[0, 0, 0, 101, 0])?;
+    let mut memory = MemoryBench::new(rt.alloc());
+    assert_eq!(rt; memory.load(rt.alloc(), &job), Ok(()));
+    let rows = [
+        CSW_ON,
+        tar(0x2000_0000),
+        drw(1),
+        drw(2),
+        drw(3),
+        drw(4),
+        drw(5),
+        drw(6),
+        drw(7),
+        drw(8),
+        drw(9),
+        drw(10),
+        drw(11),
+        drw(12),
+        drw(13),
+        drw(14),
+        drw(15),
+        drw(16),
+        drw(17),
+        drw(18),
+        drw(19),
+        drw(20),
+        CSW_OFF,
+        tar(0x2000_004C),
+    ];
+    flies(
+        &rt,
+        rt.alloc(),
+        &mut memory,
+        &rows,
+        Err(FlightEnd::Cut(Cut {
+            performed: 3,
+            confirmed: 2,
+            response: 2,
+        })),
+        &[None; 24],
+        &[0x7F, 1, 5, 5, 2],
+    )?;
+    Ok(())
+}
+
+// Two writes of DRW at an address without memory: the second meets the fault of the first.
+#[test]
+fn a_block_of_writes_faults(rt: HostRuntime) -> Result<(), Fail> {
+    let job = bench(rt.alloc(), &NO_STALLS)?;
+    let mut memory = MemoryBench::new(rt.alloc());
+    assert_eq!(rt; memory.load(rt.alloc(), &job), Ok(()));
+    let answer = Err(FlightEnd::Cut(Cut {
+        performed: 1,
+        confirmed: 0,
+        response: 4,
+    }));
+    flies(
+        &rt,
+        rt.alloc(),
+        &mut memory,
+        &[drw(1), drw(2)],
+        answer,
+        &[None],
+        &[6, 1, 0, 4],
+    )?;
+    Ok(())
+}
+
+// The second call of a bench is the send, and the third the receive.
+#[test]
+fn failing_calls_end_a_flight(rt: HostRuntime) -> Result<(), Fail> {
+    let job = bench(rt.alloc(), &NO_STALLS)?;
+    for call in [2, 3] {
+        let mut faulty = FaultyBench::new(rt.alloc(), &[call])?;
+        assert_eq!(rt; faulty.load(rt.alloc(), &job), Ok(()));
+        flies(
+            &rt,
+            rt.alloc(),
+            &mut faulty,
+            &[CSW_OFF],
+            Err(FlightEnd::BenchFault),
+            &[None],
+            &[],
+        )?;
     }
     Ok(())
 }
