@@ -1,0 +1,68 @@
+use Rattle.std.proofs.Common.{◌≡◌, ℕ, List, [], ◌∷◌, ◌++◌, ap, sym, ◌∙◌, take, subst}
+use Rattle.dap_messages.specs.Commands.{command_bytes}
+use Rattle.dap_messages.specs.declared.request.Request.{Request}
+use Rattle.probe_core.specs.Bench.{StepsTo}
+use Rattle.batch_packer.specs.Exchanges.{HasAnswered, IsIdle}
+use Rattle.probe_core.specs.Packets.{Packets}
+use Rattle.batch_packer.proofs.AloneLemmas.{flew_alone, may_have_flown}
+use Rattle.batch_packer.proofs.FlightFacts.{few_requests, first_kept, normal_front, one_kept, read_alone, shown_alone}
+use Rattle.batch_packer.specs.Alone.{one_command}
+use Rattle.batch_packer.proofs.alone.fly_alone.Goals as goal
+
+pub put_requests-count-requires : goal.put_requests-count-requires
+put_requests-count-requires g c = few_requests c.args.is_block _ c.args.accesses.now c.requires.block c.requires.fits
+
+pub read_reply-requires-clause-normal : goal.read_reply-requires-clause-normal
+read_reply-requires-clause-normal g c =
+    normal_front (take c.put_requests-count.result c.put_requests-count.new.requests) c.args.accesses.now c.put_requests-count.ensures.front
+
+pub returns-in-Err-clause-failed : goal.returns-in-Err-clause-failed
+returns-in-Err-clause-failed g c =
+    let packet : c.get.result.now ≡ command_bytes (one_command c.args.is_block c.args.accesses.now) =
+    first_kept c.args.packets.now.items c.push.new.self.items (take c.write_one-size.result c.write_one-size.new.bytes) c.get.result.now c.requires.packets.none
+    (ap (λ (p : Packets). p.items) c.push.ensures) c.get.ensures ∙ c.write_one-size.ensures.front in
+    may_have_flown c.args.is_block (g.B.Bench.reported c.args.bench.now).limits c.args.accesses.now c.get.result.now (g.B.Bench.state c.args.bench.now) (g.B.Bench.state c.exchange.new.bench)
+    c.requires.limits c.requires.block c.requires.taken c.requires.words c.requires.fits packet c.in-Err.ensures.failed
+
+pub returns-in-Ok-clause-flown : goal.returns-in-Ok-clause-flown
+returns-in-Ok-clause-flown g c =
+    let limits = (g.B.Bench.reported c.args.bench.now).limits in
+    let size : ℕ = limits.packet_size in
+    let in_range = c.requires.limits in
+    let old : List (List ℕ) = c.args.packets.now.items in
+    let new : List (List ℕ) = c.push.new.self.items in
+    let bytes : List ℕ = take c.write_one-size.result c.write_one-size.new.bytes in
+    let kept : new ≡ old ++ bytes ∷ [] = ap (λ (p : Packets). p.items) c.push.ensures in
+    let packet : c.get.result.now ≡ command_bytes (one_command c.args.is_block c.args.accesses.now) =
+    first_kept old new bytes c.get.result.now c.requires.packets.none kept c.get.ensures ∙ c.write_one-size.ensures.front in
+    let again : c.get-in-Ok.result.now ≡ command_bytes (one_command c.args.is_block c.args.accesses.now) =
+    first_kept old new bytes c.get-in-Ok.result.now c.requires.packets.none kept c.get-in-Ok.ensures ∙ c.write_one-size.ensures.front in
+    let reply : c.get-in-Ok-2.result.now ≡ take c.in-Ok.len c.exchange.new.out =
+    first_kept c.args.replies.now.items c.push-in-Ok.new.self.items (take c.in-Ok.len c.exchange.new.out) c.get-in-Ok-2.result.now c.requires.replies.none (ap (λ (p : Packets). p.items) c.push-in-Ok.ensures) c.get-in-Ok-2.ensures in
+    let rs : List Request = take c.put_requests-count.result c.put_requests-count.new.requests in
+    flew_alone c.args.is_block limits c.args.accesses.now c.get.result.now c.get-in-Ok-2.result.now c.read_reply.result c.read_reply.new.slots.values
+    (g.B.Bench.state c.args.bench.now) (g.B.Bench.state c.exchange.new.bench)
+    c.requires.limits c.requires.block c.requires.taken c.requires.words c.requires.fits packet
+    (shown_alone c.args.is_block size c.args.accesses.now c.get-in-Ok.result.now c.get-in-Ok-2.result.now rs c.read_reply.result c.args.slots.now.values c.read_reply.new.slots.values in_range.size_high c.requires.fits again c.put_requests-count.ensures.front
+    c.read_reply.ensures.shown c.requires.slots)
+    (subst (λ (xs : List ℕ). StepsTo (λ m o. IsIdle m → HasAnswered c.get.result.now xs m o) (g.B.Bench.state c.args.bench.now) (g.B.Bench.state c.exchange.new.bench)) (sym reply) c.in-Ok.ensures.state)
+
+pub returns-in-Ok-clause-read : goal.returns-in-Ok-clause-read
+returns-in-Ok-clause-read g c =
+    let limits = (g.B.Bench.reported c.args.bench.now).limits in
+    let size : ℕ = limits.packet_size in
+    let in_range = c.requires.limits in
+    let old : List (List ℕ) = c.args.packets.now.items in
+    let new : List (List ℕ) = c.push.new.self.items in
+    let bytes : List ℕ = take c.write_one-size.result c.write_one-size.new.bytes in
+    let kept : new ≡ old ++ bytes ∷ [] = ap (λ (p : Packets). p.items) c.push.ensures in
+    let again : c.get-in-Ok.result.now ≡ command_bytes (one_command c.args.is_block c.args.accesses.now) =
+    first_kept old new bytes c.get-in-Ok.result.now c.requires.packets.none kept c.get-in-Ok.ensures ∙ c.write_one-size.ensures.front in
+    let reply : List ℕ = take c.in-Ok.len c.exchange.new.out in
+    let pushed : c.push-in-Ok.new.self.items ≡ c.args.replies.now.items ++ reply ∷ [] = ap (λ (p : Packets). p.items) c.push-in-Ok.ensures in
+    let got : c.get-in-Ok-2.result.now ≡ reply = first_kept c.args.replies.now.items c.push-in-Ok.new.self.items reply c.get-in-Ok-2.result.now c.requires.replies.none pushed c.get-in-Ok-2.ensures in
+    let rs : List Request = take c.put_requests-count.result c.put_requests-count.new.requests in
+    read_alone c.args.is_block c.args.accesses.now c.get-in-Ok-2.result.now c.push-in-Ok.new.self.items c.read_reply.result c.read_reply.new.slots.values
+    (one_kept c.args.replies.now.items c.push-in-Ok.new.self.items reply c.requires.replies.none pushed ∙ ap (λ (x : List ℕ). x ∷ []) (sym got))
+    (shown_alone c.args.is_block size c.args.accesses.now c.get-in-Ok.result.now c.get-in-Ok-2.result.now rs c.read_reply.result c.args.slots.now.values c.read_reply.new.slots.values in_range.size_high c.requires.fits again c.put_requests-count.ensures.front
+    c.read_reply.ensures.shown c.requires.slots)

@@ -1,0 +1,20 @@
+use Rattle.std.proofs.Common.{◌≡◌, ◌≤◌, ◌<◌, ◌+◌, ◌*◌, length, drop, Some}
+use Rattle.flight_forms.specs.Chains.{nothing_yet}
+use Rattle.flight_forms.specs.Forms.{parts_of}
+use Rattle.flight_forms.specs.Packets.{FitChain, chain_packets}
+use Rattle.batch_packer.specs.ChainReadings.{readings_after}
+use Rattle.batch_packer.specs.Readings.{part_with}
+use Rattle.batch_packer.proofs.chain.read_packets.Given as goal
+
+abbrev pub invariant-loop-i : goal.invariant-loop-i
+invariant-loop-i l = record {
+  whole : readings_after (Some (part_with l.so_far l.slots.values)) (parts_of l.packet_size (drop l.start l.accesses)) (drop l.i l.replies.items)
+      ≡ readings_after (Some nothing_yet) (parts_of l.packet_size l.accesses) l.replies.items;
+  packets : drop l.i l.packets.items ≡ chain_packets (parts_of l.packet_size (drop l.start l.accesses));
+  within : l.start ≤ length l.accesses;
+  fits : FitChain 1024 (parts_of l.packet_size (drop l.start l.accesses));
+  performed : l.so_far.performed ≤ 255 * l.i;
+  confirmed : l.so_far.confirmed ≤ 255 * l.i;
+  values : length l.slots.values ≤ 255 * l.i;
+  room_is : l.slots.room ≡ l.fn.slots.room;
+}

@@ -1,0 +1,12 @@
+use Rattle.std.proofs.Common.{◌≡◌, true, rules}
+use Rattle.batch_packer.proofs.ReadLemmas.{part_shown, slice_normal}
+use Rattle.batch_packer.proofs.chain.read_part.Goals as goal
+
+pub read_reply-requires-clause-normal : goal.read_reply-requires-clause-normal
+read_reply-requires-clause-normal c =
+    slice_normal c.put_guarded_requests-count.new.requests c.put_guarded_requests-count.result c.args.accesses.now c.put_guarded_requests-count.ensures.front c.put_guarded_requests-count.ensures.count
+
+pub returns-clause-shown : goal.returns-clause-shown
+returns-clause-shown c =
+    part_shown c.args.accesses.now c.args.packet.now c.args.reply.now c.put_guarded_requests-count.new.requests c.put_guarded_requests-count.result c.read_reply.result c.args.slots.now.values c.read_reply.new.slots.values
+    c.requires.packet c.put_guarded_requests-count.ensures.front c.put_guarded_requests-count.ensures.count c.if-reply-lt2.false (search rules) c.read_reply.ensures.shown

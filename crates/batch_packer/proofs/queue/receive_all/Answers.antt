@@ -1,0 +1,30 @@
+use Rattle.std.proofs.Common.{◌≡◌, ◌<◌, ◌++◌, ◌∷◌, [], List, ℕ, take, ap, ◌∙◌, arith}
+use Rattle.probe_core.specs.Bench.{Reported}
+use Rattle.probe_core.specs.Packets.{Packets}
+use Rattle.batch_packer.proofs.StateSteps.{runs_then}
+use Rattle.batch_packer.proofs.QueueLemmas.{handed_next, one_fewer, one_longer, received_next}
+use Rattle.batch_packer.proofs.queue.receive_all.Goals as goal
+
+pub loop-preserved : goal.loop-preserved
+loop-preserved g c =
+    let inv = c.loop.invariant in
+    let t : Reported = g.B.Bench.reported c.args.bench.now in
+    let u : Reported = g.B.Bench.reported c.loop.bench in
+    let v : Reported = g.B.Bench.reported c.receive.new.self in
+    let reply : List ℕ = take c.in-Ok.len c.receive.new.out in
+    let old : List (List ℕ) = c.loop.replies.items in
+    let new : List (List ℕ) = c.push.new.self.items in
+    let is : new ≡ old ++ reply ∷ [] = ap (λ (p : Packets). p.items) c.push.ensures in
+    let reported = c.in-Ok.ensures.reported in
+    let below : c.loop.counter < t.waiting = omega (arith, c.loop-test.true, c.requires.waits) in
+    record {
+      reported = received_next old new reply t u v is inv.reported reported;
+      state = handed_next old new reply (g.B.Bench.state c.args.bench.now) (g.B.Bench.state c.loop.bench) (g.B.Bench.state c.receive.new.self) is inv.state c.in-Ok.ensures.state;
+      runs = runs_then (g.B.Bench.state c.args.bench.now) (g.B.Bench.state c.loop.bench) (g.B.Bench.state c.receive.new.self) inv.runs c.receive.ensures.runs;
+      identity = c.in-Ok.ensures.identity ∙ inv.identity;
+      faults = ap (λ (x : Reported). x.faults) reported ∙ inv.faults;
+      limits = ap (λ (x : Reported). x.limits) reported ∙ inv.limits;
+      waiting = one_fewer t u v reply c.loop.counter t.waiting reported inv.waiting below;
+      count = one_longer old new reply c.loop.counter is inv.count;
+      room = ap (λ (p : Packets). p.room) c.push.ensures ∙ inv.room;
+    }

@@ -1,0 +1,58 @@
+-- What the replies to the packets of a chain show.
+use Rattle.std.specs.Prelude.{ℕ, Bool, true, false, ◌&&◌, ◌||◌, ◌==◌, if◌then◌else◌, List, [], ◌∷◌, ◌++◌, Option, Some, None}
+use Rattle.target_machine.specs.declared.access.RegAccess.{RegAccess}
+use Rattle.dap_messages.specs.declared.request.Response.{Response}
+use Rattle.dap_messages.specs.declared.request.Response.TheVariants.{Good, Wait, Fault, Mismatch}
+use Rattle.dap_transfer.specs.State.{is_good}
+use Rattle.flight_forms.specs.Chains.{joined_as}
+use Rattle.flight_forms.specs.Flights.{Part}
+use Rattle.flight_forms.specs.Packets.{guarded_command}
+use Rattle.flight_forms.specs.Packing.{payload}
+use Rattle.batch_packer.specs.Readings.{reading}
+
+-- whether a reply begins with DAP_ExecuteCommands, or DAP_QueueCommands, and the number 1
+abbrev pub is_of_one : ℕ → ℕ → Bool
+is_of_one id count = ((id == 0x7F) || (id == 0x7E)) && (count == 1)
+
+-- The reply to the one command of a packet of several: DAP_ExecuteCommands (or DAP_QueueCommands) and the number 1 come before it.
+abbrev pub inner_reply : List ℕ → Option (List ℕ)
+inner_reply (id ∷ count ∷ reply) = if is_of_one id count then Some reply else None
+inner_reply _ = None
+
+-- what such a reply to a guarded command of these accesses shows, where there is one: two requests are before theirs
+abbrev pub guarded_in : List RegAccess → Option (List ℕ) → Option Part
+guarded_in accesses None = None
+guarded_in accesses (Some reply) = reading (guarded_command accesses) 2 (payload accesses) reply
+
+-- what the reply to the packet of a part shows
+abbrev pub guarded_reading : List RegAccess → List ℕ → Option Part
+guarded_reading accesses reply = guarded_in accesses (inner_reply reply)
+
+-- whether a value match was not met
+abbrev pub is_mismatch : Response → Bool
+is_mismatch Mismatch = true
+is_mismatch _ = false
+
+-- What was shown so far, and by the next reply: as long as commands came to their end, the next makes accesses; after one that did not,
+-- no value match is met any more.
+abbrev pub joined_if : Bool → Bool → Part → Part → Option Part
+joined_if true false sofar next = Some (joined_as Good sofar next)
+joined_if false true sofar next = Some sofar
+joined_if _ _ sofar next = None
+
+-- the same, where the next reply is one that its command may get
+abbrev pub then_reading : Part → Option Part → Option Part
+then_reading sofar None = None
+then_reading sofar (Some next) = joined_if (is_good sofar.response) (is_mismatch next.response) sofar next
+
+-- what the replies to the packets of these parts show, after others that showed this; none where one of them breaks the rules
+abbrev pub readings_after : Option Part → List (List RegAccess) → List (List ℕ) → Option Part
+readings_after None parts replies = None
+readings_after (Some sofar) [] [] = Some sofar
+readings_after (Some sofar) (accesses ∷ parts) (reply ∷ replies) = readings_after (then_reading sofar (guarded_reading accesses reply)) parts replies
+readings_after (Some sofar) _ _ = None
+
+-- the values after a reply: where a value match was not met, none is added
+abbrev pub values_kept : Bool → List (Option ℕ) → List (Option ℕ) → List (Option ℕ)
+values_kept true before values = before
+values_kept false before values = before ++ values

@@ -1,0 +1,61 @@
+-- What a flight does to a bench.
+use Rattle.std.specs.Prelude.{◌≡◌, ◌≤◌, ◌⊎◌, ℕ, Bool, true, false, not, ◌&&◌, List, Option, Some, None}
+use Rattle.target_machine.specs.InRange.{IsInRange}
+use Rattle.target_machine.specs.declared.access.RegAccess.{RegAccess}
+use Rattle.dap_transfer.specs.State.{TransferState, is_good}
+use Rattle.probe_core.specs.Bench.{BenchState, counted}
+use Rattle.probe_core.specs.Commands.{with_transfers}
+use Rattle.probe_core.specs.Probe.{target_of}
+use Rattle.probe_core.specs.declared.job.Limits.{Limits}
+use Rattle.flight_forms.specs.Chains.{IsGuardOpen}
+use Rattle.flight_forms.specs.Flights.{DoesPart, Part}
+use Rattle.flight_forms.specs.declared.form.Form.{Form}
+use Rattle.flight_forms.specs.declared.form.Form.TheVariants.{Block, Transfer, Chain}
+use Rattle.batch_packer.specs.Exchanges.{IsIdle}
+use Rattle.batch_packer.specs.Readings.{part_with}
+use Rattle.batch_packer.specs.declared.part.Progress.{Progress}
+
+-- what makes the transfers of a bench
+abbrev pub transfers_of : BenchState → TransferState
+transfers_of m = m.probe.executor.transfers
+
+-- A bench over which a flight does what is said of it: match mask and match retry are 0, bit 0 of DPIDR is set, STICKYERR is clear,
+-- and the numbers of the target fit their registers and words.
+pub record CanFly (m : BenchState) : Type 0 where
+  pub guard : IsGuardOpen (transfers_of m)
+  pub in_range : IsInRange (target_of m.probe)
+
+-- the same of an idle bench with these limits
+pub record IsReady (given : Limits) (m : BenchState) : Type 0 where
+  pub idle : IsIdle m
+  pub limits : m.probe.executor.limits ≡ given
+  pub flies : CanFly m
+
+-- whether the match mask may stay set: after a chain that was cut
+abbrev pub may_stay_shut : Form → Bool → Bool
+may_stay_shut Chain good = not good
+may_stay_shut _ good = false
+
+-- After a flight in this form whose replies were taken, and which did this part of its accesses: one starting packet was sent, and
+-- nothing but the transfers changed.
+pub record HasFlown (form : Form) (accesses : List RegAccess) (part : Part) (m n : BenchState) : Type 0 where
+  pub does : DoesPart (transfers_of m) (transfers_of n) accesses part
+  pub mask : may_stay_shut form (is_good part.response) ≡ false → (transfers_of n).mask ≡ 0
+  pub executor : n.probe.executor ≡ with_transfers m.probe.executor (transfers_of n)
+  pub idle : IsIdle n
+  pub starting : n.starting ≡ counted m.starting
+  pub in_range : IsInRange (target_of n.probe)
+
+-- what a flight did whose replies were read so; each of them is one that its command may get
+abbrev pub HasFlownBy : Form → List RegAccess → Option Progress → List (Option ℕ) → BenchState → BenchState → Type 0
+HasFlownBy form accesses None values m n = ⊥
+HasFlownBy form accesses (Some progress) values m n = HasFlown form accesses (part_with progress values) m n
+
+-- a flight of which a bench call failed: it did nothing, or a part of its accesses
+abbrev pub MayHaveFlown : List RegAccess → BenchState → BenchState → Type 0
+MayHaveFlown accesses m n = (transfers_of n ≡ transfers_of m) ⊎ ((part : Part) × DoesPart (transfers_of m) (transfers_of n) accesses part)
+
+-- limits of at most these
+pub record IsWithin (limits given : Limits) : Type 0 where
+  pub size : limits.packet_size ≤ given.packet_size
+  pub count : limits.packet_count ≤ given.packet_count

@@ -1,0 +1,22 @@
+//! Flights of register accesses over a bench: many accesses in few packets, cut at any place.
+#![tactic(auto)]
+
+mod accesses;
+mod alone;
+mod chain;
+mod ends;
+mod exchange;
+mod flight;
+mod flying;
+mod packing;
+mod part;
+mod queue;
+mod reply;
+mod slots;
+
+pub use ends::{Cut, FlightEnd};
+pub use flight::Flight;
+pub use slots::Slots;
+
+#[cfg(test)]
+mod tests;

@@ -1,0 +1,62 @@
+//! The packets of a chain over a bench, and the replies to them.
+ghost use Rattle.std.specs.Prelude.{◌≡◌, ◌≤◌, [], fold, length, OnOk, OnErr};
+ghost use Rattle.dap_base.specs.Causes.{HasCause};
+ghost use Rattle.probe_core.specs.Bench.{StepsTo, received, sent, served};
+ghost use Rattle.probe_core.specs.Runs.{KeepsRuns};
+ghost use Rattle.batch_packer.specs.Exchanges.{IsOpen};
+ghost use Rattle.batch_packer.specs.Queues.{HandedSome, IsQueue, ServedSome};
+
+use dap_base::Failed;
+use probe_core::{Bench, PacketList};
+
+/// Sends the packets of a chain in order. All but the last are held, and the last lets all run. At
+/// `Failed` the first of them were received, or none.
+#[tactic(auto, using(crate::proofs::StateSteps::runs_then, crate::proofs::StateSteps::runs_self))]
+pub fn send_all<B: Bench>(packets: &PacketList, bench: &mut B) -> Result<(), Failed>
+    requires open { IsOpen (B.reported bench.old) }
+    requires chain { IsQueue (B.reported bench.old).limits packets.now.items }
+    ensures reported { OnOk result (B.reported bench.new ≡ fold sent (B.reported bench.old) packets.now.items) }
+    ensures state { OnOk result (StepsTo (λ m n. n ≡ fold served m packets.now.items) (B.state bench.old) (B.state bench.new)) }
+    ensures failed { OnErr result (StepsTo (ServedSome packets.now.items) (B.state bench.old) (B.state bench.new)) }
+    ensures runs { KeepsRuns (B.state bench.old) (B.state bench.new) }
+    ensures identity { B.identity bench.new ≡ B.identity bench.old }
+    ensures cause { HasCause (B.reported bench.old).faults (B.reported bench.new).faults result }
+{
+    for i in 0..packets.len() {
+        match bench.send(packets.get(i)) {
+            Ok(()) => {}
+            Err(Failed) => return Err(Failed),
+        }
+    }
+    Ok(())
+}
+
+/// Takes so many replies in order, in the room of `out`.
+#[tactic(auto, using(crate::proofs::QueueLemmas::none_handed, crate::proofs::QueueLemmas::handed_same, crate::proofs::StateSteps::runs_then, crate::proofs::StateSteps::runs_self))]
+pub fn receive_all<B: Bench>(
+    count: usize,
+    replies: &mut PacketList,
+    out: &mut [u8],
+    bench: &mut B,
+) -> Result<(), Failed>
+    requires waits { count ≤ (B.reported bench.old).waiting }
+    requires room { length out.old ≡ 1024 }
+    requires size { (B.reported bench.old).limits.packet_size ≤ 1024 }
+    requires fresh { replies.old.items ≡ [] }
+    requires many { count ≤ replies.old.room }
+    ensures count { OnOk result (length replies.new.items ≡ count) }
+    ensures room { replies.new.room ≡ replies.old.room }
+    ensures reported { OnOk result (B.reported bench.new ≡ fold received (B.reported bench.old) replies.new.items) }
+    ensures state { StepsTo (HandedSome replies.new.items) (B.state bench.old) (B.state bench.new) }
+    ensures runs { KeepsRuns (B.state bench.old) (B.state bench.new) }
+    ensures identity { B.identity bench.new ≡ B.identity bench.old }
+    ensures cause { HasCause (B.reported bench.old).faults (B.reported bench.new).faults result }
+{
+    for _ in 0..count {
+        match bench.receive(out) {
+            Ok(len) => replies.push(&out[..len]),
+            Err(Failed) => return Err(Failed),
+        }
+    }
+    Ok(())
+}
