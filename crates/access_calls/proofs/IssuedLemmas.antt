@@ -3,14 +3,13 @@ use Rattle.std.proofs.Common.{◌≡◌, ◌∙◌, ℕ, ◌+◌, ◌-◌, ◌<�
 use Rattle.std.proofs.lemmas.List.Sums.{sum_by-cons}
 use Rattle.std.proofs.lemmas.List.{take-map}
 use Rattle.std.proofs.lemmas.Option.{slice_get-get_or, slice_get-map, slice_get_within}
-use Rattle.call_terms.specs.Journal.{Entry, attempted_in, completes, is_skip, lines_before, one_if, settles, skipped_in}
+use Rattle.call_terms.specs.Journal.{Entry, completes, is_skip, one_if}
 use Rattle.call_terms.specs.declared.calls.Ask.{Ask}
 use Rattle.call_terms.specs.declared.journal.Part.{Part}
 use Rattle.access_calls.specs.Issued.{AreKeptOf, attempted_by_kept, kept_of, lines_before_kept, skipped_by_kept}
-use Rattle.access_calls.specs.Numbers.{HasNumbers, StopNumbers, attempted_by, lines_at, stop_numbers, unit_at}
+use Rattle.access_calls.specs.Numbers.{HasNumbers, attempted_by, lines_at, unit_at}
 use Rattle.access_calls.specs.declared.issued.Issued.{Issued}
 use Rattle.access_calls.specs.declared.stop.Report.{Report}
-use Rattle.access_calls.specs.declared.stop.StopCause.{StopCause}
 
 -- what parts count for is the same of entries and of what is kept of them
 sum_kept : (f : Part → Bool) (entries : List Entry) → sum_by (λ (i : Issued). one_if (f i.part)) (map kept_of entries) ≡ sum_by (λ (e : Entry). one_if (f e.part)) entries

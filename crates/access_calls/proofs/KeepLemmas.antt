@@ -1,5 +1,5 @@
 -- What each call keeps is kept by calls in a row.
-use Rattle.std.proofs.Common.{◌≡◌, ◌∙◌, ℕ, ◌+◌, ◌-◌, ◌^◌, ◌≤◌, min, Option, Some, None, refl, sym, ap, subst, arith}
+use Rattle.std.proofs.Common.{◌≡◌, ◌∙◌, ℕ, ◌≤◌, Option, Some, None, refl, sym, ap, subst, arith}
 use Rattle.dap_base.specs.Causes.{Rose}
 use Rattle.probe_core.proofs.RunLemmas.{keeps_own_runs, keeps_runs_on}
 use Rattle.probe_core.specs.Runs.{KeepsRuns}

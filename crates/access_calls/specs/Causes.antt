@@ -1,5 +1,5 @@
 -- How an access comes to its end: by which reply to which packet, or because its bench failed.
-use Rattle.std.specs.Prelude.{◌≡◌, ◌⊎◌, ⊤, ℕ, ◌<◌, Bool, true, false, ◌&&◌, ◌==◌, nat_lt, List, [], ◌∷◌, length, slice_get, Option, Some, None, Result, Ok, Err}
+use Rattle.std.specs.Prelude.{◌≡◌, ◌⊎◌, ⊤, ℕ, ◌<◌, Bool, true, false, ◌&&◌, ◌==◌, nat_lt, List, [], ◌∷◌, length, slice_get, Option, Some, None, Ok}
 use Rattle.std.specs.List.{concat, list_any}
 use Rattle.dap_base.specs.Causes.{Rose}
 use Rattle.dap_messages.specs.Commands.{Packet}

@@ -1,5 +1,5 @@
 -- Copying a word: it is read, written elsewhere, and then a line says so.
-use Rattle.std.specs.Prelude.{◌≡◌, ◌⊎◌, ⊤, ℕ, ◌+◌, Bool, true, false, if◌then◌else◌, List, [], ◌∷◌, Option, Some, None}
+use Rattle.std.specs.Prelude.{◌≡◌, ◌⊎◌, ⊤, ℕ, ◌+◌, true, false, if◌then◌else◌, List, [], ◌∷◌, Option, Some, None}
 use Rattle.std.specs.Io.KnownBytes.{Appends}
 use Rattle.target_machine.specs.State.{Agree}
 use Rattle.target_machine.specs.declared.unit.Unit.{Unit as AccessUnit}
@@ -10,7 +10,6 @@ use Rattle.call_terms.specs.World.{World, done_now, end_result, next_world, stop
 use Rattle.call_terms.specs.declared.calls.Ask.{Ask}
 use Rattle.access_calls.specs.Reported.{Reported}
 use Rattle.access_calls.specs.Standing.{WhereObservable}
-use Rattle.access_calls.specs.declared.stop.Stop.{Stop}
 use Rattle.access_calls.specs.declared.stop.Stop.TheVariants.{Cut, BenchFault, ReplyBad, OutOfMemory}
 use Rattle.access_calls.specs.declared.users.copy.CopyEnd.{CopyEnd}
 use Rattle.access_calls.specs.declared.users.copy.CopyEnd.TheVariants.{Done, Stopped, WriteFault}

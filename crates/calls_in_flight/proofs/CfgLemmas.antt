@@ -11,15 +11,13 @@ use Rattle.target_machine.specs.declared.unit.Unit.TheVariants as unit
 use Rattle.target_machine.proofs.ActionLists.{pass_after, pass_last}
 use Rattle.target_machine.proofs.Agreement.{attempt_agrees}
 use Rattle.call_terms.specs.Asks.{unit_ask}
-use Rattle.call_terms.specs.World.{is_small_end, small_now, start_world, stop}
-use Rattle.call_terms.specs.declared.calls.Ask.{Ask}
+use Rattle.call_terms.specs.World.{is_small_end, start_world}
 use Rattle.call_terms.proofs.OneCall.{one_small}
 use Rattle.access_regs.specs.Alone.{alone_after, large_of_all}
 use Rattle.access_regs.specs.Entries.{kept_by, target_by}
 use Rattle.access_regs.specs.Follows.{Follows}
 use Rattle.access_regs.specs.Journal.{gives, making}
-use Rattle.access_regs.specs.Kept.{Kept, known}
-use Rattle.access_regs.specs.Plan as plans
+use Rattle.access_regs.specs.Kept.{Kept}
 use Rattle.access_regs.specs.Plan.{cfg_plan, select_needed, select_value, settle, settled}
 use Rattle.access_regs.specs.Kept.{selected}
 use Rattle.access_regs.specs.declared.known.Unsettled.{Unsettled}

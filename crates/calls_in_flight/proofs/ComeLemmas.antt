@@ -1,23 +1,22 @@
 -- Calls all of whose entries were made.
-use Rattle.std.proofs.Common.{◌≡◌, ◌∙◌, ℕ, suc, ◌+◌, ◌-◌, ◌≤◌, ◌<◌, Bool, true, false, ◌||◌, List, [], ◌∷◌, ◌++◌, length, slice_index, Option, Some, None, refl, sym, ap, subst, arith, append-nil, append_assoc, length-append}
+use Rattle.std.proofs.Common.{◌≡◌, ◌∙◌, ℕ, suc, Bool, true, false, ◌||◌, List, [], ◌∷◌, ◌++◌, length, slice_index, Option, Some, None, refl, sym, ap, subst, arith, append-nil, append_assoc, length-append}
 use Rattle.target_machine.specs.Plain.{CallEnd, Answered, Faulted, Skipped, Small, acted, call_done, given, result_of}
 use Rattle.target_machine.specs.State.{TargetState}
 use Rattle.probe_core.specs.Bench.{BenchState}
 use Rattle.probe_core.specs.Probe.{target_of}
 use Rattle.call_terms.specs.Asks.{AreAskable, is_forgiving}
-use Rattle.call_terms.specs.Journal.{Entry, Passes, target_after}
-use Rattle.call_terms.specs.World.{AtLeast, World, done_now, end_result, is_faulted, is_small_end, results, small_now, start_world, stop, stops_here, world_after}
+use Rattle.call_terms.specs.Journal.{Passes, target_after}
+use Rattle.call_terms.specs.World.{World, done_now, end_result, is_small_end, results, small_now, start_world, stop, stops_here, world_after}
 use Rattle.call_terms.specs.declared.calls.Ask.{Ask}
 use Rattle.call_terms.proofs.CallLists.{count_of, results_front, whole_front}
 use Rattle.call_terms.proofs.EndLemmas.{skipped_forgives}
 use Rattle.call_terms.proofs.OneCall.{one_last, one_small, one_stops}
-use Rattle.access_regs.specs.Alone.{NoneFaults, alone, alone_after, large_of_all}
-use Rattle.access_regs.specs.Entries.{AnsweredAt, kept_by, target_by}
-use Rattle.access_regs.specs.Journal.{issue_of, issued}
+use Rattle.access_regs.specs.Alone.{alone, alone_after, large_of_all}
+use Rattle.access_regs.specs.Entries.{AnsweredAt, kept_by}
+use Rattle.access_regs.specs.Journal.{issued}
 use Rattle.access_regs.proofs.EntryLemmas.{call_answers}
 use Rattle.access_regs.proofs.StopLists.{passing_stops}
-use Rattle.access_calls.specs.Reported.{world_from}
-use Rattle.calls_in_flight.specs.Coming.{AllCame, HasCome, NoneStopped, ResultGiven}
+use Rattle.calls_in_flight.specs.Coming.{AllCame, NoneStopped, ResultGiven}
 use Rattle.calls_in_flight.specs.Sending.{IsSending}
 use Rattle.calls_in_flight.specs.UnderWay.{IsUnderWay}
 use Rattle.calls_in_flight.proofs.OpenLemmas.{after_alone, large_alone}

@@ -1,27 +1,23 @@
 -- How an access ends whose calls lie in a flight.
-use Rattle.std.proofs.Common.{◌≡◌, ◌⊎◌, inl, inr, ◌∙◌, ℕ, ◌+◌, ◌-◌, ◌≤◌, ◌<◌, true, List, [], ◌∷◌, ◌++◌, length, take, Option, Some, None, refl, sym, ap, subst, arith}
-use Rattle.target_machine.specs.State.{Agree, TargetState}
+use Rattle.std.proofs.Common.{◌≡◌, ◌∙◌, ℕ, ◌+◌, ◌≤◌, List, [], ◌∷◌, length, take, Option, Some, None, refl, sym, ap, subst, arith}
+use Rattle.target_machine.specs.State.{TargetState}
 use Rattle.target_machine.specs.declared.access.RegAccess.{RegAccess}
-use Rattle.flight_forms.specs.Flights.{Part}
 use Rattle.probe_core.specs.Bench.{BenchState}
-use Rattle.probe_core.specs.Probe.{target_of, work_of}
-use Rattle.call_terms.specs.Asks.{is_settled}
+use Rattle.probe_core.specs.Probe.{target_of}
 use Rattle.call_terms.specs.Journal.{Entry}
 use Rattle.call_terms.specs.World.{AtLeast, results}
-use Rattle.call_terms.specs.declared.calls.Ask.{Ask}
 use Rattle.access_regs.specs.Journal.{issued}
 use Rattle.access_regs.specs.Kept.{Kept}
 use Rattle.access_calls.specs.Left.{IsLeft, IsLeftAt, IsLeftCut}
-use Rattle.access_calls.specs.Numbers.{HasNumbers}
 use Rattle.access_calls.specs.Reported.{Reported, began, world_from}
-use Rattle.access_calls.specs.Standing.{IsBenchFault, IsCut, Stands, StandsAt, WhereObservable, pending_of}
+use Rattle.access_calls.specs.Standing.{IsBenchFault, IsCut, StandsAt, WhereObservable}
 use Rattle.access_calls.specs.declared.stop.Report.{Report}
 use Rattle.access_calls.specs.declared.stop.Stop.{Stop}
-use Rattle.access_calls.specs.declared.stop.Stop.TheVariants.{BenchFault, Cut}
+use Rattle.access_calls.specs.declared.stop.Stop.TheVariants.{BenchFault}
 use Rattle.access_calls.specs.declared.stop.StopCause.{StopCause}
 use Rattle.access_calls.specs.declared.stop.StopCause.TheVariants.{Faulted, NoAnswer}
-use Rattle.calls_in_flight.specs.Ending.{ActionFails, BegunAt, BegunCame, BegunStands, EndsCut, FlightEnds, FlightFails, IsBegun, IsCutOff, IsEnded, IsStrictAt, PollEnds, StopsBy, response_of_cause}
-use Rattle.calls_in_flight.specs.Flights.{Flies, IsCutAt, IsFaultAt}
+use Rattle.calls_in_flight.specs.Ending.{ActionFails, BegunAt, BegunCame, BegunStands, EndsCut, FlightEnds, FlightFails, IsCutOff, IsStrictAt, PollEnds, StopsBy, response_of_cause}
+use Rattle.calls_in_flight.specs.Flights.{IsCutAt}
 use Rattle.calls_in_flight.specs.Sending.{IsSending}
 use Rattle.calls_in_flight.proofs.ActionLemmas.{action_bench_law, action_wait_law}
 use Rattle.calls_in_flight.proofs.CutLemmas.{bench_flies, fault_flies, wait_flies}

@@ -1,12 +1,12 @@
 -- A flight that is about to be sent.
-use Rattle.std.proofs.Common.{◌≡◌, ◌⊎◌, inl, inr, ◌∙◌, ℕ, suc, ◌+◌, ◌-◌, ◌≤◌, ◌<◌, Bool, true, false, cond, List, [], ◌∷◌, ◌++◌, length, take, Option, Some, None, refl, sym, ap, subst, arith, append-nil, append_assoc, length-append}
+use Rattle.std.proofs.Common.{◌≡◌, ◌⊎◌, inl, inr, ◌∙◌, ℕ, ◌+◌, ◌-◌, ◌≤◌, Bool, true, false, cond, List, [], ◌∷◌, ◌++◌, length, take, Option, None, refl, sym, ap, subst, arith, append-nil, append_assoc, length-append}
 use Rattle.std.proofs.Math.Seq.{take-append_seam}
 use Rattle.target_machine.specs.Fresh.{IsFresh}
 use Rattle.target_machine.specs.State.{TargetState}
 use Rattle.target_machine.specs.declared.access.RegAccess.{RegAccess}
 use Rattle.probe_core.specs.Bench.{BenchState}
 use Rattle.probe_core.specs.Probe.{target_of}
-use Rattle.call_terms.specs.Asks.{AreAskable, IsAskable, is_forgiving, settled_last}
+use Rattle.call_terms.specs.Asks.{AreAskable, IsAskable, settled_last}
 use Rattle.call_terms.specs.Journal.{Entry, Passes, lines_before, settles}
 use Rattle.call_terms.specs.Weights.{AreWeighty}
 use Rattle.call_terms.specs.World.{AtLeast, World, results, start_world, stop, world_after}
@@ -15,20 +15,18 @@ use Rattle.call_terms.specs.declared.journal.Part.TheVariants.{Settles}
 use Rattle.call_terms.proofs.CallLists.{append_results, count_of}
 use Rattle.call_terms.proofs.EntryLemmas.{pass_front}
 use Rattle.call_terms.proofs.MarkLemmas.{results_marked}
-use Rattle.access_regs.specs.Entries.{kept_by, target_by}
-use Rattle.access_regs.specs.Journal.{finish, issue_of, issued, numbered, steps_of}
+use Rattle.access_regs.specs.Journal.{issued, numbered, steps_of}
 use Rattle.access_regs.specs.Kept.{Kept}
 use Rattle.access_regs.specs.Plan.{settle}
 use Rattle.access_regs.specs.Stops.{NoneStops}
 use Rattle.access_regs.proofs.EntryLemmas.{journal_grows, journal_marks}
 use Rattle.access_regs.proofs.Seams.{InFirst, InSecond, seam_in}
-use Rattle.access_regs.proofs.StopLists.{finish_settles, lines_own, numbered_unit, passing_stops}
+use Rattle.access_regs.proofs.StopLists.{finish_settles, numbered_unit, passing_stops}
 use Rattle.access_regs.proofs.WeightyLemmas.{journal_weighs}
 use Rattle.access_calls.specs.Reported.{Reported, world_from}
 use Rattle.calls_in_flight.specs.Flights.{IsCutAt}
 use Rattle.calls_in_flight.specs.Flying.{IsFlying}
-use Rattle.calls_in_flight.specs.Sending.{ActionSends, CallSends, FinishSends, FlyingSends, ForgivenSends, IsSending, PushSends, WholeSends, entries_of_call, entries_of_finish}
-use Rattle.calls_in_flight.specs.UnderWay.{IsUnderWay}
+use Rattle.calls_in_flight.specs.Sending.{ActionSends, CallSends, FinishSends, FlyingSends, ForgivenSends, PushSends, WholeSends, entries_of_call, entries_of_finish}
 use Rattle.calls_in_flight.proofs.ActionLemmas.{action_done, fault_forgiven}
 use Rattle.calls_in_flight.proofs.FlightLemmas.{whole_flies}
 use Rattle.calls_in_flight.proofs.OpenLemmas.{askable_first, whole_results}

@@ -1,5 +1,5 @@
 -- Into which flights the accesses of a forgiving unit are cut.
-use Rattle.std.specs.Prelude.{◌≡◌, ℕ, true, false, if◌then◌else◌, List, [], ◌∷◌, ◌++◌, map}
+use Rattle.std.specs.Prelude.{◌≡◌, true, false, if◌then◌else◌, List, [], ◌∷◌, ◌++◌, map}
 use Rattle.target_machine.specs.Lists.{after}
 use Rattle.target_machine.specs.Plain.{Action, Commands, Makes, acted, call_actions, forgives, is_fault, may_forgive}
 use Rattle.target_machine.specs.State.{TargetState}

@@ -1,4 +1,4 @@
-use Rattle.std.proofs.Common.{rules, ◌≡◌, ◌∙◌, ap, refl, ◌-◌}
+use Rattle.std.proofs.Common.{◌∙◌, ap, refl}
 use Rattle.std.proofs.lemmas.Option.{slice_get-get_or}
 use Rattle.access_calls.specs.Numbers.{attempted_by}
 use Rattle.access_calls.proofs.IssuedLemmas.{kept_numbers, unit_within, what_is}

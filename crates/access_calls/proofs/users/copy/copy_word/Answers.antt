@@ -1,4 +1,4 @@
-use Rattle.std.proofs.Common.{◌≡◌, ◌∙◌, ap, subst, sym, List, ◌∷◌, [], ◌++◌, false, Option, ℕ}
+use Rattle.std.proofs.Common.{◌∙◌, ap, subst, Option, ℕ}
 use Rattle.call_terms.specs.Asks.{settled_last}
 use Rattle.access_calls.specs.Answers.{StopsCalls, StopsSettling}
 use Rattle.access_calls.specs.Left.{answered_by}

@@ -1,4 +1,4 @@
-use Rattle.std.proofs.Common.{rules, arith, refl}
+use Rattle.std.proofs.Common.{rules, refl}
 use Rattle.access_calls.proofs.KeepLemmas.{goes_by_fault}
 use Rattle.access_calls.proofs.tests.scripted.ScriptedAccess.flush.Goals as goal
 
