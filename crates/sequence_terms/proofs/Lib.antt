@@ -10,6 +10,8 @@ pub mod Limits
 pub mod Watching
 pub mod Writing
 pub mod Cuts
+pub mod Completing
+pub mod CompleteSteps
 pub mod LineLemmas
 pub mod PollLemmas
 pub mod VariableLemmas

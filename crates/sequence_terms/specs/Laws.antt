@@ -8,6 +8,7 @@ use Rattle.sequence_code.specs.Trees.{SetTrees}
 use Rattle.target_machine.specs.State.{TargetState}
 use Rattle.target_machine.specs.declared.unit.Call.{Call}
 use Rattle.sequence_terms.specs.Alike.{Matches, Equal}
+use Rattle.sequence_terms.specs.Complete.{IsComplete}
 use Rattle.sequence_terms.specs.Direct.{Now, direct}
 use Rattle.sequence_terms.specs.Late.{Late, late, ComesTo, SameRest, StoppedBy, Grows, Later}
 use Rattle.sequence_terms.specs.Machine.{State, Out, end_state}
@@ -136,3 +137,14 @@ pub record IsCut (p : Program) (t : TargetState) (lines : Option (List ℕ)) : T
 -- that is so of each program on each target
 abbrev pub CutsAreFronts : Type 0
 CutsAreFronts = (p : Program) (t : TargetState) (written : Option (List ℕ)) → IsCut p t written
+
+-- ---- programs that lack nothing
+
+-- a watched run of a program that lacks nothing is not lost, and so comes to what the meaning comes to
+pub record IsNeverLost (w : World) (p : Program) (written : Option (List ℕ)) : Type 0 where
+  pub never : (outcome_of (watched w p written)).ending ≡ ending.Lost → ⊥
+  pub same : outcome_of (watched w p written) ≡ outcome_of (meaning w p written)
+
+-- that is so of each such program
+abbrev pub CompleteIsNeverLost : Type 0
+CompleteIsNeverLost = (w : World) (p : Program) (written : Option (List ℕ)) → IsComplete p → IsNeverLost w p written

@@ -11,5 +11,6 @@ pub mod Late
 pub mod Steady
 pub mod Alike
 pub mod Runs
+pub mod Complete
 pub mod Laws
 pub mod Rows

@@ -2,7 +2,7 @@
 
 ghost use Rattle.call_terms.specs.World.{World};
 ghost use Rattle.sequence_terms.specs.Rows.{Divides, HalfMade, Loops, LoopsUntil, Orders, CallsB, Writes, Halts};
-ghost use Rattle.sequence_terms.specs.Laws.{LateValuesChangeNothing, RunsOnlyAdd, CallsAreMade, CutsAreFronts, LateRunsOnlyAdd, LimitsCutRuns, LinesAreOnlyWritten, WatchedIsTheMeaning};
+ghost use Rattle.sequence_terms.specs.Laws.{LateValuesChangeNothing, RunsOnlyAdd, CallsAreMade, CompleteIsNeverLost, CutsAreFronts, LateRunsOnlyAdd, LimitsCutRuns, LinesAreOnlyWritten, WatchedIsTheMeaning};
 
 /// A run with results that come later comes to what the meaning comes to, in each world: the same ending, variables, counts, calls
 /// and lines. Where the meaning ends at a fault or at a call that is not answered, it has the same lines, and the first calls.
@@ -43,6 +43,12 @@ pub fn cuts_are_fronts()
 /// A run that ends where something is missing which every valid set has comes to what the meaning comes to, unless it ends so.
 pub fn watched_is_the_meaning()
     ensures { WatchedIsTheMeaning }
+{}
+
+/// A run of a program that lacks nothing never meets a name that is not visible, a call that its function does not take, a sequence
+/// that is not in the set or too deep, or a loop without a timeout.
+pub fn complete_is_never_lost()
+    ensures { CompleteIsNeverLost }
 {}
 
 /// The definitions compute: runs that were worked out by hand.
