@@ -53,7 +53,7 @@ and_none : (b : Bool) → (b && false) ≡ false
 and_none true = refl
 and_none false = refl
 
--- with a check behind all of them or not
+-- with a check after all of them or not
 ending_guarded : (w last : Bool) → AreGuarded w (check_when last)
 ending_guarded w true = (and_none w, tt)
 ending_guarded w false = tt

@@ -22,3 +22,4 @@ pub mod GuardedPut
 pub mod SizeLemmas
 pub mod FirstParts
 pub mod Shortness
+pub mod GuardedShortness

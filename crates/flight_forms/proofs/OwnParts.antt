@@ -1,4 +1,4 @@
--- What a command does to its accesses, and what its reply tells of it.
+-- What a command does to its accesses, and what its reply shows of it.
 use Rattle.std.proofs.Common.{◌≡◌, ltb, ℕ, ◌+◌, ◌-◌, ◌≤◌, ◌&&◌, ◌||◌, Bool, true, false, cond, List, [], ◌∷◌, ◌++◌, take, length, refl, ap, sym, ◌∙◌, arith, suc, zero, subst, length-append, append-nil, Some, None}
 use Rattle.std.specs.Prelude.{nat_lt}
 use Rattle.std.proofs.lemmas.Bool.{le-ltb, lt-ltb}

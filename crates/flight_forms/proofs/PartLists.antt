@@ -1,5 +1,5 @@
 -- The parts of a chain.
-use Rattle.std.proofs.Common.{◌≡◌, ℕ, ◌≤◌, Bool, true, false, cond, List, [], ◌∷◌, ◌++◌, refl, ap, sym, ◌∙◌, arith, subst, append_assoc}
+use Rattle.std.proofs.Common.{◌≡◌, ℕ, ◌≤◌, Bool, true, false, cond, List, [], ◌∷◌, ◌++◌, length, refl, ap, sym, ◌∙◌, arith, subst, append_assoc, length-append}
 use Rattle.std.specs.List.{AllByRecursion}
 use Rattle.target_machine.specs.declared.access.RegAccess.{RegAccess}
 use Rattle.flight_forms.specs.Chains.{AllTaken, all_of}
@@ -37,6 +37,21 @@ parts_have P size accesses h = each_part P (parts_of size accesses) (subst (AllB
 
 pub parts_taken : (size : ℕ) (accesses : List RegAccess) → AreTaken accesses → AllTaken (parts_of size accesses)
 parts_taken size accesses h = parts_have IsTaken size accesses h
+
+-- each part has an access
+filled_some : (size : ℕ) (part rest : List RegAccess) → 1 ≤ length part → AllByRecursion (λ xs. 1 ≤ length xs) (filled size part rest)
+filled_some size part [] some = (some, tt)
+filled_some size part (a ∷ rest) some =
+    by_fit (fits_guarded size (part ++ a ∷ [])) (filled_some size (part ++ a ∷ []) rest (let n = length-append part (a ∷ []) in omega arith)) (filled_some size (a ∷ []) rest (omega arith))
+  where
+    by_fit : (b : Bool) → AllByRecursion (λ xs. 1 ≤ length xs) (filled size (part ++ a ∷ []) rest) → AllByRecursion (λ xs. 1 ≤ length xs) (filled size (a ∷ []) rest) →
+        AllByRecursion (λ xs. 1 ≤ length xs) (cond b (filled size (part ++ a ∷ []) rest) (part ∷ filled size (a ∷ []) rest))
+    by_fit true longer shorter = longer
+    by_fit false longer shorter = (some, shorter)
+
+pub parts_some : (size : ℕ) (accesses : List RegAccess) → AllByRecursion (λ xs. 1 ≤ length xs) (parts_of size accesses)
+parts_some size [] = tt
+parts_some size (a ∷ rest) = filled_some size (a ∷ []) rest (omega arith)
 
 filled_fit : (size : ℕ) (part rest : List RegAccess) → 64 ≤ size → size ≤ 1024 → fits_guarded size part ≡ true → AllByRecursion (λ xs. fits_guarded size xs ≡ true) (filled size part rest)
 filled_fit size part [] least small fits = (fits, tt)

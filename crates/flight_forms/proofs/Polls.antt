@@ -1,5 +1,5 @@
 -- A portion of a poll is the polled reads, one at a time.
-use Rattle.std.proofs.Common.{◌≡◌, eqb, ltb, ℕ, ◌+◌, ◌-◌, ◌^◌, ◌≤◌, ◌&&◌, not, Bool, true, false, cond, List, [], ◌∷◌, refl, ap, sym, ◌∙◌, arith, suc, zero, subst}
+use Rattle.std.proofs.Common.{◌≡◌, eqb, ltb, ℕ, ◌+◌, ◌-◌, ◌^◌, ◌≤◌, ◌<◌, ◌&&◌, not, Bool, true, false, cond, List, [], ◌∷◌, refl, ap, sym, ◌∙◌, arith, suc, zero, subst}
 use Rattle.std.specs.Prelude.{bit_and, min, slice_index}
 use Rattle.target_machine.specs.Attempt.{Attempt, answers, attempt, bank, ctrl_stat, dp_read, is_free}
 use Rattle.target_machine.specs.Plain.{Polled, dp_read_of, is_fault, looked, polled}
@@ -13,6 +13,7 @@ use Rattle.dap_messages.specs.declared.request.Response.TheVariants.{Good, Wait,
 use Rattle.dap_messages.specs.Replies.{AnswersTransfer}
 use Rattle.dap_messages.specs.Requests.{mask_request, match_request}
 use Rattle.dap_messages.specs.Responses.{code_of}
+use Rattle.dap_messages.proofs.RequestBits.{mask_is_request, match_is_request}
 use Rattle.dap_transfer.specs.CommandEnds.{counted_from}
 use Rattle.dap_transfer.specs.Lines.{configured}
 use Rattle.dap_transfer.specs.Private.{first_then, mask_if, request_ran, run, served}
@@ -24,7 +25,7 @@ use Rattle.dap_transfer.specs.Wires.{Matches, Wire, access_of, item}
 use Rattle.dap_transfer.specs.declared.notes.Notes.{Notes}
 use Rattle.dap_transfer.proofs.Counting.{counts_from}
 use Rattle.dap_transfer.proofs.Steps.{breaks_off, closes, continued, ended_here, from_start, goes_on, start_notes}
-use Rattle.flight_forms.specs.Polls.{PollsAtOnce, clear_mask, has_matched, poll_cleared, poll_matched, poll_requests}
+use Rattle.flight_forms.specs.Polls.{IsPollPacket, poll_packet, PollsAtOnce, clear_mask, has_matched, poll_cleared, poll_matched, poll_requests}
 
 -- ---- one read of CTRL/STAT with DPBANKSEL 0
 
@@ -256,3 +257,23 @@ polls_at_once p retry mask requested turns e some =
       clear_answers = subst (SomeAnswers clear_mask) (sym u_is) cleared_answers;
       after = ap (λ (y : Transferred). configured y.next retry 0) u_is ∙ ap (λ (y : Transferred). configured (record y.next { mask = 0 }) retry 0) d_is;
     }
+
+-- ---- its packet
+
+pub poll_fits : (idle retry mask requested turns : ℕ) → idle < 2 ^ 8 → retry < 2 ^ 16 → mask < 2 ^ 32 → requested < 2 ^ 32 → turns ≤ 2 ^ 16 →
+    IsPollPacket (poll_packet idle retry mask requested turns)
+poll_fits idle retry mask requested turns a b c d e = record {
+  packet = record {
+    count = (omega arith, omega arith);
+    commands = (
+      (a, b, omega arith),
+      (
+        (omega arith, omega arith, (mask_is_request mask c, (match_is_request false 0x4 requested d, tt))),
+        ((omega arith, omega arith, (mask_is_request 0 (omega arith), tt)), ((a, b, omega arith), tt)),
+      ),
+    );
+    size = omega arith;
+  };
+  bytes = refl;
+  reply = refl;
+}

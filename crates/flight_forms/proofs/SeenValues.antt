@@ -257,7 +257,7 @@ length_seen (r ∷ rs) words h =
     length_step (kind r) (is_own (access_of r)) (next_word words) (access_of r) (seen_values rs (drop 1 words)) (seen_values rs words) (accesses_in rs) h.0 (own_write r)
     (length_seen rs (drop 1 words) h.1) (length_seen rs words h.1)
 
--- the first of the values behind others
+-- the first of the values after others
 pub kept_values : (before seen : List (Option ℕ)) (c : ℕ) → take (length before + c) (before ++ seen) ≡ before ++ take c seen
 kept_values [] seen c = let e : 0 + c ≡ c = omega arith in ap (λ n. take n seen) e
 kept_values (x ∷ before) seen c = let e : suc (length before) + c ≡ suc (length before + c) = omega arith in ap (λ n. take n (x ∷ before ++ seen)) e ∙ ap (λ xs. x ∷ xs) (kept_values before seen c)

@@ -1,5 +1,5 @@
 -- What replies show that may come, whatever the probe did.
-use Rattle.std.proofs.Common.{◌≡◌, eqb, leb, ltb, ℕ, ◌+◌, ◌*◌, ◌-◌, ◌≤◌, ◌<◌, ◌&&◌, ◌||◌, not, Bool, true, false, cond, List, [], ◌∷◌, ◌++◌, take, length, map, refl, ap, sym, ◌∙◌, arith, suc, zero, subst, ◌⊎◌, inl, inr, IsTrue, append-nil, length-append, Option, Some, None}
+use Rattle.std.proofs.Common.{◌≡◌, eqb, leb, ltb, ℕ, ◌+◌, ◌*◌, ◌-◌, ◌≤◌, ◌<◌, ◌&&◌, ◌||◌, not, Bool, true, false, cond, List, [], ◌∷◌, take, length, refl, ap, sym, ◌∙◌, arith, suc, zero, subst, ◌⊎◌, inl, inr, IsTrue, append-nil, Option}
 use Rattle.std.proofs.lemmas.Bool.{eqb-true, leb-true, lt-ltb, ltb-false, ltb-true}
 use Rattle.target_machine.specs.declared.access.RegAccess.{RegAccess}
 use Rattle.dap_messages.specs.declared.request.Request.{Request}
@@ -9,23 +9,21 @@ use Rattle.dap_messages.specs.declared.request.Response.{Response}
 use Rattle.dap_messages.specs.declared.request.Response.TheVariants.{Good, Wait, Fault, Mismatch}
 use Rattle.dap_messages.specs.Replies.{Answers, AnswersTransfer, kind_at, last_is_posted, may_end_block, may_end_by, may_stop, passes, progress_at}
 use Rattle.dap_messages.specs.Replies as reply
-use Rattle.dap_messages.specs.Requests.{ends_in_write, is_mask, is_match, is_posted, kind, reads_in, write_after}
+use Rattle.dap_messages.specs.Requests.{ends_in_write, is_mask, is_match, kind, reads_in, write_after}
 use Rattle.dap_messages.specs.Responses.{code_of, response_of}
 use Rattle.dap_transfer.specs.CommandEnds.{one_if, posted_last}
 use Rattle.dap_transfer.specs.Laws.{AreNormal, IsNormalKind, accesses_in}
 use Rattle.dap_transfer.specs.State.{is_good}
-use Rattle.flight_forms.specs.Flights.{IsPartOf, Part, doubts, part_of, seen_values}
-use Rattle.dap_messages.specs.Requests.{mask_request}
+use Rattle.flight_forms.specs.Flights.{IsPartOf, doubts, part_of, seen_values}
 use Rattle.dap_transfer.specs.Block.{writes_of}
 use Rattle.flight_forms.specs.Flights.{words_of}
 use Rattle.flight_forms.specs.Forms.{all_write_drw, fits_block}
 use Rattle.flight_forms.specs.Packets.{block_command, transfer_command}
-use Rattle.flight_forms.specs.Packing.{AreTaken, guarded, requests_for}
+use Rattle.flight_forms.specs.Packing.{AreTaken, requests_for}
 use Rattle.flight_forms.proofs.Blocks.{drw_requests, drw_taken, length_writes, no_reads}
 use Rattle.flight_forms.proofs.Fits.{length_words}
-use Rattle.flight_forms.proofs.GuardedAnswers.{kind_in_front}
 use Rattle.flight_forms.proofs.RequestSizes.{three_parts}
-use Rattle.flight_forms.proofs.AskedRequests.{accesses_asked, are_normal, asked_of, checks_follow, length_asked}
+use Rattle.flight_forms.proofs.AskedRequests.{accesses_asked, are_normal, checks_follow, length_asked}
 use Rattle.flight_forms.proofs.OwnAccesses.{ChecksFollow, last_own, next_or_write, own_count, own_most}
 use Rattle.flight_forms.proofs.SeenValues.{length_seen}
 use Rattle.flight_forms.proofs.TransferAnswers.{posted_at, take_length}
@@ -133,7 +131,7 @@ says_part rs n x words normal follow says =
 
 -- ---- one Transfer
 
-normal_kind : (n : ℕ) (rs : List Request) → AreNormal rs → passes is_match (kind_at rs n) ≡ false
+pub normal_kind : (n : ℕ) (rs : List Request) → AreNormal rs → passes is_match (kind_at rs n) ≡ false
 normal_kind n [] normal = refl
 normal_kind zero (r ∷ rs) normal = by_kind (kind r) normal.0
   where
@@ -150,23 +148,23 @@ some_kind test n [] e = absurd (cc)
 some_kind test zero (r ∷ rs) e = omega arith
 some_kind test (suc n) (r ∷ rs) e = (let h = some_kind test n rs e in omega arith)
 
-three_or : (x y z : Bool) → (x || y || z) ≡ true → (x ≡ true) ⊎ ((y ≡ true) ⊎ (z ≡ true))
+pub three_or : (x y z : Bool) → (x || y || z) ≡ true → (x ≡ true) ⊎ ((y ≡ true) ⊎ (z ≡ true))
 three_or true y z e = inl refl
 three_or false true z e = inr (inl refl)
 three_or false false z e = inr (inr e)
 
-both_true : (x y : Bool) → (x && y) ≡ true → (x ≡ true) × (y ≡ true)
+pub both_true : (x y : Bool) → (x && y) ≡ true → (x ≡ true) × (y ≡ true)
 both_true true y e = (refl, e)
 both_true false y e = absurd (cc)
 
-clash : {b : Bool} → b ≡ true → b ≡ false → ⊥
+pub clash : {b : Bool} → b ≡ true → b ≡ false → ⊥
 clash e f = (let g = sym e ∙ f in cc)
 
-count_is : (b : Bool) → cond {A = ℕ} b 1 0 ≡ one_if b
+pub count_is : (b : Bool) → cond {A = ℕ} b 1 0 ≡ one_if b
 count_is true = refl
 count_is false = refl
 
-posted_is : (n : ℕ) (rs : List Request) → n ≤ length rs → IsTrue (last_is_posted rs n) → posted_last false (take n rs) ≡ true
+pub posted_is : (n : ℕ) (rs : List Request) → n ≤ length rs → IsTrue (last_is_posted rs n) → posted_last false (take n rs) ≡ true
 posted_is zero rs h e = absurd (let f = e in cc)
 posted_is (suc n) rs h e = posted_at n false rs h ∙ e
 
@@ -272,36 +270,3 @@ block_shows size accesses n x fits may =
       whole = λ e. ends.0 e ∙ words ∙ sym count;
       stopped = λ bad. block_stopped accesses n all (omega arith) within;
     }))
-
--- ---- a guarded Transfer
-
-masked_kind : (test : RequestKind → Bool) (n : ℕ) (rs : List Request) → length rs ≤ n → test Mask ≡ false → passes test (kind_at (rs ++ mask_request 0 ∷ []) n) ≡ false
-masked_kind test zero [] h e = e
-masked_kind test (suc n) [] h e = refl
-masked_kind test zero (r ∷ rs) h e = absurd (omega arith)
-masked_kind test (suc n) (r ∷ rs) h e = masked_kind test n rs (omega arith) e
-
--- the kind after the first n of the requests and of the mask after them
-normal_or_mask : (n : ℕ) (rs : List Request) → AreNormal rs → passes is_match (kind_at (rs ++ mask_request 0 ∷ []) n) ≡ false
-normal_or_mask n rs normal = by_end (ltb n (length rs)) refl
-  where
-    by_end : (b : Bool) → ltb n (length rs) ≡ b → passes is_match (kind_at (rs ++ mask_request 0 ∷ []) n) ≡ false
-    by_end true e = ap (passes is_match) (kind_in_front n rs 0 (ltb-true n (length rs) e)) ∙ normal_kind n rs normal
-    by_end false e = masked_kind is_match n rs (ltb-false n (length rs) e) refl
-
-guarded_stopped : (rs : List Request) (k : ℕ) (missing : Bool) → k ≤ length rs → may_stop (progress_at (guarded rs) (suc (suc k))) missing ≡ true → Stopped k rs missing
-guarded_stopped rs k missing fits e =
-    by_reason (three_or (passes (λ j. not (is_mask j)) (kind_at (rs ++ mask_request 0 ∷ []) k)) missing (eqb (suc (suc k)) (length (guarded rs)) && ends_in_write (guarded rs)) e)
-  where
-    by_end : (b : Bool) → ltb k (length rs) ≡ b → passes (λ j. not (is_mask j)) (kind_at (rs ++ mask_request 0 ∷ []) k) ≡ true → Stopped k rs missing
-    by_end true f g = inl (ltb-true k (length rs) f)
-    by_end false f g = absurd (clash g (masked_kind (λ j. not (is_mask j)) k rs (ltb-false k (length rs) f) refl))
-
-    by_reason : (passes (λ j. not (is_mask j)) (kind_at (rs ++ mask_request 0 ∷ []) k) ≡ true) ⊎ ((missing ≡ true) ⊎ ((eqb (suc (suc k)) (length (guarded rs)) && ends_in_write (guarded rs)) ≡ true)) →
-        Stopped k rs missing
-    by_reason (inl f) = by_end (ltb k (length rs)) refl f
-    by_reason (inr (inl f)) = inr (inl f)
-    by_reason (inr (inr f)) =
-        let two = both_true (eqb (suc (suc k)) (length (guarded rs))) (ends_in_write (guarded rs)) f in
-        let whole = eqb-true (suc (suc k)) (length (guarded rs)) two.0 in
-        absurd (let n = length-append rs (mask_request 0 ∷ []) in omega arith)

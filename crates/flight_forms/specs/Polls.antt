@@ -1,10 +1,12 @@
 -- A portion of a poll of CTRL/STAT, as one packet of four commands.
-use Rattle.std.specs.Prelude.{◌≡◌, ℕ, ◌-◌, false, Bool, ◌==◌, if◌then◌else◌, List, [], ◌∷◌}
+use Rattle.std.specs.Prelude.{◌≡◌, ℕ, ◌-◌, false, Bool, ◌==◌, if◌then◌else◌, List, [], ◌∷◌, length}
 use Rattle.target_machine.specs.Plain.{Polled, given, is_fault, polled}
 use Rattle.dap_messages.specs.declared.request.Request.{Request}
 use Rattle.dap_messages.specs.declared.request.Response.TheVariants.{Good, Mismatch}
 use Rattle.dap_messages.specs.declared.command_value.CommandValue.{CommandValue}
 use Rattle.dap_messages.specs.declared.command_value.CommandValue.TheVariants.{Configure, Transfer}
+use Rattle.dap_messages.specs.declared.command.PacketKind.TheVariants.{Execute}
+use Rattle.dap_messages.specs.Commands.{IsPacket, Packet, longest_packet_reply, packet_bytes}
 use Rattle.dap_messages.specs.Requests.{mask_request, match_request}
 use Rattle.dap_messages.specs.Replies.{Answers}
 use Rattle.dap_transfer.specs.Lines.{configured}
@@ -67,3 +69,13 @@ abbrev pub PollsAtOnce : TransferState → ℕ → ℕ → ℕ → ℕ → Type 
 PollsAtOnce p retry mask requested turns =
     DoesPoll p retry mask requested turns (polled turns mask requested p.line.target)
     (poll_matched p retry mask requested turns) (poll_cleared p retry mask requested turns)
+
+-- the packet of these commands
+abbrev pub poll_packet : ℕ → ℕ → ℕ → ℕ → ℕ → Packet
+poll_packet idle retry mask requested turns = record { kind = Execute; commands = poll_commands idle retry mask requested turns }
+
+-- The packet is in its ranges; it has 35 bytes, and its longest reply 12.
+pub record IsPollPacket (p : Packet) : Type 0 where
+  pub packet : IsPacket p
+  pub bytes : length (packet_bytes p) ≡ 35
+  pub reply : longest_packet_reply p ≡ 12

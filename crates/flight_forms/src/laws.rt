@@ -1,5 +1,5 @@
 //! What the forms of a flight do, in terms of accesses made one at a time.
-ghost use Rattle.std.specs.Prelude.{◌*◌, ◌∷◌, ◌≡◌, ◌<◌, ◌≤◌, ◌^◌, List, None, Some, [], false, length, take, true, ℕ};
+ghost use Rattle.std.specs.Prelude.{◌*◌, ◌+◌, ◌-◌, ◌∷◌, ◌≡◌, ◌<◌, ◌≤◌, ◌^◌, List, None, Some, [], false, length, take, true, ℕ};
 ghost use Rattle.std.specs.List.{AllByRecursion};
 ghost use Rattle.target_machine.specs.Attempt.{bank};
 ghost use Rattle.target_machine.specs.InRange.{IsInRange};
@@ -11,12 +11,12 @@ ghost use Rattle.dap_messages.specs.declared.request.Response.{Response};
 ghost use Rattle.dap_transfer.specs.Block.{blocked};
 ghost use Rattle.dap_transfer.specs.State.{TransferState};
 ghost use Rattle.dap_transfer.specs.Transfer.{transferred};
-ghost use Rattle.flight_forms.specs.Chains.{AllTaken, DoesChain, IsGuardOpen, all_of, chain_replies};
-ghost use Rattle.flight_forms.specs.Flights.{DoesBlock, DoesTransfer, IsPartOf, part_of, words_of};
+ghost use Rattle.flight_forms.specs.Chains.{AllTaken, DoesChain, IsGuardOpen, all_of, chain_replies, joined_as};
+ghost use Rattle.flight_forms.specs.Flights.{DoesBlock, DoesTransfer, IsPartOf, Part, part_of, words_of};
 ghost use Rattle.flight_forms.specs.Forms.{capacity, fits_block, fits_guarded, fits_transfer, form_of, parts_of};
 ghost use Rattle.flight_forms.specs.Packets.{AnswerChain, FitChain, FitsPacket, block_answer, block_command, guarded_command, transfer_answer, transfer_command};
-ghost use Rattle.flight_forms.specs.Packing.{AreTaken, AreWords, requests_for};
-ghost use Rattle.flight_forms.specs.Polls.{PollsAtOnce};
+ghost use Rattle.flight_forms.specs.Packing.{AreTaken, AreWords, payload, requests_for};
+ghost use Rattle.flight_forms.specs.Polls.{IsPollPacket, PollsAtOnce, poll_packet};
 ghost use Rattle.flight_forms.specs.declared.form.Form.{Form};
 ghost use Rattle.flight_forms.specs.declared.form.Form.TheVariants as Form;
 
@@ -38,10 +38,11 @@ pub fn a_chain_does_a_part()
     ensures { (p : TransferState) (parts : List (List RegAccess)) → AllTaken parts → IsGuardOpen p → DoesChain p parts }
 {}
 
-/// The parts of a chain are its accesses, in order, and each of them has accesses that a flight
-/// takes where the whole has.
+/// The parts of a chain are its accesses, in order. Each of them has an access, and what is so of
+/// each access of the whole is so of each access of a part.
 pub fn parts_are_the_flight()
     ensures whole { (size : ℕ) (accesses : List RegAccess) → all_of (parts_of size accesses) ≡ accesses }
+    ensures some { (size : ℕ) (accesses : List RegAccess) → AllByRecursion (λ part. 1 ≤ length part) (parts_of size accesses) }
     ensures taken { (size : ℕ) (accesses : List RegAccess) → AreTaken accesses → AllTaken (parts_of size accesses) }
     ensures words { (size : ℕ) (accesses : List RegAccess) → AreWords accesses → AllByRecursion AreWords (parts_of size accesses) }
 {}
@@ -55,13 +56,17 @@ pub fn what_fits_can_be_sent()
     ensures chain { (size : ℕ) (accesses : List RegAccess) → 64 ≤ size → size ≤ 1024 → AreWords accesses → FitChain size (parts_of size accesses) }
 {}
 
-/// What a reply shows of the accesses of its command that may come from any probe, one to a guarded
-/// command among them: all are confirmed where it is OK, and else fewer.
+/// What a reply shows of the accesses of its command, where it is one that the command may get,
+/// whatever the probe did: all are confirmed where it is OK, and else fewer. So it is of two parts
+/// in a row.
 pub fn what_a_reply_shows()
     ensures block { (size : ℕ) (accesses : List RegAccess) (n : ℕ) (x : Response) → fits_block size accesses ≡ true → Answers (block_command accesses) (reply.Block n (code_of x))
         → IsPartOf (length accesses) (part_of (take n (requests_for false accesses)) x []) }
     ensures transfer { (accesses : List RegAccess) (n : ℕ) (x : Response) (words : List ℕ) → AreTaken accesses → Answers (transfer_command accesses) (reply.Transfer n (code_of x) words)
         → IsPartOf (length accesses) (part_of (take n (requests_for false accesses)) x words) }
+    ensures guarded { (accesses : List RegAccess) (n : ℕ) (x : Response) (words : List ℕ) → AreTaken accesses → 1 ≤ length accesses
+        → Answers (guarded_command accesses) (reply.Transfer n (code_of x) words) → IsPartOf (length accesses) (part_of (take (n - 2) (payload accesses)) x words) }
+    ensures joined { (m n : ℕ) (a b : Part) → IsPartOf m a → IsPartOf n b → IsPartOf (m + n) (joined_as a.response a b) }
 {}
 
 /// How many accesses a form holds: each single one; where none holds a list, this list has as many
@@ -88,5 +93,7 @@ pub fn replies_may_come()
 /// register matched, and after it the match mask and match retry are 0. This needs DPBANKSEL 0, so
 /// that address 0x4 is CTRL/STAT, whose reads never wait.
 pub fn a_poll_is_its_reads()
-    ensures { (p : TransferState) (retry mask requested turns : ℕ) → bank p.line.target ≡ 0 → 1 ≤ turns → PollsAtOnce p retry mask requested turns }
+    ensures reads { (p : TransferState) (retry mask requested turns : ℕ) → bank p.line.target ≡ 0 → 1 ≤ turns → PollsAtOnce p retry mask requested turns }
+    ensures fits { (idle retry mask requested turns : ℕ) → idle < 2 ^ 8 → retry < 2 ^ 16 → mask < 2 ^ 32 → requested < 2 ^ 32 → turns ≤ 2 ^ 16
+        → IsPollPacket (poll_packet idle retry mask requested turns) }
 {}

@@ -9,8 +9,8 @@ use crate::form::Form;
 use crate::packing::{may_be_free, writes_ap};
 use target_machine::RegAccess;
 
-// The bits of an address that tell the registers of a bank apart, and those of DRW.
-const REGISTER: u8 = 0xC;
+// Bits 3 and 2 of an address, which are both set in that of DRW.
+const DRW: u8 = 0xC;
 
 // How many requests there are, how many bytes they take, and how many of them are reads. Each number
 // stays at its last value.
@@ -51,7 +51,7 @@ fn one_if(is_so: bool) -> u32
 fn writes_drw(access: RegAccess) -> bool
     ensures { result ≡ writes_drw access }
 {
-    access.ap && !access.read && access.addr & REGISTER == REGISTER
+    access.ap && !access.read && access.addr & DRW == DRW
 }
 
 // Whether a check comes before an access, after a write of an access port or not.

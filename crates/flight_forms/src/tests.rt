@@ -86,43 +86,72 @@ fn each_access_is_a_request(rt: HostRuntime) {
     plain(&rt, &[], &[]);
 }
 
+// A write of DRW.
+fn drw(value: u32) -> Request {
+    request(0x0D, value)
+}
+
+// The check of a write.
+fn check() -> Request {
+    request(0x0E, 0)
+}
+
 #[test]
 fn a_write_is_checked_before_what_may_act(rt: HostRuntime) {
     let write = ap_write(0x0C, 1);
-    let check = request(0x0E, 0);
-    let drw = request(0x0D, 1);
-    plain(&rt, &[write, read(false, 0x4)], &[drw, check, request(0x06, 0)]);
-    plain(&rt, &[write, read(false, 0x0)], &[drw, check, request(0x02, 0)]);
-    plain(&rt, &[write, dp_write(0x0, 4)], &[drw, check, request(0x00, 4)]);
+    for (next, asked) in [
+        (read(false, 0x4), request(0x06, 0)),
+        (read(false, 0x0), request(0x02, 0)),
+        (dp_write(0x0, 4), request(0x00, 4)),
+    ] {
+        plain(&rt, &[write, next], &[drw(1), check(), asked]);
+    }
     // the others wait for STICKYERR
-    plain(&rt, &[write, dp_write(0x8, 4)], &[drw, request(0x08, 4)]);
-    plain(&rt, &[write, dp_write(0x4, 4)], &[drw, request(0x04, 4)]);
-    plain(&rt, &[write, read(true, 0x0)], &[drw, request(0x03, 0)]);
+    for (next, asked) in [
+        (dp_write(0x8, 4), request(0x08, 4)),
+        (dp_write(0x4, 4), request(0x04, 4)),
+        (read(true, 0x0), request(0x03, 0)),
+    ] {
+        plain(&rt, &[write, next], &[drw(1), asked]);
+    }
     // and after another access no check is needed
+    let (get, stat) = (read(true, 0x0), read(false, 0x4));
+    let (get_asked, stat_asked) = (request(0x03, 0), request(0x06, 0));
+    plain(&rt, &[write, get, stat], &[drw(1), get_asked, stat_asked]);
     plain(
         &rt,
-        &[write, read(true, 0x0), read(false, 0x4)],
-        &[drw, request(0x03, 0), request(0x06, 0)],
-    );
-    plain(&rt, &[dp_write(0x8, 4), read(false, 0x0)], &[request(0x08, 4), request(0x02, 0)]);
-    // a last write of any port is checked at the end of a guarded command
-    guarded(
-        &rt,
-        &[dp_write(0x8, 4)],
-        &[request(0x12, 0), request(0x20, 1), request(0x08, 4), check, request(0x20, 0)],
-    );
-    guarded(
-        &rt,
-        &[write, read(false, 0x0)],
-        &[request(0x12, 0), request(0x20, 1), drw, check, request(0x02, 0), request(0x20, 0)],
+        &[dp_write(0x8, 4), stat],
+        &[request(0x08, 4), stat_asked],
     );
 }
 
-// Nine words are written with the increment on, and CSW and TAR are settled: two packets of 61 and 46
-// bytes, of 12 and 9 requests.
+// The match of DPIDR, the mask that shuts the guard, and the mask that opens it again.
+fn guard() -> (Request, Request, Request) {
+    (request(0x12, 0), request(0x20, 1), request(0x20, 0))
+}
+
 #[test]
-fn nine_words_are_two_parts(rt: HostRuntime) {
-    let flight = [
+fn a_last_write_is_checked_in_a_guard(rt: HostRuntime) {
+    let (matched, shut, open) = guard();
+    let select = request(0x08, 4);
+    guarded(
+        &rt,
+        &[dp_write(0x8, 4)],
+        &[matched, shut, select, check(), open],
+    );
+    let (write, dpidr) = (ap_write(0x0C, 1), read(false, 0x0));
+    let asked = request(0x02, 0);
+    guarded(
+        &rt,
+        &[write, dpidr],
+        &[matched, shut, drw(1), check(), asked, open],
+    );
+    guarded(&rt, &[dpidr], &[matched, shut, asked, open]);
+}
+
+// CSW and TAR, the words of 1 to 9 with the increment on, and CSW and TAR as they are settled.
+fn nine_words() -> [RegAccess; 13] {
+    [
         ap_write(0x00, 0x52),
         ap_write(0x04, 0x2000_0000),
         ap_write(0x0C, 1),
@@ -136,24 +165,74 @@ fn nine_words_are_two_parts(rt: HostRuntime) {
         ap_write(0x0C, 9),
         ap_write(0x00, 0x42),
         ap_write(0x04, 0x2000_0020),
-    ];
+    ]
+}
+
+// A packet of 61 bytes.
+#[test]
+fn the_first_of_nine_words_are_a_part(rt: HostRuntime) {
+    let flight = nine_words();
     assert_eq!(rt; first_part(64, &flight), 8);
+    let (matched, shut, open) = guard();
+    let csw = request(0x01, 0x52);
+    let tar = request(0x05, 0x2000_0000);
+    guarded(
+        &rt,
+        &flight[..8],
+        &[
+            matched,
+            shut,
+            csw,
+            tar,
+            drw(1),
+            drw(2),
+            drw(3),
+            drw(4),
+            drw(5),
+            drw(6),
+            check(),
+            open,
+        ],
+    );
+}
+
+// And one of 46 bytes.
+#[test]
+fn the_others_are_another(rt: HostRuntime) {
+    let flight = nine_words();
     assert_eq!(rt; first_part(64, &flight[8..]), 5);
+    let (matched, shut, open) = guard();
+    let csw = request(0x01, 0x42);
+    let tar = request(0x05, 0x2000_0020);
     guarded(
         &rt,
         &flight[8..],
         &[
-            request(0x12, 0),
-            request(0x20, 1),
-            request(0x0D, 7),
-            request(0x0D, 8),
-            request(0x0D, 9),
-            request(0x01, 0x42),
-            request(0x05, 0x2000_0020),
-            request(0x0E, 0),
-            request(0x20, 0),
+            matched,
+            shut,
+            drw(7),
+            drw(8),
+            drw(9),
+            csw,
+            tar,
+            check(),
+            open,
         ],
     );
+}
+
+// Twenty words with their CSW and TAR are three parts of 8 writes, of 61 bytes each; reads are parts
+// of 13, by their words.
+#[test]
+fn long_flights_have_full_parts(rt: HostRuntime) {
+    let writes = [ap_write(0x0C, 1); 24];
+    assert_eq!(rt; first_part(64, &writes), 8);
+    assert_eq!(rt; first_part(64, &writes[8..]), 8);
+    assert_eq!(rt; first_part(64, &writes[16..]), 8);
+    assert_eq!(rt; first_part(1024, &writes), 24);
+    let reads = [read(true, 0x0C); 20];
+    assert_eq!(rt; first_part(64, &reads), 13);
+    assert_eq!(rt; first_part(64, &reads[13..]), 7);
 }
 
 // How many accesses are held, of two kinds by turns.
@@ -171,19 +250,19 @@ fn held(packet_size: u16, packet_count: u8, even: RegAccess, odd: RegAccess) -> 
 
 #[test]
 fn so_many_are_held(rt: HostRuntime) {
-    let drw = ap_write(0x0C, 1);
+    let write = ap_write(0x0C, 1);
     let csw = ap_write(0x00, 1);
     let get = read(true, 0x0C);
     let free = read(false, 0x0);
     for (size, count, even, odd, most) in [
         // a block of 14 words, and guarded parts of 8 writes
-        (64, 1, drw, drw, 14),
-        (64, 4, drw, drw, 32),
-        (64, 64, drw, drw, 512),
+        (64, 1, write, write, 14),
+        (64, 4, write, write, 32),
+        (64, 64, write, write, 512),
         // a block of 254 words, and parts of 200 writes
-        (1024, 1, drw, drw, 254),
-        (1024, 4, drw, drw, 800),
-        (1024, 64, drw, drw, 12_800),
+        (1024, 1, write, write, 254),
+        (1024, 4, write, write, 800),
+        (1024, 64, write, write, 12_800),
         // one Transfer of 12 or 204 writes
         (64, 1, csw, csw, 12),
         (64, 4, csw, csw, 32),
@@ -204,11 +283,11 @@ fn so_many_are_held(rt: HostRuntime) {
 
 #[test]
 fn the_first_form_is_taken(rt: HostRuntime) {
-    let drw = ap_write(0x0C, 1);
+    let write = ap_write(0x0C, 1);
     let mut size = FlightSize::new(64, 2);
     assert_eq!(rt; size.form(), Some(Form::Transfer));
     for count in 1..18 {
-        size = size.with(drw);
+        size = size.with(write);
         let form = match count {
             1 => Some(Form::Transfer),
             2..=14 => Some(Form::Block),
@@ -218,6 +297,6 @@ fn the_first_form_is_taken(rt: HostRuntime) {
         assert_eq!(rt; size.form(), form, "{count}");
     }
     // another register makes no block
-    let two = FlightSize::new(64, 2).with(drw).with(ap_write(0x04, 1));
+    let two = FlightSize::new(64, 2).with(write).with(ap_write(0x04, 1));
     assert_eq!(rt; two.form(), Some(Form::Transfer));
 }
