@@ -170,7 +170,7 @@ ran_alone b given accesses packet m n short fits is ready does (inr ran) =
 
 -- ---- what was read is what was done
 
-part_same : (part : Part) (progress : Progress) (old new : List (Option ℕ)) → IsPart part progress old new → old ≡ [] → part_with progress new ≡ part
+pub part_same : (part : Part) (progress : Progress) (old new : List (Option ℕ)) → IsPart part progress old new → old ≡ [] → part_with progress new ≡ part
 part_same part progress old new is none =
     λ i. record { performed = is.performed i; confirmed = is.confirmed i; response = is.response i; values = (is.values ∙ ap (λ xs. xs ++ part.values) none) i }
 

@@ -10,6 +10,7 @@ pub mod FlightFacts
 pub mod ChainLemmas
 pub mod PartLemmas
 pub mod ReadLemmas
+pub mod ShortLemmas
 pub mod ChainBench
 pub mod FormLemmas
 pub mod FlightLemmas

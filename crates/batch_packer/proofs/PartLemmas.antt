@@ -19,7 +19,7 @@ part_fits accesses command fits is = let a = ap length is in let b = fits.bytes 
 
 -- ---- lists of parts
 
-some_filled : (size : ℕ) (part rest : List RegAccess) → 0 < length (filled size part rest)
+pub some_filled : (size : ℕ) (part rest : List RegAccess) → 0 < length (filled size part rest)
 some_filled size part [] = omega arith
 some_filled size part (a ∷ rest) = by_fit (fits_guarded size (part ++ a ∷ [])) (some_filled size (part ++ a ∷ []) rest)
   where

@@ -104,3 +104,8 @@ end_at response progress = Some (ends.Cut (record { performed = progress.perform
 abbrev pub end_of : Option Progress → Option FlightEnd
 end_of None = Some ends.ReplyBad
 end_of (Some progress) = end_at progress.response progress
+
+-- A cut names accesses of a flight of so many: the performed ones are among them, and not all are confirmed.
+abbrev pub IsShort : ℕ → Option FlightEnd → Type 0
+IsShort count (Some (ends.Cut cut)) = (cut.performed ≤ count) × (cut.confirmed < count)
+IsShort count end = Unit {0}
