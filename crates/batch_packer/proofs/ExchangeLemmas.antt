@@ -1,5 +1,5 @@
 -- A packet that is executed at once, and its reply.
-use Rattle.std.proofs.Common.{◌≡◌, inl, inr, ℕ, List, [], ◌∷◌, false, cond, Option, None, Some, refl, ap, sym, ◌∙◌, slice_get, drop, subst}
+use Rattle.std.proofs.Common.{◌≡◌, inl, inr, ℕ, List, [], ◌∷◌, false, cond, Option, Some, refl, ap, sym, ◌∙◌, slice_get, drop, subst}
 use Rattle.probe_core.specs.Bench.{BenchState, StepsTo, served, HandsOut, counted}
 use Rattle.probe_core.specs.Packet.{answered, accepted}
 use Rattle.probe_core.specs.Probe.{ProbeState, is_queued}

@@ -14,3 +14,4 @@ pub mod ShortLemmas
 pub mod ChainBench
 pub mod FormLemmas
 pub mod FlightLemmas
+pub mod NextFlight

@@ -1,5 +1,5 @@
 -- Packets sent and replies taken, one after the other.
-use Rattle.std.proofs.Common.{◌≡◌, ℕ, zero, suc, ◌+◌, ◌<◌, ◌≤◌, ◌⊎◌, inl, inr, arith, take, drop, length, length-append, Option, Some, None, List, [], ◌∷◌, ◌++◌, fold, refl, ap, sym, ◌∙◌, subst}
+use Rattle.std.proofs.Common.{◌≡◌, ℕ, zero, suc, ◌+◌, ◌<◌, ◌⊎◌, inl, inr, arith, take, drop, length, length-append, Option, Some, None, List, [], ◌∷◌, ◌++◌, fold, refl, ap, sym, ◌∙◌, subst}
 use Rattle.std.specs.Prelude.{slice_get}
 use Rattle.probe_core.specs.Bench.{BenchState, HasReceived, HandsOut, IsAsBefore, Reported, StepsTo, handed, received, sent, served}
 use Rattle.probe_core.proofs.LogLemmas.{some_is}

@@ -1,6 +1,5 @@
 -- The replies to a chain, read one after the other.
-use Rattle.std.proofs.Common.{◌≡◌, ℕ, zero, suc, ◌+◌, ◌-◌, ◌*◌, ◌<◌, ◌≤◌, ◌⊎◌, inl, inr, arith, take, drop, length, length-append, length-drop, Bool, true, false, cond, get_or, Option, Some, None, List, [], ◌∷◌, ◌++◌, refl, ap, sym, ◌∙◌, subst, slice_get}
-use Rattle.std.specs.Prelude.{slice_index_or}
+use Rattle.std.proofs.Common.{◌≡◌, ℕ, zero, suc, ◌+◌, ◌-◌, ◌<◌, ◌≤◌, arith, take, drop, length, length-append, length-drop, true, false, cond, get_or, Option, Some, None, List, [], ◌∷◌, ◌++◌, refl, ap, sym, ◌∙◌, subst, slice_get}
 use Rattle.target_machine.specs.declared.access.RegAccess.{RegAccess}
 use Rattle.dap_messages.specs.declared.command.PacketKind.{PacketKind}
 use Rattle.dap_messages.specs.declared.command.PacketKind.TheVariants.{Execute, Queue}
@@ -10,7 +9,6 @@ use Rattle.dap_messages.specs.Commands.{bytes_of_kind}
 use Rattle.dap_messages.specs.Requests.{mask_request, match_request}
 use Rattle.dap_transfer.specs.Laws.{AreNormal}
 use Rattle.flight_forms.proofs.AskedRequests.{payload_normal}
-use Rattle.flight_forms.specs.Chains.{nothing_yet}
 use Rattle.flight_forms.specs.Flights.{Part}
 use Rattle.flight_forms.specs.Forms.{filled, parts_of}
 use Rattle.flight_forms.specs.Packets.{FitChain, FitsPacket, chain_kind, chain_packets, guarded_command}

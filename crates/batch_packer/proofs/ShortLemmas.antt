@@ -1,6 +1,5 @@
 -- At a cut the replies name accesses of the flight, whatever bench gave them.
-use Rattle.std.proofs.Common.{◌≡◌, ℕ, zero, suc, ◌+◌, ◌-◌, ◌<◌, ◌≤◌, Bool, true, false, List, [], ◌∷◌, ◌++◌, length, take, drop, length-drop, get_or, Option, Some, None, IfSome, refl, ap, sym, subst, ◌∙◌, arith, slice_get}
-use Rattle.std.specs.List.{AllByRecursion}
+use Rattle.std.proofs.Common.{◌≡◌, ℕ, zero, suc, ◌+◌, ◌-◌, ◌<◌, ◌≤◌, Bool, true, false, List, [], ◌∷◌, length, take, drop, length-drop, get_or, Option, Some, None, IfSome, refl, ap, sym, subst, ◌∙◌, arith, slice_get}
 use Rattle.target_machine.specs.declared.access.RegAccess.{RegAccess}
 use Rattle.dap_messages.proofs.ReplyLaws.{response_is}
 use Rattle.dap_messages.specs.declared.command_value.CommandValue.{CommandValue}
@@ -23,7 +22,7 @@ use Rattle.batch_packer.proofs.ReadLemmas.{inner_is, take_bytes}
 use Rattle.batch_packer.specs.Alone.{IsBlock, one_command}
 use Rattle.batch_packer.specs.ChainReadings.{guarded_in, guarded_reading, is_mismatch, is_of_one, joined_if, then_reading}
 use Rattle.batch_packer.specs.FlightEnds.{IsShort, end_at, end_of}
-use Rattle.batch_packer.specs.Readings.{IsPart, IsReadFrom, IsSeen, IsShown, part_as, part_in, part_with, shown_in}
+use Rattle.batch_packer.specs.Readings.{IsReadFrom, IsSeen, IsShown, part_as, part_in, part_with, shown_in}
 use Rattle.batch_packer.specs.declared.ends.FlightEnd.{FlightEnd}
 use Rattle.batch_packer.specs.declared.part.Progress.{Progress}
 

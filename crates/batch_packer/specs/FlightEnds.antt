@@ -3,7 +3,7 @@ use Rattle.std.specs.Prelude.{◌≡◌, ◌⊎◌, ◌<◌, ◌≤◌, ◌^◌,
 use Rattle.dap_base.specs.Causes.{Rose}
 use Rattle.target_machine.specs.declared.access.RegAccess.{RegAccess}
 use Rattle.dap_messages.specs.declared.request.Response.{Response}
-use Rattle.dap_messages.specs.declared.request.Response.TheVariants.{Good, Wait, Fault, Mismatch}
+use Rattle.dap_messages.specs.declared.request.Response.TheVariants.{Good, Mismatch}
 use Rattle.dap_messages.specs.Responses.{code_of, response_of}
 use Rattle.probe_core.specs.Bench.{BenchState}
 use Rattle.flight_forms.specs.Chains.{nothing_yet}

@@ -8,6 +8,7 @@ mod ends;
 mod exchange;
 mod flight;
 mod flying;
+pub mod laws;
 mod packing;
 mod part;
 mod queue;

@@ -1,4 +1,4 @@
-use Rattle.std.proofs.Common.{◌≡◌, ◌≤◌, ◌<◌, ◌+◌, ◌*◌, length, drop, Some}
+use Rattle.std.proofs.Common.{◌≡◌, ◌≤◌, ◌*◌, length, drop, Some}
 use Rattle.flight_forms.specs.Chains.{AllTaken, nothing_yet}
 use Rattle.flight_forms.specs.Flights.{IsPartOf}
 use Rattle.flight_forms.specs.Forms.{parts_of}

@@ -1,4 +1,4 @@
-use Rattle.std.proofs.Common.{◌≡◌, true, rules}
+use Rattle.std.proofs.Common.{rules}
 use Rattle.batch_packer.proofs.ReadLemmas.{part_shown, slice_normal}
 use Rattle.flight_forms.specs.Packets.{guarded_command}
 use Rattle.batch_packer.proofs.ShortLemmas.{guarded_short}
