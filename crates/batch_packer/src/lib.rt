@@ -18,6 +18,3 @@ mod slots;
 pub use ends::{Cut, FlightEnd};
 pub use flight::Flight;
 pub use slots::Slots;
-
-#[cfg(test)]
-mod tests;
