@@ -245,7 +245,7 @@ flown_chain given accesses (first ∷ rest) replies m n o short some all words t
     subst (λ (q : TransferState). DoesPart p q accesses part) (sym transfers) (subst (λ (xs : List RegAccess). DoesPart p (chain_after p parts) xs part) all chain.part) in (
       part,
       ap (readings_after (Some nothing_yet) parts) gone.replies_are
-      ∙ whole_chain_shows p parts given.packet_size fits (chain_answers p parts taken part_words guard flies.in_range) chain.cut,
+          ∙ whole_chain_shows p parts given.packet_size fits (chain_answers p parts taken part_words guard flies.in_range) chain.cut,
       record {
         does = made;
         mask = λ opened. ap (λ (q : TransferState). q.mask) transfers ∙ mask_opened part.response (chain_after p parts) chain.guard opened;

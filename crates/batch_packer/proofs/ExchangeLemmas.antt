@@ -49,4 +49,3 @@ taken packet a b c plain first same =
 -- a packet that was not taken
 pub not_taken : (packet : List ℕ) (a b : Option BenchState) → b ≡ a → StepsTo (λ m o. IsIdle m → MayHaveRun packet m o) a b
 not_taken packet a b same = steps_same (λ m o. IsIdle m → MayHaveRun packet m o) (λ m idle. inl refl) a b same
-

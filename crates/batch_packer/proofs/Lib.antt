@@ -1,6 +1,5 @@
 pub mod StateSteps
 pub mod ExchangeLemmas
-
 pub mod QueueLemmas
 pub mod PacketLemmas
 pub mod FewLemmas

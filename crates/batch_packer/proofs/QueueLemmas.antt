@@ -92,4 +92,3 @@ one_fewer t u v x k n h e below = let w = ap (λ (y : Reported). y.waiting) h in
 
 pub one_longer : (xs new : List (List ℕ)) (x : List ℕ) (n : ℕ) → new ≡ xs ++ x ∷ [] → length xs ≡ n → length new ≡ n + 1
 one_longer xs new x n is e = let s = ap length is ∙ length-append xs (x ∷ []) in omega arith
-

@@ -61,7 +61,13 @@ fn read_part(
     if reply.len() < 2 || !is_of_one(reply[0], reply[1]) {
         return None;
     }
-    read_reply(packet, GUARD, &requests[GUARD..count - 1], &reply[2..], slots)
+    read_reply(
+        packet,
+        GUARD,
+        &requests[GUARD..count - 1],
+        &reply[2..],
+        slots,
+    )
 }
 
 // Whether every request was executed.

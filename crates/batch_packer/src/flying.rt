@@ -149,7 +149,9 @@ pub fn fly<B: Bench>(
     ensures identity { B.identity bench.new ≡ B.identity bench.old }
     ensures cause { HasEndCause (B.reported bench.old).faults (B.reported bench.new).faults result }
 {
-    match fly_in(form, limits, accesses, packets, replies, bytes, at, slots, bench) {
+    match fly_in(
+        form, limits, accesses, packets, replies, bytes, at, slots, bench,
+    ) {
         Err(Failed) => Some(FlightEnd::BenchFault),
         Ok(progress) => end_of(progress),
     }

@@ -50,7 +50,9 @@ fn read_view(
     match Response::from_code(view.response()) {
         None => None,
         Some(response) => {
-            let count = (view.count() as usize).saturating_sub(before).min(requests.len());
+            let count = (view.count() as usize)
+                .saturating_sub(before)
+                .min(requests.len());
             Some(progress_by(&requests[..count], response, view, slots))
         }
     }
