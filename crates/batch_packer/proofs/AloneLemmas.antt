@@ -1,20 +1,16 @@
 -- A flight in one packet, a block of writes or one Transfer.
-use Rattle.std.proofs.Common.{◌≡◌, ◌⊎◌, ℕ, ◌-◌, ◌<◌, ◌≤◌, ◌^◌, Bool, true, false, List, [], ◌∷◌, ◌++◌, take, inl, inr, Option, Some, None, refl, ap, sym, subst, ◌∙◌, append-nil, arith}
-use Rattle.std.specs.List.{AllByRecursion}
+use Rattle.std.proofs.Common.{◌≡◌, ℕ, ◌-◌, ◌≤◌, Bool, true, false, List, [], ◌++◌, take, inl, inr, Option, Some, None, refl, ap, sym, subst, ◌∙◌, append-nil, arith}
 use Rattle.target_machine.specs.InRange.{IsInRange}
 use Rattle.target_machine.specs.State.{TargetState}
 use Rattle.target_machine.specs.declared.access.RegAccess.{RegAccess}
 use Rattle.dap_messages.proofs.ReplyAgain.{reply_complete}
 use Rattle.dap_messages.specs.declared.command.PacketKind.TheVariants.{Plain}
-use Rattle.dap_messages.specs.declared.command_value.CommandValue.{CommandValue}
-use Rattle.dap_messages.specs.declared.request.Request.{Request}
 use Rattle.dap_messages.specs.declared.request.Response.{Response}
 use Rattle.dap_messages.specs.declared.request.Response.TheVariants.{Good, Wait, Fault, Mismatch}
-use Rattle.dap_messages.specs.Commands.{IsCommand, bytes_of_kind, command_bytes}
+use Rattle.dap_messages.specs.Commands.{IsCommand, command_bytes}
 use Rattle.dap_messages.specs.Replies.{Answers, ReplyValue, reply_bytes, shown}
 use Rattle.dap_messages.specs.Responses.{code_of, response_of}
 use Rattle.dap_transfer.specs.Block.{blocked}
-use Rattle.dap_transfer.specs.Laws.{one_at_a_time}
 use Rattle.dap_transfer.specs.State.{TransferState, Transferred}
 use Rattle.dap_transfer.specs.Transfer.{transferred}
 use Rattle.probe_core.specs.Bench.{BenchState, StepsTo}
@@ -170,7 +166,7 @@ ran_alone b given accesses packet m n short fits is ready does (inr ran) =
 
 -- ---- what was read is what was done
 
-part_same : (part : Part) (progress : Progress) (old new : List (Option ℕ)) → IsPart part progress old new → old ≡ [] → part_with progress new ≡ part
+pub part_same : (part : Part) (progress : Progress) (old new : List (Option ℕ)) → IsPart part progress old new → old ≡ [] → part_with progress new ≡ part
 part_same part progress old new is none =
     λ i. record { performed = is.performed i; confirmed = is.confirmed i; response = is.response i; values = (is.values ∙ ap (λ xs. xs ++ part.values) none) i }
 

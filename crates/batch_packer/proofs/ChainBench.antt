@@ -1,34 +1,31 @@
 -- A chain of held packets over a bench.
-use Rattle.std.proofs.Common.{◌≡◌, ℕ, zero, suc, ◌+◌, ◌-◌, ◌*◌, ◌<◌, ◌≤◌, ◌⊎◌, inl, inr, arith, take, drop, length, length-append, Bool, true, false, cond, eqb, not, Option, Some, None, List, [], ◌∷◌, ◌++◌, fold, map, refl, ap, sym, ◌∙◌, subst, append_assoc, append-nil, slice_get}
+use Rattle.std.proofs.Common.{◌≡◌, ℕ, zero, suc, ◌+◌, ◌-◌, ◌<◌, ◌≤◌, ◌⊎◌, inl, inr, arith, take, length, Bool, true, false, cond, eqb, not, Option, Some, List, [], ◌∷◌, ◌++◌, fold, refl, ap, sym, ◌∙◌, subst, append_assoc, append-nil, slice_get}
 use Rattle.std.proofs.lemmas.Bool.Decides.{nat_tests}
 use Rattle.std.specs.List.{AllByRecursion}
-use Rattle.target_machine.specs.InRange.{IsInRange}
 use Rattle.target_machine.specs.declared.access.RegAccess.{RegAccess}
 use Rattle.dap_messages.specs.declared.command.PacketKind.{PacketKind}
-use Rattle.dap_messages.specs.declared.command.PacketKind.TheVariants.{Plain, Execute, Queue}
+use Rattle.dap_messages.specs.declared.command.PacketKind.TheVariants.{Execute, Queue}
 use Rattle.dap_messages.specs.declared.request.Response.{Response}
 use Rattle.dap_messages.specs.declared.request.Response.TheVariants.{Good, Wait, Fault, Mismatch}
 use Rattle.dap_messages.specs.Commands.{bytes_of_kind, command_bytes}
 use Rattle.dap_transfer.specs.State.{TransferState, is_good}
 use Rattle.probe_core.specs.Bench.{BenchState, Exchange, Reported, StepsTo, counted, handed, received, sent, served}
 use Rattle.probe_core.specs.Commands.{with_transfers}
-use Rattle.probe_core.specs.Packet.{accepted}
 use Rattle.probe_core.specs.Probe.{ExecutorState, ProbeState, is_queued}
-use Rattle.probe_core.specs.Ranges.{AreLimits}
 use Rattle.probe_core.specs.declared.job.Limits.{Limits}
 use Rattle.flight_forms.proofs.ChainAnswers.{chain_answers}
 use Rattle.flight_forms.proofs.Chains.{does_chain}
-use Rattle.flight_forms.specs.Chains.{AllTaken, DoesChain, IsGuardOpen, LeavesGuard, all_of, chain_after, chain_part, chain_replies, nothing_yet}
+use Rattle.flight_forms.specs.Chains.{AllTaken, LeavesGuard, all_of, chain_after, chain_part, chain_replies, nothing_yet}
 use Rattle.flight_forms.specs.Flights.{DoesPart, Part}
 use Rattle.flight_forms.specs.Packets.{FitChain, FitsPacket, chain_kind, chain_packets, guarded_command}
 use Rattle.flight_forms.specs.Packing.{AreWords}
 use Rattle.flight_forms.specs.declared.form.Form.TheVariants.{Chain}
 use Rattle.batch_packer.proofs.AloneLemmas.{after_in_range, flown_by}
-use Rattle.batch_packer.proofs.ChainLemmas.{ChainTaken, chain_flown, chain_ran, chain_taken, guarded_reply, served_probe, whole_chain_shows}
+use Rattle.batch_packer.proofs.ChainLemmas.{chain_flown, chain_ran, chain_taken, served_probe, whole_chain_shows}
 use Rattle.batch_packer.proofs.PacketLemmas.{fits_more}
 use Rattle.batch_packer.proofs.StateSteps.{steps_map, steps_then}
 use Rattle.batch_packer.specs.ChainReadings.{readings_after}
-use Rattle.batch_packer.specs.Exchanges.{IsIdle, IsOpen}
+use Rattle.batch_packer.specs.Exchanges.{IsOpen}
 use Rattle.batch_packer.specs.Flying.{HasFlown, HasFlownBy, IsReady, MayHaveFlown, transfers_of}
 use Rattle.batch_packer.specs.Queues.{HandedSome, IsQueue, ServedSome}
 use Rattle.batch_packer.specs.Readings.{IsSeen}
@@ -248,7 +245,7 @@ flown_chain given accesses (first ∷ rest) replies m n o short some all words t
     subst (λ (q : TransferState). DoesPart p q accesses part) (sym transfers) (subst (λ (xs : List RegAccess). DoesPart p (chain_after p parts) xs part) all chain.part) in (
       part,
       ap (readings_after (Some nothing_yet) parts) gone.replies_are
-      ∙ whole_chain_shows p parts given.packet_size fits (chain_answers p parts taken part_words guard flies.in_range) chain.cut,
+          ∙ whole_chain_shows p parts given.packet_size fits (chain_answers p parts taken part_words guard flies.in_range) chain.cut,
       record {
         does = made;
         mask = λ opened. ap (λ (q : TransferState). q.mask) transfers ∙ mask_opened part.response (chain_after p parts) chain.guard opened;

@@ -1,31 +1,29 @@
 -- A chain of held packets: what a probe answers to it, and what the replies show.
-use Rattle.std.proofs.Common.{◌≡◌, ℕ, zero, suc, ◌+◌, ◌-◌, ◌<◌, ◌≤◌, ◌⊎◌, inl, inr, arith, take, drop, length, length-append, Bool, true, false, cond, Option, Some, None, List, [], ◌∷◌, ◌++◌, fold, map, refl, ap, sym, ◌∙◌, subst, append_assoc, append-nil, slice_get}
+use Rattle.std.proofs.Common.{◌≡◌, ℕ, zero, suc, ◌+◌, ◌≤◌, ◌⊎◌, inl, inr, arith, take, drop, length, true, false, Option, Some, List, [], ◌∷◌, ◌++◌, fold, map, refl, ap, sym, ◌∙◌, append_assoc, append-nil}
 use Rattle.std.specs.List.{AllByRecursion}
-use Rattle.target_machine.specs.InRange.{IsInRange}
 use Rattle.target_machine.specs.declared.access.RegAccess.{RegAccess}
 use Rattle.dap_messages.proofs.ReplyAgain.{reply_complete}
 use Rattle.dap_messages.specs.declared.command.PacketKind.{PacketKind}
-use Rattle.dap_messages.specs.declared.command.PacketKind.TheVariants.{Plain, Execute, Queue}
+use Rattle.dap_messages.specs.declared.command.PacketKind.TheVariants.{Execute, Queue}
 use Rattle.dap_messages.specs.declared.request.Response.{Response}
 use Rattle.dap_messages.specs.declared.request.Response.TheVariants.{Good, Wait, Fault, Mismatch}
 use Rattle.dap_messages.specs.Commands.{IsCommand, bytes_of_kind}
 use Rattle.dap_messages.specs.Replies.{Answers, reply_bytes, shown}
-use Rattle.dap_messages.specs.Responses.{code_of, response_of}
 use Rattle.dap_transfer.specs.State.{TransferState, Transferred, is_good}
 use Rattle.dap_transfer.specs.Transfer.{transferred}
 use Rattle.probe_core.specs.Bench.{BenchState, counted, handed, served}
 use Rattle.probe_core.specs.Commands.{with_transfers}
 use Rattle.probe_core.specs.Packet.{accepted, after, answered, replies_to}
-use Rattle.probe_core.specs.Probe.{ExecutorState, ProbeState, is_queued}
-use Rattle.flight_forms.specs.Chains.{AllTaken, CutAs, IsCutOnce, IsShut, chain_after, chain_part, chain_replies, guarded_part, joined_as, nothing_yet}
-use Rattle.flight_forms.specs.Flights.{Part, part_of}
+use Rattle.probe_core.specs.Probe.{ExecutorState, ProbeState}
+use Rattle.flight_forms.specs.Chains.{CutAs, IsCutOnce, IsShut, chain_after, chain_part, chain_replies, guarded_part, joined_as, nothing_yet}
+use Rattle.flight_forms.specs.Flights.{Part}
 use Rattle.flight_forms.specs.Packets.{AnswerChain, FitChain, FitsPacket, chain_kind, chain_packets, guarded_command, transfer_answer}
 use Rattle.flight_forms.specs.Packing.{guarded_requests, payload}
 use Rattle.batch_packer.proofs.AloneLemmas.{response_known}
-use Rattle.batch_packer.proofs.PacketLemmas.{answered_one, fits_more, head_of}
+use Rattle.batch_packer.proofs.PacketLemmas.{answered_one}
 use Rattle.batch_packer.specs.ChainReadings.{guarded_reading, is_mismatch, joined_if, readings_after, then_reading}
 use Rattle.batch_packer.specs.Queues.{HandedSome}
-use Rattle.batch_packer.specs.Readings.{part_as, part_in, reading, shown_in}
+use Rattle.batch_packer.specs.Readings.{part_as, part_in, shown_in}
 
 -- the reply to a packet of a chain
 abbrev pub guarded_reply : Transferred → List ℕ

@@ -1,5 +1,5 @@
 -- A packet that is executed at once, and its reply.
-use Rattle.std.proofs.Common.{◌≡◌, inl, inr, ℕ, List, [], ◌∷◌, false, cond, Option, None, Some, refl, ap, sym, ◌∙◌, slice_get, drop, subst}
+use Rattle.std.proofs.Common.{◌≡◌, inl, inr, ℕ, List, [], ◌∷◌, false, cond, Option, Some, refl, ap, sym, ◌∙◌, slice_get, drop, subst}
 use Rattle.probe_core.specs.Bench.{BenchState, StepsTo, served, HandsOut, counted}
 use Rattle.probe_core.specs.Packet.{answered, accepted}
 use Rattle.probe_core.specs.Probe.{ProbeState, is_queued}
@@ -49,4 +49,3 @@ taken packet a b c plain first same =
 -- a packet that was not taken
 pub not_taken : (packet : List ℕ) (a b : Option BenchState) → b ≡ a → StepsTo (λ m o. IsIdle m → MayHaveRun packet m o) a b
 not_taken packet a b same = steps_same (λ m o. IsIdle m → MayHaveRun packet m o) (λ m idle. inl refl) a b same
-

@@ -1,8 +1,7 @@
 -- One command has 255 requests at most, so its numbers are small.
-use Rattle.std.proofs.Common.{◌≡◌, ℕ, zero, suc, ◌+◌, ◌-◌, ◌≤◌, Bool, true, false, cond, not, List, [], ◌∷◌, ◌++◌, take, length, length-append, Option, ap, arith}
+use Rattle.std.proofs.Common.{◌≡◌, ℕ, zero, suc, ◌≤◌, Bool, true, false, cond, not, List, [], ◌∷◌, ◌++◌, take, length, length-append, Option, ap, arith}
 use Rattle.dap_messages.specs.declared.request.Request.{Request}
 use Rattle.dap_messages.specs.declared.request.Response.{Response}
-use Rattle.target_machine.specs.declared.access.RegAccess.{RegAccess}
 use Rattle.dap_transfer.specs.Laws.{accesses_in}
 use Rattle.dap_transfer.specs.WireTransfer.{reads_rdbuff_itself}
 use Rattle.dap_transfer.specs.Wires.{access_of}

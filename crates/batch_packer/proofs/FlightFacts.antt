@@ -1,5 +1,5 @@
 -- What the code of a flight keeps: its requests, packets and replies.
-use Rattle.std.proofs.Common.{◌≡◌, ℕ, ◌+◌, ◌*◌, ◌≤◌, ◌<◌, Bool, true, false, List, [], ◌∷◌, ◌++◌, length, take, map, Option, Some, None, refl, ap, sym, subst, ◌∙◌, arith, append-nil, slice_get}
+use Rattle.std.proofs.Common.{◌≡◌, ℕ, ◌+◌, ◌*◌, ◌≤◌, Bool, true, false, List, [], ◌∷◌, ◌++◌, length, Option, Some, refl, ap, sym, subst, ◌∙◌, arith, append-nil, slice_get}
 use Rattle.std.proofs.lemmas.List.{length-map}
 use Rattle.std.specs.Prelude.{nat_le, ◌&&◌}
 use Rattle.target_machine.specs.declared.access.RegAccess.{RegAccess}
@@ -7,13 +7,12 @@ use Rattle.dap_messages.specs.declared.command.PacketKind.{PacketKind}
 use Rattle.dap_messages.specs.declared.command.PacketKind.TheVariants.{Plain}
 use Rattle.dap_messages.specs.declared.command_value.CommandValue.{CommandValue}
 use Rattle.dap_messages.specs.declared.request.Request.{Request}
-use Rattle.dap_messages.specs.Commands.{IsCommand, command_bytes}
-use Rattle.dap_transfer.specs.Block.{writes_of}
+use Rattle.dap_messages.specs.Commands.{command_bytes}
 use Rattle.dap_transfer.specs.Laws.{AreNormal}
 use Rattle.flight_forms.proofs.AskedRequests.{are_normal}
 use Rattle.flight_forms.proofs.Blocks.{drw_requests}
 use Rattle.flight_forms.specs.Flights.{words_of}
-use Rattle.flight_forms.specs.Forms.{all_write_drw, fits_block}
+use Rattle.flight_forms.specs.Forms.{all_write_drw}
 use Rattle.flight_forms.specs.Packets.{FitsPacket}
 use Rattle.flight_forms.specs.Packing.{requests_for}
 use Rattle.batch_packer.proofs.AloneLemmas.{seen_shown}

@@ -1,5 +1,5 @@
 -- What the parts of a flight keep.
-use Rattle.std.proofs.Common.{◌≡◌, ℕ, zero, suc, ◌+◌, ◌*◌, ◌<◌, ◌≤◌, ◌^◌, Bool, true, false, List, [], ◌∷◌, ◌++◌, length, length-append, Option, Some, None, IfSome, refl, ap, sym, ◌∙◌, subst, arith}
+use Rattle.std.proofs.Common.{◌≡◌, ℕ, ◌*◌, ◌<◌, ◌≤◌, true, List, [], ◌∷◌, ◌++◌, length, length-append, Option, Some, None, IfSome, refl, sym, ◌∙◌, subst, arith}
 use Rattle.std.specs.Prelude.{is_some}
 use Rattle.std.specs.List.{AllByRecursion}
 use Rattle.target_machine.specs.declared.access.RegAccess.{RegAccess}
@@ -10,7 +10,7 @@ use Rattle.probe_core.specs.declared.job.Limits.{Limits}
 use Rattle.flight_forms.proofs.Capacity.{held_most}
 use Rattle.flight_forms.specs.Forms.{form_of}
 use Rattle.flight_forms.specs.declared.form.Form.{Form}
-use Rattle.batch_packer.specs.Exchanges.{IsIdle, IsOpen}
+use Rattle.batch_packer.specs.Exchanges.{IsOpen}
 use Rattle.batch_packer.specs.FlightEnds.{EndsBy, Flew, flight_reading}
 use Rattle.batch_packer.specs.FlightStates.{ReadBy, SentBy, sent_form}
 use Rattle.batch_packer.specs.Flying.{CanFly, IsReady}

@@ -1,6 +1,5 @@
 pub mod StateSteps
 pub mod ExchangeLemmas
-
 pub mod QueueLemmas
 pub mod PacketLemmas
 pub mod FewLemmas
@@ -10,6 +9,8 @@ pub mod FlightFacts
 pub mod ChainLemmas
 pub mod PartLemmas
 pub mod ReadLemmas
+pub mod ShortLemmas
 pub mod ChainBench
 pub mod FormLemmas
 pub mod FlightLemmas
+pub mod NextFlight

@@ -1,6 +1,6 @@
 -- Packets of one command: how they are read, and what a probe answers to them.
-use Rattle.std.proofs.Common.{◌≡◌, ℕ, ◌+◌, ◌≤◌, cond, List, [], ◌∷◌, ◌++◌, length, refl, ap, sym, subst, ◌∙◌, arith, append-nil, add-zero, ◌⊎◌, inl, inr, Option, Some, None, drop, take, zero, suc}
-use Rattle.std.specs.Prelude.{Result, Ok, Err, slice_get, sum_by}
+use Rattle.std.proofs.Common.{◌≡◌, ℕ, ◌+◌, ◌≤◌, cond, List, [], ◌∷◌, length, refl, ap, subst, ◌∙◌, arith, append-nil, Option, take, zero, suc}
+use Rattle.std.specs.Prelude.{Result, Ok, Err, slice_get}
 use Rattle.std.proofs.lemmas.Bool.{le-leb, le-ltb}
 use Rattle.std.proofs.lemmas.List.Sums.{sum_by-cons}
 use Rattle.dap_messages.specs.declared.command.PacketKind.{PacketKind}

@@ -2,7 +2,6 @@
 use Rattle.std.proofs.Common.{◌≡◌, ℕ, zero, suc, ◌+◌, ◌-◌, ◌<◌, ◌≤◌, arith, take, drop, length, length-append, Bool, true, false, cond, eqb, List, [], ◌∷◌, ◌++◌, refl, ap, sym, ◌∙◌, subst, append_assoc, append-nil}
 use Rattle.std.proofs.lemmas.Bool.Decides.{nat_tests}
 use Rattle.target_machine.specs.declared.access.RegAccess.{RegAccess}
-use Rattle.dap_messages.specs.declared.command.PacketKind.TheVariants.{Execute, Queue}
 use Rattle.dap_messages.specs.Commands.{bytes_of_kind, command_bytes}
 use Rattle.flight_forms.specs.Forms.{filled, fits_guarded, parts_of}
 use Rattle.flight_forms.specs.Packets.{FitChain, FitsPacket, chain_kind, chain_packets, guarded_command}
@@ -19,7 +18,7 @@ part_fits accesses command fits is = let a = ap length is in let b = fits.bytes 
 
 -- ---- lists of parts
 
-some_filled : (size : ℕ) (part rest : List RegAccess) → 0 < length (filled size part rest)
+pub some_filled : (size : ℕ) (part rest : List RegAccess) → 0 < length (filled size part rest)
 some_filled size part [] = omega arith
 some_filled size part (a ∷ rest) = by_fit (fits_guarded size (part ++ a ∷ [])) (some_filled size (part ++ a ∷ []) rest)
   where

@@ -1,5 +1,5 @@
 -- Packets sent and replies taken, one after the other.
-use Rattle.std.proofs.Common.{◌≡◌, ℕ, zero, suc, ◌+◌, ◌<◌, ◌≤◌, ◌⊎◌, inl, inr, arith, take, drop, length, length-append, Option, Some, None, List, [], ◌∷◌, ◌++◌, fold, refl, ap, sym, ◌∙◌, subst}
+use Rattle.std.proofs.Common.{◌≡◌, ℕ, zero, suc, ◌+◌, ◌<◌, ◌⊎◌, inl, inr, arith, take, drop, length, length-append, Option, Some, None, List, [], ◌∷◌, ◌++◌, fold, refl, ap, sym, ◌∙◌, subst}
 use Rattle.std.specs.Prelude.{slice_get}
 use Rattle.probe_core.specs.Bench.{BenchState, HasReceived, HandsOut, IsAsBefore, Reported, StepsTo, handed, received, sent, served}
 use Rattle.probe_core.proofs.LogLemmas.{some_is}
@@ -92,4 +92,3 @@ one_fewer t u v x k n h e below = let w = ap (λ (y : Reported). y.waiting) h in
 
 pub one_longer : (xs new : List (List ℕ)) (x : List ℕ) (n : ℕ) → new ≡ xs ++ x ∷ [] → length xs ≡ n → length new ≡ n + 1
 one_longer xs new x n is e = let s = ap length is ∙ length-append xs (x ∷ []) in omega arith
-

@@ -1,6 +1,5 @@
 -- The numbers of a target fit their registers and words after the first of some accesses.
 use Rattle.std.proofs.Common.{zero, suc, ℕ, List, [], ◌∷◌, take}
-use Rattle.std.specs.List.{AllByRecursion}
 use Rattle.target_machine.specs.InRange.{IsInRange}
 use Rattle.target_machine.specs.State.{TargetState}
 use Rattle.target_machine.specs.declared.access.RegAccess.{RegAccess}

@@ -1,6 +1,5 @@
 -- The replies to a chain, read one after the other.
-use Rattle.std.proofs.Common.{◌≡◌, ℕ, zero, suc, ◌+◌, ◌-◌, ◌*◌, ◌<◌, ◌≤◌, ◌⊎◌, inl, inr, arith, take, drop, length, length-append, length-drop, Bool, true, false, cond, get_or, Option, Some, None, List, [], ◌∷◌, ◌++◌, refl, ap, sym, ◌∙◌, subst, slice_get}
-use Rattle.std.specs.Prelude.{slice_index_or}
+use Rattle.std.proofs.Common.{◌≡◌, ℕ, zero, suc, ◌+◌, ◌-◌, ◌<◌, ◌≤◌, arith, take, drop, length, length-append, length-drop, true, false, cond, get_or, Option, Some, None, List, [], ◌∷◌, ◌++◌, refl, ap, sym, ◌∙◌, subst, slice_get}
 use Rattle.target_machine.specs.declared.access.RegAccess.{RegAccess}
 use Rattle.dap_messages.specs.declared.command.PacketKind.{PacketKind}
 use Rattle.dap_messages.specs.declared.command.PacketKind.TheVariants.{Execute, Queue}
@@ -10,11 +9,11 @@ use Rattle.dap_messages.specs.Commands.{bytes_of_kind}
 use Rattle.dap_messages.specs.Requests.{mask_request, match_request}
 use Rattle.dap_transfer.specs.Laws.{AreNormal}
 use Rattle.flight_forms.proofs.AskedRequests.{payload_normal}
-use Rattle.flight_forms.specs.Chains.{nothing_yet}
 use Rattle.flight_forms.specs.Flights.{Part}
 use Rattle.flight_forms.specs.Forms.{filled, parts_of}
 use Rattle.flight_forms.specs.Packets.{FitChain, FitsPacket, chain_kind, chain_packets, guarded_command}
 use Rattle.flight_forms.specs.Packing.{guarded_requests, payload}
+use Rattle.batch_packer.proofs.PartLemmas.{some_filled}
 use Rattle.batch_packer.proofs.PacketLemmas.{fits_packet}
 use Rattle.batch_packer.specs.ChainReadings.{guarded_in, guarded_reading, inner_reply, is_of_one, readings_after, then_reading}
 use Rattle.batch_packer.specs.Queues.{IsPartPacket}
@@ -57,12 +56,12 @@ slice_normal rs count accesses front long = subst AreNormal (sym (payload_slice 
 
 -- ---- the two bytes before a reply
 
-inner_is : (reply : List ℕ) → 2 ≤ length reply → is_of_one (get_or reply 0 0) (get_or reply 1 0) ≡ true → inner_reply reply ≡ Some (drop 2 reply)
+pub inner_is : (reply : List ℕ) → 2 ≤ length reply → is_of_one (get_or reply 0 0) (get_or reply 1 0) ≡ true → inner_reply reply ≡ Some (drop 2 reply)
 inner_is [] h e = absurd (omega arith)
 inner_is (id ∷ []) h e = absurd (omega arith)
 inner_is (id ∷ count ∷ reply) h e = ap (λ b. cond b (Some reply) None) e
 
-take_bytes : (n : ℕ) (xs : List ℕ) → length xs ≤ n → take n xs ≡ xs
+pub take_bytes : (n : ℕ) (xs : List ℕ) → length xs ≤ n → take n xs ≡ xs
 take_bytes zero [] h = refl
 take_bytes zero (x ∷ xs) h = absurd (omega arith)
 take_bytes (suc n) [] h = refl
@@ -166,3 +165,13 @@ ends_there i packets replies parts progress new all count past is whole =
     let none : parts ≡ [] = none_left parts (sym (drop_all i packets (omega arith)) ∙ is) in
     let seen : Some (part_with progress new) ≡ all = (λ j. readings_after (Some (part_with progress new)) (sym none j) (sym (drop_all i replies past) j)) ∙ whole in
     subst (λ (x : Option Part). IsSeen x (Some progress) new) seen refl
+
+-- after the last packet no access is left
+pub ends_past : (i : ℕ) (packets : List (List ℕ)) (size : ℕ) (rest : List RegAccess) → length packets ≤ i → drop i packets ≡ chain_packets (parts_of size rest) → length rest ≡ 0
+ends_past i packets size [] past is = refl
+ends_past i packets size (a ∷ rest) past is =
+    absurd (let e = ap length (sym (drop_all i packets past) ∙ is) in let k = packets_some (filled size (a ∷ []) rest) (some_filled size (a ∷ []) rest) in omega arith)
+  where
+    packets_some : (parts : List (List RegAccess)) → 0 < length parts → 0 < length (chain_packets parts)
+    packets_some [] h = absurd (omega arith)
+    packets_some (part ∷ parts) h = omega arith

@@ -2,7 +2,7 @@
 use Rattle.std.specs.Prelude.{ℕ, Bool, true, false, ◌&&◌, ◌||◌, ◌==◌, if◌then◌else◌, List, [], ◌∷◌, ◌++◌, Option, Some, None}
 use Rattle.target_machine.specs.declared.access.RegAccess.{RegAccess}
 use Rattle.dap_messages.specs.declared.request.Response.{Response}
-use Rattle.dap_messages.specs.declared.request.Response.TheVariants.{Good, Wait, Fault, Mismatch}
+use Rattle.dap_messages.specs.declared.request.Response.TheVariants.{Good, Mismatch}
 use Rattle.dap_transfer.specs.State.{is_good}
 use Rattle.flight_forms.specs.Chains.{joined_as}
 use Rattle.flight_forms.specs.Flights.{Part}

@@ -3,7 +3,7 @@ use Rattle.std.specs.Prelude.{◌≡◌, ◌⊎◌, ◌<◌, ◌≤◌, ◌^◌,
 use Rattle.dap_base.specs.Causes.{Rose}
 use Rattle.target_machine.specs.declared.access.RegAccess.{RegAccess}
 use Rattle.dap_messages.specs.declared.request.Response.{Response}
-use Rattle.dap_messages.specs.declared.request.Response.TheVariants.{Good, Wait, Fault, Mismatch}
+use Rattle.dap_messages.specs.declared.request.Response.TheVariants.{Good, Mismatch}
 use Rattle.dap_messages.specs.Responses.{code_of, response_of}
 use Rattle.probe_core.specs.Bench.{BenchState}
 use Rattle.flight_forms.specs.Chains.{nothing_yet}
@@ -104,3 +104,8 @@ end_at response progress = Some (ends.Cut (record { performed = progress.perform
 abbrev pub end_of : Option Progress → Option FlightEnd
 end_of None = Some ends.ReplyBad
 end_of (Some progress) = end_at progress.response progress
+
+-- A cut names accesses of a flight of so many: the performed ones are among them, and not all are confirmed.
+abbrev pub IsShort : ℕ → Option FlightEnd → Type 0
+IsShort count (Some (ends.Cut cut)) = (cut.performed ≤ count) × (cut.confirmed < count)
+IsShort count end = Unit {0}

@@ -1,5 +1,5 @@
 -- What a flight does to a bench.
-use Rattle.std.specs.Prelude.{◌≡◌, ◌≤◌, ◌⊎◌, ℕ, Bool, true, false, not, ◌&&◌, List, Option, Some, None}
+use Rattle.std.specs.Prelude.{◌≡◌, ◌≤◌, ◌⊎◌, ℕ, Bool, false, not, List, Option, Some, None}
 use Rattle.target_machine.specs.InRange.{IsInRange}
 use Rattle.target_machine.specs.declared.access.RegAccess.{RegAccess}
 use Rattle.dap_transfer.specs.State.{TransferState, is_good}
@@ -10,7 +10,7 @@ use Rattle.probe_core.specs.declared.job.Limits.{Limits}
 use Rattle.flight_forms.specs.Chains.{IsGuardOpen}
 use Rattle.flight_forms.specs.Flights.{DoesPart, Part}
 use Rattle.flight_forms.specs.declared.form.Form.{Form}
-use Rattle.flight_forms.specs.declared.form.Form.TheVariants.{Block, Transfer, Chain}
+use Rattle.flight_forms.specs.declared.form.Form.TheVariants.{Chain}
 use Rattle.batch_packer.specs.Exchanges.{IsIdle}
 use Rattle.batch_packer.specs.Readings.{part_with}
 use Rattle.batch_packer.specs.declared.part.Progress.{Progress}

@@ -7,7 +7,7 @@ use Rattle.dap_messages.specs.declared.error.MessageError.{MessageError}
 use Rattle.dap_messages.specs.declared.request.Request.{Request}
 use Rattle.dap_messages.specs.declared.request.Response.{Response}
 use Rattle.dap_messages.specs.Commands.{IsCommand, IsCount, bytes_of_kind}
-use Rattle.dap_messages.specs.Replies.{Shown}
+use Rattle.dap_messages.specs.Replies.{IsReplyTo, Shown}
 use Rattle.dap_messages.specs.ReplyReading.{reply_read}
 use Rattle.dap_messages.specs.Responses.{response_of}
 use Rattle.flight_forms.specs.Flights.{Part, part_of}
@@ -78,3 +78,10 @@ pub record IsFew (progress : Progress) (old new : List (Option ℕ)) : Type 0 wh
 pub record IsNear (so_far progress : Progress) : Type 0 where
   pub performed : progress.performed ≤ so_far.performed + 255
   pub confirmed : progress.confirmed ≤ so_far.confirmed + 255
+
+-- The progress was read from a reply that the command may get, where so many of its requests come before these.
+pub record IsReadFrom (command : CommandValue) (before : ℕ) (requests : List Request) (reply : List ℕ) (old new : List (Option ℕ)) (progress : Progress) : Type 0 where
+  pub view : Shown
+  pub answers : IsReplyTo command reply view
+  pub read : shown_in (reply_read command reply) ≡ Some view
+  pub shown : IsShown (part_as before requests view (response_of view.response)) (Some progress) old new

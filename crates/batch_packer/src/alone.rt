@@ -4,6 +4,7 @@ ghost use Rattle.dap_base.specs.Causes.{HasCause};
 ghost use Rattle.probe_core.specs.Bench.{StepsTo, counted};
 ghost use Rattle.probe_core.specs.Ranges.{AreLimits};
 ghost use Rattle.probe_core.specs.Runs.{KeepsRuns};
+ghost use Rattle.flight_forms.specs.Flights.{IsPartOf};
 ghost use Rattle.flight_forms.specs.Packets.{FitsPacket};
 ghost use Rattle.flight_forms.specs.Packing.{AreTaken, AreWords};
 ghost use Rattle.batch_packer.specs.Alone.{IsBlock, one_command, one_form, one_reading};
@@ -11,7 +12,7 @@ ghost use Rattle.batch_packer.specs.Exchanges.{IsOpen};
 ghost use Rattle.batch_packer.specs.FlightEnds.{IsSmall};
 ghost use Rattle.batch_packer.specs.Flying.{HasFlownBy, IsReady, MayHaveFlown};
 ghost use Rattle.batch_packer.specs.Queues.{IsFresh};
-ghost use Rattle.batch_packer.specs.Readings.{IsSeen};
+ghost use Rattle.batch_packer.specs.Readings.{IsSeen, part_with};
 
 use crate::exchange::exchange;
 use crate::packing::{MOST_REQUESTS, UNUSED, write_one};
@@ -50,6 +51,7 @@ pub fn fly_alone<B: Bench>(
         → HasFlownBy (one_form is_block) accesses.now progress slots.new.values m n) (B.state bench.old) (B.state bench.new)) }
     ensures failed { OnErr result (StepsTo (λ m n. IsReady (B.reported bench.old).limits m → MayHaveFlown accesses.now m n) (B.state bench.old) (B.state bench.new)) }
     ensures read { IfOk result (λ progress. IsSeen (one_reading is_block accesses.now replies.new.items) progress slots.new.values) }
+    ensures short { IfOk result (λ progress. IfSome progress (λ p. IsPartOf (length accesses.now) (part_with p slots.new.values))) }
     ensures few { IfOk result (λ progress. IfSome progress IsSmall) }
     ensures last { OnOk result ((B.reported bench.new).last ≡ record { packets = packets.new.items; replies = replies.new.items }) }
     ensures exchanges { OnOk result ((B.reported bench.new).exchanges ≡ counted (B.reported bench.old).exchanges) }

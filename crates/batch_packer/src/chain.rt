@@ -5,7 +5,8 @@ ghost use Rattle.dap_transfer.specs.State.{is_good};
 ghost use Rattle.probe_core.specs.Bench.{StepsTo, counted};
 ghost use Rattle.probe_core.specs.Ranges.{AreLimits};
 ghost use Rattle.probe_core.specs.Runs.{KeepsRuns};
-ghost use Rattle.flight_forms.specs.Chains.{nothing_yet};
+ghost use Rattle.flight_forms.specs.Chains.{AllTaken, nothing_yet};
+ghost use Rattle.flight_forms.specs.Flights.{IsPartOf};
 ghost use Rattle.flight_forms.specs.Forms.{parts_of};
 ghost use Rattle.flight_forms.specs.Packets.{FitChain, chain_packets};
 ghost use Rattle.flight_forms.specs.Packing.{AreTaken, AreWords};
@@ -47,8 +48,11 @@ fn read_part(
     slots: &mut Slots,
 ) -> Option<Progress>
     requires packet { IsPartPacket accesses.now packet.now }
+    requires some { 0 < length accesses.now }
+    requires taken { AreTaken accesses.now }
     requires room { length slots.old.values + 255 ≤ slots.old.room }
     ensures shown { IsShown (guarded_reading accesses.now reply.now) result slots.old.values slots.new.values }
+    ensures short { IfSome result (λ _. IfSome (guarded_reading accesses.now reply.now) (IsPartOf (length accesses.now))) }
     ensures few { IfSome result (λ p. IsFew p slots.old.values slots.new.values) }
     ensures room { slots.new.room ≡ slots.old.room }
 {
@@ -57,7 +61,13 @@ fn read_part(
     if reply.len() < 2 || !is_of_one(reply[0], reply[1]) {
         return None;
     }
-    read_reply(packet, GUARD, &requests[GUARD..count - 1], &reply[2..], slots)
+    read_reply(
+        packet,
+        GUARD,
+        &requests[GUARD..count - 1],
+        &reply[2..],
+        slots,
+    )
 }
 
 // Whether every request was executed.
@@ -123,10 +133,13 @@ fn read_next(
     slots: &mut Slots,
 ) -> Option<Progress>
     requires packet { IsPartPacket accesses.now packet.now }
+    requires some { 0 < length accesses.now }
+    requires taken { AreTaken accesses.now }
     requires room { length slots.old.values + 255 ≤ slots.old.room }
     requires performed { so_far.performed < 2 ^ 32 }
     requires confirmed { so_far.confirmed < 2 ^ 32 }
     ensures seen { IsSeen (then_reading (part_with so_far slots.old.values) (guarded_reading accesses.now reply.now)) result slots.new.values }
+    ensures short { IfSome result (λ _. IfSome (guarded_reading accesses.now reply.now) (IsPartOf (length accesses.now))) }
     ensures few { IfSome result (IsNear so_far) }
     ensures values { IfSome result (λ _. length slots.new.values ≤ length slots.old.values + 255) }
     ensures room { slots.new.room ≡ slots.old.room }
@@ -161,6 +174,7 @@ fn read_packets(
     at: &mut usize,
 ) -> Option<Progress>
     requires few { length accesses.now < 65535 }
+    requires taken { AllTaken (parts_of packet_size accesses.now) }
     requires fits { FitChain 1024 (parts_of packet_size accesses.now) }
     requires packets { packets.now.items ≡ chain_packets (parts_of packet_size accesses.now) }
     requires replies { length replies.now.items ≡ length packets.now.items }
@@ -168,6 +182,7 @@ fn read_packets(
     requires slots { slots.old.values ≡ [] }
     requires room { 255 * length packets.now.items ≤ slots.old.room }
     ensures seen { IsSeen (readings_after (Some nothing_yet) (parts_of packet_size accesses.now) replies.now.items) result slots.new.values }
+    ensures short { IfSome result (λ p. IsPartOf (length accesses.now) (part_with p slots.new.values)) }
     ensures few { IfSome result IsSmall }
     ensures room { slots.new.room ≡ slots.old.room }
 {
@@ -220,6 +235,7 @@ pub fn fly_chain<B: Bench>(
         → HasFlownBy Chain accesses.now progress slots.new.values m n) (B.state bench.old) (B.state bench.new)) }
     ensures failed { OnErr result (StepsTo (λ m n. IsReady (B.reported bench.old).limits m → MayHaveFlown accesses.now m n) (B.state bench.old) (B.state bench.new)) }
     ensures read { IfOk result (λ progress. IsSeen (readings_after (Some nothing_yet) (parts_of packet_size accesses.now) replies.new.items) progress slots.new.values) }
+    ensures short { IfOk result (λ progress. IfSome progress (λ p. IsPartOf (length accesses.now) (part_with p slots.new.values))) }
     ensures few { IfOk result (λ progress. IfSome progress IsSmall) }
     ensures last { OnOk result ((B.reported bench.new).last ≡ record { packets = packets.new.items; replies = replies.new.items }) }
     ensures exchanges { OnOk result ((B.reported bench.new).exchanges ≡ counted (B.reported bench.old).exchanges) }

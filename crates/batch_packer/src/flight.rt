@@ -5,7 +5,7 @@ ghost use Rattle.probe_core.specs.Ranges.{AreLimits};
 ghost use Rattle.probe_core.specs.Runs.{KeepsRuns};
 ghost use Rattle.flight_forms.specs.Packing.{IsTaken};
 ghost use Rattle.batch_packer.specs.Exchanges.{IsOpen};
-ghost use Rattle.batch_packer.specs.FlightEnds.{HasEndCause, got_replies};
+ghost use Rattle.batch_packer.specs.FlightEnds.{HasEndCause, IsShort, got_replies};
 ghost use Rattle.batch_packer.specs.FlightStates.{ReadBy, SentBy, can_resume, can_resume_by, has_room, item_at, items_kept, new_flight, sent_form};
 ghost use Rattle.batch_packer.specs.Flying.{CanFly, IsWithin};
 ghost use Rattle.batch_packer.specs.SlotList.{slot_room};
@@ -154,6 +154,7 @@ impl Flight {
         requires room { slot_room self.old.limits ≤ slots.old.room }
         ensures flown { StepsTo (λ m n. CanFly m → SentBy (sent_form self.old.limits self.old.accesses) self.old.accesses result slots.new.values m n) (B.state bench.old) (B.state bench.new) }
         ensures read { ReadBy (sent_form self.old.limits self.old.accesses) self.old.limits.packet_size self.old.accesses (B.reported bench.new).last.replies result slots.new.values }
+        ensures short { IsShort (length self.old.accesses) result }
         ensures open { got_replies result ≡ true → IsOpen (B.reported bench.new) }
         ensures end { self.new.end ≡ result }
         ensures empty { self.new.accesses ≡ [] }
@@ -221,6 +222,8 @@ impl Flight {
         // How it ends, by the replies to this call.
         ensures read { self.old.end ≡ None → ReadBy (sent_form self.old.limits self.old.accesses) self.old.limits.packet_size self.old.accesses
             (B.reported bench.new).last.replies self.new.end slots.new.values }
+        // A cut names accesses of the flight.
+        ensures short { self.old.end ≡ None → IsShort (length self.old.accesses) self.new.end }
         ensures open { self.old.end ≡ None → got_replies self.new.end ≡ true → IsOpen (B.reported bench.new) }
         ensures empty { self.old.end ≡ None → self.new.accesses ≡ [] }
         ensures limits { self.new.limits ≡ self.old.limits }

@@ -4,13 +4,14 @@ ghost use Rattle.dap_base.specs.Causes.{HasCause};
 ghost use Rattle.probe_core.specs.Bench.{StepsTo, counted};
 ghost use Rattle.probe_core.specs.Ranges.{AreLimits};
 ghost use Rattle.probe_core.specs.Runs.{KeepsRuns};
+ghost use Rattle.flight_forms.specs.Flights.{IsPartOf};
 ghost use Rattle.flight_forms.specs.Forms.{form_of};
 ghost use Rattle.flight_forms.specs.Packing.{AreTaken, AreWords};
 ghost use Rattle.batch_packer.specs.Exchanges.{IsOpen};
-ghost use Rattle.batch_packer.specs.FlightEnds.{EndsBy, Flew, HasEndCause, IsSmall, end_at, end_of, flight_reading, form_reading, got_replies};
+ghost use Rattle.batch_packer.specs.FlightEnds.{EndsBy, Flew, HasEndCause, IsShort, IsSmall, end_at, end_of, flight_reading, form_reading, got_replies};
 ghost use Rattle.batch_packer.specs.Flying.{HasFlownBy, IsReady, IsWithin, MayHaveFlown};
 ghost use Rattle.batch_packer.specs.Queues.{IsFresh};
-ghost use Rattle.batch_packer.specs.Readings.{IsSeen};
+ghost use Rattle.batch_packer.specs.Readings.{IsSeen, part_with};
 
 use crate::alone::fly_alone;
 use crate::chain::fly_chain;
@@ -53,6 +54,7 @@ fn fly_in<B: Bench>(
         → HasFlownBy form accesses.now progress slots.new.values m n) (B.state bench.old) (B.state bench.new)) }
     ensures failed { OnErr result (StepsTo (λ m n. IsReady (B.reported bench.old).limits m → MayHaveFlown accesses.now m n) (B.state bench.old) (B.state bench.new)) }
     ensures read { IfOk result (λ progress. IsSeen (form_reading form limits.packet_size accesses.now replies.new.items) progress slots.new.values) }
+    ensures short { IfOk result (λ progress. IfSome progress (λ p. IsPartOf (length accesses.now) (part_with p slots.new.values))) }
     ensures few { IfOk result (λ progress. IfSome progress IsSmall) }
     ensures last { OnOk result ((B.reported bench.new).last ≡ record { packets = packets.new.items; replies = replies.new.items }) }
     ensures exchanges { OnOk result ((B.reported bench.new).exchanges ≡ counted (B.reported bench.old).exchanges) }
@@ -136,6 +138,7 @@ pub fn fly<B: Bench>(
     requires room { 255 * limits.packet_count ≤ slots.old.room }
     ensures flown { StepsTo (λ m n. IsReady (B.reported bench.old).limits m → Flew form accesses.now result slots.new.values m n) (B.state bench.old) (B.state bench.new) }
     ensures read { EndsBy (flight_reading form limits.packet_size accesses.now (B.reported bench.new).last.replies) result slots.new.values }
+    ensures short { IsShort (length accesses.now) result }
     ensures last { got_replies result ≡ true → (B.reported bench.new).last ≡ record { packets = packets.new.items; replies = replies.new.items } }
     ensures exchanges { got_replies result ≡ true → (B.reported bench.new).exchanges ≡ counted (B.reported bench.old).exchanges }
     ensures open { got_replies result ≡ true → IsOpen (B.reported bench.new) }
@@ -146,7 +149,9 @@ pub fn fly<B: Bench>(
     ensures identity { B.identity bench.new ≡ B.identity bench.old }
     ensures cause { HasEndCause (B.reported bench.old).faults (B.reported bench.new).faults result }
 {
-    match fly_in(form, limits, accesses, packets, replies, bytes, at, slots, bench) {
+    match fly_in(
+        form, limits, accesses, packets, replies, bytes, at, slots, bench,
+    ) {
         Err(Failed) => Some(FlightEnd::BenchFault),
         Ok(progress) => end_of(progress),
     }

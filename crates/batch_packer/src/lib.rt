@@ -8,6 +8,7 @@ mod ends;
 mod exchange;
 mod flight;
 mod flying;
+pub mod laws;
 mod packing;
 mod part;
 mod queue;
@@ -17,6 +18,3 @@ mod slots;
 pub use ends::{Cut, FlightEnd};
 pub use flight::Flight;
 pub use slots::Slots;
-
-#[cfg(test)]
-mod tests;

@@ -15,10 +15,7 @@ use probe_core::PacketList;
 use target_machine::RegAccess;
 
 /// A request to fill a buffer with.
-pub const UNUSED: Request = Request {
-    byte: 0,
-    word: 0,
-};
+pub const UNUSED: Request = Request { byte: 0, word: 0 };
 
 /// The most requests of a Transfer.
 pub const MOST_REQUESTS: usize = 255;
@@ -28,6 +25,7 @@ const WRITE_DRW: u8 = 0x0D;
 
 // DAP_ExecuteCommands and DAP_QueueCommands.
 const EXECUTE: u8 = 0x7F;
+
 const QUEUE: u8 = 0x7E;
 
 // Puts what these accesses write into the front of a buffer, and answers how many words they are.

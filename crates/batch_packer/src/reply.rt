@@ -3,9 +3,10 @@ ghost use Rattle.std.specs.Prelude.{◌≡◌, ◌+◌, ◌≤◌, List, [], ◌
 ghost use Rattle.dap_messages.specs.declared.command.PacketKind.{PacketKind};
 ghost use Rattle.dap_messages.specs.declared.command_value.CommandValue.{CommandValue};
 ghost use Rattle.dap_messages.specs.ReplyReading.{reply_read};
+ghost use Rattle.dap_messages.specs.Replies.{IsReplyTo};
 ghost use Rattle.dap_messages.specs.Responses.{response_of};
 ghost use Rattle.dap_transfer.specs.Laws.{AreNormal};
-ghost use Rattle.batch_packer.specs.Readings.{IsFew, IsPacketOf, IsShown, part_as, reading, shown_in};
+ghost use Rattle.batch_packer.specs.Readings.{IsFew, IsPacketOf, IsReadFrom, IsShown, part_as, reading, shown_in};
 
 use crate::part::{Progress, progress_by};
 use crate::slots::Slots;
@@ -23,7 +24,8 @@ pub fn command_in<'a>(packet: &'a [u8], index: u8) -> Option<CommandView<'a>>
 
 // What a reply shows, where it is one that the command may get.
 pub fn view_in<'a>(command: &CommandView<'_>, reply: &'a [u8]) -> Option<ReplyView<'a>>
-    ensures { result ≡ shown_in (reply_read command.now reply.now) }
+    ensures read { result ≡ shown_in (reply_read command.now reply.now) }
+    ensures answers { IfSome result (IsReplyTo command.now reply.now) }
 {
     match reply_view(command, reply) {
         Ok(view) => Some(view),
@@ -48,7 +50,9 @@ fn read_view(
     match Response::from_code(view.response()) {
         None => None,
         Some(response) => {
-            let count = (view.count() as usize).saturating_sub(before).min(requests.len());
+            let count = (view.count() as usize)
+                .saturating_sub(before)
+                .min(requests.len());
             Some(progress_by(&requests[..count], response, view, slots))
         }
     }
@@ -57,6 +61,7 @@ fn read_view(
 /// Reads the reply to a packet of one command that has these requests after so many others, and adds
 /// the values of the confirmed accesses to the slots. `None` exactly where it is no reply that the
 /// command may get.
+#[tactic(auto, using(crate::proofs::ShortLemmas::read_from))]
 pub fn read_reply(
     packet: &[u8],
     before: usize,
@@ -69,6 +74,8 @@ pub fn read_reply(
     requires room { length slots.old.values + length requests.now ≤ slots.old.room }
     ensures shown { (kind : PacketKind) (command : CommandValue) → IsPacketOf kind (command ∷ []) packet.now
         → IsShown (reading command before requests.now reply.now) result slots.old.values slots.new.values }
+    ensures from { (kind : PacketKind) (command : CommandValue) → IsPacketOf kind (command ∷ []) packet.now
+        → IfSome result (IsReadFrom command before requests.now reply.now slots.old.values slots.new.values) }
     ensures few { IfSome result (λ p. IsFew p slots.old.values slots.new.values) }
     ensures room { slots.new.room ≡ slots.old.room }
 {

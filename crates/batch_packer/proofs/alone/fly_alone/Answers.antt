@@ -1,8 +1,13 @@
-use Rattle.std.proofs.Common.{◌≡◌, ℕ, List, [], ◌∷◌, ◌++◌, ap, sym, ◌∙◌, take, subst}
+use Rattle.std.proofs.Common.{◌≡◌, ℕ, List, [], ◌∷◌, ◌++◌, ap, sym, ◌∙◌, take, subst, append-nil, IfSome, Option, false}
 use Rattle.dap_messages.specs.Commands.{command_bytes}
 use Rattle.dap_messages.specs.declared.request.Request.{Request}
 use Rattle.probe_core.specs.Bench.{StepsTo}
 use Rattle.batch_packer.specs.Exchanges.{HasAnswered, IsIdle}
+use Rattle.dap_messages.specs.declared.command.PacketKind.TheVariants.{Plain}
+use Rattle.flight_forms.specs.Packing.{requests_for}
+use Rattle.batch_packer.proofs.PacketLemmas.{fits_packet}
+use Rattle.batch_packer.proofs.ShortLemmas.{alone_short}
+use Rattle.batch_packer.specs.Readings.{IsReadFrom}
 use Rattle.probe_core.specs.Packets.{Packets}
 use Rattle.batch_packer.proofs.AloneLemmas.{flew_alone, may_have_flown}
 use Rattle.batch_packer.proofs.FlightFacts.{few_requests, first_kept, normal_front, one_kept, read_alone, shown_alone}
@@ -66,3 +71,18 @@ returns-in-Ok-clause-read g c =
     (one_kept c.args.replies.now.items c.push-in-Ok.new.self.items reply c.requires.replies.none pushed ∙ ap (λ (x : List ℕ). x ∷ []) (sym got))
     (shown_alone c.args.is_block size c.args.accesses.now c.get-in-Ok.result.now c.get-in-Ok-2.result.now rs c.read_reply.result c.args.slots.now.values c.read_reply.new.slots.values in_range.size_high c.requires.fits again c.put_requests-count.ensures.front
     c.read_reply.ensures.shown c.requires.slots)
+
+pub returns-in-Ok-clause-short : goal.returns-in-Ok-clause-short
+returns-in-Ok-clause-short g c =
+    let in_range = c.requires.limits in
+    let accesses = c.args.accesses.now in
+    let again : c.get-in-Ok.result.now ≡ command_bytes (one_command c.args.is_block accesses) =
+    first_kept c.args.packets.now.items c.push.new.self.items (take c.write_one-size.result c.write_one-size.new.bytes) c.get-in-Ok.result.now c.requires.packets.none (ap (λ (p : Packets). p.items) c.push.ensures) c.get-in-Ok.ensures
+    ∙ c.write_one-size.ensures.front in
+    let rs : List Request = take c.put_requests-count.result c.put_requests-count.new.requests in
+    let from = c.read_reply.ensures.from Plain (one_command c.args.is_block accesses)
+    (fits_packet Plain (one_command c.args.is_block accesses) c.get-in-Ok.result.now (g.B.Bench.reported c.args.bench.now).limits.packet_size in_range.size_high c.requires.fits
+    (again ∙ sym (append-nil (command_bytes (one_command c.args.is_block accesses))))) in
+    alone_short c.args.is_block accesses c.get-in-Ok-2.result.now c.read_reply.result c.read_reply.new.slots.values c.requires.block c.requires.taken
+    (subst (λ (xs : List (Option ℕ)). IfSome c.read_reply.result (IsReadFrom (one_command c.args.is_block accesses) 0 (requests_for false accesses) c.get-in-Ok-2.result.now xs c.read_reply.new.slots.values)) c.requires.slots
+    (subst (λ (ys : List Request). IfSome c.read_reply.result (IsReadFrom (one_command c.args.is_block accesses) 0 ys c.get-in-Ok-2.result.now c.args.slots.now.values c.read_reply.new.slots.values)) c.put_requests-count.ensures.front from))

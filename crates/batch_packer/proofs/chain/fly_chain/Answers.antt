@@ -1,4 +1,4 @@
-use Rattle.std.proofs.Common.{◌≡◌, ◌<◌, ◌≤◌, ◌*◌, ℕ, List, length, ap, sym, ◌∙◌, arith}
+use Rattle.std.proofs.Common.{length, ap, ◌∙◌, arith}
 use Rattle.target_machine.specs.declared.access.RegAccess.{RegAccess}
 use Rattle.flight_forms.proofs.PartLists.{all_parts, parts_have, parts_taken}
 use Rattle.target_machine.specs.InRange.{IsWord}
@@ -103,3 +103,6 @@ returns-in-Ok-receive_all-clause-open g c =
     c.put_packets.new.packets.items c.receive_all.new.replies.items c.requires.open (parts_some c.args.packet_size c.args.accesses.now chain.some) c.put_packets.ensures.items c.in-Ok.ensures.reported
     c.in-Ok-receive_all.ensures.reported (c.in-Ok-receive_all.ensures.count ∙ c.len.ensures) in
     done.is_open
+
+pub read_packets-requires-clause-taken : goal.read_packets-requires-clause-taken
+read_packets-requires-clause-taken g c = parts_taken c.args.packet_size c.args.accesses.now c.requires.taken

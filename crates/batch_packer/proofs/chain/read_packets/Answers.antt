@@ -1,9 +1,12 @@
-use Rattle.std.proofs.Common.{◌≡◌, ◌<◌, ◌≤◌, ◌+◌, ◌-◌, ◌*◌, ◌∷◌, [], ℕ, Bool, List, length, take, drop, ap, sym, ◌∙◌, arith, subst, Some, None}
+use Rattle.std.proofs.Common.{◌≡◌, ◌<◌, ◌≤◌, ◌+◌, ◌-◌, ◌∷◌, ℕ, List, length, take, drop, ap, sym, ◌∙◌, arith, subst, Some, None, IfSome, length-drop}
 use Rattle.target_machine.specs.declared.access.RegAccess.{RegAccess}
 use Rattle.flight_forms.specs.Chains.{nothing_yet}
 use Rattle.flight_forms.specs.Forms.{parts_of}
 use Rattle.batch_packer.proofs.PartLemmas.{fits_left, part_made, slice_rest}
-use Rattle.batch_packer.proofs.ReadLemmas.{ends_there, goes_on, next_packet, rest_some, stops_at}
+use Rattle.batch_packer.proofs.ReadLemmas.{ends_past, ends_there, goes_on, next_packet, rest_some, stops_at}
+use Rattle.batch_packer.proofs.ShortLemmas.{all_short, next_short, length_taken, some_taken, taken_left}
+use Rattle.flight_forms.specs.Flights.{IsPartOf}
+use Rattle.flight_forms.specs.Packing.{AreTaken}
 use Rattle.batch_packer.specs.ChainReadings.{guarded_reading, readings_after, then_reading}
 use Rattle.batch_packer.specs.Queues.{IsPartPacket}
 use Rattle.batch_packer.specs.Readings.{IsSeen, part_with}
@@ -65,12 +68,18 @@ loop-i-preserved c =
     let seen : IsSeen (then_reading (part_with c.loop-i.so_far c.loop-i.slots.values) (guarded_reading (take len rest) c.get-in-loop-i.result.now)) (Some c.in-Some.progress) c.read_next.new.slots.values =
     subst (λ (ys : List RegAccess). IsSeen (then_reading (part_with c.loop-i.so_far c.loop-i.slots.values) (guarded_reading (take len ys) c.get-in-loop-i.result.now)) (Some c.in-Some.progress) c.read_next.new.slots.values) same c.in-Some.ensures.seen in
     let few = c.in-Some.ensures.few in
+    let taken = taken_left (take len rest) (parts_of size rest) left made.parts inv.taken in
+    let short : IfSome (guarded_reading (take len rest) c.get-in-loop-i.result.now) (IsPartOf (length (take len rest))) =
+    subst (λ (ys : List RegAccess). IfSome (guarded_reading (take len ys) c.get-in-loop-i.result.now) (IsPartOf (length (take len ys)))) same c.in-Some.ensures.short in
     record {
       whole = goes_on c.loop-i.i c.args.replies.now.items c.get-in-loop-i.result.now (take len rest) (parts_of size rest) left (part_with c.loop-i.so_far c.loop-i.slots.values) c.in-Some.progress c.read_next.new.slots.values
           (readings_after (Some nothing_yet) (parts_of size xs) c.args.replies.now.items) c.get-in-loop-i.ensures made.parts inv.whole seen;
       packets = next.rest;
       within = made.within;
       fits = fits.1;
+      taken = taken.1;
+      short = all_short (start + length (take len rest)) (start + len) c.in-Some.progress c.read_next.new.slots.values (ap (λ n. start + n) (length_taken len rest within))
+          (next_short start (length (take len rest)) (part_with c.loop-i.so_far c.loop-i.slots.values) (guarded_reading (take len rest) c.get-in-loop-i.result.now) c.in-Some.progress c.read_next.new.slots.values seen short inv.short);
       performed = (let a = few.performed in let b = inv.performed in omega arith);
       confirmed = (let a = few.confirmed in let b = inv.confirmed in omega arith);
       values = (let a = c.in-Some.ensures.values in let b = inv.values in omega arith);
@@ -83,3 +92,29 @@ returns-clause-seen c =
     ends_there c.loop-i.i c.args.packets.now.items c.args.replies.now.items (parts_of c.args.packet_size (drop c.loop-i.start c.args.accesses.now)) c.loop-i.so_far c.loop-i.slots.values
     (readings_after (Some nothing_yet) (parts_of c.args.packet_size c.args.accesses.now) c.args.replies.now.items) c.requires.replies (let a = c.loop-i-test.false in let b = c.len-i-end.ensures in omega arith)
     inv.packets inv.whole
+
+pub read_next-requires-clause-some : goal.read_next-requires-clause-some
+read_next-requires-clause-some c =
+    let rest : List RegAccess = drop c.loop-i.start c.args.accesses.now in
+    let len : ℕ = c.first_part-len.result in
+    let size : ℕ = c.args.packet_size in
+    let same : take (length c.args.accesses.now - c.loop-i.start) rest ≡ rest = slice_rest c.loop-i.start c.args.accesses.now c.loop-i.invariant.within in
+    let within : len ≤ length rest = subst (λ (ys : List RegAccess). len ≤ length ys) same c.first_part-len.ensures.within in
+    subst (λ (ys : List RegAccess). 0 < length (take len ys)) (sym same) (some_taken len rest c.first_part-len.ensures.some within)
+
+pub read_next-requires-clause-taken : goal.read_next-requires-clause-taken
+read_next-requires-clause-taken c =
+    let rest : List RegAccess = drop c.loop-i.start c.args.accesses.now in
+    let len : ℕ = c.first_part-len.result in
+    let size : ℕ = c.args.packet_size in
+    let same : take (length c.args.accesses.now - c.loop-i.start) rest ≡ rest = slice_rest c.loop-i.start c.args.accesses.now c.loop-i.invariant.within in
+    let part : parts_of size rest ≡ take len rest ∷ parts_of size (drop len rest) =
+    subst (λ (ys : List RegAccess). parts_of size ys ≡ take len ys ∷ parts_of size (drop len ys)) same c.first_part-len.ensures.part in
+    let taken = taken_left (take len rest) (parts_of size rest) (parts_of size (drop len rest)) part c.loop-i.invariant.taken in
+    subst (λ (ys : List RegAccess). AreTaken (take len ys)) (sym same) taken.0
+
+pub returns-clause-short : goal.returns-clause-short
+returns-clause-short c =
+    let inv = c.loop-i.invariant in
+    let none = ends_past c.loop-i.i c.args.packets.now.items c.args.packet_size (drop c.loop-i.start c.args.accesses.now) (let a = c.loop-i-test.false in let b = c.len-i-end.ensures in let d = c.requires.replies in omega arith) inv.packets in
+    all_short c.loop-i.start (length c.args.accesses.now) c.loop-i.so_far c.loop-i.slots.values (let l = length-drop c.loop-i.start c.args.accesses.now in let w = inv.within in omega arith) inv.short

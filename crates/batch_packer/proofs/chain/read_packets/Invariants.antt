@@ -1,5 +1,6 @@
-use Rattle.std.proofs.Common.{◌≡◌, ◌≤◌, ◌<◌, ◌+◌, ◌*◌, length, drop, Some}
-use Rattle.flight_forms.specs.Chains.{nothing_yet}
+use Rattle.std.proofs.Common.{◌≡◌, ◌≤◌, ◌*◌, length, drop, Some}
+use Rattle.flight_forms.specs.Chains.{AllTaken, nothing_yet}
+use Rattle.flight_forms.specs.Flights.{IsPartOf}
 use Rattle.flight_forms.specs.Forms.{parts_of}
 use Rattle.flight_forms.specs.Packets.{FitChain, chain_packets}
 use Rattle.batch_packer.specs.ChainReadings.{readings_after}
@@ -13,6 +14,8 @@ invariant-loop-i l = record {
   packets : drop l.i l.packets.items ≡ chain_packets (parts_of l.packet_size (drop l.start l.accesses));
   within : l.start ≤ length l.accesses;
   fits : FitChain 1024 (parts_of l.packet_size (drop l.start l.accesses));
+  taken : AllTaken (parts_of l.packet_size (drop l.start l.accesses));
+  short : IsPartOf l.start (part_with l.so_far l.slots.values);
   performed : l.so_far.performed ≤ 255 * l.i;
   confirmed : l.so_far.confirmed ≤ 255 * l.i;
   values : length l.slots.values ≤ 255 * l.i;

@@ -1,4 +1,4 @@
-use Rattle.std.proofs.Common.{◌≡◌, ◌≤◌, ◌*◌, ap, ◌∙◌, arith, Some}
+use Rattle.std.proofs.Common.{ap, ◌∙◌, arith, Some}
 use Rattle.batch_packer.proofs.FormLemmas.{block_sent, chain_sent, few_parts, transfer_sent}
 use Rattle.batch_packer.proofs.flying.fly_in.Goals as goal
 

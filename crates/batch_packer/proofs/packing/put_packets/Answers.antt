@@ -1,4 +1,4 @@
-use Rattle.std.proofs.Common.{◌≡◌, ◌<◌, ◌≤◌, ◌+◌, ◌++◌, ◌∷◌, [], ℕ, Bool, List, length, take, drop, ap, ◌∙◌, arith, eqb, ◌-◌, subst}
+use Rattle.std.proofs.Common.{◌≡◌, ◌≤◌, ◌+◌, ◌++◌, ◌∷◌, [], ℕ, Bool, List, length, take, drop, ap, ◌∙◌, arith, eqb, ◌-◌, subst}
 use Rattle.target_machine.specs.declared.access.RegAccess.{RegAccess}
 use Rattle.flight_forms.specs.Forms.{parts_of}
 use Rattle.flight_forms.specs.Packets.{chain_packets, guarded_command}

@@ -1,4 +1,4 @@
-use Rattle.std.proofs.Common.{◌≡◌, arith}
+use Rattle.std.proofs.Common.{arith}
 use Rattle.batch_packer.proofs.FlightLemmas.{few_held}
 use Rattle.batch_packer.proofs.flight.Flight.count.Goals as goal
 

@@ -1,4 +1,4 @@
-use Rattle.std.proofs.Common.{◌≡◌, ◌∙◌, ◌++◌, ◌∷◌, [], ap, sym, arith}
+use Rattle.std.proofs.Common.{◌∙◌, ◌++◌, ◌∷◌, [], ap, arith}
 use Rattle.std.specs.Prelude.{is_some}
 use Rattle.flight_forms.specs.Forms.{form_of}
 use Rattle.batch_packer.proofs.FlightLemmas.{few_held}
