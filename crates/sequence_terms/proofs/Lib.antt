@@ -1,0 +1,11 @@
+pub mod Goes
+pub mod Matching
+pub mod LateLemmas
+pub mod Adding
+pub mod Starting
+pub mod Made
+pub mod Limits
+pub mod Watching
+pub mod LineLemmas
+pub mod PollLemmas
+pub mod VariableLemmas

@@ -1,0 +1,46 @@
+-- Variables in a list, the newest last.
+use Rattle.std.proofs.Common.{◌≡◌, ℕ, zero, suc, ◌+◌, ◌<◌, Bool, true, false, cond, List, [], ◌∷◌, length, drop, slice_set, slice_index_or, bytes_eq, Option, None, Some, refl, sym, ap, ◌∙◌, arith}
+use Rattle.std.specs.Option.{option_or}
+use Rattle.sequence_terms.specs.declared.bindings.Binding.{Binding}
+use Rattle.sequence_terms.specs.Variables.{has_in, newest_in, set_newest}
+
+has_more : (p q : Bool) → cond p true q ≡ false → (p ≡ false) × (q ≡ false)
+has_more true q h = absurd cc
+has_more false q h = (refl, h)
+
+module _ {V : Type 0} where
+  has_at : (bs : List (Binding V)) (i : ℕ) (name : List ℕ) (e : Binding V) → i < length bs → bytes_eq name (slice_index_or bs i e).name ≡ true → has_in bs name ≡ true
+  has_at [] i name e below same = absurd (omega arith)
+  has_at (b ∷ bs) zero name e below same = rw same refl
+  has_at (b ∷ bs) (suc i) name e below same = rw (has_at bs i name e (omega arith) same) (either (bytes_eq name b.name))
+    where
+      either : (p : Bool) → cond p true true ≡ true
+      either true = refl
+      either false = refl
+
+  pub newest_none : (bs : List (Binding V)) (name : List ℕ) → has_in bs name ≡ false → newest_in bs name ≡ None
+  newest_none [] name h = refl
+  newest_none (b ∷ bs) name h = let q = has_more (bytes_eq name b.name) (has_in bs name) h in rw (newest_none bs name q.1) (rw q.0 refl)
+
+  pub newest_at : (bs : List (Binding V)) (i : ℕ) (name : List ℕ) (d e : Binding V) → i < length bs → bytes_eq name (slice_index_or bs i e).name ≡ true → has_in (drop (suc i) bs) name ≡ false
+      → newest_in bs name ≡ Some (slice_index_or bs i d).value
+  newest_at [] i name d e below same none = absurd (omega arith)
+  newest_at (b ∷ bs) zero name d e below same none = rw (newest_none bs name none) (rw same refl)
+  newest_at (b ∷ bs) (suc i) name d e below same none = rw (newest_at bs i name d e (omega arith) same none) refl
+
+  pub set_newest_none : (bs : List (Binding V)) (name : List ℕ) (v : V) → has_in bs name ≡ false → set_newest bs name v ≡ bs
+  set_newest_none [] name v h = refl
+  set_newest_none (b ∷ bs) name v h = let q = has_more (bytes_eq name b.name) (has_in bs name) h in rw (q.0, q.1) refl
+
+  pub set_newest_at : (bs : List (Binding V)) (i : ℕ) (name : List ℕ) (v : V) (d e : Binding V) → i < length bs → bytes_eq name (slice_index_or bs i e).name ≡ true → has_in (drop (suc i) bs) name ≡ false
+      → slice_set bs i (record { name = (slice_index_or bs i d).name; value = v }) ≡ set_newest bs name v
+  set_newest_at [] i name v d e below same none = absurd (omega arith)
+  set_newest_at (b ∷ bs) zero name v d e below same none = rw none (rw same refl)
+  set_newest_at (b ∷ bs) (suc i) name v d e below same none =
+      rw (has_at bs i name e (omega arith) same) (ap (λ xs. b ∷ xs) (set_newest_at bs i name v d e (omega arith) same none))
+
+  -- one variable earlier
+  pub none_more : (bs : List (Binding V)) (i : ℕ) (name : List ℕ) (e : Binding V) → i < length bs → bytes_eq name (slice_index_or bs i e).name ≡ false → has_in (drop (suc i) bs) name ≡ false → has_in (drop i bs) name ≡ false
+  none_more [] i name e below differs none = absurd (omega arith)
+  none_more (b ∷ bs) zero name e below differs none = rw differs none
+  none_more (b ∷ bs) (suc i) name e below differs none = none_more bs i name e (omega arith) differs none

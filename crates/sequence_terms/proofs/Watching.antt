@@ -1,0 +1,96 @@
+-- A watched run.
+use Rattle.std.proofs.Common.{◌≡◌, ℕ, ◌+◌, ◌⊎◌, inl, inr, true, false, List, [], ◌∷◌, Option, None, Some, unwrap_or, Result, Ok, Err, refl, sym, ap, ◌∙◌}
+use Rattle.std.specs.Bool.{⊤}
+use Rattle.call_terms.specs.World.{World}
+use Rattle.sequence_terms.specs.declared.bindings.Binding.{Binding}
+use Rattle.sequence_terms.specs.Alike.{Binds, Ends, CallMatches, Matches, Equal, Tracks}
+use Rattle.sequence_terms.specs.Direct.{Now, now_at, with_line, direct}
+use Rattle.sequence_terms.specs.Laws.{Adds}
+use Rattle.sequence_terms.specs.Machine as machine
+use Rattle.sequence_terms.specs.Machine.{Over, State, Out}
+use Rattle.sequence_terms.specs.Runs as ending
+use Rattle.sequence_terms.specs.Runs.{Program, Outcome, outcome_at, outcome_over, outcome_of, meaning, watched}
+use Rattle.sequence_terms.proofs.Adding.{adds_direct}
+use Rattle.sequence_terms.proofs.Starting.{runs_alike}
+
+abbrev Same : ℕ → Now → Now → Type 0
+Same k t u = u ≡ t
+
+abbrev WatchEnds : Ends Now Now
+WatchEnds here t k (machine.Halted cause) u = ⊥
+WatchEnds here t k (machine.Faulted call) u = (here ≡ Some (machine.Faulted call)) × (u ≡ t)
+WatchEnds here t k machine.Unanswered u = (here ≡ Some machine.Unanswered) × (u ≡ t)
+WatchEnds here t k machine.Lost u = ⊤
+
+none_some : {A : Type 0} {x : Over} → None ≡ Some x → A
+none_some e = absurd cc
+
+watch_ended : (here : Option Over) (t t2 : Now) (k : ℕ) (over : Over) (u : Now) → Adds t t2 → WatchEnds None t k over u → WatchEnds here t2 k over u
+watch_ended here t t2 k (machine.Halted cause) u p h = h
+watch_ended here t t2 k (machine.Faulted call) u p h = none_some h.0
+watch_ended here t t2 k machine.Unanswered u p h = none_some h.0
+watch_ended here t t2 k machine.Lost u p h = tt
+
+same_end : (k : ℕ) (over : Over) (t : Now) → CallMatches {X = ℕ} {Y = ℕ} Same WatchEnds Equal k (Err (over, t)) (Err (over, t))
+same_end k (machine.Halted cause) t = (refl, refl)
+same_end k (machine.Faulted call) t = (refl, refl)
+same_end k machine.Unanswered t = (refl, refl)
+same_end k machine.Lost t = tt
+
+same_call : (k : ℕ) (x : Result (ℕ × Now) (Over × Now)) → CallMatches Same WatchEnds Equal k x x
+same_call k (Ok x) = (refl, refl)
+same_call k (Err e) = same_end k e.0 e.1
+
+watch_tracks : Tracks (direct false) (direct true) Equal Same Adds WatchEnds
+unfolding direct
+watch_tracks = record {
+  steady = adds_direct false;
+  keeps = λ k t t2 u v w p r e. e;
+  ended = watch_ended;
+  careless = refl;
+  lost = λ k t u e r. tt;
+  number = λ t n. refl;
+  used = λ k t u v w r e. (e, r);
+  asked = λ k t u unit forgive r. rw r (same_call (k + 1) _);
+  commanded = λ k t u c r. rw r (same_call (k + 1) _);
+  confirmed = λ k t u r. r;
+  written = λ k t u line r. ap (with_line line) r;
+}
+
+-- ---- outcomes
+
+same_binds : (t : Now) (bs cs : List (Binding ℕ)) → Binds (Equal t) bs cs → cs ≡ bs
+same_binds t [] [] h = refl
+same_binds t [] (c ∷ cs) h = absurd h
+same_binds t (b ∷ bs) [] h = absurd h
+same_binds t (b ∷ bs) (c ∷ cs) h = rw (sym h.0, h.1, same_binds t bs cs h.2) refl
+
+abbrev SameOrLost : Out ℕ Now (Unit {0}) → Out ℕ Now (Unit {0}) → Type 0
+SameOrLost out q = (outcome_of q ≡ outcome_of out) ⊎ ((outcome_of q).ending ≡ ending.Lost)
+
+abbrev Watch : Out ℕ Now (Unit {0}) → Out ℕ Now (Unit {0}) → Type 0
+Watch out q = Matches Equal Same WatchEnds Equal out q
+
+here_is : {x y : Over} → Some x ≡ Some y → x ≡ y
+here_is {x} e = ap (λ o. unwrap_or o x) e
+
+ends_same : (e : Over) (s : State ℕ Now) (over : Over) (r : State ℕ Now) → Watch (Err (e, s)) (Err (over, r)) → SameOrLost (Err (e, s)) (Err (over, r))
+ends_same e s (machine.Halted cause) r h = inl (rw h.0 (rw (same_binds s.rest s.globals r.globals h.1.globals, h.1.rest) refl))
+ends_same e s (machine.Faulted call) r h = inl (rw (here_is h.0) (rw h.1 refl))
+ends_same e s machine.Unanswered r h = inl (rw (here_is h.0) (rw h.1 refl))
+ends_same e s machine.Lost r h = inr refl
+
+alone_same : (x : Unit {0} × State ℕ Now) (over : Over) (r : State ℕ Now) → Watch (Ok x) (Err (over, r)) → SameOrLost (Ok x) (Err (over, r))
+alone_same x (machine.Halted cause) r h = absurd h
+alone_same x (machine.Faulted call) r h = none_some h.0
+alone_same x machine.Unanswered r h = none_some h.0
+alone_same x machine.Lost r h = inr refl
+
+watch_same : (out q : Out ℕ Now (Unit {0})) → Watch out q → SameOrLost out q
+watch_same (Ok x) (Ok y) h = inl (rw (same_binds x.1.rest x.1.globals y.1.globals h.0.globals, h.0.rest) refl)
+watch_same (Err e) (Ok y) h = absurd h
+watch_same (Ok x) (Err y) h = alone_same x y.0 y.1 h
+watch_same (Err e) (Err y) h = ends_same e.0 e.1 y.0 y.1 h
+
+pub watched_same : (w : World) (p : Program) (written : Option (List ℕ)) → SameOrLost (meaning w p written) (watched w p written)
+watched_same w p written = watch_same _ _ (runs_alike (direct false) (direct true) Equal Same Adds WatchEnds watch_tracks p (now_at w written) (now_at w written) refl)

@@ -1,0 +1,13 @@
+pub mod Machine
+pub mod Variables
+pub mod Lines
+pub mod Calls
+pub mod Values
+pub mod Polls
+pub mod Steps
+pub mod Direct
+pub mod Late
+pub mod Steady
+pub mod Alike
+pub mod Runs
+pub mod Laws

@@ -1,0 +1,17 @@
+//! What debug access sequences mean, as definitions over a machine of operations, and the code that runners share.
+#![tactic(auto)]
+
+mod arguments;
+mod bindings;
+pub mod laws;
+mod lines;
+mod loops;
+mod polls;
+mod sequences;
+
+pub use arguments::text_of;
+pub use bindings::Binding;
+pub use lines::{load_line, message_line, query_line, value_line};
+pub use loops::turn_count;
+pub use polls::poll_of;
+pub use sequences::steps_of;
