@@ -1,0 +1,35 @@
+-- Actions in order: what two lists in a row come to.
+use Rattle.std.proofs.Common.{◌≡◌, ◌∙◌, ℕ, Bool, true, false, cond, List, [], ◌∷◌, ◌++◌, map, drop, get_or, length, fold, ◌<◌, ◌≤◌, ◌+◌, sym, subst, refl, ap}
+use Rattle.std.proofs.lemmas.List.{drop_more}
+use Rattle.target_machine.proofs.ActionLists.{order_from, order_fault}
+use Rattle.target_machine.specs.Attempt.{Attempt, done}
+use Rattle.target_machine.specs.Plain.{Action, Makes, acted, then_acted, in_order, is_fault, csw_actions, transfer_actions, memory_actions, given}
+use Rattle.target_machine.specs.State.{TargetState}
+use Rattle.target_machine.specs.declared.access.RegAccess.{RegAccess}
+
+order_append : (m : Attempt) (xs ys : List Action) → order_from m (xs ++ ys) ≡ order_from (order_from m xs) ys
+order_append m [] ys = refl
+order_append m (x ∷ xs) ys = order_append (then_acted m x) xs ys
+
+pub order_next : (m : Attempt) (a : Action) (ys : List Action) → is_fault m.outcome ≡ false → order_from m (a ∷ ys) ≡ order_from (acted m.next a) ys
+order_next m a ys good = ap (λ (b : Bool). order_from (cond b m (acted m.next a)) ys) good
+
+-- the first list ends at a fault
+pub joined_fault : (t : TargetState) (xs ys : List Action) (x : Attempt) → x ≡ in_order t xs → is_fault x.outcome ≡ true → x ≡ in_order t (xs ++ ys)
+joined_fault t xs ys x is bad =
+    is ∙ sym (order_append (done t) xs ys ∙ order_fault (in_order t xs) ys (subst (λ (y : Attempt). is_fault y.outcome ≡ true) is bad))
+
+-- it does not, and the second one follows
+pub joined_pass : (t : TargetState) (xs : List Action) (a : Action) (ys : List Action) (x y : Attempt) → x ≡ in_order t xs → is_fault x.outcome ≡ false → y ≡ in_order x.next (a ∷ ys)
+    → y ≡ in_order t (xs ++ a ∷ ys)
+joined_pass t xs a ys x y is good next =
+    next ∙ sym (order_append (done t) xs (a ∷ ys) ∙ ap (λ (z : Attempt). order_from z (a ∷ ys)) (sym is) ∙ order_next x a ys good)
+
+-- ---- accesses one after the other
+
+pub more_accesses : (xs : List RegAccess) (i : ℕ) (d : RegAccess) (m x : Attempt) (whole : Attempt) → whole ≡ order_from m (map Makes (drop i xs)) → is_fault m.outcome ≡ false → i < length xs
+    → x ≡ acted m.next (Makes (get_or xs i d)) → whole ≡ order_from x (map Makes (drop (i + 1) xs))
+more_accesses xs i d m x whole same good below is =
+    same ∙ ap (λ (l : List RegAccess). order_from m (map Makes l)) (drop_more xs i d below)
+    ∙ order_next m (Makes (get_or xs i d)) (map Makes (drop (i + 1) xs)) good
+    ∙ ap (λ (y : Attempt). order_from y (map Makes (drop (i + 1) xs))) (sym is)

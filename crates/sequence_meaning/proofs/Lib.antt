@@ -1,0 +1,4 @@
+pub mod ActionLemmas
+pub mod AtOnceLemmas
+pub mod DirectLemmas
+pub mod HeldLemmas
