@@ -9,3 +9,5 @@ pub mod Watching
 pub mod LineLemmas
 pub mod PollLemmas
 pub mod VariableLemmas
+pub mod GlobalLemmas
+pub mod Rows

@@ -1,5 +1,5 @@
 -- Variables in a list, the newest last.
-use Rattle.std.proofs.Common.{◌≡◌, ℕ, zero, suc, ◌+◌, ◌<◌, Bool, true, false, cond, List, [], ◌∷◌, length, drop, slice_set, slice_index_or, bytes_eq, Option, None, Some, refl, sym, ap, ◌∙◌, arith}
+use Rattle.std.proofs.Common.{◌≡◌, ℕ, zero, suc, ◌-◌, ◌<◌, ◌≤◌, Bool, true, false, cond, List, [], ◌∷◌, length, drop, slice_set, slice_index_or, bytes_eq, Option, None, Some, refl, sym, ap, ◌∙◌, arith}
 use Rattle.std.specs.Option.{option_or}
 use Rattle.sequence_terms.specs.declared.bindings.Binding.{Binding}
 use Rattle.sequence_terms.specs.Variables.{has_in, newest_in, set_newest}
@@ -44,3 +44,27 @@ module _ {V : Type 0} where
   none_more [] i name e below differs none = absurd (omega arith)
   none_more (b ∷ bs) zero name e below differs none = rw differs none
   none_more (b ∷ bs) (suc i) name e below differs none = none_more bs i name e (omega arith) differs none
+
+  -- ---- as a loop from the end comes to them
+
+  pub newest_found : (bs : List (Binding V)) (n : ℕ) (name : List ℕ) (d e : Binding V) → n ≤ length bs → 0 < n → has_in (drop n bs) name ≡ false → bytes_eq name (slice_index_or bs (n - 1) e).name ≡ true
+      → newest_in bs name ≡ Some (slice_index_or bs (n - 1) d).value
+  newest_found bs zero name d e within some none same = absurd (omega arith)
+  newest_found bs (suc i) name d e within some none same =
+      let less : suc i - 1 ≡ i = omega arith in
+      rw less (newest_at bs i name d e (omega arith) (rw less at same) none)
+
+  pub newest_absent : (bs : List (Binding V)) (n : ℕ) (name : List ℕ) → n ≤ 0 → has_in (drop n bs) name ≡ false → newest_in bs name ≡ None
+  newest_absent bs zero name end none = newest_none bs name none
+  newest_absent bs (suc i) name end none = absurd (omega arith)
+
+  pub set_newest_found : (bs : List (Binding V)) (n : ℕ) (name : List ℕ) (v : V) (d e : Binding V) → n ≤ length bs → 0 < n → has_in (drop n bs) name ≡ false → bytes_eq name (slice_index_or bs (n - 1) e).name ≡ true
+      → slice_set bs (n - 1) (record { name = (slice_index_or bs (n - 1) d).name; value = v }) ≡ set_newest bs name v
+  set_newest_found bs zero name v d e within some none same = absurd (omega arith)
+  set_newest_found bs (suc i) name v d e within some none same =
+      let less : suc i - 1 ≡ i = omega arith in
+      rw less (set_newest_at bs i name v d e (omega arith) (rw less at same) none)
+
+  pub set_newest_absent : (bs : List (Binding V)) (n : ℕ) (name : List ℕ) (v : V) → n ≤ 0 → has_in (drop n bs) name ≡ false → bs ≡ set_newest bs name v
+  set_newest_absent bs zero name v end none = sym (set_newest_none bs name v none)
+  set_newest_absent bs (suc i) name v end none = absurd (omega arith)

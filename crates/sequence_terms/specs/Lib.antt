@@ -1,5 +1,6 @@
 pub mod Machine
 pub mod Variables
+pub mod Shared
 pub mod Lines
 pub mod Calls
 pub mod Values
@@ -11,3 +12,4 @@ pub mod Steady
 pub mod Alike
 pub mod Runs
 pub mod Laws
+pub mod Rows

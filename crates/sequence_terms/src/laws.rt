@@ -1,5 +1,6 @@
 //! What follows from the definitions: each law is the contract of a function that does nothing.
 
+ghost use Rattle.sequence_terms.specs.Rows.{Divides, HalfMade, Loops, CallsB, Writes};
 ghost use Rattle.sequence_terms.specs.Laws.{LateValuesChangeNothing, RunsOnlyAdd, CallsAreMade, LimitsCutRuns, WatchedIsTheMeaning};
 
 /// A run with results that come later comes to what the meaning comes to, in each world: the same ending, variables, counts, calls
@@ -28,4 +29,13 @@ pub fn limits_cut_runs()
 /// A run that ends where something is missing which every valid set has comes to what the meaning comes to, unless it ends so.
 pub fn watched_is_the_meaning()
     ensures { WatchedIsTheMeaning }
+{}
+
+/// The definitions compute: five runs that were worked out by hand.
+pub fn worked_rows()
+    ensures divides { Divides }
+    ensures half_made { HalfMade }
+    ensures loops { Loops }
+    ensures calls { CallsB }
+    ensures writes { Writes }
 {}

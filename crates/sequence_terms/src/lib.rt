@@ -3,6 +3,7 @@
 
 mod arguments;
 mod bindings;
+mod globals;
 pub mod laws;
 mod lines;
 mod loops;
@@ -10,8 +11,12 @@ mod polls;
 mod sequences;
 
 pub use arguments::text_of;
-pub use bindings::Binding;
+pub use bindings::{Binding, has_in, newest_in, set_newest};
+pub use globals::Globals;
 pub use lines::{load_line, message_line, query_line, value_line};
 pub use loops::turn_count;
 pub use polls::poll_of;
 pub use sequences::steps_of;
+
+#[cfg(test)]
+mod tests;

@@ -1,0 +1,59 @@
+-- The variables of a table, as a list.
+use Rattle.std.proofs.Common.{◌≡◌, ◌∙◌, sym, ap, refl, ℕ, Bool, true, false, cond, List, [], ◌∷◌, ◌++◌, map, Option, None, Some, is_some, String, Global, bytes_eq, string_bytes}
+use Rattle.std.proofs.lemmas.List.{map-append}
+use Rattle.std.specs.Map.{lookup, set_value}
+use Rattle.std.specs.String.{string_eq}
+use Rattle.indexmap.specs.IndexMap.{IndexMap, insert_entry}
+use Rattle.indexmap.proofs.CallerLemmas.{insert_entry-new}
+use Rattle.sequence_terms.specs.declared.bindings.Binding.{Binding}
+use Rattle.sequence_terms.specs.Shared.{entry_binding}
+use Rattle.sequence_terms.specs.Variables.{bound, has_in, value_in, set_in, with_new}
+
+abbrev has_name : List ℕ → String Global → Bool
+has_name name k = bytes_eq name (string_bytes k)
+
+module _ {V : Type 0} (name : List ℕ) where
+  pub value_found : (es : List (String Global × V)) → lookup (has_name name) es ≡ value_in (map entry_binding es) name
+  value_found [] = refl
+  value_found (e ∷ es) = ap (λ o. cond (has_name name e.0) (Some e.1) o) (value_found es)
+
+  pub name_found : (es : List (String Global × V)) → is_some (lookup (has_name name) es) ≡ has_in (map entry_binding es) name
+  name_found [] = refl
+  name_found (e ∷ es) = some_of (has_name name e.0) (lookup (has_name name) es) ∙ ap (λ b. cond (has_name name e.0) true b) (name_found es)
+    where
+      some_of : (p : Bool) (o : Option V) → is_some (cond p (Some e.1) o) ≡ cond p true (is_some o)
+      some_of true o = refl
+      some_of false o = refl
+
+  pub value_set : (es : List (String Global × V)) (v : V) → map entry_binding (set_value (has_name name) es v) ≡ set_in (map entry_binding es) name v
+  value_set [] v = refl
+  value_set (e ∷ es) v = either (has_name name e.0) (value_set es v)
+    where
+      either : (p : Bool) → map entry_binding (set_value (has_name name) es v) ≡ set_in (map entry_binding es) name v
+          → map entry_binding (cond p ((e.0, v) ∷ es) (e ∷ set_value (has_name name) es v)) ≡ cond p (bound (string_bytes e.0) v ∷ map entry_binding es) (entry_binding e ∷ set_in (map entry_binding es) name v)
+      either true h = refl
+      either false h = ap (λ bs. entry_binding e ∷ bs) h
+
+  none_later : (p : Bool) (v : V) (o : Option V) → cond p (Some v) o ≡ None → (p ≡ false) × (o ≡ None)
+  none_later true v o h = absurd cc
+  none_later false v o h = (refl, h)
+
+  pub none_set : (es : List (String Global × V)) (v : V) → lookup (has_name name) es ≡ None → map entry_binding es ≡ set_in (map entry_binding es) name v
+  none_set [] v h = refl
+  none_set (e ∷ es) v h =
+      let q = none_later (has_name name e.0) e.1 (lookup (has_name name) es) h in
+      rw q.0 (ap (λ bs. entry_binding e ∷ bs) (none_set es v q.1))
+
+  none_found : (o : Option V) → is_some o ≡ false → o ≡ None
+  none_found None h = refl
+  none_found (Some x) h = absurd cc
+
+  pub none_named : (es : List (String Global × V)) → has_in (map entry_binding es) name ≡ false → lookup (has_name name) es ≡ None
+  none_named es h = none_found (lookup (has_name name) es) (name_found es ∙ h)
+
+-- a variable of a new name goes last
+pub added : {V S : Type 0} (m : IndexMap (String Global) V S) (k : String Global) (v : V) (name : List ℕ) → string_bytes k ≡ name → has_in (map entry_binding m.entries) name ≡ false
+    → map entry_binding (insert_entry string_eq m.entries k v) ≡ with_new (map entry_binding m.entries) name v
+added m k v name is new =
+    let none : lookup (string_eq k) m.entries ≡ None = none_named (string_bytes k) m.entries (ap (has_in (map entry_binding m.entries)) is ∙ new) in
+    rw new (ap (map entry_binding) (insert_entry-new string_eq m k v none) ∙ map-append entry_binding m.entries ((k, v) ∷ []) ∙ ap (λ n. map entry_binding m.entries ++ bound n v ∷ []) is)

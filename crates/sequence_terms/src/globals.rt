@@ -1,0 +1,84 @@
+//! The variables that all sequences share.
+
+ghost use Rattle.std.specs.Prelude.{◌≡◌, [], OnOk, OnErr, length, option_map, slice_get};
+ghost use Rattle.sequence_terms.specs.Shared.{bindings_of, pair_of};
+ghost use Rattle.sequence_terms.specs.Variables.{has_in, value_in, set_in, with_new};
+
+use dap_base::OutOfMemory;
+use indexmap::IndexMap;
+use std::alloc::Global;
+
+/// Variables with their values, in the order in which they were added. No two have one name, and each is found by its name without
+/// going through the others. Contracts see them by `bindings_of`, as the plain list of this crate's specs.
+#[derive(Drop)]
+pub struct Globals<V> {
+    values: IndexMap<String, V>,
+}
+
+impl<V: Copy> Globals<V> {
+    /// No variables. Nothing is allocated.
+    pub fn new(alloc: Global) -> Globals<V>
+        ensures { bindings_of result ≡ [] }
+    {
+        Globals {
+            values: IndexMap::new(alloc),
+        }
+    }
+
+    /// How many variables there are.
+    pub fn len(&self) -> usize
+        ensures { result ≡ length (bindings_of self.now) }
+    {
+        self.values.len()
+    }
+
+    /// The name and the value of the variable at `index`, counted from 0. `None` exactly past the end.
+    pub fn at(&self, index: usize) -> Option<(&str, V)>
+        ensures { option_map pair_of result ≡ slice_get (bindings_of self.now) index }
+    {
+        match self.values.get_index(index) {
+            Some((name, value)) => Some((name.as_str(), *value)),
+            None => None,
+        }
+    }
+
+    /// Whether a variable has the name.
+    pub fn has(&self, name: &str) -> bool
+        ensures { result ≡ has_in (bindings_of self.now) name.now }
+    {
+        self.values.contains_key(name)
+    }
+
+    /// The value of the variable with the name. `None` exactly where none has it.
+    pub fn get(&self, name: &str) -> Option<V>
+        ensures { result ≡ value_in (bindings_of self.now) name.now }
+    {
+        self.values.get(name).copied()
+    }
+
+    /// Gives the variable with the name this value. Where none has it, nothing changes.
+    pub fn set(&mut self, name: &str, value: V)
+        ensures { bindings_of self.new ≡ set_in (bindings_of self.old) name.now value }
+    {
+        if let Some(held) = self.values.get_mut(name) {
+            *held = value;
+        }
+    }
+
+    /// Adds a variable at the end, unless one has the name. `OutOfMemory` where memory is refused; nothing has changed then.
+    pub fn add(&mut self, alloc: Global, name: &str, value: V) -> Result<(), OutOfMemory>
+        ensures answer { OnOk result (bindings_of self.new ≡ with_new (bindings_of self.old) name.now value) }
+        ensures same { OnErr result (bindings_of self.new ≡ bindings_of self.old) }
+    {
+        if self.has(name) {
+            return Ok(());
+        }
+        let Ok(name) = String::from_str(alloc, name) else {
+            return Err(OutOfMemory);
+        };
+        match self.values.insert(name, value) {
+            Ok(_) => Ok(()),
+            Err(_) => Err(OutOfMemory),
+        }
+    }
+}
