@@ -27,7 +27,7 @@ given_is None s = refl
 given_is (Some n) s = refl
 
 pub global_is : (name : List ℕ) (s : State ℕ Now) → global (direct false) name s ≡ Ok (unwrap_or (value_in s.globals name) 0, s)
-unfolding global
+unfolding global direct
 global_is name s = given_is (value_in s.globals name) s
 
 pub global_as : (name : List ℕ) (gs : List (Binding ℕ)) (n : ℕ) → n ≡ unwrap_or (value_in gs name) 0 → (s : State ℕ Now) → s.globals ≡ gs → global (direct false) name s ≡ Ok (n, s)
@@ -35,7 +35,7 @@ global_as name gs n is s same = global_is name s ∙ ap (λ k. Ok (k, s)) (ap (�
 
 pub port_as : (gs : List (Binding ℕ)) (a e d : ℕ) → a ≡ unwrap_or (value_in gs (codes "__ap")) 0 → e ≡ unwrap_or (value_in gs (codes "__errorcontrol")) 0 → d ≡ unwrap_or (value_in gs (codes "__dp")) 0
     → (s : State ℕ Now) → s.globals ≡ gs → port (direct false) s ≡ Ok (record { ap = a; forgive = nat_eq (e % 2) 1; dp = d }, s)
-unfolding port port_from port_with
+unfolding port port_from port_with direct
 port_as gs a e d ai ei di s same =
     rw (global_as (codes "__ap") gs a ai s same)
     (rw (global_as (codes "__errorcontrol") gs e ei s same)
@@ -66,7 +66,7 @@ all_as [] s = refl
 all_as (v ∷ vs) s = rw (all_as vs s) refl
 
 numbers_as : (out : Out ℕ Now (List ℕ)) → numbers_of (direct false) out ≡ out
-unfolding numbers_of
+unfolding numbers_of direct
 numbers_as (Ok x) = all_as x.0 x.1
 numbers_as (Err e) = refl
 

@@ -1,8 +1,9 @@
 -- How the code of a call at once is the call.
-use Rattle.std.specs.Prelude.{◌≡◌, ℕ, Bool, List, Result, Ok, Err, if◌then◌else◌}
+use Rattle.std.specs.Prelude.{◌≡◌, ◌==◌, ℕ, Bool, false, bit_and, List, Result, Ok, Err, if◌then◌else◌}
 use Rattle.dap_base.specs.declared.text.OutOfMemory.{OutOfMemory}
 use Rattle.target_machine.specs.Plain.{CallDone, CallEnd, Answered, Skipped, Faulted, Small, from_lanes, given, is_fault}
 use Rattle.target_machine.specs.declared.access.Outcome.{Outcome}
+use Rattle.target_machine.specs.declared.access.Outcome.TheVariants as outcome
 use Rattle.target_machine.specs.State.{TargetState}
 use Rattle.sequence_meaning.specs.declared.at_once.Made.{Made}
 use Rattle.sequence_meaning.specs.declared.at_once.Made.TheVariants as made
@@ -27,9 +28,15 @@ MadeAs d (Err e) next large = Unit {0}
 
 -- how an access that is no memory access ends by what its last register access answered
 abbrev pub end_by : Outcome → CallEnd
-end_by outcome = if is_fault outcome then Faulted else Answered (given outcome)
+end_by o = if is_fault o then Faulted else Answered (given o)
 
 -- how a memory access ends by what DRW answered: a read with the value in its lanes
 abbrev pub memory_end_by : ℕ → Bool → ℕ → Outcome → CallEnd
-memory_end_by size read address outcome =
-    if is_fault outcome then Faulted else Answered (if read then from_lanes size address (given outcome) else given outcome)
+memory_end_by size read address o =
+    if is_fault o then Faulted else Answered (if read then from_lanes size address (given o) else given o)
+
+-- a read of CTRL/STAT has the requested value under the mask
+abbrev pub is_match : Outcome → ℕ → ℕ → Bool
+is_match (outcome.Value n) mask requested = bit_and n mask == requested
+is_match outcome.Done mask requested = false
+is_match outcome.Fault mask requested = false

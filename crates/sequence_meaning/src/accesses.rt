@@ -1,6 +1,6 @@
 //! Register accesses, made one after the other.
 ghost use Rattle.std.specs.Prelude.{◌≡◌, ◌<◌, ◌⊎◌, ◌*◌, ◌/◌, ◌%◌, ◌^◌, map, false, if◌then◌else◌};
-ghost use Rattle.target_machine.specs.Plain.{Makes, ap_access_of, csw_for, dp_read_of, dp_write_of, drw_of, from_lanes, given, in_order, select_of, to_lanes};
+ghost use Rattle.target_machine.specs.Plain.{Makes, ap_access_of, csw_for, dp_read_of, dp_write_of, drw_of, from_lanes, given, in_order, is_fault, select_of, to_lanes};
 
 use target_machine::registers::{CSW_OTHERS, DRW, SELECT};
 use target_machine::{Outcome, RegAccess, Target, attempt};
@@ -121,6 +121,16 @@ pub(crate) fn number_of(outcome: Outcome) -> u32
     }
 }
 
+// The access faulted.
+pub(crate) fn has_faulted(outcome: Outcome) -> bool
+    ensures { result ≡ is_fault outcome }
+{
+    match outcome {
+        Outcome::Fault => true,
+        Outcome::Value(_) | Outcome::Done => false,
+    }
+}
+
 // Makes accesses in order, up to one that faults: what the last one answered.
 pub(crate) fn make_all(target: &mut Target, accesses: &[RegAccess]) -> Outcome
     ensures { record { outcome = result; next = target.new } ≡ in_order target.old (map Makes accesses.now) }
@@ -128,7 +138,7 @@ pub(crate) fn make_all(target: &mut Target, accesses: &[RegAccess]) -> Outcome
     let mut last = Outcome::Done;
     for access in accesses {
         last = attempt(target, *access);
-        if let Outcome::Fault = last {
+        if has_faulted(last) {
             return last;
         }
     }

@@ -12,7 +12,6 @@ use crate::commands::command_now;
 use crate::end::End;
 use crate::held::Held;
 use call_terms::Ask;
-use dap_base::OutOfMemory;
 use target_machine::{Call, HaltCause, ProbeCall, Target, Unit};
 
 // The predefined variables that calls use: the AP, whether a fault is forgiven, and the debug port.
@@ -62,23 +61,14 @@ pub(crate) fn ask(
         forgive,
         settled: false,
     };
-    if held.calls.push(call).is_err() {
+    let Ok(()) = held.calls.push(call) else {
         return Err(End::OutOfMemory);
-    }
-    match make(target, unit, forgive, &mut held.large) {
-        Ok(made) => {
-            held.units += 1;
-            answer(made, unit, held)
-        }
-        Err(OutOfMemory) => {
-            let _ = held.calls.pop();
-            Err(End::OutOfMemory)
-        }
-    }
-}
-
-// What an access answers by its end: 0 where a fault was forgiven.
-fn answer(made: Made, unit: Unit, held: &mut Held) -> Result<u64, End> {
+    };
+    let Ok(made) = make(target, unit, forgive, &mut held.large) else {
+        let _ = held.calls.pop();
+        return Err(End::OutOfMemory);
+    };
+    held.units += 1;
     match made {
         Made::Answered(value) => Ok(u64::from(value)),
         Made::Skipped => {
@@ -91,7 +81,7 @@ fn answer(made: Made, unit: Unit, held: &mut Held) -> Result<u64, End> {
 }
 
 // A read has its value, and a write 0.
-#[tactic(auto, unfolding(sequence_terms::specs::Calls::if_read, sequence_terms::specs::Calls::zero_of), using(crate::proofs::DirectLemmas::ends_on))]
+#[tactic(auto, unfolding(sequence_terms::specs::Calls::if_read, sequence_terms::specs::Calls::zero_of, sequence_terms::specs::Direct::direct), using(crate::proofs::DirectLemmas::ends_on))]
 pub(crate) fn asked(
     read: bool,
     unit: Unit,
@@ -120,9 +110,9 @@ pub(crate) fn command(call: ProbeCall, held: &mut Held, target: &mut Target) -> 
         forgive: false,
         settled: false,
     };
-    if held.calls.push(asked).is_err() {
+    let Ok(()) = held.calls.push(asked) else {
         return Err(End::OutOfMemory);
-    }
+    };
     held.units += 1;
     Ok(u64::from(command_now(target, call)))
 }

@@ -1,7 +1,8 @@
 //! What the direct runner holds.
-ghost use Rattle.std.specs.Prelude.{◌≡◌, ◌++◌, [], ◌∷◌, ℕ, List, Option, OnOk, length, take, unwrap_or, codes};
+ghost use Rattle.std.specs.Prelude.{◌≡◌, ◌++◌, [], ◌∷◌, ℕ, List, Option, None, OnOk, length, take, unwrap_or, codes};
 ghost use Rattle.target_machine.specs.State.{TargetState};
-ghost use Rattle.sequence_terms.specs.Direct.{Now};
+ghost use Rattle.call_terms.specs.World.{start_world};
+ghost use Rattle.sequence_terms.specs.Direct.{Now, now_at};
 ghost use Rattle.sequence_terms.specs.Machine.{State, with_locals, with_variables};
 ghost use Rattle.sequence_terms.specs.Variables.{bound, set_in, set_visible, value_in, visible};
 ghost use Rattle.sequence_terms.specs.Shared.{bindings_of};
@@ -27,6 +28,23 @@ pub(crate) struct Held {
 }
 
 impl Held {
+    /// What a run starts with: these variables, and nothing else.
+    pub fn new(alloc: Global, globals: Globals<u64>) -> Held
+        ensures { (target : TargetState) (written : Option (List ℕ)) → state_of result target written
+            ≡ record { globals = bindings_of globals; locals = []; units = 0; lines = 0; steps = 0; rest = now_at (start_world target None) written } }
+    {
+        Held {
+            globals,
+            locals: Vec::new(alloc),
+            units: 0,
+            lines: 0,
+            steps: 0,
+            calls: Vec::new(alloc),
+            large: Vec::new(alloc),
+            skipped: 0,
+        }
+    }
+
     /// The value of a variable that all sequences share, 0 where there is none.
     pub fn global(&self, name: &str) -> u64
         ensures { result ≡ unwrap_or (value_in (bindings_of self.now.globals) name.now) 0 }

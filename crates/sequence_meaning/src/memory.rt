@@ -43,7 +43,7 @@ fn low_and_high(low: u64, high: u64) -> Result<u64, End>
 }
 
 // The second unit of a 64-bit call, at the higher address.
-#[tactic(auto, unfolding(sequence_terms::specs::Calls::second_half), using(crate::proofs::DirectLemmas::ends_on))]
+#[tactic(auto, unfolding(sequence_terms::specs::Calls::second_half, sequence_terms::specs::Direct::direct), using(crate::proofs::DirectLemmas::ends_on))]
 fn second_half(
     read: bool,
     ap: u8,

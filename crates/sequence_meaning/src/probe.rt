@@ -12,7 +12,7 @@ use crate::held::Held;
 use target_machine::{HaltCause, ProbeCall, Target};
 
 // A command whose result is dropped.
-#[tactic(auto, unfolding(sequence_terms::specs::Calls::zero_of), using(crate::proofs::DirectLemmas::ends_on))]
+#[tactic(auto, unfolding(sequence_terms::specs::Calls::zero_of, sequence_terms::specs::Direct::direct), using(crate::proofs::DirectLemmas::ends_on))]
 fn commanded(call: ProbeCall, held: &mut Held, target: &mut Target) -> Result<u64, End>
     requires { IsSoundProbe call }
     ensures { (written : Option (List ℕ)) → Gives result (state_of held.new target.new written) (c.zero_of (direct false) (c.command (direct false) call (state_of held.old target.old written))) }
