@@ -1,5 +1,5 @@
 -- Actions in order: what two lists in a row come to.
-use Rattle.std.proofs.Common.{◌≡◌, ◌∙◌, ℕ, Bool, true, false, cond, List, [], ◌∷◌, ◌++◌, map, drop, get_or, length, fold, ◌<◌, ◌≤◌, ◌+◌, ◌-◌, zero, suc, arith, sym, subst, refl, ap}
+use Rattle.std.proofs.Common.{◌≡◌, ◌∙◌, ℕ, Bool, true, false, cond, List, [], ◌∷◌, ◌++◌, map, drop, get_or, length, ◌<◌, ◌≤◌, ◌+◌, ◌-◌, zero, suc, arith, sym, subst, refl, ap}
 use Rattle.std.proofs.lemmas.List.{drop_more}
 use Rattle.target_machine.proofs.ActionLists.{order_from, order_fault}
 use Rattle.target_machine.specs.Attempt.{Attempt, attempt, done}
@@ -62,9 +62,10 @@ module _ (mask requested : ℕ) (t : TargetState) (x : Attempt) (is : x ≡ atte
   first_read (suc k) h = (let less : suc k - 1 ≡ k = omega arith in rw (less, is) refl)
 
   looked_match : (o : Outcome) (u : TargetState) (rest : Polled) → true ≡ is_match o mask requested → (looked o u mask requested rest).outcome ≡ outcome.Value 1 × ((looked o u mask requested rest).next ≡ u)
-  looked_match (outcome.Value n) u rest h =
-      (ap (λ (b : Bool). (cond b (record { outcome = outcome.Value 1; reads = 1; next = u }) (record rest { reads = rest.reads + 1 })).outcome) (sym h),
-      ap (λ (b : Bool). (cond b (record { outcome = outcome.Value 1; reads = 1; next = u }) (record rest { reads = rest.reads + 1 })).next) (sym h))
+  looked_match (outcome.Value n) u rest h = (
+    ap (λ (b : Bool). (cond b (record { outcome = outcome.Value 1; reads = 1; next = u }) (record rest { reads = rest.reads + 1 })).outcome) (sym h),
+    ap (λ (b : Bool). (cond b (record { outcome = outcome.Value 1; reads = 1; next = u }) (record rest { reads = rest.reads + 1 })).next) (sym h),
+  )
   looked_match outcome.Done u rest h = absurd cc
   looked_match outcome.Fault u rest h = absurd cc
 
@@ -74,9 +75,10 @@ module _ (mask requested : ℕ) (t : TargetState) (x : Attempt) (is : x ≡ atte
   looked_fault outcome.Fault u rest h = (refl, refl)
 
   looked_more : (o : Outcome) (u : TargetState) (rest : Polled) → false ≡ is_match o mask requested → false ≡ is_fault o → (looked o u mask requested rest).outcome ≡ rest.outcome × ((looked o u mask requested rest).next ≡ rest.next)
-  looked_more (outcome.Value n) u rest h k =
-      (ap (λ (b : Bool). (cond b (record { outcome = outcome.Value 1; reads = 1; next = u }) (record rest { reads = rest.reads + 1 })).outcome) (sym h),
-      ap (λ (b : Bool). (cond b (record { outcome = outcome.Value 1; reads = 1; next = u }) (record rest { reads = rest.reads + 1 })).next) (sym h))
+  looked_more (outcome.Value n) u rest h k = (
+    ap (λ (b : Bool). (cond b (record { outcome = outcome.Value 1; reads = 1; next = u }) (record rest { reads = rest.reads + 1 })).outcome) (sym h),
+    ap (λ (b : Bool). (cond b (record { outcome = outcome.Value 1; reads = 1; next = u }) (record rest { reads = rest.reads + 1 })).next) (sym h),
+  )
   looked_more outcome.Done u rest h k = (refl, refl)
   looked_more outcome.Fault u rest h k = absurd cc
 

@@ -1,8 +1,8 @@
 -- An access made at once is the call of its unit.
 use Rattle.std.proofs.Common.{◌≡◌, ◌∙◌, ℕ, ◌/◌, ◌%◌, Bool, true, false, cond, not, ◌&&◌, length, take, nat_lt, ◌<◌, ◌+◌, arith, Option, None, Ok, List, [], ◌∷◌, ◌++◌, map, sym, subst, refl, ap}
 use Rattle.std.proofs.lemmas.List.{append-nil}
-use Rattle.target_machine.specs.Attempt.{Attempt, attempt, is_free, done}
-use Rattle.target_machine.specs.Plain.{Action, Makes, CallDone, CallEnd, Answered, Skipped, Faulted, Small, acted, in_order, is_fault, given, issued, csw_actions, cfg_actions, transfer_actions, memory_actions, after_cfg, has_large, contains, needs_cfg, unit_actions, call_actions, result_of, from_lanes, large_after, is_small, may_forgive, ended, commanded, forgives, call_done, select_of, ap_access_of, dp_read_of, dp_write_of, polled}
+use Rattle.target_machine.specs.Attempt.{Attempt, attempt, is_free}
+use Rattle.target_machine.specs.Plain.{Action, Makes, CallDone, CallEnd, Answered, Skipped, Faulted, Small, in_order, is_fault, given, issued, csw_actions, cfg_actions, transfer_actions, memory_actions, has_large, contains, needs_cfg, unit_actions, result_of, from_lanes, may_forgive, ended, commanded, forgives, call_done, select_of, ap_access_of, dp_read_of, dp_write_of, polled}
 use Rattle.call_terms.specs.World.{is_faulted}
 use Rattle.dap_base.specs.Bits.{has_bit}
 use Rattle.target_machine.specs.Registers.{cfg_la}
@@ -143,7 +143,7 @@ pub ap_made : (t : TargetState) (read : Bool) (n addr value : ℕ) (a b : RegAcc
     → record { outcome = o; next = u } ≡ in_order t (map Makes (a ∷ b ∷ [])) → e ≡ end_by o → (large : List ℕ) → IsDone (call_done t large false (Access (unit.Ap read n addr value))) e u large
 ap_made t read n addr value a b o u e ha hb is he large =
     let acts : record { outcome = o; next = u } ≡ in_order t (Makes (select_of n (addr / 16)) ∷ Makes (ap_access_of read (addr % 16) value) ∷ []) =
-        is ∙ ap (λ (x : RegAccess). in_order t (Makes x ∷ Makes b ∷ [])) ha ∙ ap (λ (x : RegAccess). in_order t (Makes (select_of n (addr / 16)) ∷ Makes x ∷ [])) hb in
+    is ∙ ap (λ (x : RegAccess). in_order t (Makes x ∷ Makes b ∷ [])) ha ∙ ap (λ (x : RegAccess). in_order t (Makes (select_of n (addr / 16)) ∷ Makes x ∷ [])) hb in
     subst (λ (k : CallEnd). IsDone (call_done t large false (Access (unit.Ap read n addr value))) k u large) (sym he) (ap_done t large read n addr value (record { outcome = o; next = u }) acts)
 
 pub dp_made : (t : TargetState) (read : Bool) (addr value : ℕ) (a : RegAccess) (o : Outcome) (u : TargetState) (e : CallEnd) → a ≡ cond read (dp_read_of addr) (dp_write_of addr value)

@@ -1,6 +1,5 @@
 -- A call without a fault of its own is one of the table, with arguments that it takes.
-use Rattle.std.proofs.Common.{◌≡◌, ◌≢◌, ◌↔◌, ℕ, suc, ◌≤◌, Bool, true, false, cond, ◌&&◌, List, length, nat_eq, nat_le, Option, None, Some, MatchBool, refl, sym, ap, subst, ◌∙◌, arith}
-use Rattle.dap_base.specs.declared.text.Place.{Place}
+use Rattle.std.proofs.Common.{◌≡◌, ◌↔◌, ℕ, suc, ◌≤◌, Bool, true, false, cond, ◌&&◌, List, length, nat_eq, nat_le, Option, None, Some, MatchBool, refl, sym, ap, subst, arith}
 use Rattle.expr_grammar.specs.declared.code.Name.{Name}
 use Rattle.expr_grammar.specs.Tree as t
 use Rattle.expr_grammar.specs.Tree.{ArgTree, ArgTrees}
@@ -12,7 +11,6 @@ use Rattle.function_table.specs.Functions.{name_of, parameters_of, has_more, Tak
 use Rattle.function_table.specs.Lookup.{function_named}
 use Rattle.function_table.proofs.Lookup.{exactly}
 use Rattle.code_check.specs.First as first
-use Rattle.code_check.specs.ExprFaults as faults
 use Rattle.code_check.specs.ExprFaults.{Scope, CallFault, OfText, SequenceFault, text_at, KnownFault, KindFault, KindsFault, NamesNone, arg_count}
 use Rattle.code_check.specs.declared.fault.CodeFault.{CodeFault}
 use Rattle.code_check.specs.declared.fault.FaultKind.TheVariants as kinds

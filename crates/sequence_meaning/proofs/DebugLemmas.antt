@@ -1,5 +1,5 @@
 -- The debug variables one after the other, and whole runs.
-use Rattle.std.proofs.Common.{◌≡◌, ℕ, ◌+◌, ◌<◌, ◌≤◌, false, List, [], ◌∷◌, length, drop, get_or, unwrap_or, Result, Ok, Err, refl, sym, ap, subst, ◌∙◌}
+use Rattle.std.proofs.Common.{◌≡◌, ℕ, ◌+◌, ◌<◌, ◌≤◌, false, List, ◌∷◌, length, drop, get_or, unwrap_or, Result, Ok, Err, refl, sym, ap, subst, ◌∙◌}
 use Rattle.std.proofs.lemmas.List.{drop_more}
 use Rattle.dap_base.specs.Outcome.{◌>>=◌}
 use Rattle.expr_grammar.specs.declared.code.Stmt as statement
@@ -12,7 +12,7 @@ use Rattle.sequence_terms.specs.Steps.{done, steps_at, sequence_at, debugged, ru
 use Rattle.sequence_terms.specs.Values.{value, stored}
 use Rattle.sequence_meaning.specs.declared.end.End.{End}
 use Rattle.sequence_meaning.specs.Held.{Ends, Gives}
-use Rattle.sequence_meaning.specs.Starting.{defined, debugged_one}
+use Rattle.sequence_meaning.specs.Starting.{debugged_one}
 use Rattle.sequence_meaning.proofs.DirectLemmas.{ends_on}
 use Rattle.sequence_meaning.proofs.Loops.{drop_end, steps_found}
 
@@ -69,7 +69,7 @@ module _ (turn_us : ℕ) (set : SetTrees) where
   run_on start s r now result steps debug is h =
       let f : CodeSteps × S → O (Unit {0}) = λ y. done (direct false) turn_us (λ n q. sequence_at (direct false) turn_us set 31 n q) y.0 y.1 in
       let found : (steps_at (direct false) turn_us set start r >>= f) ≡ done (direct false) turn_us (λ n q. sequence_at (direct false) turn_us set 31 n q) steps r =
-          ap (λ o. o >>= f) (steps_found turn_us set start r) ∙ ap (λ k. done (direct false) turn_us (λ n q. sequence_at (direct false) turn_us set 31 n q) k r) (sym is) in
+      ap (λ o. o >>= f) (steps_found turn_us set start r) ∙ ap (λ k. done (direct false) turn_us (λ n q. sequence_at (direct false) turn_us set 31 n q) k r) (sym is) in
       subst (λ o. Gives result now o) (sym (ap (λ o. o >>= λ x. steps_at (direct false) turn_us set start x.1 >>= f) debug ∙ found)) h
 
 pub ruleset debugging = (debug_on, debug_fail, debug_over)

@@ -1,14 +1,13 @@
 -- What the parts of the meaning are where each call is made at once.
-use Rattle.std.proofs.Common.{◌≡◌, ℕ, ◌%◌, Bool, true, false, cond, List, [], ◌∷◌, Option, None, Some, unwrap_or, option_map, take, ◌++◌, Result, Ok, Err, nat_eq, codes, refl, sym, ap, ◌∙◌}
+use Rattle.std.proofs.Common.{◌≡◌, ℕ, ◌%◌, Bool, true, false, List, [], ◌∷◌, Option, None, Some, unwrap_or, option_map, take, ◌++◌, Ok, Err, nat_eq, codes, refl, sym, ap, ◌∙◌}
 use Rattle.sequence_terms.specs.declared.bindings.Binding.{Binding}
 use Rattle.sequence_meaning.specs.declared.end.End.{End}
 use Rattle.sequence_meaning.specs.declared.end.End.TheVariants as end
 use Rattle.sequence_terms.specs.Direct.{Now, direct}
-use Rattle.sequence_terms.specs.Machine as machine
 use Rattle.sequence_terms.specs.Machine.{State, Out}
 use Rattle.sequence_terms.specs.Variables.{value_in}
 use Rattle.dap_base.specs.Outcome.{◌>>=◌}
-use Rattle.sequence_terms.specs.Calls.{Port, use_now, missing, given, global, port_with, port_from, port}
+use Rattle.sequence_terms.specs.Calls.{use_now, missing, given, global, port_with, port_from, port}
 use Rattle.std.specs.Io.KnownBytes.{Appends}
 use Rattle.dap_base.specs.Streams.{AppendsPrefix}
 use Rattle.sequence_meaning.specs.Held.{Ends, known_part, Knows}

@@ -1,17 +1,14 @@
 -- The outcome of a run, as the code comes to its end.
-use Rattle.std.proofs.Common.{◌≡◌, ℕ, List, [], Option, Ok, Err, sym, ap, ◌∙◌}
-use Rattle.target_machine.specs.State.{TargetState}
+use Rattle.std.proofs.Common.{◌≡◌, ℕ, List, [], Ok, Err, sym, ap, ◌∙◌}
 use Rattle.target_machine.specs.declared.unit.Call.TheVariants.{Access}
 use Rattle.target_machine.specs.declared.unit.HaltCause.{HaltCause}
 use Rattle.target_machine.specs.declared.unit.Unit.{Unit as AccessUnit}
-use Rattle.target_machine.specs.declared.unit.Variable.{Variable}
 use Rattle.sequence_terms.specs.declared.bindings.Binding.{Binding}
 use Rattle.sequence_terms.specs.Direct.{Now}
 use Rattle.sequence_terms.specs.Machine as machine
 use Rattle.sequence_terms.specs.Machine.{State, Out, end_state}
 use Rattle.sequence_terms.specs.Runs as ending
 use Rattle.sequence_terms.specs.Runs.{Outcome, outcome_at, outcome_of, units_of}
-use Rattle.sequence_meaning.specs.Starting.{variables_of}
 
 O : Type 0
 O = Out ℕ Now (Unit {0})

@@ -1,10 +1,10 @@
 -- A run that lacks nothing: what comes of a part of it, and the names that its states have.
-use Rattle.std.proofs.Common.{◌≡◌, ℕ, suc, Bool, true, false, cond, not, ◌&&◌, ◌||◌, List, [], ◌∷◌, ◌++◌, map, Option, None, Some, Result, Ok, Err, refl, sym, ap, subst, ◌∙◌, bytes_eq}
+use Rattle.std.proofs.Common.{◌≡◌, ℕ, Bool, true, false, cond, not, ◌&&◌, ◌||◌, List, [], ◌∷◌, map, Option, None, Some, Ok, Err, refl, ap, ◌∙◌, bytes_eq}
 use Rattle.std.specs.Option.{option_or}
 use Rattle.code_check.specs.Names.{has_name}
 use Rattle.dap_base.specs.Outcome.{◌>>=◌}
 use Rattle.sequence_terms.specs.declared.bindings.Binding.{Binding}
-use Rattle.sequence_terms.specs.Calls.{missing, given, guarded}
+use Rattle.sequence_terms.specs.Calls.{given, guarded}
 use Rattle.sequence_terms.specs.Machine as machine
 use Rattle.sequence_terms.specs.Machine.{Over, Machine, State, Out}
 use Rattle.sequence_terms.specs.Variables.{bound, has_in, value_in, set_in, newest_in, set_newest, is_visible, visible, set_visible}

@@ -1,13 +1,11 @@
 -- Calls of functions lack nothing where the predefined variables that they use are there.
-use Rattle.std.proofs.Common.{◌≡◌, ℕ, ◌+◌, ◌*◌, ◌/◌, ◌%◌, ◌^◌, Bool, true, false, cond, not, ◌&&◌, ◌||◌, List, [], ◌∷◌, drop, slice_index, nat_eq, nat_lt, Option, None, Some, Result, Ok, Err, codes, refl, sym, ap, subst, ◌∙◌}
+use Rattle.std.proofs.Common.{◌≡◌, ℕ, ◌%◌, Bool, true, false, not, ◌&&◌, ◌||◌, List, [], ◌∷◌, slice_index, nat_eq, nat_lt, Result, Ok, Err, codes, ap, ◌∙◌}
 use Rattle.code_check.specs.Names.{has_name}
-use Rattle.dap_base.specs.Outcome.{◌>>=◌}
 use Rattle.function_table.specs.declared.function.Function.{Function}
 use Rattle.function_table.specs.declared.function.Function.TheVariants as f
 use Rattle.target_machine.specs.declared.unit.ProbeCall.{ProbeCall}
 use Rattle.target_machine.specs.declared.unit.Unit.{Unit as AccessUnit}
-use Rattle.sequence_terms.specs.Calls.{Port, use_now, global, port, port_from, port_with, answered, ask, numbered, command, zero_of, if_read, memory_unit, low_and_high, second_half, two_units, one_unit, memory_at, memory, ap_at, ap_register, dp_at, dp_register, abort, abort_at, delay, clock, pins, line_bits, lined, performed}
-use Rattle.sequence_terms.specs.Machine as machine
+use Rattle.sequence_terms.specs.Calls.{Port, use_now, global, port, port_from, port_with, answered, ask, numbered, command, zero_of, if_read, low_and_high, second_half, two_units, one_unit, memory_at, memory, ap_at, ap_register, dp_at, dp_register, abort, abort_at, delay, clock, pins, line_bits, lined, performed}
 use Rattle.sequence_terms.specs.Machine.{Over, Machine, State, Out, with_rest}
 use Rattle.sequence_terms.specs.Values.{all_used}
 use Rattle.sequence_terms.specs.Variables.{value_in}

@@ -1,40 +1,36 @@
 -- The run of a checked set lacks nothing: chains of calls, the debug variables, and whole runs.
-use Rattle.std.proofs.Common.{◌≡◌, ◌<◌, ◌≤◌, ℕ, zero, suc, ◌+◌, Bool, true, false, cond, not, ◌&&◌, ◌||◌, List, [], ◌∷◌, ◌++◌, map, length, slice_get, slice_index_or, nat_lt, Option, None, Some, is_some, unwrap_or, Ok, Err, Contains, ◌⊎◌, inl, inr, codes, refl, sym, ap, subst, ◌∙◌, arith, bytes_eq}
-use Rattle.std.specs.List.{position, position_or_len}
+use Rattle.std.proofs.Common.{◌≡◌, ◌<◌, ◌≤◌, ℕ, zero, suc, ◌+◌, Bool, true, false, cond, not, ◌||◌, List, [], ◌∷◌, ◌++◌, map, length, slice_get, slice_index_or, nat_lt, None, Some, unwrap_or, Contains, ◌⊎◌, inl, inr, codes, refl, sym, ap, subst, ◌∙◌, arith, bytes_eq}
+use Rattle.std.specs.List.{position_or_len}
 use Rattle.std.proofs.lemmas.List.Elements.{Contains-append_cases}
 use Rattle.std.proofs.lemmas.Slice.Eq.{bytes_eq-Decides}
-use Rattle.call_graph.specs.Graph.{callees_of, Calls, IsChain, BeginsChain}
-use Rattle.call_graph.specs.Spots as graph
-use Rattle.call_graph.specs.declared.graph.CallSpot.{CallSpot}
+use Rattle.call_graph.specs.Graph.{callees_of, IsChain, BeginsChain}
 use Rattle.dap_base.specs.Outcome.{◌>>=◌}
-use Rattle.expr_grammar.specs.declared.code.Name.{Name}
 use Rattle.expr_grammar.specs.Tree as t
 use Rattle.expr_grammar.specs.Tree.{Tree, ArgTree, ArgTrees, StmtTree}
 use Rattle.function_table.specs.Variables.{predefined}
 use Rattle.code_check.specs.Names.{has_name, with_name}
 use Rattle.code_check.specs.First as first
-use Rattle.code_check.specs.ExprFaults.{Scope, ExprFault, ArgFault, ArgsFault}
-use Rattle.code_check.specs.BlockFaults.{names_after, names_after_all, seeing, StmtFault, BlockFault}
+use Rattle.code_check.specs.ExprFaults.{Scope, ExprFault}
+use Rattle.code_check.specs.BlockFaults.{names_after, names_after_all, seeing, BlockFault}
 use Rattle.code_check.specs.declared.fault.CodeFault.{CodeFault}
 use Rattle.code_check.specs.declared.fault.FaultKind.TheVariants as kinds
 use Rattle.sequence_code.specs.Trees as c
 use Rattle.sequence_code.specs.Trees.{CodeSteps, SequenceTrees, SetTrees, steps_named}
 use Rattle.sequence_code.specs.declared.spot.Part.TheVariants as parts
-use Rattle.seq_check.specs.Calls.{number_of, own_calls, expr_calls, arg_calls, args_calls, sequence_calls, set_calls, call_graph}
-use Rattle.seq_check.specs.SetFaults.{SetFault, Of, names_of, debugvars_scope, sequences_scope, FaultInSequences, FaultInSet}
-use Rattle.seq_check.specs.StepFaults.{StepFault, At, FaultInSteps}
+use Rattle.seq_check.specs.Calls.{number_of, expr_calls, sequence_calls, call_graph}
+use Rattle.seq_check.specs.SetFaults.{SetFault, names_of, debugvars_scope, sequences_scope, FaultInSequences}
+use Rattle.seq_check.specs.StepFaults.{StepFault, FaultInSteps}
 use Rattle.seq_check.specs.Valid.{IsSound}
 use Rattle.seq_check.specs.declared.calls.TextCall.{TextCall}
 use Rattle.seq_check.specs.declared.faulty.Holder.TheVariants as holders
 use Rattle.seq_check.specs.declared.step_calls.StepCall.{StepCall}
 use Rattle.sequence_terms.specs.declared.bindings.Binding.{Binding}
 use Rattle.sequence_terms.specs.Machine.{Machine, State, Out, with_locals}
-use Rattle.sequence_terms.specs.Steps.{declared_names, given_back, of_global, entered, steps_at, sequence_at, debugged, run_of, start_state, done}
-use Rattle.sequence_terms.specs.Values.{value, stored}
+use Rattle.sequence_terms.specs.Steps.{declared_names, given_back, entered, steps_at, sequence_at, debugged, run_of, done}
 use Rattle.sequence_terms.specs.Variables.{bound, has_in, with_new, with_all_new}
 use Rattle.sequence_meaning.proofs.Fine.{Fine, fine_bind, given_some, fine_weak, names_in, has_names, set_names, Has}
 use Rattle.sequence_meaning.proofs.FineCalls.{LacksNothing}
-use Rattle.sequence_meaning.proofs.FineValues.{Runs, AreGood, fine_stored, fine_value}
+use Rattle.sequence_meaning.proofs.FineValues.{Runs, fine_stored, fine_value}
 use Rattle.sequence_meaning.proofs.FineSteps.{AreGoodCalls, own_steps, contains_map, append_none, fine_steps}
 
 -- ---- sequences by their names
@@ -311,9 +307,9 @@ module _ {V T : Type 0} (m : Machine V T) (safe : LacksNothing m) (turn_us : ℕ
   run_fine start there s h =
       let found = found_in start there in
       let bad : (g : CodeFault) → BlockFault (debugvars_scope set) set.debugvars g → ⊥ = λ g x. sound.no_fault (record { holder = holders.Debugvars; fault = record { path = []; part = parts.Debugvars; fault = g } })
-          (first.here (record { holder_is = refl; holds = record { own = refl; part_is = refl; holds = x } })) in
+      (first.here (record { holder_is = refl; holds = record { own = refl; part_is = refl; holds = x } })) in
       let shallow : AreGoodCalls (Good 31) (sequence_calls names found.steps) = λ call k chain.
-          let at = place_of (callees_of (call_graph set) (number_of names start)) call.callee (call_at start found call k) in
-          sound.calls.none_deep (record { node = number_of names start; call = at.0 }) (record { callee = call.callee; is_call = at.1; chain = chain }) in
+      let at = place_of (callees_of (call_graph set) (number_of names start)) call.callee (call_at start found call k) in
+      sound.calls.none_deep (record { node = number_of names start; call = at.0 }) (record { callee = call.callee; is_call = at.1; chain = chain }) in
       fine_bind (Has gs []) (λ r. Unit {0}) (debugged m turn_us set set.debugvars s) _ (debug_fine (debugvars_scope set) set.debugvars refl refl bad s h) (λ x p.
       fine_weak (Has gs (own_steps [] found.steps)) (λ r. Unit {0}) _ (body_fine 31 start found (steps_fine 31 (λ n k g. deep 31 n k g) start found shallow) x.1 p) (λ r q. tt))

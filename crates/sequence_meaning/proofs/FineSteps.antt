@@ -1,12 +1,10 @@
 -- Steps without faults lack nothing, where the sequences that they call lack nothing.
-use Rattle.std.proofs.Common.{◌≡◌, ◌<◌, ◌≤◌, ℕ, zero, suc, ◌+◌, Bool, true, false, cond, not, ◌&&◌, ◌||◌, List, [], ◌∷◌, ◌++◌, map, length, take, nat_eq, nat_lt, nat_le, Option, None, Some, Ok, Err, Contains, slice_index_or, codes, refl, sym, ap, subst, ◌∙◌, arith, bytes_eq}
+use Rattle.std.proofs.Common.{◌≡◌, ◌<◌, ℕ, zero, suc, Bool, true, false, cond, ◌&&◌, ◌||◌, List, [], ◌∷◌, ◌++◌, map, length, take, nat_eq, nat_lt, nat_le, Option, None, Some, Contains, slice_index_or, codes, refl, sym, ap, subst, ◌∙◌, arith, bytes_eq}
 use Rattle.std.proofs.lemmas.List.{append_assoc}
 use Rattle.std.proofs.lemmas.List.Elements.{Contains-append_left, Contains-append_right}
-use Rattle.dap_base.specs.Outcome.{◌>>=◌}
-use Rattle.expr_grammar.specs.declared.code.Name.{Name}
 use Rattle.expr_grammar.specs.Tree as t
 use Rattle.expr_grammar.specs.Tree.{Tree, StmtTree}
-use Rattle.code_check.specs.Names.{has_name, with_name}
+use Rattle.code_check.specs.Names.{has_name}
 use Rattle.code_check.specs.First as first
 use Rattle.code_check.specs.ExprFaults.{Scope, ExprFault}
 use Rattle.code_check.specs.BlockFaults.{names_after, names_after_all, seeing, StmtFault, BlockFault}
@@ -17,7 +15,7 @@ use Rattle.sequence_code.specs.Trees.{CodeStep, CodeSteps}
 use Rattle.sequence_code.specs.declared.spot.Part.{Part}
 use Rattle.sequence_code.specs.declared.spot.Part.TheVariants as parts
 use Rattle.seq_check.specs.Calls.{number_of, expr_calls, statement_calls, block_calls, condition_calls, calls_at, step_calls, steps_calls}
-use Rattle.seq_check.specs.StepFaults.{StepFault, At, Under, under, no_place, ConditionFault, TimeoutFault, LoopFault, ControlFault, OwnFault, names_after_step, names_after_steps, FaultInStep, FaultInSteps}
+use Rattle.seq_check.specs.StepFaults.{StepFault, under, no_place, ConditionFault, TimeoutFault, LoopFault, OwnFault, names_after_step, FaultInStep, FaultInSteps}
 use Rattle.seq_check.specs.declared.calls.TextCall.{TextCall}
 use Rattle.seq_check.specs.declared.step_calls.StepCall.{StepCall}
 use Rattle.sequence_terms.specs.declared.bindings.Binding.{Binding}
@@ -26,7 +24,7 @@ use Rattle.sequence_terms.specs.Machine.{Machine, State, Out}
 use Rattle.sequence_terms.specs.Polls.{poll_of}
 use Rattle.sequence_terms.specs.Steps.{is_timeout, timeout_of, turn_count, counted, after_counted, declared, dropped, in_order, inside, turn, turns, polled_at, polled, statement, block, condition, looped, repeated, controlled, step, done}
 use Rattle.sequence_terms.specs.Values.{used_now, value}
-use Rattle.sequence_meaning.proofs.Fine.{Fine, fine_bind, fine_cond, fine_given, fine_weak, names_in, Has}
+use Rattle.sequence_meaning.proofs.Fine.{Fine, fine_bind, fine_cond, fine_given, names_in, Has}
 use Rattle.sequence_meaning.proofs.FineCalls.{LacksNothing, fine_global, fine_ask}
 use Rattle.sequence_meaning.proofs.FineValues.{Runs, AreGood, good_left, good_right, fine_used, fine_value}
 

@@ -1,7 +1,7 @@
 -- Expressions without faults lack nothing, where the sequences that they call lack nothing.
-use Rattle.std.proofs.Common.{◌≡◌, ℕ, suc, Bool, true, false, cond, not, ◌&&◌, ◌||◌, List, [], ◌∷◌, ◌++◌, nat_eq, Option, None, Some, Ok, Err, Contains, codes, refl, sym, ap, subst, ◌∙◌, arith, bytes_eq, unwrap_or}
+use Rattle.std.proofs.Common.{◌≡◌, ℕ, suc, Bool, true, false, cond, ◌&&◌, ◌||◌, List, [], ◌∷◌, ◌++◌, nat_eq, Option, None, Some, Contains, codes, refl, sym, ap, subst, ◌∙◌, arith, bytes_eq}
 use Rattle.std.proofs.lemmas.List.Elements.{Contains-append_left, Contains-append_right, Contains-get_or}
-use Rattle.expr_grammar.specs.Arithmetic.{truth, unary_value, binary_value}
+use Rattle.expr_grammar.specs.Arithmetic.{binary_value}
 use Rattle.expr_grammar.specs.declared.code.Name.{Name}
 use Rattle.expr_grammar.specs.declared.code.TextArg as string
 use Rattle.expr_grammar.specs.declared.code.UnaryOp.{UnaryOp}
@@ -11,25 +11,21 @@ use Rattle.expr_grammar.specs.Tree as t
 use Rattle.expr_grammar.specs.Tree.{Tree, ArgTree, ArgTrees}
 use Rattle.function_table.specs.declared.function.Function.{Function}
 use Rattle.function_table.specs.declared.function.Function.TheVariants as f
-use Rattle.function_table.specs.Functions.{name_of}
 use Rattle.function_table.specs.Lookup.{function_named}
 use Rattle.function_table.proofs.Lookup.{exactly}
 use Rattle.code_check.specs.Names.{has_name}
 use Rattle.code_check.specs.First as first
-use Rattle.code_check.specs.ExprFaults as faults
 use Rattle.code_check.specs.ExprFaults.{Scope, ExprFault, ArgFault, ArgsFault, NameFault, CallFault, OfText, SequenceFault, text_at}
 use Rattle.code_check.specs.declared.fault.CodeFault.{CodeFault}
 use Rattle.code_check.specs.declared.fault.FaultKind.TheVariants as kinds
 use Rattle.seq_check.specs.Calls.{number_of, text_calls, own_calls, expr_calls, arg_calls, args_calls}
 use Rattle.seq_check.specs.declared.calls.TextCall.{TextCall}
-use Rattle.dap_base.specs.Outcome.{◌>>=◌}
 use Rattle.sequence_terms.specs.Calls.{use_now, guarded}
-use Rattle.sequence_terms.specs.Machine as machine
 use Rattle.sequence_terms.specs.Machine.{Machine, State, Out}
-use Rattle.sequence_terms.specs.Variables.{visible, set_visible, is_visible}
-use Rattle.sequence_terms.specs.Values.{text_in, text_of, named, stored, assigned, used_now, of_unary, both, operands, result_of, strict_binary, truth_of, conjunction, disjunction, of_binary, choice, appended, chained, numbers_of, is_call, count_of, called, call_of, value, argument, arguments}
+use Rattle.sequence_terms.specs.Variables.{visible, is_visible}
+use Rattle.sequence_terms.specs.Values.{text_of, named, stored, assigned, used_now, of_unary, both, operands, result_of, strict_binary, truth_of, conjunction, disjunction, of_binary, choice, appended, chained, numbers_of, is_call, count_of, called, call_of, value, argument, arguments}
 use Rattle.sequence_meaning.proofs.CallLemmas.{call_is, call_has}
-use Rattle.sequence_meaning.proofs.Fine.{IsMet, Fine, fine_bind, fine_cond, fine_given, fine_guarded, Has, is_visible_by, visible_by, store_keeps}
+use Rattle.sequence_meaning.proofs.Fine.{Fine, fine_bind, fine_cond, fine_given, fine_guarded, Has, is_visible_by, visible_by, store_keeps}
 use Rattle.sequence_meaning.proofs.FineCalls.{LacksNothing, fine_use, fine_all, fine_performed}
 
 is_true : (c : Bool) → ¬ (c ≡ false) → c ≡ true

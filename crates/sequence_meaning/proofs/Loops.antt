@@ -1,10 +1,10 @@
 -- Loops of the direct runner, one turn at a time.
-use Rattle.std.proofs.Common.{◌≡◌, ℕ, zero, suc, ◌+◌, ◌-◌, ◌<◌, ◌≤◌, Bool, true, false, List, [], ◌∷◌, ◌++◌, map, length, drop, take, get_or, Option, None, Some, option_map, unwrap_or, Result, Ok, Err, codes, refl, sym, ap, subst, ◌∙◌, arith}
+use Rattle.std.proofs.Common.{◌≡◌, ℕ, zero, suc, ◌+◌, ◌-◌, ◌<◌, ◌≤◌, true, false, List, [], ◌∷◌, ◌++◌, length, drop, take, get_or, Option, None, Some, unwrap_or, Result, Ok, codes, refl, sym, ap, subst, ◌∙◌, arith}
 use Rattle.std.proofs.lemmas.List.{drop_more}
 use Rattle.expr_grammar.specs.declared.code.Arg.{Arg}
 use Rattle.expr_grammar.specs.declared.code.Name.{Name}
 use Rattle.expr_grammar.specs.declared.code.Stmt as statement
-use Rattle.expr_grammar.specs.Tree.{Tree, arg_tree, arg_trees, stmt_tree, code_trees}
+use Rattle.expr_grammar.specs.Tree.{arg_tree, arg_trees, stmt_tree, code_trees}
 use Rattle.sequence_code.specs.declared.steps.CheckedStep.{CheckedStep}
 use Rattle.sequence_code.specs.Trees.{CodeSteps, SetTrees, NoSteps, step_tree, steps_tree, steps_named}
 use Rattle.sequence_meaning.specs.declared.end.End.{End}
@@ -13,7 +13,7 @@ use Rattle.sequence_terms.specs.declared.bindings.Binding.{Binding}
 use Rattle.sequence_terms.specs.Machine.{State, Out, with_locals, with_variables}
 use Rattle.sequence_terms.specs.Variables.{bound, value_in, set_in}
 use Rattle.dap_base.specs.Outcome.{◌>>=◌}
-use Rattle.sequence_terms.specs.Values.{argument, arguments, chained, appended}
+use Rattle.sequence_terms.specs.Values.{argument, arguments, chained}
 use Rattle.sequence_terms.specs.Steps.{in_order, counted, after_counted, declared, inside, statement, block, step, done, turn, turns, given_back, entered, steps_at, sequence_at}
 use Rattle.sequence_terms.specs.Calls.{given, missing}
 use Rattle.sequence_meaning.specs.Held.{Ends, Gives}
@@ -152,8 +152,8 @@ module _ (turn_us : ℕ) (set : SetTrees) where
       let less : suc d - 1 ≡ d = omega arith in
       let body : S → O (Unit {0}) = λ r. steps_at (direct false) turn_us set name r >>= λ x. done (direct false) turn_us (λ n q. sequence_at (direct false) turn_us set d n q) x.0 x.1 in
       let same : entered (direct false) (λ r. done (direct false) turn_us (λ n q. sequence_at (direct false) turn_us set d n q) steps r) s ≡ entered (direct false) body s =
-          entered_same _ body s (λ r. ap (λ k. done (direct false) turn_us (λ n q. sequence_at (direct false) turn_us set d n q) k r) is
-          ∙ ap (λ o. o >>= λ x. done (direct false) turn_us (λ n q. sequence_at (direct false) turn_us set d n q) x.0 x.1) (sym (steps_found turn_us set name r))) in
+      entered_same _ body s (λ r. ap (λ k. done (direct false) turn_us (λ n q. sequence_at (direct false) turn_us set d n q) k r) is
+      ∙ ap (λ o. o >>= λ x. done (direct false) turn_us (λ n q. sequence_at (direct false) turn_us set d n q) x.0 x.1) (sym (steps_found turn_us set name r))) in
       subst (λ o. Gives result now o) same
       (subst (λ k. Gives result now (entered (direct false) (λ r. done (direct false) turn_us (λ n q. sequence_at (direct false) turn_us set k n q) steps r) s)) less h)
 

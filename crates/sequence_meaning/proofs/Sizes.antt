@@ -1,5 +1,5 @@
 -- How large trees are, for measures.
-use Rattle.std.proofs.Common.{◌≡◌, ℕ, zero, suc, ◌+◌, ◌*◌, ◌<◌, ◌≤◌, ◌-◌, Bool, true, false, cond, List, [], ◌∷◌, map, length, drop, slice_get, get_or, Option, Some, None, unwrap_or, refl, ap, sym, arith, bytes_eq}
+use Rattle.std.proofs.Common.{◌≡◌, ℕ, zero, suc, ◌+◌, ◌<◌, ◌≤◌, ◌-◌, Bool, true, false, cond, List, [], ◌∷◌, length, get_or, Option, Some, None, unwrap_or, refl, arith, bytes_eq}
 use Rattle.expr_grammar.specs.declared.code.Arg.{Arg}
 use Rattle.expr_grammar.specs.declared.code.Stmt as statement
 use Rattle.sequence_code.specs.declared.steps.CheckedStep.{CheckedStep}

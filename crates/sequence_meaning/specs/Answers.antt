@@ -1,5 +1,5 @@
 -- What the direct runner answers.
-use Rattle.std.specs.Prelude.{◌≡◌, ℕ, List, [], Option, length, Result, Ok, Err}
+use Rattle.std.specs.Prelude.{◌≡◌, ℕ, List, [], Option, Result, Ok, Err}
 use Rattle.call_terms.specs.declared.calls.Ask.{Ask}
 use Rattle.dap_base.specs.declared.text.OutOfMemory.{OutOfMemory}
 use Rattle.target_machine.specs.State.{TargetState}

@@ -1,9 +1,8 @@
 -- What the direct runner holds, as a state of the meaning; and how what it answers is that of the meaning.
-use Rattle.std.specs.Prelude.{◌≡◌, ℕ, Bool, true, false, List, Option, Some, None, Result, Ok, Err, IsSome, if◌then◌else◌}
+use Rattle.std.specs.Prelude.{◌≡◌, ℕ, Bool, true, false, List, Option, None, Result, Ok, Err, IsSome, if◌then◌else◌}
 use Rattle.seq_check.specs.Answers.{checked_trees}
 use Rattle.target_machine.specs.State.{TargetState}
 use Rattle.target_machine.specs.declared.unit.Call.TheVariants.{Access}
-use Rattle.target_machine.specs.declared.unit.HaltCause.{HaltCause}
 use Rattle.sequence_terms.specs.Direct.{Now, direct}
 use Rattle.sequence_terms.specs.Machine as machine
 use Rattle.sequence_terms.specs.Machine.{State, Out}

@@ -7,8 +7,8 @@ ghost use Rattle.target_machine.specs.declared.unit.Call.TheVariants as calls;
 ghost use Rattle.sequence_meaning.specs.Made.{IsDone, MadeAs, end_by, end_of, is_match, memory_end_by};
 
 use crate::accesses::{
-    access_ap, access_dp, access_drw, has_faulted, high_of, low_of, make_all, number_of, of_lanes, plain_csw,
-    select,
+    access_ap, access_dp, access_drw, has_faulted, high_of, low_of, make_all, number_of, of_lanes,
+    plain_csw, select,
 };
 use dap_base::OutOfMemory;
 use target_machine::registers::{ABORT, CFG, CFG_LA, CLEAR_ALL, CSW, CTRL_STAT, TAR, TAR_HIGH};
@@ -124,7 +124,10 @@ fn read_cfg(target: &mut Target, ap: u8) -> Option<bool>
     ensures large { MatchOption result (is_fault (in_order target.old (cfg_actions ap)).outcome ≡ true)
         (λ large. (is_fault (in_order target.old (cfg_actions ap)).outcome ≡ false) × (large ≡ has_large target.old ap)) }
 {
-    match make_all(target, &[select(ap, CFG / 16), access_ap(true, CFG % 16, 0)]) {
+    match make_all(
+        target,
+        &[select(ap, CFG / 16), access_ap(true, CFG % 16, 0)],
+    ) {
         Outcome::Value(cfg) => Some(cfg & CFG_LA != 0),
         Outcome::Done => Some(false),
         Outcome::Fault => None,
@@ -215,11 +218,7 @@ fn plain_poll(target: &mut Target, mask: u32, value: u32, turns: u32) -> Made
 }
 
 // An access that forgives nothing.
-fn make_plain(
-    target: &mut Target,
-    unit: Unit,
-    large: &mut Vec<u8>,
-) -> Result<Made, OutOfMemory>
+fn make_plain(target: &mut Target, unit: Unit, large: &mut Vec<u8>) -> Result<Made, OutOfMemory>
     requires { IsSound unit }
     ensures made { MadeAs (call_done target.old large.old.items false (calls.Access unit)) result target.new large.new.items }
     ensures same { OnErr result ((target.new ≡ target.old) × (large.new.items ≡ large.old.items)) }

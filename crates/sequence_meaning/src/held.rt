@@ -133,7 +133,7 @@ impl Held {
     pub fn give_back(&mut self, dp: u64, ap: u64, control: u64, locals: Vec<Binding<u64>>)
         ensures { (target : TargetState) (written : Option (List ℕ)) → state_of self.new target written
             ≡ with_variables (state_of self.old target written)
-                (set_in (set_in (set_in (bindings_of self.old.globals) (codes "__dp") dp) (codes "__ap") ap) (codes "__errorcontrol") control) locals.items }
+            (set_in (set_in (set_in (bindings_of self.old.globals) (codes "__dp") dp) (codes "__ap") ap) (codes "__errorcontrol") control) locals.items }
     {
         self.set_global("__dp", dp);
         self.set_global("__ap", ap);

@@ -96,7 +96,12 @@ fn low_bits(count: u8, bits: u64) -> u64
 
 // `DAP_SWJ_Sequence`, of 1 to 64 bits.
 #[tactic(auto, unfolding(sequence_terms::specs::Calls::line_bits, sequence_terms::specs::Calls::zero_of))]
-pub(crate) fn line_bits(count: u64, bits: u64, held: &mut Held, target: &mut Target) -> Result<u64, End>
+pub(crate) fn line_bits(
+    count: u64,
+    bits: u64,
+    held: &mut Held,
+    target: &mut Target,
+) -> Result<u64, End>
     ensures { (written : Option (List ℕ)) → Gives result (state_of held.new target.new written) (c.zero_of (direct false) (c.line_bits (direct false) count bits (state_of held.old target.old written))) }
 {
     if count == 0 || count > 64 {

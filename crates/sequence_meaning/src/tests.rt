@@ -58,11 +58,43 @@ const BLOCKS: [(&str, &str, &str, usize, u32, &str, u64); 24] = [
         0x4433_2211,
     ),
     // Lanes of a word.
-    ("__var x = 0;", "x = Read8(0x20000003);", "done", 1, 0, "x", 0x44),
-    ("__var x = 0;", "x = Read16(0x20000002);", "done", 1, 0, "x", 0x4433),
-    ("__var x = 0;", "Write64(0x20000100, 0x100000002); x = Read64(0x20000100);", "done", 4, 0, "x", 0x1_0000_0002),
+    (
+        "__var x = 0;",
+        "x = Read8(0x20000003);",
+        "done",
+        1,
+        0,
+        "x",
+        0x44,
+    ),
+    (
+        "__var x = 0;",
+        "x = Read16(0x20000002);",
+        "done",
+        1,
+        0,
+        "x",
+        0x4433,
+    ),
+    (
+        "__var x = 0;",
+        "Write64(0x20000100, 0x100000002); x = Read64(0x20000100);",
+        "done",
+        4,
+        0,
+        "x",
+        0x1_0000_0002,
+    ),
     // The unit before a halt counts.
-    ("", "Write32(0x20000000, 1); Read16(0x20000001);", "Misaligned", 1, 0, "__ap", 0),
+    (
+        "",
+        "Write32(0x20000000, 1); Read16(0x20000001);",
+        "Misaligned",
+        1,
+        0,
+        "__ap",
+        0,
+    ),
     // A debug variable without a completed declaration is 0, and `==` binds tighter than `&`.
     (
         "__var a = 1 << 64; __var b = 0 - 1; __var c = 9; __var d = 9;",
@@ -73,7 +105,15 @@ const BLOCKS: [(&str, &str, &str, usize, u32, &str, u64); 24] = [
         "b",
         u64::MAX,
     ),
-    ("__var a = 7; __var b = a / (a - 7); __var c = 9;", "", "DivideByZero", 0, 0, "b", 0),
+    (
+        "__var a = 7; __var b = a / (a - 7); __var c = 9;",
+        "",
+        "DivideByZero",
+        0,
+        0,
+        "b",
+        0,
+    ),
     // Faults that are forgiven are skipped, with 0 as their result.
     (
         "__var a = 9; __var b = 9; __var c = 9;",
@@ -84,22 +124,94 @@ const BLOCKS: [(&str, &str, &str, usize, u32, &str, u64); 24] = [
         "b",
         0,
     ),
-    ("", "Write32(0x20000000, 1); Write32(0x30000000, 2); Write32(0x20000004, 3);", "faulted", 2, 0, "", 0),
+    (
+        "",
+        "Write32(0x20000000, 1); Write32(0x30000000, 2); Write32(0x20000004, 3);",
+        "faulted",
+        2,
+        0,
+        "",
+        0,
+    ),
     // Large addresses, which AP 0 has and AP 1 has not.
-    ("__var x = 0;", "Write32(0x100000000, 1); Write32(0x20000000, 2); x = Read32(0x100000000);", "done", 3, 0, "x", 1),
-    ("", "__ap = 1; Write32(0x100000000, 1); Write32(0x20000000, 2);", "AddressTooLarge", 1, 0, "__ap", 1),
+    (
+        "__var x = 0;",
+        "Write32(0x100000000, 1); Write32(0x20000000, 2); x = Read32(0x100000000);",
+        "done",
+        3,
+        0,
+        "x",
+        1,
+    ),
+    (
+        "",
+        "__ap = 1; Write32(0x100000000, 1); Write32(0x20000000, 2);",
+        "AddressTooLarge",
+        1,
+        0,
+        "__ap",
+        1,
+    ),
     // Registers.
-    ("__var x = 0;", "WriteAP(0x4, 0x20000000); x = ReadAP(0x4);", "done", 2, 0, "x", 0x2000_0000),
-    ("__var x = 0;", "WriteDP(0x8, 0); x = ReadDP(0x0);", "done", 2, 0, "x", 0x2BA0_1477),
+    (
+        "__var x = 0;",
+        "WriteAP(0x4, 0x20000000); x = ReadAP(0x4);",
+        "done",
+        2,
+        0,
+        "x",
+        0x2000_0000,
+    ),
+    (
+        "__var x = 0;",
+        "WriteDP(0x8, 0); x = ReadDP(0x0);",
+        "done",
+        2,
+        0,
+        "x",
+        0x2BA0_1477,
+    ),
     ("", "ReadAP(0x100);", "AddressTooLarge", 0, 0, "__ap", 0),
     ("", "ReadDP(0x2);", "Misaligned", 0, 0, "__ap", 0),
     ("", "ReadDP(0xC);", "Unsupported", 0, 0, "__ap", 0),
-    ("", "__dp = 1; Read32(0x20000000);", "Unsupported", 0, 0, "__dp", 1),
+    (
+        "",
+        "__dp = 1; Read32(0x20000000);",
+        "Unsupported",
+        0,
+        0,
+        "__dp",
+        1,
+    ),
     // Commands of the probe.
-    ("__var x = 0;", "x = DAP_SWJ_Pins(0, 0x80, 0); DAP_Delay(70000); DAP_SWJ_Sequence(16, 0xE79E);", "done", 3, 0, "x", 0x20),
-    ("", "DAP_SWJ_Clock(0);", "ArgumentOutOfRange", 0, 0, "__ap", 0),
+    (
+        "__var x = 0;",
+        "x = DAP_SWJ_Pins(0, 0x80, 0); DAP_Delay(70000); DAP_SWJ_Sequence(16, 0xE79E);",
+        "done",
+        3,
+        0,
+        "x",
+        0x20,
+    ),
+    (
+        "",
+        "DAP_SWJ_Clock(0);",
+        "ArgumentOutOfRange",
+        0,
+        0,
+        "__ap",
+        0,
+    ),
     ("", "DAP_WriteABORT(0x1E);", "done", 1, 0, "__ap", 0),
-    ("", "DAP_JTAG_Sequence(1, 0, 0);", "Unsupported", 0, 0, "__ap", 0),
+    (
+        "",
+        "DAP_JTAG_Sequence(1, 0, 0);",
+        "Unsupported",
+        0,
+        0,
+        "__ap",
+        0,
+    ),
     // A called sequence gives back `__ap`, and shares `__Result`.
     ("", "__ap = 3; Sequence(\"Sub\");", "done", 0, 0, "__ap", 3),
     ("", "Sequence(\"Sub\");", "done", 0, 0, "__Result", 5),
@@ -109,7 +221,12 @@ const BLOCKS: [(&str, &str, &str, usize, u32, &str, u64); 24] = [
 fn blocks_run(rt: HostRuntime) -> Result<(), Fail> {
     let alloc = rt.alloc();
     for (debugvars, code, ending, units, skipped, name, value) in BLOCKS {
-        let set = checked(alloc, debugvars, &[Piece::Block(code)], "__ap = 9; __Result = 5;")?;
+        let set = checked(
+            alloc,
+            debugvars,
+            &[Piece::Block(code)],
+            "__ap = 9; __Result = 5;",
+        )?;
         let mut sink = MemorySink::new(alloc, &[])?;
         let mut target = target(alloc, true)?;
         let settings = settings(alloc)?;
@@ -127,11 +244,32 @@ fn blocks_run(rt: HostRuntime) -> Result<(), Fail> {
 // A loop, its timeout in microseconds and its steps, whether power is up at the start, its units, and the value of `n`.
 const LOOPS: [(&str, u64, &str, bool, usize, u64); 5] = [
     // Six turns of ten microseconds; the sixth read of CTRL/STAT shows the acknowledgement.
-    ("(ReadDP(0x4) & 0xA0000000) != 0xA0000000", 60, "n = n + 1;", false, 8, 5),
+    (
+        "(ReadDP(0x4) & 0xA0000000) != 0xA0000000",
+        60,
+        "n = n + 1;",
+        false,
+        8,
+        5,
+    ),
     // After five turns it does not show: the loop ends after its last turn, and the run goes on.
-    ("(ReadDP(0x4) & 0xA0000000) != 0xA0000000", 50, "n = n + 1;", false, 7, 5),
+    (
+        "(ReadDP(0x4) & 0xA0000000) != 0xA0000000",
+        50,
+        "n = n + 1;",
+        false,
+        7,
+        5,
+    ),
     // Without steps the loop is one unit.
-    ("(ReadDP(0x4) & 0xA0000000) != 0xA0000000", 50, "", false, 3, 0),
+    (
+        "(ReadDP(0x4) & 0xA0000000) != 0xA0000000",
+        50,
+        "",
+        false,
+        3,
+        0,
+    ),
     // A word that shows 1 to 6, read after read.
     ("Read32(0x20000010) != 4", 1000, "", true, 6, 0),
     // Many turns.
@@ -161,7 +299,8 @@ fn loops_run(rt: HostRuntime) -> Result<(), Fail> {
 #[test]
 fn lines_are_written(rt: HostRuntime) -> Result<(), Fail> {
     let alloc = rt.alloc();
-    let code = r#"Message(1, "id 0x%08X", 0xAB); Query(0, "sure?", 1); QueryValue("n", 5); LoadDebugInfo("f.axf");"#;
+    let code =
+        r#"Message(1, "id 0x%08X", 0xAB); Query(0, "sure?", 1); QueryValue("n", 5); LoadDebugInfo("f.axf");"#;
     let set = checked(alloc, "", &[Piece::If("1", code)], "")?;
     let mut sink = MemorySink::new(alloc, &[])?;
     let mut target = target(alloc, true)?;
@@ -182,7 +321,11 @@ fn a_fault_names_its_unit(rt: HostRuntime) -> Result<(), Fail> {
     let mut target = target(alloc, true)?;
     let settings = settings(alloc)?;
     let ended = run_direct(alloc, &set, "Main", &settings, &mut target, &mut sink)?;
-    if let Direct::Faulted { unit, what: Unit::Memory { address, .. } } = ended {
+    if let Direct::Faulted {
+        unit,
+        what: Unit::Memory { address, .. },
+    } = ended
+    {
         assert_eq!(rt; unit, 2);
         assert_eq!(rt; address, 0x3000_0000);
     } else {

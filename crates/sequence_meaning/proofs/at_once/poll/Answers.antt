@@ -1,4 +1,4 @@
-use Rattle.std.proofs.Common.{◌≡◌, ◌∙◌, sym, ap}
+use Rattle.std.proofs.Common.{◌∙◌, sym, ap}
 use Rattle.target_machine.specs.Attempt.{attempt}
 use Rattle.target_machine.specs.declared.access.RegAccess.{RegAccess}
 use Rattle.sequence_meaning.proofs.ActionLemmas.{poll_match, poll_fault, poll_more, poll_none}

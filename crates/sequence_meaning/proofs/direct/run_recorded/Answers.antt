@@ -1,4 +1,4 @@
-use Rattle.std.proofs.Common.{◌≡◌, List, None, false, sym, ap, subst, ◌∙◌}
+use Rattle.std.proofs.Common.{List, None, false, ap, subst, ◌∙◌}
 use Rattle.call_terms.specs.World.{start_world}
 use Rattle.expr_grammar.specs.Tree.{code_trees}
 use Rattle.expr_grammar.specs.declared.code.Stmt.{Stmt}
@@ -25,7 +25,7 @@ returns g c = record {
       let all = c.in_ok-add_declared.ensures ∙ ap (λ bs. with_all_new bs (m.declared_names (code_trees c.as_slice-2.result.now)) 0) values ∙ ap (λ k. with_all_new (variables_of c.args.settings.now.start) (m.declared_names k) 0) code in
       let same = c.new-held.ensures c.args.target.now w ∙ start_is c.args.settings.now.turn_us set (variables_of c.args.settings.now.start) _ c.args.target.now w all in
       let gives = subst (λ s. Gives c.run-ended.result (seen known c.run-ended.new.held c.run-ended.new.target (g.K.Sink.written c.run-ended.new.sink)) (m.run_of (direct false) c.args.settings.now.turn_us set c.args.start.now s)) same
-          (c.run-ended.ensures.gives known knows) in
+      (c.run-ended.ensures.gives known knows) in
       c.recorded.ensures c.run-ended.new.target w2 (meaning (start_world c.args.target.now None) (program_of c.args.checked.now c.args.start.now c.args.settings.now) w) gives
       (are_made (start_world c.args.target.now None) (program_of c.args.checked.now c.args.start.now c.args.settings.now) w).units;
 }

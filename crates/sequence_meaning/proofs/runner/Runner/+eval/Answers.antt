@@ -1,4 +1,4 @@
-use Rattle.std.proofs.Common.{◌≡◌, true, false, ◌<◌, ◌≤◌, ◌+◌, ◌*◌, ◌-◌, ap, unwrap_or, ◌∙◌, rules, arith}
+use Rattle.std.proofs.Common.{◌≡◌, false, ◌<◌, ◌≤◌, ◌+◌, ◌*◌, ap, unwrap_or, rules, arith}
 use Rattle.expr_grammar.specs.Tree.{tree, arg_tree, arg_trees, stmt_tree, code_trees}
 use Rattle.seq_check.specs.Answers.{checked_trees}
 use Rattle.sequence_code.specs.Trees.{NoSteps, step_tree, steps_tree, steps_named}
@@ -6,7 +6,7 @@ use Rattle.sequence_terms.specs.Direct.{direct}
 use Rattle.sequence_meaning.specs.Held.{calls_of}
 use Rattle.sequence_terms.specs.Values as v
 use Rattle.sequence_meaning.proofs.Loops.{declared_on, inside_on, entered_on, entered_fail, sequence_on, turns_on, turns_over, turns_fail}
-use Rattle.sequence_meaning.proofs.Sizes.{arg_size, args_size, stmt_size, block_size, step_size, steps_size, all_size, budget, arg_within, stmt_within, step_within, named_within, less_budget}
+use Rattle.sequence_meaning.proofs.Sizes.{arg_size, args_size, stmt_size, block_size, step_size, steps_size, all_size, arg_within, stmt_within, step_within, named_within, less_budget}
 use Rattle.sequence_meaning.proofs.runner.Runner.+eval.Goals as goal
 
 pub arguments-argument-requires : goal.arguments-argument-requires

@@ -1,4 +1,4 @@
-use Rattle.std.proofs.Common.{◌≡◌, ℕ, ◌+◌, ◌*◌, ◌-◌, ◌≤◌, Bool, false, option_map, drop, length}
+use Rattle.std.proofs.Common.{◌≡◌, ◌+◌, ◌*◌, Bool, false, option_map, drop}
 use Rattle.expr_grammar.specs.Tree.{tree, arg_tree, arg_trees, stmt_tree, code_trees}
 use Rattle.seq_check.specs.Answers.{checked_trees}
 use Rattle.sequence_code.specs.Trees.{step_tree, steps_tree}

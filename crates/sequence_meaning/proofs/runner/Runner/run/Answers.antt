@@ -1,4 +1,4 @@
-use Rattle.std.proofs.Common.{◌≡◌, List, false, sym, ap, ◌∙◌}
+use Rattle.std.proofs.Common.{List, false, sym, ap, ◌∙◌}
 use Rattle.expr_grammar.specs.Tree.{code_trees}
 use Rattle.expr_grammar.specs.declared.code.Stmt.{Stmt}
 use Rattle.seq_check.specs.Answers.{checked_trees}
