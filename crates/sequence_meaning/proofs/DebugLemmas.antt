@@ -1,0 +1,75 @@
+-- The debug variables one after the other, and whole runs.
+use Rattle.std.proofs.Common.{◌≡◌, ℕ, ◌+◌, ◌<◌, ◌≤◌, false, List, ◌∷◌, length, drop, get_or, unwrap_or, Result, Ok, Err, refl, sym, ap, subst, ◌∙◌}
+use Rattle.std.proofs.lemmas.List.{drop_more}
+use Rattle.dap_base.specs.Outcome.{◌>>=◌}
+use Rattle.expr_grammar.specs.declared.code.Stmt as statement
+use Rattle.expr_grammar.specs.Tree as t
+use Rattle.expr_grammar.specs.Tree.{StmtTree, stmt_tree, code_trees}
+use Rattle.sequence_code.specs.Trees.{CodeSteps, SetTrees, NoSteps, steps_named}
+use Rattle.sequence_terms.specs.Direct.{Now, direct}
+use Rattle.sequence_terms.specs.Machine.{State, Out}
+use Rattle.sequence_terms.specs.Steps.{done, steps_at, sequence_at, debugged, run_of}
+use Rattle.sequence_terms.specs.Values.{value, stored}
+use Rattle.sequence_meaning.specs.declared.end.End.{End}
+use Rattle.sequence_meaning.specs.Held.{Ends, Gives}
+use Rattle.sequence_meaning.specs.Starting.{debugged_one}
+use Rattle.sequence_meaning.proofs.DirectLemmas.{ends_on}
+use Rattle.sequence_meaning.proofs.Loops.{drop_end, steps_found}
+
+abbrev S : Type 0
+S = State ℕ Now
+
+abbrev O : Type 0 → Type 0
+O A = Out ℕ Now A
+
+module _ (turn_us : ℕ) (set : SetTrees) where
+  -- ---- the debug variables
+
+  abbrev dropped_value : {B : Type 0} → B × S → O (Unit {0})
+  dropped_value y = Ok (tt, y.1)
+
+  abbrev rest_of : {B C : Type 0} → (S → O C) → B × S → O C
+  rest_of g y = g y.1
+
+  tail_one : {B C : Type 0} (p : O B) (g : S → O C) → (p >>= rest_of {B = B} {C = C} g) ≡ ((p >>= dropped_value {B = B}) >>= rest_of {B = Unit {0}} {C = C} g)
+  tail_one (Ok x) g = refl
+  tail_one (Err e) g = refl
+
+  tail_two : {A B C : Type 0} (o : O A) (f : A × S → O B) (g : S → O C) → (o >>= λ x. f x >>= rest_of {B = B} {C = C} g) ≡ ((o >>= λ x. f x >>= dropped_value {B = B}) >>= rest_of {B = Unit {0}} {C = C} g)
+  tail_two (Ok x) f g = tail_one (f x) g
+  tail_two (Err e) f g = refl
+
+  debug_first : (st : StmtTree) (code : List StmtTree) (s : S) → debugged (direct false) turn_us set (st ∷ code) s ≡ (debugged_one turn_us set st s >>= λ y. debugged (direct false) turn_us set code y.1)
+  unfolding debugged
+  debug_first (t.Empty at) code s = refl
+  debug_first (t.Declare name e) code s = tail_two {A = ℕ} {B = ℕ} {C = Unit {0}} (value (direct false) (λ n q. sequence_at (direct false) turn_us set 0 n q) e s) (λ x. stored (direct false) name x.0 x.1) (λ q. debugged (direct false) turn_us set code q)
+  debug_first (t.Plain at e) code s = refl
+
+  debug_more : (xs : List statement.Stmt) (i : ℕ) (d : statement.Stmt) (s : S) → i < length xs
+      → debugged (direct false) turn_us set (code_trees (drop i xs)) s ≡ (debugged_one turn_us set (stmt_tree (get_or xs i d)) s >>= λ y. debugged (direct false) turn_us set (code_trees (drop (i + 1) xs)) y.1)
+  debug_more xs i d s h = rw (drop_more xs i d h) (debug_first (stmt_tree (get_or xs i d)) (code_trees (drop (i + 1) xs)) s)
+
+  pub debug_on : (total : O (Unit {0})) (xs : List statement.Stmt) (i : ℕ) (d : statement.Stmt) (s r : S) → total ≡ debugged (direct false) turn_us set (code_trees (drop i xs)) s → i < length xs
+      → debugged_one turn_us set (stmt_tree (get_or xs i d)) s ≡ Ok (tt, r) → total ≡ debugged (direct false) turn_us set (code_trees (drop (i + 1) xs)) r
+  debug_on total xs i d s r same h is = same ∙ debug_more xs i d s h ∙ ap (λ o. o >>= λ y. debugged (direct false) turn_us set (code_trees (drop (i + 1) xs)) y.1) is
+
+  pub debug_fail : (total : O (Unit {0})) (xs : List statement.Stmt) (i : ℕ) (d : statement.Stmt) (s r : S) (end : End) → total ≡ debugged (direct false) turn_us set (code_trees (drop i xs)) s → i < length xs
+      → Ends end r (debugged_one turn_us set (stmt_tree (get_or xs i d)) s) → Ends end r total
+  debug_fail total xs i d s r end same h is = rw (same ∙ debug_more xs i d s h) (ends_on end r (debugged_one turn_us set (stmt_tree (get_or xs i d)) s) _ is)
+
+  pub debug_over : (total : O (Unit {0})) (xs : List statement.Stmt) (i : ℕ) (s : S) → total ≡ debugged (direct false) turn_us set (code_trees (drop i xs)) s → length xs ≤ i → total ≡ Ok (tt, s)
+  unfolding debugged
+  debug_over total xs i s same h = same ∙ rw (drop_end xs i h) refl
+
+  -- ---- the run
+
+  pub run_on : (start : List ℕ) (s r now : S) (result : Result (Unit {0}) End) (steps : CodeSteps) → debugged (direct false) turn_us set set.debugvars s ≡ Ok (tt, r) → steps ≡ unwrap_or (steps_named start set.sequences) NoSteps
+      → Gives result now (done (direct false) turn_us (λ n q. sequence_at (direct false) turn_us set 31 n q) steps r) → Gives result now (run_of (direct false) turn_us set start s)
+  unfolding run_of
+  run_on start s r now result steps debug is h =
+      let f : CodeSteps × S → O (Unit {0}) = λ y. done (direct false) turn_us (λ n q. sequence_at (direct false) turn_us set 31 n q) y.0 y.1 in
+      let found : (steps_at (direct false) turn_us set start r >>= f) ≡ done (direct false) turn_us (λ n q. sequence_at (direct false) turn_us set 31 n q) steps r =
+      ap (λ o. o >>= f) (steps_found turn_us set start r) ∙ ap (λ k. done (direct false) turn_us (λ n q. sequence_at (direct false) turn_us set 31 n q) k r) (sym is) in
+      subst (λ o. Gives result now o) (sym (ap (λ o. o >>= λ x. steps_at (direct false) turn_us set start x.1 >>= f) debug ∙ found)) h
+
+pub ruleset debugging = (debug_on, debug_fail, debug_over)

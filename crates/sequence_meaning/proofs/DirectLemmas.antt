@@ -1,0 +1,73 @@
+-- What the parts of the meaning are where each call is made at once.
+use Rattle.std.proofs.Common.{◌≡◌, ℕ, ◌%◌, Bool, true, false, List, [], ◌∷◌, Option, None, Some, unwrap_or, option_map, take, ◌++◌, Ok, Err, nat_eq, codes, refl, sym, ap, ◌∙◌}
+use Rattle.sequence_terms.specs.declared.bindings.Binding.{Binding}
+use Rattle.sequence_meaning.specs.declared.end.End.{End}
+use Rattle.sequence_meaning.specs.declared.end.End.TheVariants as end
+use Rattle.sequence_terms.specs.Direct.{Now, direct}
+use Rattle.sequence_terms.specs.Machine.{State, Out}
+use Rattle.sequence_terms.specs.Variables.{value_in}
+use Rattle.dap_base.specs.Outcome.{◌>>=◌}
+use Rattle.sequence_terms.specs.Calls.{use_now, missing, given, global, port_with, port_from, port}
+use Rattle.std.specs.Io.KnownBytes.{Appends}
+use Rattle.dap_base.specs.Streams.{AppendsPrefix}
+use Rattle.sequence_meaning.specs.Held.{Ends, known_part, Knows}
+use Rattle.sequence_terms.specs.Values.{all_used, numbers_of}
+
+-- an end goes on outwards
+pub ends_on : {A B : Type 0} (e : End) (now : State ℕ Now) (out : Out ℕ Now A) (f : A × State ℕ Now → Out ℕ Now B) → Ends e now out → Ends e now (out >>= f)
+ends_on (end.Halted cause) now out f h = ap (λ o. o >>= f) h
+ends_on (end.Faulted u) now out f h = ap (λ o. o >>= f) h
+ends_on end.WriteFault now out f h = tt
+ends_on end.OutOfMemory now out f h = tt
+
+given_is : (o : Option ℕ) (s : State ℕ Now) → (given (direct false) 0 o s >>= λ v. use_now (direct false) v.0 v.1) ≡ Ok (unwrap_or o 0, s)
+unfolding given missing use_now direct
+given_is None s = refl
+given_is (Some n) s = refl
+
+pub global_is : (name : List ℕ) (s : State ℕ Now) → global (direct false) name s ≡ Ok (unwrap_or (value_in s.globals name) 0, s)
+unfolding global direct
+global_is name s = given_is (value_in s.globals name) s
+
+pub global_as : (name : List ℕ) (gs : List (Binding ℕ)) (n : ℕ) → n ≡ unwrap_or (value_in gs name) 0 → (s : State ℕ Now) → s.globals ≡ gs → global (direct false) name s ≡ Ok (n, s)
+global_as name gs n is s same = global_is name s ∙ ap (λ k. Ok (k, s)) (ap (λ g. unwrap_or (value_in g name) 0) same ∙ sym is)
+
+pub port_as : (gs : List (Binding ℕ)) (a e d : ℕ) → a ≡ unwrap_or (value_in gs (codes "__ap")) 0 → e ≡ unwrap_or (value_in gs (codes "__errorcontrol")) 0 → d ≡ unwrap_or (value_in gs (codes "__dp")) 0
+    → (s : State ℕ Now) → s.globals ≡ gs → port (direct false) s ≡ Ok (record { ap = a; forgive = nat_eq (e % 2) 1; dp = d }, s)
+unfolding port port_from port_with direct
+port_as gs a e d ai ei di s same =
+    rw (global_as (codes "__ap") gs a ai s same)
+    (rw (global_as (codes "__errorcontrol") gs e ei s same)
+    (rw (global_as (codes "__dp") gs d di s same) refl))
+
+-- ---- what the sink holds
+
+pub known_more : (known : Bool) (old new : Option (List ℕ)) (text : List ℕ) → Appends old new text → Knows known old → known_part known new ≡ option_map (λ bytes. bytes ++ text) (known_part known old)
+known_more false old new text h t = refl
+known_more true None new text h t = absurd cc
+known_more true (Some xs) None text h t = absurd h
+known_more true (Some xs) (Some ys) text h t = ap Some h
+
+pub knows_more : (known : Bool) (old new : Option (List ℕ)) (text : List ℕ) → Appends old new text → Knows known old → Knows known new
+knows_more false old new text h t = tt
+knows_more true None new text h t = absurd cc
+knows_more true (Some xs) None text h t = absurd h
+knows_more true (Some xs) (Some ys) text h t = refl
+
+pub knows_part : (known : Bool) (old new : Option (List ℕ)) (text : List ℕ) → AppendsPrefix old new text → Knows known old → Knows known new
+knows_part known old new text h t = knows_more known old new (take h.0 text) h.1 t
+
+-- ---- values that are used
+
+all_as : (vs : List ℕ) (s : State ℕ Now) → all_used (direct false) vs s ≡ Ok (vs, s)
+unfolding all_used use_now direct
+all_as [] s = refl
+all_as (v ∷ vs) s = rw (all_as vs s) refl
+
+numbers_as : (out : Out ℕ Now (List ℕ)) → numbers_of (direct false) out ≡ out
+unfolding numbers_of direct
+numbers_as (Ok x) = all_as x.0 x.1
+numbers_as (Err e) = refl
+
+pub numbers_used : (out : Out ℕ Now (List ℕ)) → numbers_of (direct false) out ≡ out
+numbers_used out = numbers_as out

@@ -1,0 +1,16 @@
+pub mod ActionLemmas
+pub mod AtOnceLemmas
+pub mod CallLemmas
+pub mod DebugLemmas
+pub mod DirectLemmas
+pub mod EndLemmas
+pub mod Fine
+pub mod FineCalls
+pub mod FineValues
+pub mod FineSteps
+pub mod FineRuns
+pub mod HeldLemmas
+pub mod Loops
+pub mod NeverLost
+pub mod Sizes
+pub mod StartLemmas

@@ -1,0 +1,177 @@
+-- Loops of the direct runner, one turn at a time.
+use Rattle.std.proofs.Common.{◌≡◌, ℕ, zero, suc, ◌+◌, ◌-◌, ◌<◌, ◌≤◌, true, false, List, [], ◌∷◌, ◌++◌, length, drop, take, get_or, Option, None, Some, unwrap_or, Result, Ok, codes, refl, sym, ap, subst, ◌∙◌, arith}
+use Rattle.std.proofs.lemmas.List.{drop_more}
+use Rattle.expr_grammar.specs.declared.code.Arg.{Arg}
+use Rattle.expr_grammar.specs.declared.code.Name.{Name}
+use Rattle.expr_grammar.specs.declared.code.Stmt as statement
+use Rattle.expr_grammar.specs.Tree.{arg_tree, arg_trees, stmt_tree, code_trees}
+use Rattle.sequence_code.specs.declared.steps.CheckedStep.{CheckedStep}
+use Rattle.sequence_code.specs.Trees.{CodeSteps, SetTrees, NoSteps, step_tree, steps_tree, steps_named}
+use Rattle.sequence_meaning.specs.declared.end.End.{End}
+use Rattle.sequence_terms.specs.Direct.{Now, direct}
+use Rattle.sequence_terms.specs.declared.bindings.Binding.{Binding}
+use Rattle.sequence_terms.specs.Machine.{State, Out, with_locals, with_variables}
+use Rattle.sequence_terms.specs.Variables.{bound, value_in, set_in}
+use Rattle.dap_base.specs.Outcome.{◌>>=◌}
+use Rattle.sequence_terms.specs.Values.{argument, arguments, chained}
+use Rattle.sequence_terms.specs.Steps.{in_order, counted, after_counted, declared, inside, statement, block, step, done, turn, turns, given_back, entered, steps_at, sequence_at}
+use Rattle.sequence_terms.specs.Calls.{given, missing}
+use Rattle.sequence_meaning.specs.Held.{Ends, Gives}
+use Rattle.sequence_meaning.proofs.DirectLemmas.{ends_on}
+
+abbrev S : Type 0
+S = State ℕ Now
+
+abbrev O : Type 0 → Type 0
+O A = Out ℕ Now A
+
+pub drop_end : {X : Type 0} (xs : List X) (i : ℕ) → length xs ≤ i → drop i xs ≡ []
+drop_end [] zero h = refl
+drop_end [] (suc i) h = refl
+drop_end (x ∷ xs) zero h = absurd (omega arith)
+drop_end (x ∷ xs) (suc i) h = drop_end xs i (omega arith)
+
+module _ (seq : List ℕ → S → O (Unit {0})) where
+  args_more : (xs : List Arg) (i : ℕ) (d : Arg) (got : List ℕ) (s : S) → i < length xs
+      → arguments (direct false) seq (arg_trees (drop i xs)) got s ≡ chained (direct false) (argument (direct false) seq (arg_tree (get_or xs i d)) got s) (λ g r. arguments (direct false) seq (arg_trees (drop (i + 1) xs)) g r)
+  unfolding arguments
+  args_more xs i d got s h = rw (drop_more xs i d h) refl
+
+  pub args_on : (total : O (List ℕ)) (xs : List Arg) (i : ℕ) (d : Arg) (got now : List ℕ) (s r : S) → total ≡ arguments (direct false) seq (arg_trees (drop i xs)) got s → i < length xs
+      → argument (direct false) seq (arg_tree (get_or xs i d)) got s ≡ Ok (now, r) → total ≡ arguments (direct false) seq (arg_trees (drop (i + 1) xs)) now r
+  unfolding chained
+  args_on total xs i d got now s r same h is = same ∙ args_more xs i d got s h ∙ rw is refl
+
+  pub args_fail : (total : O (List ℕ)) (xs : List Arg) (i : ℕ) (d : Arg) (got : List ℕ) (s r : S) (end : End) → total ≡ arguments (direct false) seq (arg_trees (drop i xs)) got s → i < length xs
+      → Ends end r (argument (direct false) seq (arg_tree (get_or xs i d)) got s) → Ends end r total
+  unfolding chained
+  args_fail total xs i d got s r end same h is = rw (same ∙ args_more xs i d got s h) (ends_on end r (argument (direct false) seq (arg_tree (get_or xs i d)) got s) _ is)
+
+  pub args_over : (total : O (List ℕ)) (xs : List Arg) (i : ℕ) (got : List ℕ) (s : S) → total ≡ arguments (direct false) seq (arg_trees (drop i xs)) got s → length xs ≤ i → total ≡ Ok (got, s)
+  unfolding arguments
+  args_over total xs i got s same h = same ∙ rw (drop_end xs i h) refl
+
+module _ (turn_us : ℕ) (seq : List ℕ → S → O (Unit {0})) where
+  block_more : (xs : List statement.Stmt) (i : ℕ) (d : statement.Stmt) (s : S) → i < length xs
+      → block (direct false) turn_us seq (code_trees (drop i xs)) s ≡ in_order (direct false) (statement (direct false) turn_us seq (stmt_tree (get_or xs i d)) s) (λ r. block (direct false) turn_us seq (code_trees (drop (i + 1) xs)) r)
+  unfolding block
+  block_more xs i d s h = rw (drop_more xs i d h) refl
+
+  pub block_on : (total : O (Unit {0})) (xs : List statement.Stmt) (i : ℕ) (d : statement.Stmt) (s r : S) → total ≡ block (direct false) turn_us seq (code_trees (drop i xs)) s → i < length xs
+      → statement (direct false) turn_us seq (stmt_tree (get_or xs i d)) s ≡ Ok (tt, r) → total ≡ block (direct false) turn_us seq (code_trees (drop (i + 1) xs)) r
+  unfolding in_order
+  block_on total xs i d s r same h is = same ∙ block_more xs i d s h ∙ rw is refl
+
+  pub block_fail : (total : O (Unit {0})) (xs : List statement.Stmt) (i : ℕ) (d : statement.Stmt) (s r : S) (end : End) → total ≡ block (direct false) turn_us seq (code_trees (drop i xs)) s → i < length xs
+      → Ends end r (statement (direct false) turn_us seq (stmt_tree (get_or xs i d)) s) → Ends end r total
+  unfolding in_order
+  block_fail total xs i d s r end same h is = rw (same ∙ block_more xs i d s h) (ends_on end r (statement (direct false) turn_us seq (stmt_tree (get_or xs i d)) s) _ is)
+
+  pub block_over : (total : O (Unit {0})) (xs : List statement.Stmt) (i : ℕ) (s : S) → total ≡ block (direct false) turn_us seq (code_trees (drop i xs)) s → length xs ≤ i → total ≡ Ok (tt, s)
+  unfolding block
+  block_over total xs i s same h = same ∙ rw (drop_end xs i h) refl
+
+  done_more : (xs : List CheckedStep) (i : ℕ) (d : CheckedStep) (s : S) → i < length xs
+      → done (direct false) turn_us seq (steps_tree (drop i xs)) s ≡ in_order (direct false) (step (direct false) turn_us seq (step_tree (get_or xs i d)) s) (λ r. done (direct false) turn_us seq (steps_tree (drop (i + 1) xs)) r)
+  unfolding done
+  done_more xs i d s h = rw (drop_more xs i d h) refl
+
+  pub done_on : (total : O (Unit {0})) (xs : List CheckedStep) (i : ℕ) (d : CheckedStep) (s r : S) → total ≡ done (direct false) turn_us seq (steps_tree (drop i xs)) s → i < length xs
+      → step (direct false) turn_us seq (step_tree (get_or xs i d)) s ≡ Ok (tt, r) → total ≡ done (direct false) turn_us seq (steps_tree (drop (i + 1) xs)) r
+  unfolding in_order
+  done_on total xs i d s r same h is = same ∙ done_more xs i d s h ∙ rw is refl
+
+  pub done_fail : (total : O (Unit {0})) (xs : List CheckedStep) (i : ℕ) (d : CheckedStep) (s r : S) (end : End) → total ≡ done (direct false) turn_us seq (steps_tree (drop i xs)) s → i < length xs
+      → Ends end r (step (direct false) turn_us seq (step_tree (get_or xs i d)) s) → Ends end r total
+  unfolding in_order
+  done_fail total xs i d s r end same h is = rw (same ∙ done_more xs i d s h) (ends_on end r (step (direct false) turn_us seq (step_tree (get_or xs i d)) s) _ is)
+
+  pub done_over : (total : O (Unit {0})) (xs : List CheckedStep) (i : ℕ) (s : S) → total ≡ done (direct false) turn_us seq (steps_tree (drop i xs)) s → length xs ≤ i → total ≡ Ok (tt, s)
+  unfolding done
+  done_over total xs i s same h = same ∙ rw (drop_end xs i h) refl
+
+module _ (test : S → O ℕ) (body : S → O (Unit {0})) where
+  pub turns_on : (total : O (Unit {0})) (left : ℕ) (s now : S) → total ≡ turns (direct false) test body left s → 0 < left
+      → turn (direct false) test body s ≡ Ok (true, now) → total ≡ turns (direct false) test body (left - 1) now
+  unfolding turns
+  turns_on total zero s now same pos is = absurd (omega arith)
+  turns_on total (suc k) s now same pos is =
+      let less : suc k - 1 ≡ k = omega arith in
+      rw less (same ∙ rw is refl)
+
+  pub turns_over : (total : O (Unit {0})) (left : ℕ) (s now : S) → total ≡ turns (direct false) test body left s → 0 < left
+      → turn (direct false) test body s ≡ Ok (false, now) → total ≡ Ok (tt, now)
+  unfolding turns
+  turns_over total zero s now same pos is = absurd (omega arith)
+  turns_over total (suc k) s now same pos is = same ∙ rw is refl
+
+  pub turns_fail : (total : O (Unit {0})) (left : ℕ) (s now : S) (end : End) → total ≡ turns (direct false) test body left s → 0 < left
+      → Ends end now (turn (direct false) test body s) → Ends end now total
+  unfolding turns
+  turns_fail total zero s now end same pos h = absurd (omega arith)
+  turns_fail total (suc k) s now end same pos h = rw same (ends_on end now (turn (direct false) test body s) _ h)
+
+  pub turns_none : (total : O (Unit {0})) (left : ℕ) (s : S) → total ≡ turns (direct false) test body left s → (0 < left → ⊥) → total ≡ Ok (tt, s)
+  unfolding turns
+  turns_none total zero s same none = same
+  turns_none total (suc k) s same none = absurd (none (omega arith))
+
+-- ---- scopes
+
+pub declared_on : (name : Name) (f : S → O ℕ) (s k r o : S) (n : ℕ) → counted (direct false) s ≡ Ok (tt, k) → f k ≡ Ok (n, r) → o ≡ with_locals r (r.locals ++ bound name.text n ∷ [])
+    → after_counted (direct false) (λ q. declared (direct false) name (f q)) s ≡ Ok (tt, o)
+unfolding after_counted declared
+declared_on name f s k r o n h i j = rw h (rw i (rw j refl))
+
+pub inside_on : (body : S → O (Unit {0})) (s r o : S) (n : ℕ) → body s ≡ Ok (tt, r) → n ≡ length s.locals → o ≡ with_locals r (take n r.locals) → inside (direct false) body s ≡ Ok (tt, o)
+unfolding inside
+inside_on body s r o n h i j = rw h (rw j (rw i refl))
+
+-- ---- sequences
+
+given_steps : (o : Option CodeSteps) (s : S) → given (direct false) NoSteps o s ≡ Ok (unwrap_or o NoSteps, s)
+unfolding given missing direct
+given_steps None s = refl
+given_steps (Some steps) s = refl
+
+pub steps_found : (turn_us : ℕ) (set : SetTrees) (name : List ℕ) (s : S) → steps_at (direct false) turn_us set name s ≡ Ok (unwrap_or (steps_named name set.sequences) NoSteps, s)
+unfolding steps_at
+steps_found turn_us set name s = given_steps (steps_named name set.sequences) s
+
+entered_same : (f g : S → O (Unit {0})) (s : S) → ((r : S) → f r ≡ g r) → entered (direct false) f s ≡ entered (direct false) g s
+unfolding entered
+entered_same f g s h = ap (λ (o : O (Unit {0})). o >>= λ x. Ok (tt, with_variables x.1 (given_back (direct false) s.globals x.1.globals) s.locals)) (h (with_locals s []))
+
+module _ (turn_us : ℕ) (set : SetTrees) where
+  pub sequence_on : (d : ℕ) (name : List ℕ) (s now : S) (result : Result (Unit {0}) End) (steps : CodeSteps) → ¬ (d ≡ 0) → steps ≡ unwrap_or (steps_named name set.sequences) NoSteps
+      → Gives result now (entered (direct false) (λ r. done (direct false) turn_us (λ n q. sequence_at (direct false) turn_us set (d - 1) n q) steps r) s)
+      → Gives result now (sequence_at (direct false) turn_us set d name s)
+  unfolding sequence_at
+  sequence_on zero name s now result steps some is h = absurd (some refl)
+  sequence_on (suc d) name s now result steps some is h =
+      let less : suc d - 1 ≡ d = omega arith in
+      let body : S → O (Unit {0}) = λ r. steps_at (direct false) turn_us set name r >>= λ x. done (direct false) turn_us (λ n q. sequence_at (direct false) turn_us set d n q) x.0 x.1 in
+      let same : entered (direct false) (λ r. done (direct false) turn_us (λ n q. sequence_at (direct false) turn_us set d n q) steps r) s ≡ entered (direct false) body s =
+      entered_same _ body s (λ r. ap (λ k. done (direct false) turn_us (λ n q. sequence_at (direct false) turn_us set d n q) k r) is
+      ∙ ap (λ o. o >>= λ x. done (direct false) turn_us (λ n q. sequence_at (direct false) turn_us set d n q) x.0 x.1) (sym (steps_found turn_us set name r))) in
+      subst (λ o. Gives result now o) same
+      (subst (λ k. Gives result now (entered (direct false) (λ r. done (direct false) turn_us (λ n q. sequence_at (direct false) turn_us set k n q) steps r) s)) less h)
+
+module _ (body : S → O (Unit {0})) where
+  pub entered_on : (s r q p : S) (dp ap control : ℕ) (outer : List (Binding ℕ)) → r ≡ with_locals s [] → body r ≡ Ok (tt, q)
+      → dp ≡ unwrap_or (value_in s.globals (codes "__dp")) 0 → ap ≡ unwrap_or (value_in s.globals (codes "__ap")) 0 → control ≡ unwrap_or (value_in s.globals (codes "__errorcontrol")) 0
+      → outer ≡ s.locals → p ≡ with_variables q (set_in (set_in (set_in q.globals (codes "__dp") dp) (codes "__ap") ap) (codes "__errorcontrol") control) outer
+      → entered (direct false) body s ≡ Ok (tt, p)
+  unfolding entered direct
+  entered_on s r q p dp ap control outer none is d a e same at =
+      rw (sym none) (rw is (rw at (rw d (rw a (rw e (rw same refl))))))
+
+  pub entered_fail : (s r q : S) (end : End) → r ≡ with_locals s [] → Ends end q (body r) → Ends end q (entered (direct false) body s)
+  unfolding entered
+  entered_fail s r q end none h = ends_on end q (body (with_locals s [])) _ (subst (λ x. Ends end q (body x)) none h)
+
+pub ruleset entering = (entered_on, entered_fail)
+
+pub ruleset turning = (turns_on, turns_over, turns_fail, turns_none)
+
+pub ruleset loops = (args_on, args_fail, args_over, block_on, block_fail, block_over, done_on, done_fail, done_over)

@@ -1,0 +1,67 @@
+use Rattle.std.proofs.Common.{◌≡◌, false, ◌<◌, ◌≤◌, ◌+◌, ◌*◌, ap, unwrap_or, rules, arith}
+use Rattle.expr_grammar.specs.Tree.{tree, arg_tree, arg_trees, stmt_tree, code_trees}
+use Rattle.seq_check.specs.Answers.{checked_trees}
+use Rattle.sequence_code.specs.Trees.{NoSteps, step_tree, steps_tree, steps_named}
+use Rattle.sequence_terms.specs.Direct.{direct}
+use Rattle.sequence_meaning.specs.Held.{calls_of}
+use Rattle.sequence_terms.specs.Values as v
+use Rattle.sequence_meaning.proofs.Loops.{declared_on, inside_on, entered_on, entered_fail, sequence_on, turns_on, turns_over, turns_fail}
+use Rattle.sequence_meaning.proofs.Sizes.{arg_size, args_size, stmt_size, block_size, step_size, steps_size, all_size, arg_within, stmt_within, step_within, named_within, less_budget}
+use Rattle.sequence_meaning.proofs.runner.Runner.+eval.Goals as goal
+
+pub arguments-argument-requires : goal.arguments-argument-requires
+arguments-argument-requires g t c =
+    let less : arg_size (arg_tree c.arg-item.result) < args_size (arg_trees c.args.args.now) = arg_within c.args.args.now c.loop-arg.arg-index _ c.arg-item.result c.loop-arg-test.true c.arg-item.is in
+    λ κs met. (omega (arith, less), Prim.search rules)
+
+pub block-statement-requires : goal.block-statement-requires
+block-statement-requires g t c =
+    let less : stmt_size (stmt_tree c.one-item.result) < block_size (code_trees c.args.code.now) = stmt_within c.args.code.now c.loop-one.one-index _ c.one-item.result c.loop-one-test.true c.one-item.is in
+    λ κs met. (omega (arith, less), Prim.search rules)
+
+pub done-step-requires : goal.done-step-requires
+done-step-requires g t c =
+    let less : step_size (step_tree c.one-item.result) < steps_size (steps_tree c.args.steps.now) = step_within c.args.steps.now c.loop-one.one-index _ c.one-item.result c.loop-one-test.true c.one-item.is in
+    λ κs met. (omega (arith, less), Prim.search rules)
+
+pub declare-returns-in-Ok-clause-gives : goal.declare-returns-in-Ok-clause-gives
+declare-returns-in-Ok-clause-gives g t c = λ known knows.
+    declared_on c.args.name.now (λ r. v.value (direct false) (calls_of c.args.self.now c.args.depth) (tree c.args.expr.now) r) _ _ _ _ _ (c.in_ok-counted.ensures.gives _ _) (c.in_ok-number.ensures.gives known knows) (c.in-Ok.ensures _ _)
+
+pub inside-returns-clause-gives : goal.inside-returns-clause-gives
+inside-returns-clause-gives g t c = λ known knows. inside_on _ _ _ _ _ (c.in_ok-done.ensures.gives known knows) c.local_count-count.ensures (c.cut_back.ensures _ _)
+
+pub turns-returns-in-Ok-false-clause-gives : goal.turns-returns-in-Ok-false-clause-gives
+turns-returns-in-Ok-false-clause-gives g t c = λ known knows.
+    let last = c.in-Ok-false.ensures.gives known (c.loop-left.invariant.knows known knows) in
+    turns_over _ _ _ c.loop-left.left _ _ (c.loop-left.invariant.same known knows) c.loop-left-test.true (rw c.in-Ok-false.field-0-test at last)
+
+pub turns-loop-left-preserved : goal.turns-loop-left-preserved
+turns-loop-left-preserved g t c = record {
+  same = λ known knows.
+      let more = c.in-Ok-true.ensures.gives known (c.loop-left.invariant.knows known knows) in
+      turns_on _ _ _ c.loop-left.left _ _ (c.loop-left.invariant.same known knows) c.loop-left-test.true (rw c.in-Ok-true.field-0-test at more);
+  knows = λ known knows. c.turn.ensures.knows known (c.loop-left.invariant.knows known knows);
+}
+
+pub turns-returns-in-Err-clause-gives : goal.turns-returns-in-Err-clause-gives
+turns-returns-in-Err-clause-gives g t c = λ known knows.
+    turns_fail _ _ _ c.loop-left.left _ _ c.in-Err.end (c.loop-left.invariant.same known knows) c.loop-left-test.true (c.in-Err.ensures.gives known (c.loop-left.invariant.knows known knows))
+
+pub entered-returns-in-Err-clause-gives : goal.entered-returns-in-Err-clause-gives
+entered-returns-in-Err-clause-gives g t c = λ known knows. entered_fail _ _ _ _ c.in-Err.end (c.take_locals-locals.ensures.none _ _) (c.in-Err.ensures.gives known knows)
+
+pub entered-returns-in-Ok-clause-gives : goal.entered-returns-in-Ok-clause-gives
+entered-returns-in-Ok-clause-gives g t c = λ known knows.
+    entered_on _ _ _ _ _ _ _ _ _ (c.take_locals-locals.ensures.none _ _) (c.in-Ok.ensures.gives known knows) c.global-dp.ensures c.global-ap.ensures c.global-control.ensures c.take_locals-locals.ensures.taken (c.give_back.ensures _ _)
+
+pub sequence-entered-requires : goal.sequence-entered-requires
+sequence-entered-requires g t c =
+    let below : steps_size (unwrap_or (steps_named c.args.name.now (checked_trees c.args.self.now.set.now).sequences) NoSteps) ≤ all_size (checked_trees c.args.self.now.set.now).sequences = named_within c.args.name.now (checked_trees c.args.self.now.set.now).sequences in
+    let same : steps_size (steps_tree c.steps_of.result.now) ≡ steps_size (unwrap_or (steps_named c.args.name.now (checked_trees c.args.self.now.set.now).sequences) NoSteps) = ap steps_size c.steps_of.ensures in
+    let less = less_budget c.args.depth (10 * all_size (checked_trees c.args.self.now.set.now).sequences + 20) c.if-depth-eq0.false in
+    λ κs met. (omega (arith, below, same, less), Prim.search rules)
+
+pub sequence-returns-clause-gives : goal.sequence-returns-clause-gives
+sequence-returns-clause-gives g t c = λ known knows.
+    sequence_on c.args.self.now.turn_us (checked_trees c.args.self.now.set.now) c.args.depth c.args.name.now _ _ c.entered.result (steps_tree c.steps_of.result.now) c.if-depth-eq0.false c.steps_of.ensures (c.entered.ensures.gives known knows)

@@ -1,0 +1,64 @@
+-- What the direct runner holds, as a state of the meaning; and how what it answers is that of the meaning.
+use Rattle.std.specs.Prelude.{◌≡◌, ℕ, Bool, true, false, List, Option, None, Result, Ok, Err, IsSome, if◌then◌else◌}
+use Rattle.seq_check.specs.Answers.{checked_trees}
+use Rattle.target_machine.specs.State.{TargetState}
+use Rattle.target_machine.specs.declared.unit.Call.TheVariants.{Access}
+use Rattle.sequence_terms.specs.Direct.{Now, direct}
+use Rattle.sequence_terms.specs.Machine as machine
+use Rattle.sequence_terms.specs.Machine.{State, Out}
+use Rattle.sequence_terms.specs.Steps.{sequence_at}
+use Rattle.sequence_terms.specs.Shared.{bindings_of}
+use Rattle.sequence_meaning.specs.declared.end.End.{End}
+use Rattle.sequence_meaning.specs.declared.end.End.TheVariants as end
+use Rattle.sequence_meaning.specs.declared.held.Held.{Held}
+use Rattle.sequence_meaning.specs.declared.runner.Runner.{Runner}
+
+-- what was written, where it is asked for
+abbrev pub known_part : Bool → Option (List ℕ) → Option (List ℕ)
+known_part known written = if known then written else None
+
+-- where it is asked for, contracts know what was written
+abbrev pub Knows : Bool → Option (List ℕ) → Type 0
+Knows true written = IsSome written
+Knows false written = Unit {0}
+
+-- the state of a run, in which all calls are answered
+abbrev pub state_of : Held → TargetState → Option (List ℕ) → State ℕ Now
+state_of held target written = record {
+  globals = bindings_of held.globals;
+  locals = held.locals.items;
+  units = held.units;
+  lines = held.lines;
+  steps = held.steps;
+  rest = record {
+    world = record { target = target; large = held.large.items; answered = None };
+    calls = held.calls.items;
+    skipped = held.skipped;
+    written = written;
+  };
+}
+
+-- the same, with what was written where it is asked for
+abbrev pub seen : Bool → Held → TargetState → Option (List ℕ) → State ℕ Now
+seen known held target written = state_of held target (known_part known written)
+
+-- why the code ends is why the meaning ends, in this state; nothing is said where the sink failed or memory was refused
+abbrev pub Ends : {A : Type 0} → End → State ℕ Now → Out ℕ Now A → Type 0
+Ends (end.Halted cause) now out = out ≡ Err (machine.Halted cause, now)
+Ends (end.Faulted u) now out = out ≡ Err (machine.Faulted (Access u), now)
+Ends end.WriteFault now out = Unit {0}
+Ends end.OutOfMemory now out = Unit {0}
+
+-- what the code answers and the state that it leaves are those of the meaning; x is what an answer stands for
+abbrev pub GivesAs : {A B : Type 0} → B → Result A End → State ℕ Now → Out ℕ Now B → Type 0
+GivesAs x (Ok y) now out = out ≡ Ok (x, now)
+GivesAs x (Err e) now out = Ends e now out
+
+-- the same, where an answer stands for itself
+abbrev pub Gives : {A : Type 0} → Result A End → State ℕ Now → Out ℕ Now A → Type 0
+Gives (Ok x) now out = out ≡ Ok (x, now)
+Gives (Err e) now out = Ends e now out
+
+-- the sequences of the runner's set, from which calls lead at most so deep
+abbrev pub calls_of : Runner → ℕ → List ℕ → State ℕ Now → Out ℕ Now (Unit {0})
+calls_of runner depth name s = sequence_at (direct false) runner.turn_us (checked_trees runner.set.now) depth name s

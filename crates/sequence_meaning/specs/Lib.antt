@@ -1,0 +1,5 @@
+pub mod Made
+pub mod Held
+pub mod Starting
+pub mod Answers
+pub mod Valid

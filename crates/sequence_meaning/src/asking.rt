@@ -1,0 +1,118 @@
+//! Units, asked one at a time, and the predefined variables that they use.
+ghost use Rattle.std.specs.Prelude.{◌≡◌, ℕ, ◌<◌, ◌^◌, List, Option, IfOk, Ok, codes, false};
+ghost use Rattle.target_machine.specs.Sound.{IsSound, IsSoundProbe};
+ghost use Rattle.sequence_terms.specs.Calls as c;
+ghost use Rattle.sequence_terms.specs.Direct.{Now, direct};
+ghost use Rattle.sequence_terms.specs.Machine.{State};
+ghost use Rattle.sequence_terms.specs.Shared.{bindings_of};
+ghost use Rattle.sequence_meaning.specs.Held.{Gives, state_of};
+
+use crate::at_once::{Made, make};
+use crate::commands::command_now;
+use crate::end::End;
+use crate::held::Held;
+use call_terms::Ask;
+use target_machine::{Call, HaltCause, ProbeCall, Target, Unit};
+
+// The predefined variables that calls use: the AP, whether a fault is forgiven, and the debug port.
+#[derive(Clone, Copy)]
+pub(crate) struct Port {
+    pub ap: u64,
+    pub forgive: bool,
+    pub dp: u64,
+}
+
+// The variables that a memory or AP call uses.
+pub(crate) fn port_of(held: &Held) -> Port
+    ensures { (s : State ℕ Now) → s.globals ≡ bindings_of held.now.globals
+        → c.port (direct false) s ≡ Ok (record { ap = result.ap; forgive = result.forgive; dp = result.dp }, s) }
+{
+    Port {
+        ap: held.global("__ap"),
+        forgive: held.global("__errorcontrol") % 2 == 1,
+        dp: held.global("__dp"),
+    }
+}
+
+// `__dp`.
+pub(crate) fn debug_port(held: &Held) -> u64
+    ensures { (s : State ℕ Now) → s.globals ≡ bindings_of held.now.globals → c.global (direct false) (codes "__dp") s ≡ Ok (result, s) }
+{
+    held.global("__dp")
+}
+
+// An access as a unit, made at once, unless it would be number 1,000,001.
+#[tactic(auto, unfolding(sequence_terms::specs::Calls::ask, sequence_terms::specs::Calls::answered, sequence_terms::specs::Direct::direct, sequence_terms::specs::Direct::made))]
+pub(crate) fn ask(
+    unit: Unit,
+    forgive: bool,
+    held: &mut Held,
+    target: &mut Target,
+) -> Result<u64, End>
+    requires { IsSound unit }
+    ensures gives { (written : Option (List ℕ)) → Gives result (state_of held.new target.new written) (c.ask (direct false) unit forgive (state_of held.old target.old written)) }
+    ensures word { IfOk result (λ value. value < 2 ^ 32) }
+{
+    if held.units >= 1_000_000 {
+        return Err(End::Halted(HaltCause::AccessLimit));
+    }
+    let call = Ask {
+        call: Call::Access(unit),
+        forgive,
+        settled: false,
+    };
+    let Ok(()) = held.calls.push(call) else {
+        return Err(End::OutOfMemory);
+    };
+    let Ok(made) = make(target, unit, forgive, &mut held.large) else {
+        let _ = held.calls.pop();
+        return Err(End::OutOfMemory);
+    };
+    held.units += 1;
+    match made {
+        Made::Answered(value) => Ok(u64::from(value)),
+        Made::Skipped => {
+            held.skipped = held.skipped.saturating_add(1);
+            Ok(0)
+        }
+        Made::Faulted => Err(End::Faulted(unit)),
+        Made::Small => Err(End::Halted(HaltCause::AddressTooLarge)),
+    }
+}
+
+// A read has its value, and a write 0.
+#[tactic(auto, unfolding(sequence_terms::specs::Calls::if_read, sequence_terms::specs::Calls::zero_of, sequence_terms::specs::Direct::direct), using(crate::proofs::DirectLemmas::ends_on))]
+pub(crate) fn asked(
+    read: bool,
+    unit: Unit,
+    forgive: bool,
+    held: &mut Held,
+    target: &mut Target,
+) -> Result<u64, End>
+    requires { IsSound unit }
+    ensures { (written : Option (List ℕ)) → Gives result (state_of held.new target.new written) (c.if_read (direct false) read (c.ask (direct false) unit forgive (state_of held.old target.old written))) }
+{
+    let value = ask(unit, forgive, held, target)?;
+    Ok(if read { value } else { 0 })
+}
+
+// A command of the probe as a unit, made at once, unless it would be number 1,000,001.
+#[tactic(auto, unfolding(sequence_terms::specs::Calls::command, sequence_terms::specs::Calls::numbered, sequence_terms::specs::Direct::direct, sequence_terms::specs::Direct::made))]
+pub(crate) fn command(call: ProbeCall, held: &mut Held, target: &mut Target) -> Result<u64, End>
+    requires { IsSoundProbe call }
+    ensures { (written : Option (List ℕ)) → Gives result (state_of held.new target.new written) (c.command (direct false) call (state_of held.old target.old written)) }
+{
+    if held.units >= 1_000_000 {
+        return Err(End::Halted(HaltCause::AccessLimit));
+    }
+    let asked = Ask {
+        call: Call::Probe(call),
+        forgive: false,
+        settled: false,
+    };
+    let Ok(()) = held.calls.push(asked) else {
+        return Err(End::OutOfMemory);
+    };
+    held.units += 1;
+    Ok(u64::from(command_now(target, call)))
+}

@@ -1,0 +1,216 @@
+//! Calls of functions and of sequences.
+ghost use Rattle.std.specs.Prelude.{◌≡◌, [], ◌∷◌, ◌++◌, Bool, false, unwrap_or, option_map, List, Option, ℕ, ◌<◌, ◌≤◌};
+ghost use Rattle.expr_grammar.specs.Tree.{tree, arg_tree, arg_trees, stmt_tree, code_trees};
+ghost use Rattle.seq_check.specs.Answers.{checked_trees};
+ghost use Rattle.sequence_code.specs.Trees.{NoSteps, steps_named, steps_tree};
+ghost use Rattle.function_table.specs.declared.function.Function.{Function};
+ghost use Rattle.sequence_terms.specs.Direct.{direct};
+ghost use Rattle.sequence_terms.specs.Steps as m;
+ghost use Rattle.sequence_terms.specs.Values as v;
+ghost use Rattle.sequence_meaning.specs.Held.{Gives, GivesAs, Knows, calls_of, seen, state_of};
+
+use crate::end::End;
+use crate::functions::performed;
+use crate::held::Held;
+use crate::runner::Runner;
+use dap_base::Sink;
+use expr_grammar::{Arg, Expr, Name};
+use function_table::{Function, function_of};
+use sequence_code::CheckedStep;
+use sequence_terms::text_of;
+use target_machine::Target;
+
+impl Runner<'_> {
+    // An argument is evaluated; a text is none.
+    #[cycle(eval)]
+    #[tactic(auto, unfolding(sequence_terms::specs::Values::argument), using(crate::proofs::DirectLemmas::ends_on))]
+    fn argument<K: Sink>(
+        &self,
+        arg: &Arg,
+        numbers: &mut Vec<u64>,
+        depth: u32,
+        held: &mut Held,
+        target: &mut Target,
+        sink: &mut K,
+    ) -> Result<(), End>
+        ensures gives { (known : Bool) → Knows known (K.written sink.old) → GivesAs numbers.new.items result (seen known held.new target.new (K.written sink.new)) (v.argument (direct false) (calls_of self.now depth) (arg_tree arg.now) numbers.old.items (seen known held.old target.old (K.written sink.old))) }
+        ensures knows { (known : Bool) → Knows known (K.written sink.old) → Knows known (K.written sink.new) }
+    {
+        match arg {
+            Arg::Number(_, expr) => self.push_value(expr, numbers, depth, held, target, sink),
+            Arg::Text(_) => Ok(()),
+        }
+    }
+
+    // A value after others.
+    #[cycle(eval)]
+    #[tactic(auto, unfolding(sequence_terms::specs::Values::appended), using(crate::proofs::DirectLemmas::ends_on))]
+    fn push_value<K: Sink>(
+        &self,
+        expr: &Expr,
+        numbers: &mut Vec<u64>,
+        depth: u32,
+        held: &mut Held,
+        target: &mut Target,
+        sink: &mut K,
+    ) -> Result<(), End>
+        ensures gives { (known : Bool) → Knows known (K.written sink.old) → GivesAs numbers.new.items result (seen known held.new target.new (K.written sink.new)) (v.appended (direct false) numbers.old.items (v.value (direct false) (calls_of self.now depth) (tree expr.now) (seen known held.old target.old (K.written sink.old)))) }
+        ensures knows { (known : Bool) → Knows known (K.written sink.old) → Knows known (K.written sink.new) }
+    {
+        let number = self.value(expr, depth, held, target, sink)?;
+        match numbers.push(number) {
+            Ok(()) => Ok(()),
+            Err(_) => Err(End::OutOfMemory),
+        }
+    }
+
+    // The arguments of a call, in order.
+    #[cycle(eval)]
+    #[tactic(auto, unfolding(sequence_terms::specs::Values::arguments), using(crate::proofs::DirectLemmas::ends_on, crate::proofs::Loops::loops))]
+    fn arguments<K: Sink>(
+        &self,
+        args: &[Arg],
+        numbers: &mut Vec<u64>,
+        depth: u32,
+        held: &mut Held,
+        target: &mut Target,
+        sink: &mut K,
+    ) -> Result<(), End>
+        ensures gives { (known : Bool) → Knows known (K.written sink.old) → GivesAs numbers.new.items result (seen known held.new target.new (K.written sink.new)) (v.arguments (direct false) (calls_of self.now depth) (arg_trees args.now) numbers.old.items (seen known held.old target.old (K.written sink.old))) }
+        ensures knows { (known : Bool) → Knows known (K.written sink.old) → Knows known (K.written sink.new) }
+    {
+        for arg in args {
+            match self.argument(arg, numbers, depth, held, target, sink) {
+                Ok(()) => {}
+                Err(end) => return Err(end),
+            }
+        }
+        Ok(())
+    }
+
+    // A call: its arguments, and then the function.
+    #[cycle(eval)]
+    #[tactic(auto, unfolding(sequence_terms::specs::Values::call_of, sequence_terms::specs::Calls::guarded, sequence_terms::specs::Values::numbers_of, sequence_terms::specs::Direct::direct), using(crate::proofs::DirectLemmas::ends_on, crate::proofs::DirectLemmas::numbers_used))]
+    pub(crate) fn call<K: Sink>(
+        &self,
+        name: &Name,
+        args: &[Arg],
+        depth: u32,
+        held: &mut Held,
+        target: &mut Target,
+        sink: &mut K,
+    ) -> Result<u64, End>
+        ensures gives { (known : Bool) → Knows known (K.written sink.old) → Gives result (seen known held.new target.new (K.written sink.new)) (v.call_of (direct false) (calls_of self.now depth) name.now (arg_trees args.now) (v.arguments (direct false) (calls_of self.now depth) (arg_trees args.now) [] (seen known held.old target.old (K.written sink.old)))) }
+        ensures knows { (known : Bool) → Knows known (K.written sink.old) → Knows known (K.written sink.new) }
+    {
+        let mut numbers = Vec::new(self.alloc);
+        self.arguments(args, &mut numbers, depth, held, target, sink)?;
+        self.called(
+            function_of(name.text.as_str()),
+            text_of(args),
+            &numbers,
+            depth,
+            held,
+            target,
+            sink,
+        )
+    }
+
+    // The function of a call.
+    #[cycle(eval)]
+    #[tactic(auto, unfolding(sequence_terms::specs::Values::called, sequence_terms::specs::Calls::missing, sequence_terms::specs::Direct::direct), using(crate::proofs::DirectLemmas::ends_on))]
+    fn called<K: Sink>(
+        &self,
+        function: Option<Function>,
+        text: &str,
+        numbers: &[u64],
+        depth: u32,
+        held: &mut Held,
+        target: &mut Target,
+        sink: &mut K,
+    ) -> Result<u64, End>
+        ensures gives { (known : Bool) → Knows known (K.written sink.old) → Gives result (seen known held.new target.new (K.written sink.new)) (v.called (direct false) (calls_of self.now depth) function text.now numbers.now (seen known held.old target.old (K.written sink.old))) }
+        ensures knows { (known : Bool) → Knows known (K.written sink.old) → Knows known (K.written sink.new) }
+    {
+        match function {
+            None => Ok(0),
+            Some(Function::Sequence) => self.sequence_call(text, depth, held, target, sink),
+            Some(function) => performed(function, text, numbers, self.alloc, held, target, sink),
+        }
+    }
+
+    // A call of a sequence.
+    #[cycle(eval)]
+    #[tactic(auto, unfolding(sequence_terms::specs::Values::called, sequence_terms::specs::Direct::direct), using(crate::proofs::DirectLemmas::ends_on))]
+    fn sequence_call<K: Sink>(
+        &self,
+        name: &str,
+        depth: u32,
+        held: &mut Held,
+        target: &mut Target,
+        sink: &mut K,
+    ) -> Result<u64, End>
+        ensures gives { (known : Bool) → Knows known (K.written sink.old) → Gives result (seen known held.new target.new (K.written sink.new)) (v.called (direct false) (calls_of self.now depth) (Some Function.Sequence) name.now [] (seen known held.old target.old (K.written sink.old))) }
+        ensures knows { (known : Bool) → Knows known (K.written sink.old) → Knows known (K.written sink.new) }
+    {
+        self.sequence(name, depth, held, target, sink)?;
+        Ok(0)
+    }
+
+    // The sequence of the name.
+    #[cycle(eval)]
+    #[tactic(auto, unfolding(sequence_terms::specs::Steps::sequence_at, sequence_terms::specs::Calls::missing, sequence_terms::specs::Direct::direct), using(crate::proofs::DirectLemmas::ends_on, crate::proofs::Loops::sequence_on))]
+    pub(crate) fn sequence<K: Sink>(
+        &self,
+        name: &str,
+        depth: u32,
+        held: &mut Held,
+        target: &mut Target,
+        sink: &mut K,
+    ) -> Result<(), End>
+        ensures gives { (known : Bool) → Knows known (K.written sink.old) → Gives result (seen known held.new target.new (K.written sink.new)) ((calls_of self.now depth) name.now (seen known held.old target.old (K.written sink.old))) }
+        ensures knows { (known : Bool) → Knows known (K.written sink.old) → Knows known (K.written sink.new) }
+    {
+        if depth == 0 {
+            return Ok(());
+        }
+        self.entered(self.steps_of(name), depth - 1, held, target, sink)
+    }
+
+    // The steps of the sequence of the name, none where the set does not have it.
+    pub(crate) fn steps_of(&self, name: &str) -> &[CheckedStep]
+        ensures { steps_tree result.now ≡ unwrap_or (steps_named name.now (checked_trees self.now.set.now).sequences) NoSteps }
+    {
+        match self.set.steps(name) {
+            Some(steps) => steps.as_slice(),
+            None => &[],
+        }
+    }
+
+    // The steps of a called sequence. After them the caller has its variables again, and its `__dp`, `__ap` and `__errorcontrol`.
+    #[cycle(eval)]
+    #[tactic(auto, unfolding(sequence_terms::specs::Steps::entered), using(crate::proofs::DirectLemmas::ends_on, crate::proofs::Loops::entering))]
+    fn entered<K: Sink>(
+        &self,
+        steps: &[CheckedStep],
+        depth: u32,
+        held: &mut Held,
+        target: &mut Target,
+        sink: &mut K,
+    ) -> Result<(), End>
+        ensures gives { (known : Bool) → Knows known (K.written sink.old) → Gives result (seen known held.new target.new (K.written sink.new)) (m.entered (direct false) (m.done (direct false) self.now.turn_us (calls_of self.now depth) (steps_tree steps.now)) (seen known held.old target.old (K.written sink.old))) }
+        ensures knows { (known : Bool) → Knows known (K.written sink.old) → Knows known (K.written sink.new) }
+    {
+        let dp = held.global("__dp");
+        let ap = held.global("__ap");
+        let control = held.global("__errorcontrol");
+        let locals = held.take_locals(self.alloc);
+        match self.done(steps, depth, held, target, sink) {
+            Ok(()) => {
+                held.give_back(dp, ap, control, locals);
+                Ok(())
+            }
+            Err(end) => Err(end),
+        }
+    }
+}

@@ -1,0 +1,15 @@
+//! Why a run goes no further.
+use target_machine::{HaltCause, Unit};
+
+// Why a run goes no further.
+#[derive(Clone, Copy, Debug, PartialEq, Eq)]
+pub(crate) enum End {
+    /// It halts.
+    Halted(HaltCause),
+    /// Its last access met a fault that it does not forgive.
+    Faulted(Unit),
+    /// The sink failed.
+    WriteFault,
+    /// Memory was refused.
+    OutOfMemory,
+}

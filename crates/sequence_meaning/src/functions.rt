@@ -1,0 +1,184 @@
+//! What calls of functions do, once their arguments are numbers.
+ghost use Rattle.std.specs.Prelude.{◌≡◌, ℕ, Bool, List, IfOk, drop, slice_index, false};
+ghost use Rattle.target_machine.specs.State.{TargetState};
+ghost use Rattle.sequence_terms.specs.Calls as c;
+ghost use Rattle.sequence_terms.specs.Lines.{message_line};
+ghost use Rattle.sequence_terms.specs.Direct.{direct};
+ghost use Rattle.sequence_meaning.specs.Held.{Gives, Knows, seen};
+
+use crate::end::End;
+use crate::held::Held;
+use crate::memory::memory;
+use crate::probe::{abort, clock, delay, line_bits, pins};
+use crate::registers::{ap_register, dp_register};
+use dap_base::{OutOfMemory, Sink};
+use function_table::Function;
+use sequence_terms::{load_line, message_line, query_line, value_line};
+use std::alloc::Global;
+use target_machine::{HaltCause, Target};
+use text_lines::{Line, put_text};
+
+// Writes a line, and then this is the value, unless it would be line 100,001.
+#[tactic(auto, unfolding(sequence_terms::specs::Calls::lined, sequence_terms::specs::Direct::direct), using(crate::proofs::DirectLemmas::known_more, crate::proofs::DirectLemmas::knows_more, crate::proofs::DirectLemmas::knows_part))]
+fn lined<K: Sink>(
+    line: Result<Line, OutOfMemory>,
+    value: u64,
+    held: &mut Held,
+    sink: &mut K,
+) -> Result<u64, End>
+    ensures gives { (known : Bool) (target : TargetState) (text : List ℕ) → IfOk line (λ l. l ≡ text) → Knows known (K.written sink.old)
+        → Gives result (seen known held.new target (K.written sink.new)) (c.lined (direct false) text value (seen known held.old target (K.written sink.old))) }
+    ensures knows { (known : Bool) → Knows known (K.written sink.old) → Knows known (K.written sink.new) }
+{
+    if held.lines >= 100_000 {
+        return Err(End::Halted(HaltCause::MessageLimit));
+    }
+    let Ok(line) = line else {
+        return Err(End::OutOfMemory);
+    };
+    match put_text(line.as_bytes(), sink) {
+        Ok(()) => {
+            held.lines += 1;
+            Ok(value)
+        }
+        Err(_) => Err(End::WriteFault),
+    }
+}
+
+// The number at the index, 0 where there is none.
+fn number_at(numbers: &[u64], index: usize) -> u64
+    ensures { result ≡ slice_index numbers.now index }
+{
+    match numbers.get(index) {
+        Some(number) => *number,
+        None => 0,
+    }
+}
+
+// `Message`.
+fn message<K: Sink>(
+    text: &str,
+    numbers: &[u64],
+    alloc: Global,
+    held: &mut Held,
+    sink: &mut K,
+) -> Result<u64, End>
+    ensures gives { (known : Bool) (target : TargetState) → Knows known (K.written sink.old)
+        → Gives result (seen known held.new target (K.written sink.new)) (c.lined (direct false) (message_line (slice_index numbers.now 0) text.now (drop 1 numbers.now)) 0 (seen known held.old target (K.written sink.old))) }
+    ensures knows { (known : Bool) → Knows known (K.written sink.old) → Knows known (K.written sink.new) }
+{
+    let more = if numbers.is_empty() {
+        numbers
+    } else {
+        &numbers[1..]
+    };
+    lined(
+        message_line(alloc, number_at(numbers, 0), text, more),
+        0,
+        held,
+        sink,
+    )
+}
+
+// A call of a function, but for `Sequence`, with its text and the numbers among its arguments.
+#[tactic(auto, unfolding(sequence_terms::specs::Calls::performed, sequence_terms::specs::Direct::direct))]
+pub(crate) fn performed<K: Sink>(
+    function: Function,
+    text: &str,
+    numbers: &[u64],
+    alloc: Global,
+    held: &mut Held,
+    target: &mut Target,
+    sink: &mut K,
+) -> Result<u64, End>
+    ensures gives { (known : Bool) → Knows known (K.written sink.old)
+        → Gives result (seen known held.new target.new (K.written sink.new)) (c.performed (direct false) function text.now numbers.now (seen known held.old target.old (K.written sink.old))) }
+    ensures knows { (known : Bool) → Knows known (K.written sink.old) → Knows known (K.written sink.new) }
+{
+    match function {
+        Function::Read8 => memory(1, true, number_at(numbers, 0), 0, held, target),
+        Function::Write8 => memory(
+            1,
+            false,
+            number_at(numbers, 0),
+            number_at(numbers, 1),
+            held,
+            target,
+        ),
+        Function::Read16 => memory(2, true, number_at(numbers, 0), 0, held, target),
+        Function::Write16 => memory(
+            2,
+            false,
+            number_at(numbers, 0),
+            number_at(numbers, 1),
+            held,
+            target,
+        ),
+        Function::Read32 => memory(4, true, number_at(numbers, 0), 0, held, target),
+        Function::Write32 => memory(
+            4,
+            false,
+            number_at(numbers, 0),
+            number_at(numbers, 1),
+            held,
+            target,
+        ),
+        Function::Read64 => memory(8, true, number_at(numbers, 0), 0, held, target),
+        Function::Write64 => memory(
+            8,
+            false,
+            number_at(numbers, 0),
+            number_at(numbers, 1),
+            held,
+            target,
+        ),
+        Function::ReadAp => ap_register(true, number_at(numbers, 0), 0, held, target),
+        Function::WriteAp => ap_register(
+            false,
+            number_at(numbers, 0),
+            number_at(numbers, 1),
+            held,
+            target,
+        ),
+        Function::ReadDp => dp_register(true, number_at(numbers, 0), 0, held, target),
+        Function::WriteDp => dp_register(
+            false,
+            number_at(numbers, 0),
+            number_at(numbers, 1),
+            held,
+            target,
+        ),
+        Function::DapDelay => delay(number_at(numbers, 0), held, target),
+        Function::DapSwjClock => clock(number_at(numbers, 0), held, target),
+        Function::DapWriteAbort => abort(number_at(numbers, 0), held, target),
+        Function::DapSwjPins => pins(
+            number_at(numbers, 0),
+            number_at(numbers, 1),
+            number_at(numbers, 2),
+            held,
+            target,
+        ),
+        Function::DapSwjSequence => line_bits(
+            number_at(numbers, 0),
+            number_at(numbers, 1),
+            held,
+            target,
+        ),
+        Function::DapJtagSequence => Err(End::Halted(HaltCause::Unsupported)),
+        Function::Sequence => Ok(0),
+        Function::Message => message(text, numbers, alloc, held, sink),
+        Function::Query => lined(
+            query_line(alloc, number_at(numbers, 0), text, number_at(numbers, 1)),
+            number_at(numbers, 1),
+            held,
+            sink,
+        ),
+        Function::QueryValue => lined(
+            value_line(alloc, text, number_at(numbers, 0)),
+            number_at(numbers, 0),
+            held,
+            sink,
+        ),
+        Function::LoadDebugInfo => lined(load_line(alloc, text), 0, held, sink),
+    }
+}

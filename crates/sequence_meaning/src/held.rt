@@ -1,0 +1,143 @@
+//! What the direct runner holds.
+ghost use Rattle.std.specs.Prelude.{◌≡◌, ◌++◌, [], ◌∷◌, ℕ, List, Option, None, OnOk, length, take, unwrap_or, codes};
+ghost use Rattle.target_machine.specs.State.{TargetState};
+ghost use Rattle.call_terms.specs.World.{start_world};
+ghost use Rattle.sequence_terms.specs.Direct.{Now, now_at};
+ghost use Rattle.sequence_terms.specs.Machine.{State, with_locals, with_variables};
+ghost use Rattle.sequence_terms.specs.Variables.{bound, set_in, set_visible, value_in, visible};
+ghost use Rattle.sequence_terms.specs.Shared.{bindings_of};
+ghost use Rattle.sequence_meaning.specs.Held.{state_of};
+
+use call_terms::Ask;
+use dap_base::{NameText, OutOfMemory};
+use sequence_terms::{Binding, Globals, has_in, newest_in, set_newest};
+use std::alloc::Global;
+use std::mem;
+
+// The variables, the counts, the calls that were made, and the access ports that are known to have large addresses.
+#[derive(Drop)]
+pub(crate) struct Held {
+    pub globals: Globals<u64>,
+    pub locals: Vec<Binding<u64>>,
+    pub units: u32,
+    pub lines: u32,
+    pub steps: u32,
+    pub calls: Vec<Ask>,
+    pub large: Vec<u8>,
+    pub skipped: u32,
+}
+
+impl Held {
+    /// What a run starts with: these variables, and nothing else.
+    pub fn new(alloc: Global, globals: Globals<u64>) -> Held
+        ensures { (target : TargetState) (written : Option (List ℕ)) → state_of result target written
+            ≡ record { globals = bindings_of globals; locals = []; units = 0; lines = 0; steps = 0; rest = now_at (start_world target None) written } }
+    {
+        Held {
+            globals,
+            locals: Vec::new(alloc),
+            units: 0,
+            lines: 0,
+            steps: 0,
+            calls: Vec::new(alloc),
+            large: Vec::new(alloc),
+            skipped: 0,
+        }
+    }
+
+    /// The value of a variable that all sequences share, 0 where there is none.
+    pub fn global(&self, name: &str) -> u64
+        ensures { result ≡ unwrap_or (value_in (bindings_of self.now.globals) name.now) 0 }
+    {
+        match self.globals.get(name) {
+            Some(value) => value,
+            None => 0,
+        }
+    }
+
+    /// The value of a visible variable, 0 where there is none.
+    pub fn visible(&self, name: &str) -> u64
+        ensures { (s : State ℕ Now) → s.globals ≡ bindings_of self.now.globals → s.locals ≡ self.now.locals.items
+            → result ≡ unwrap_or (visible name.now s) 0 }
+    {
+        match newest_in(&self.locals, name) {
+            Some(value) => value,
+            None => self.global(name),
+        }
+    }
+
+    /// Gives a visible variable a value.
+    pub fn store(&mut self, name: &str, value: u64)
+        ensures { (target : TargetState) (written : Option (List ℕ))
+            → state_of self.new target written ≡ set_visible name.now value (state_of self.old target written) }
+    {
+        if has_in(&self.locals, name) {
+            set_newest(&mut self.locals, name, value);
+        } else {
+            self.globals.set(name, value);
+        }
+    }
+
+    /// Declares a variable of the running sequence.
+    pub fn declare(&mut self, alloc: Global, name: &NameText, value: u64) -> Result<(), OutOfMemory>
+        ensures { (target : TargetState) (written : Option (List ℕ))
+            → OnOk result (state_of self.new target written ≡ with_locals (state_of self.old target written) (self.old.locals.items ++ bound name.now value ∷ [])) }
+    {
+        let name = NameText::new(alloc, name.as_str())?;
+        match self.locals.push(Binding { name, value }) {
+            Ok(()) => Ok(()),
+            Err(_) => Err(OutOfMemory),
+        }
+    }
+
+    /// How many variables the running sequence has.
+    pub fn local_count(&self) -> usize
+        ensures { result ≡ length self.now.locals.items }
+    {
+        self.locals.len()
+    }
+
+    /// Takes the variables of the running sequence out.
+    pub fn take_locals(&mut self, alloc: Global) -> Vec<Binding<u64>>
+        ensures taken { result.items ≡ self.old.locals.items }
+        ensures none { (target : TargetState) (written : Option (List ℕ))
+            → state_of self.new target written ≡ with_locals (state_of self.old target written) [] }
+    {
+        mem::replace(&mut self.locals, Vec::new(alloc))
+    }
+
+    /// Drops the variables of the running sequence after the first `len`.
+    pub fn cut_back(&mut self, len: usize)
+        ensures { (target : TargetState) (written : Option (List ℕ))
+            → state_of self.new target written ≡ with_locals (state_of self.old target written) (take len self.old.locals.items) }
+    {
+        self.locals.truncate(len);
+    }
+
+    // Gives a variable that all sequences share a value.
+    fn set_global(&mut self, name: &str, value: u64)
+        ensures { (target : TargetState) (written : Option (List ℕ)) → state_of self.new target written
+            ≡ with_variables (state_of self.old target written) (set_in (bindings_of self.old.globals) name.now value) self.old.locals.items }
+    {
+        self.globals.set(name, value);
+    }
+
+    fn set_locals(&mut self, locals: Vec<Binding<u64>>)
+        ensures { (target : TargetState) (written : Option (List ℕ))
+            → state_of self.new target written ≡ with_locals (state_of self.old target written) locals.items }
+    {
+        self.locals = locals;
+    }
+
+    /// Returns from a called sequence: gives the caller its `__dp`, `__ap` and `__errorcontrol`, and its own variables.
+    pub fn give_back(&mut self, dp: u64, ap: u64, control: u64, locals: Vec<Binding<u64>>)
+        ensures { (target : TargetState) (written : Option (List ℕ)) → state_of self.new target written
+            ≡ with_variables (state_of self.old target written)
+            (set_in (set_in (set_in (bindings_of self.old.globals) (codes "__dp") dp) (codes "__ap") ap) (codes "__errorcontrol") control) locals.items }
+    {
+        self.set_global("__dp", dp);
+        self.set_global("__ap", ap);
+        self.set_global("__errorcontrol", control);
+        self.set_locals(locals);
+    }
+}

@@ -1,0 +1,29 @@
+//! The direct runner: runs a checked set of sequences over a target, each access alone and at once.
+#![tactic(auto)]
+
+mod accesses;
+mod asking;
+mod at_once;
+mod calling;
+mod commands;
+mod controls;
+mod direct;
+mod end;
+mod ended;
+mod functions;
+mod held;
+pub mod laws;
+mod memory;
+mod probe;
+mod registers;
+mod runner;
+mod running;
+mod start;
+mod steps;
+mod values;
+
+pub use direct::{run_direct, run_recorded};
+pub use ended::{Direct, Recorded};
+
+#[cfg(test)]
+mod tests;

@@ -1,0 +1,143 @@
+//! Calls that access memory.
+ghost use Rattle.std.specs.Prelude.{◌≡◌, ◌⊎◌, ℕ, ◌<◌, ◌^◌, ◌%◌, ◌≤◌, List, Option, false};
+ghost use Rattle.target_machine.specs.Sound.{IsSound};
+ghost use Rattle.sequence_terms.specs.Calls as c;
+ghost use Rattle.sequence_terms.specs.Direct.{Now, direct};
+ghost use Rattle.sequence_terms.specs.Machine.{State};
+ghost use Rattle.sequence_meaning.specs.Held.{Gives, state_of};
+
+use crate::asking::{Port, ask, asked, port_of};
+use crate::end::End;
+use crate::held::Held;
+use target_machine::{HaltCause, Target, Unit};
+
+// A memory access of 1, 2 or 4 bytes; a value that is written is cut to its size.
+#[tactic(auto, unfolding(sequence_terms::specs::Calls::memory_unit))]
+fn memory_unit(size: u8, read: bool, ap: u8, address: u64, value: u64) -> Unit
+    requires { (size ≡ 1) ⊎ ((size ≡ 2) ⊎ (size ≡ 4)) }
+    ensures unit { result ≡ c.memory_unit size read ap address value }
+    ensures sound { address % size ≡ 0 → IsSound result }
+{
+    let kept = match size {
+        1 => value % 0x100,
+        2 => value % 0x1_0000,
+        _ => value % 0x1_0000_0000,
+    };
+    Unit::Memory {
+        size,
+        read,
+        ap,
+        address,
+        value: if read { 0 } else { kept as u32 },
+    }
+}
+
+// The value of `Read64`.
+#[tactic(auto, unfolding(sequence_terms::specs::Calls::low_and_high, sequence_terms::specs::Calls::use_now, sequence_terms::specs::Direct::direct))]
+fn low_and_high(low: u64, high: u64) -> Result<u64, End>
+    requires low { low < 2 ^ 32 }
+    requires high { high < 2 ^ 32 }
+    ensures { (s : State ℕ Now) → Gives result s (c.low_and_high (direct false) low high s) }
+{
+    Ok(low + high * 0x1_0000_0000)
+}
+
+// The second unit of a 64-bit call, at the higher address.
+#[tactic(auto, unfolding(sequence_terms::specs::Calls::second_half, sequence_terms::specs::Direct::direct), using(crate::proofs::DirectLemmas::ends_on))]
+fn second_half(
+    read: bool,
+    ap: u8,
+    forgive: bool,
+    address: u64,
+    value: u64,
+    low: u64,
+    held: &mut Held,
+    target: &mut Target,
+) -> Result<u64, End>
+    requires aligned { address % 8 ≡ 0 }
+    requires low { low < 2 ^ 32 }
+    ensures { (written : Option (List ℕ)) → Gives result (state_of held.new target.new written) (c.second_half (direct false) read (record { ap = ap; forgive = forgive; dp = 0 }) address value low (state_of held.old target.old written)) }
+{
+    let high = ask(
+        memory_unit(4, read, ap, address + 4, value / 0x1_0000_0000),
+        forgive,
+        held,
+        target,
+    )?;
+    if read { low_and_high(low, high) } else { Ok(0) }
+}
+
+// `Read64` and `Write64` are two units, the one at the lower address first.
+#[tactic(auto, unfolding(sequence_terms::specs::Calls::two_units), using(crate::proofs::DirectLemmas::ends_on))]
+fn two_units(
+    read: bool,
+    ap: u8,
+    forgive: bool,
+    address: u64,
+    value: u64,
+    held: &mut Held,
+    target: &mut Target,
+) -> Result<u64, End>
+    requires aligned { address % 8 ≡ 0 }
+    ensures { (written : Option (List ℕ)) → Gives result (state_of held.new target.new written) (c.two_units (direct false) read (record { ap = ap; forgive = forgive; dp = 0 }) address value (state_of held.old target.old written)) }
+{
+    let low = ask(
+        memory_unit(4, read, ap, address, value),
+        forgive,
+        held,
+        target,
+    )?;
+    second_half(read, ap, forgive, address, value, low, held, target)
+}
+
+// A memory call, with its halts in their order.
+#[tactic(auto, unfolding(sequence_terms::specs::Calls::memory_at, sequence_terms::specs::Calls::one_unit))]
+fn memory_at(
+    size: u8,
+    read: bool,
+    address: u64,
+    value: u64,
+    port: Port,
+    held: &mut Held,
+    target: &mut Target,
+) -> Result<u64, End>
+    requires { (size ≡ 1) ⊎ ((size ≡ 2) ⊎ ((size ≡ 4) ⊎ (size ≡ 8))) }
+    ensures { (written : Option (List ℕ)) → Gives result (state_of held.new target.new written) (c.memory_at (direct false) size read address value (record { ap = port.ap; forgive = port.forgive; dp = port.dp }) (state_of held.old target.old written)) }
+{
+    if port.dp != 0 {
+        return Err(End::Halted(HaltCause::Unsupported));
+    }
+    let Ok(ap) = u8::try_from(port.ap) else {
+        return Err(End::Halted(HaltCause::AddressTooLarge));
+    };
+    if address % u64::from(size) != 0 {
+        return Err(End::Halted(HaltCause::Misaligned));
+    }
+    if size == 8 {
+        two_units(read, ap, port.forgive, address, value, held, target)
+    } else {
+        asked(
+            read,
+            memory_unit(size, read, ap, address, value),
+            port.forgive,
+            held,
+            target,
+        )
+    }
+}
+
+// A memory call of `size` bytes, 1, 2, 4 or 8.
+#[tactic(auto, unfolding(sequence_terms::specs::Calls::memory))]
+pub(crate) fn memory(
+    size: u8,
+    read: bool,
+    address: u64,
+    value: u64,
+    held: &mut Held,
+    target: &mut Target,
+) -> Result<u64, End>
+    requires { (size ≡ 1) ⊎ ((size ≡ 2) ⊎ ((size ≡ 4) ⊎ (size ≡ 8))) }
+    ensures { (written : Option (List ℕ)) → Gives result (state_of held.new target.new written) (c.memory (direct false) size read address value (state_of held.old target.old written)) }
+{
+    memory_at(size, read, address, value, port_of(held), held, target)
+}

@@ -1,0 +1,119 @@
+//! Calls that are commands of the probe.
+ghost use Rattle.std.specs.Prelude.{◌≡◌, ℕ, ◌%◌, ◌^◌, ◌≤◌, List, Option, false};
+ghost use Rattle.target_machine.specs.Sound.{IsSoundProbe};
+ghost use Rattle.sequence_terms.specs.Calls as c;
+ghost use Rattle.sequence_terms.specs.Direct.{Now, direct};
+ghost use Rattle.sequence_terms.specs.Machine.{State};
+ghost use Rattle.sequence_meaning.specs.Held.{Gives, state_of};
+
+use crate::asking::{command, debug_port};
+use crate::end::End;
+use crate::held::Held;
+use target_machine::{HaltCause, ProbeCall, Target};
+
+// A command whose result is dropped.
+#[tactic(auto, unfolding(sequence_terms::specs::Calls::zero_of, sequence_terms::specs::Direct::direct), using(crate::proofs::DirectLemmas::ends_on))]
+fn commanded(call: ProbeCall, held: &mut Held, target: &mut Target) -> Result<u64, End>
+    requires { IsSoundProbe call }
+    ensures { (written : Option (List ℕ)) → Gives result (state_of held.new target.new written) (c.zero_of (direct false) (c.command (direct false) call (state_of held.old target.old written))) }
+{
+    command(call, held, target)?;
+    Ok(0)
+}
+
+// `DAP_WriteABORT`, on debug port 0 alone.
+#[tactic(auto, unfolding(sequence_terms::specs::Calls::abort, sequence_terms::specs::Calls::abort_at, sequence_terms::specs::Calls::zero_of))]
+pub(crate) fn abort(value: u64, held: &mut Held, target: &mut Target) -> Result<u64, End>
+    ensures { (written : Option (List ℕ)) → Gives result (state_of held.new target.new written) (c.zero_of (direct false) (c.abort (direct false) value (state_of held.old target.old written))) }
+{
+    if debug_port(held) == 0 {
+        commanded(
+            ProbeCall::Abort((value % 0x1_0000_0000) as u32),
+            held,
+            target,
+        )
+    } else {
+        Err(End::Halted(HaltCause::Unsupported))
+    }
+}
+
+// `DAP_Delay`, of at most 60,000,000 microseconds.
+#[tactic(auto, unfolding(sequence_terms::specs::Calls::delay, sequence_terms::specs::Calls::zero_of))]
+pub(crate) fn delay(micros: u64, held: &mut Held, target: &mut Target) -> Result<u64, End>
+    ensures { (written : Option (List ℕ)) → Gives result (state_of held.new target.new written) (c.zero_of (direct false) (c.delay (direct false) micros (state_of held.old target.old written))) }
+{
+    if micros > 60_000_000 {
+        return Err(End::Halted(HaltCause::ArgumentOutOfRange));
+    }
+    commanded(ProbeCall::Delay(micros as u32), held, target)
+}
+
+// `DAP_SWJ_Clock`, of 1 to 2^32 - 1 hertz.
+#[tactic(auto, unfolding(sequence_terms::specs::Calls::clock, sequence_terms::specs::Calls::zero_of))]
+pub(crate) fn clock(hertz: u64, held: &mut Held, target: &mut Target) -> Result<u64, End>
+    ensures { (written : Option (List ℕ)) → Gives result (state_of held.new target.new written) (c.zero_of (direct false) (c.clock (direct false) hertz (state_of held.old target.old written))) }
+{
+    if hertz == 0 || hertz > 0xFFFF_FFFF {
+        return Err(End::Halted(HaltCause::ArgumentOutOfRange));
+    }
+    commanded(ProbeCall::Clock(hertz as u32), held, target)
+}
+
+// `DAP_SWJ_Pins`, with a wait of 32 bits.
+#[tactic(auto, unfolding(sequence_terms::specs::Calls::pins))]
+pub(crate) fn pins(
+    output: u64,
+    select: u64,
+    wait: u64,
+    held: &mut Held,
+    target: &mut Target,
+) -> Result<u64, End>
+    ensures { (written : Option (List ℕ)) → Gives result (state_of held.new target.new written) (c.pins (direct false) output select wait (state_of held.old target.old written)) }
+{
+    if wait > 0xFFFF_FFFF {
+        return Err(End::Halted(HaltCause::ArgumentOutOfRange));
+    }
+    let call = ProbeCall::Pins {
+        output: (output % 256) as u8,
+        select: (select % 256) as u8,
+        wait: wait as u32,
+    };
+    command(call, held, target)
+}
+
+// The lowest `count` bits.
+fn low_bits(count: u8, bits: u64) -> u64
+    requires some { 1 ≤ count }
+    requires most { count ≤ 64 }
+    ensures { result ≡ bits % 2 ^ count }
+{
+    if count == 64 {
+        bits
+    } else {
+        bits % (1u64 << count)
+    }
+}
+
+// `DAP_SWJ_Sequence`, of 1 to 64 bits.
+#[tactic(auto, unfolding(sequence_terms::specs::Calls::line_bits, sequence_terms::specs::Calls::zero_of))]
+pub(crate) fn line_bits(
+    count: u64,
+    bits: u64,
+    held: &mut Held,
+    target: &mut Target,
+) -> Result<u64, End>
+    ensures { (written : Option (List ℕ)) → Gives result (state_of held.new target.new written) (c.zero_of (direct false) (c.line_bits (direct false) count bits (state_of held.old target.old written))) }
+{
+    if count == 0 || count > 64 {
+        return Err(End::Halted(HaltCause::ArgumentOutOfRange));
+    }
+    let count = count as u8;
+    commanded(
+        ProbeCall::Line {
+            count,
+            bits: low_bits(count, bits),
+        },
+        held,
+        target,
+    )
+}

@@ -1,0 +1,92 @@
+//! Whole runs: the debug variables, and then the sequence that a run starts with.
+ghost use Rattle.std.specs.Prelude.{◌≡◌, ℕ, Bool, List, false};
+ghost use Rattle.expr_grammar.specs.Tree.{code_trees, stmt_tree, tree};
+ghost use Rattle.seq_check.specs.Answers.{checked_trees};
+ghost use Rattle.sequence_terms.specs.Direct.{direct};
+ghost use Rattle.sequence_terms.specs.Steps as m;
+ghost use Rattle.sequence_meaning.specs.Held.{Gives, Knows, seen};
+ghost use Rattle.sequence_meaning.specs.Starting.{debugged_one, defined};
+
+use crate::end::End;
+use crate::held::Held;
+use crate::runner::Runner;
+use dap_base::Sink;
+use expr_grammar::{Expr, Name, Stmt};
+use target_machine::Target;
+
+impl Runner<'_> {
+    // A debug variable gets its value.
+    #[tactic(auto, unfolding(sequence_terms::specs::Values::stored, sequence_terms::specs::Calls::guarded, sequence_terms::specs::Direct::direct), using(crate::proofs::DirectLemmas::ends_on))]
+    fn define<K: Sink>(
+        &self,
+        name: &Name,
+        expr: &Expr,
+        held: &mut Held,
+        target: &mut Target,
+        sink: &mut K,
+    ) -> Result<(), End>
+        ensures gives { (known : Bool) → Knows known (K.written sink.old) → Gives result (seen known held.new target.new (K.written sink.new)) (defined self.now.turn_us (checked_trees self.now.set.now) name.now (tree expr.now) (seen known held.old target.old (K.written sink.old))) }
+        ensures knows { (known : Bool) → Knows known (K.written sink.old) → Knows known (K.written sink.new) }
+    {
+        let number = self.value(expr, 0, held, target, sink)?;
+        held.store(name.text.as_str(), number);
+        Ok(())
+    }
+
+    // A statement of the debug variables.
+    fn debug_one<K: Sink>(
+        &self,
+        one: &Stmt,
+        held: &mut Held,
+        target: &mut Target,
+        sink: &mut K,
+    ) -> Result<(), End>
+        ensures gives { (known : Bool) → Knows known (K.written sink.old) → Gives result (seen known held.new target.new (K.written sink.new)) (debugged_one self.now.turn_us (checked_trees self.now.set.now) (stmt_tree one.now) (seen known held.old target.old (K.written sink.old))) }
+        ensures knows { (known : Bool) → Knows known (K.written sink.old) → Knows known (K.written sink.new) }
+    {
+        match one {
+            Stmt::Declare(name, expr) => self.define(name, expr, held, target, sink),
+            Stmt::Empty(_) | Stmt::Plain(_, _) => Ok(()),
+        }
+    }
+
+    // The debug variables get their values, in order.
+    #[tactic(auto, using(crate::proofs::DebugLemmas::debugging))]
+    fn debug<K: Sink>(
+        &self,
+        code: &[Stmt],
+        held: &mut Held,
+        target: &mut Target,
+        sink: &mut K,
+    ) -> Result<(), End>
+        ensures gives { (known : Bool) → Knows known (K.written sink.old) → Gives result (seen known held.new target.new (K.written sink.new)) (m.debugged (direct false) self.now.turn_us (checked_trees self.now.set.now) (code_trees code.now) (seen known held.old target.old (K.written sink.old))) }
+        ensures knows { (known : Bool) → Knows known (K.written sink.old) → Knows known (K.written sink.new) }
+    {
+        for one in code {
+            match self.debug_one(one, held, target, sink) {
+                Ok(()) => {}
+                Err(end) => return Err(end),
+            }
+        }
+        Ok(())
+    }
+
+    // A run: the debug variables, and then the sequence of the name, in a chain of at most 32 sequences.
+    #[tactic(auto, unfolding(sequence_terms::specs::Steps::run_of), using(crate::proofs::DirectLemmas::ends_on, crate::proofs::DebugLemmas::run_on))]
+    pub(crate) fn run<K: Sink>(
+        &self,
+        start: &str,
+        held: &mut Held,
+        target: &mut Target,
+        sink: &mut K,
+    ) -> Result<(), End>
+        ensures gives { (known : Bool) → Knows known (K.written sink.old) → Gives result (seen known held.new target.new (K.written sink.new)) (m.run_of (direct false) self.now.turn_us (checked_trees self.now.set.now) start.now (seen known held.old target.old (K.written sink.old))) }
+        ensures knows { (known : Bool) → Knows known (K.written sink.old) → Knows known (K.written sink.new) }
+    {
+        match self.debug(self.set.debugvars().as_slice(), held, target, sink) {
+            Ok(()) => {}
+            Err(end) => return Err(end),
+        }
+        self.done(self.steps_of(start), 31, held, target, sink)
+    }
+}

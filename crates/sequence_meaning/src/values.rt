@@ -1,0 +1,208 @@
+//! The values of expressions.
+ghost use Rattle.std.specs.Prelude.{◌≡◌, [], ◌∷◌, ◌++◌, Bool, false, unwrap_or, option_map, List, Option, ℕ, ◌<◌, ◌≤◌};
+ghost use Rattle.expr_grammar.specs.Arithmetic.{truth};
+ghost use Rattle.expr_grammar.specs.Tree.{tree, arg_tree, arg_trees, stmt_tree, code_trees};
+ghost use Rattle.sequence_code.specs.Trees.{step_tree, steps_tree};
+ghost use Rattle.sequence_terms.specs.Direct.{direct};
+ghost use Rattle.sequence_terms.specs.Steps as m;
+ghost use Rattle.sequence_terms.specs.Values as v;
+ghost use Rattle.sequence_meaning.specs.Held.{Gives, GivesAs, Knows, calls_of, seen, state_of};
+
+use crate::end::End;
+use crate::held::Held;
+use crate::runner::Runner;
+use dap_base::Sink;
+use expr_grammar::{BinaryOp, Expr, Name, UnaryOp, binary_value, unary_value};
+use target_machine::{HaltCause, Target};
+
+impl Runner<'_> {
+    // The value of an expression.
+    #[cycle(eval)]
+    #[tactic(auto, unfolding(sequence_terms::specs::Values::value, sequence_terms::specs::Values::named, sequence_terms::specs::Calls::given, sequence_terms::specs::Calls::missing, sequence_terms::specs::Direct::direct), using(crate::proofs::DirectLemmas::ends_on))]
+    pub(crate) fn value<K: Sink>(
+        &self,
+        expr: &Expr,
+        depth: u32,
+        held: &mut Held,
+        target: &mut Target,
+        sink: &mut K,
+    ) -> Result<u64, End>
+        ensures gives { (known : Bool) → Knows known (K.written sink.old) → Gives result (seen known held.new target.new (K.written sink.new)) (v.value (direct false) (calls_of self.now depth) (tree expr.now) (seen known held.old target.old (K.written sink.old))) }
+        ensures knows { (known : Bool) → Knows known (K.written sink.old) → Knows known (K.written sink.new) }
+    {
+        match expr {
+            Expr::Number(number) => Ok(*number),
+            Expr::Name(name) => Ok(held.visible(name.text.as_str())),
+            Expr::Group(inner) => self.value(inner, depth, held, target, sink),
+            Expr::Unary(op, operand) => self.unary_of(*op, operand, depth, held, target, sink),
+            Expr::Binary(op, left, right) => self.binary_of(
+                *op, left, right, depth, held, target, sink,
+            ),
+            Expr::Cond(test, first, second) => self.choice(
+                test, first, second, depth, held, target, sink,
+            ),
+            Expr::Assign(name, right) => self.assign(name, right, depth, held, target, sink),
+            Expr::Call(name, args) => self.call(name, args.as_slice(), depth, held, target, sink),
+        }
+    }
+
+    // An operator before its operand.
+    #[cycle(eval)]
+    #[tactic(auto, unfolding(sequence_terms::specs::Values::of_unary, sequence_terms::specs::Values::used_now, sequence_terms::specs::Calls::use_now, sequence_terms::specs::Direct::direct), using(crate::proofs::DirectLemmas::ends_on))]
+    fn unary_of<K: Sink>(
+        &self,
+        op: UnaryOp,
+        operand: &Expr,
+        depth: u32,
+        held: &mut Held,
+        target: &mut Target,
+        sink: &mut K,
+    ) -> Result<u64, End>
+        ensures gives { (known : Bool) → Knows known (K.written sink.old) → Gives result (seen known held.new target.new (K.written sink.new)) (v.of_unary (direct false) op (v.value (direct false) (calls_of self.now depth) (tree operand.now) (seen known held.old target.old (K.written sink.old)))) }
+        ensures knows { (known : Bool) → Knows known (K.written sink.old) → Knows known (K.written sink.new) }
+    {
+        let number = self.value(operand, depth, held, target, sink)?;
+        Ok(unary_value(op, number))
+    }
+
+    // An operator of two operands that are both evaluated.
+    #[cycle(eval)]
+    #[tactic(auto, unfolding(sequence_terms::specs::Values::strict_binary, sequence_terms::specs::Values::operands, sequence_terms::specs::Values::both, sequence_terms::specs::Values::result_of, sequence_terms::specs::Calls::use_now, sequence_terms::specs::Direct::direct), using(crate::proofs::DirectLemmas::ends_on))]
+    fn strict_binary<K: Sink>(
+        &self,
+        op: BinaryOp,
+        left: &Expr,
+        right: &Expr,
+        depth: u32,
+        held: &mut Held,
+        target: &mut Target,
+        sink: &mut K,
+    ) -> Result<u64, End>
+        ensures gives { (known : Bool) → Knows known (K.written sink.old) → Gives result (seen known held.new target.new (K.written sink.new)) (v.strict_binary (direct false) op (v.value (direct false) (calls_of self.now depth) (tree left.now) (seen known held.old target.old (K.written sink.old))) (v.value (direct false) (calls_of self.now depth) (tree right.now))) }
+        ensures knows { (known : Bool) → Knows known (K.written sink.old) → Knows known (K.written sink.new) }
+    {
+        let left = self.value(left, depth, held, target, sink)?;
+        let right = self.value(right, depth, held, target, sink)?;
+        match binary_value(op, left, right) {
+            Some(number) => Ok(number),
+            None => Err(End::Halted(HaltCause::DivideByZero)),
+        }
+    }
+
+    // The right side counts only where the left one is not 0.
+    #[cycle(eval)]
+    #[tactic(auto, unfolding(sequence_terms::specs::Values::conjunction, sequence_terms::specs::Values::used_now, sequence_terms::specs::Values::truth_of, sequence_terms::specs::Calls::use_now, sequence_terms::specs::Direct::direct), using(crate::proofs::DirectLemmas::ends_on))]
+    fn conjunction<K: Sink>(
+        &self,
+        left: &Expr,
+        right: &Expr,
+        depth: u32,
+        held: &mut Held,
+        target: &mut Target,
+        sink: &mut K,
+    ) -> Result<u64, End>
+        ensures gives { (known : Bool) → Knows known (K.written sink.old) → Gives result (seen known held.new target.new (K.written sink.new)) (v.conjunction (direct false) (v.value (direct false) (calls_of self.now depth) (tree left.now) (seen known held.old target.old (K.written sink.old))) (v.value (direct false) (calls_of self.now depth) (tree right.now))) }
+        ensures knows { (known : Bool) → Knows known (K.written sink.old) → Knows known (K.written sink.new) }
+    {
+        if self.value(left, depth, held, target, sink)? == 0 {
+            return Ok(0);
+        }
+        let right = self.value(right, depth, held, target, sink)?;
+        Ok(truth(right != 0))
+    }
+
+    // The right side counts only where the left one is 0.
+    #[cycle(eval)]
+    #[tactic(auto, unfolding(sequence_terms::specs::Values::disjunction, sequence_terms::specs::Values::used_now, sequence_terms::specs::Values::truth_of, sequence_terms::specs::Calls::use_now, sequence_terms::specs::Direct::direct), using(crate::proofs::DirectLemmas::ends_on))]
+    fn disjunction<K: Sink>(
+        &self,
+        left: &Expr,
+        right: &Expr,
+        depth: u32,
+        held: &mut Held,
+        target: &mut Target,
+        sink: &mut K,
+    ) -> Result<u64, End>
+        ensures gives { (known : Bool) → Knows known (K.written sink.old) → Gives result (seen known held.new target.new (K.written sink.new)) (v.disjunction (direct false) (v.value (direct false) (calls_of self.now depth) (tree left.now) (seen known held.old target.old (K.written sink.old))) (v.value (direct false) (calls_of self.now depth) (tree right.now))) }
+        ensures knows { (known : Bool) → Knows known (K.written sink.old) → Knows known (K.written sink.new) }
+    {
+        if self.value(left, depth, held, target, sink)? != 0 {
+            return Ok(1);
+        }
+        let right = self.value(right, depth, held, target, sink)?;
+        Ok(truth(right != 0))
+    }
+
+    // An operator between its operands.
+    #[cycle(eval)]
+    #[tactic(auto, unfolding(sequence_terms::specs::Values::of_binary), using(crate::proofs::DirectLemmas::ends_on))]
+    fn binary_of<K: Sink>(
+        &self,
+        op: BinaryOp,
+        left: &Expr,
+        right: &Expr,
+        depth: u32,
+        held: &mut Held,
+        target: &mut Target,
+        sink: &mut K,
+    ) -> Result<u64, End>
+        ensures gives { (known : Bool) → Knows known (K.written sink.old) → Gives result (seen known held.new target.new (K.written sink.new)) (v.of_binary (direct false) op (v.value (direct false) (calls_of self.now depth) (tree left.now) (seen known held.old target.old (K.written sink.old))) (v.value (direct false) (calls_of self.now depth) (tree right.now))) }
+        ensures knows { (known : Bool) → Knows known (K.written sink.old) → Knows known (K.written sink.new) }
+    {
+        match op {
+            BinaryOp::And => self.conjunction(left, right, depth, held, target, sink),
+            BinaryOp::Or => self.disjunction(left, right, depth, held, target, sink),
+            _ => self.strict_binary(op, left, right, depth, held, target, sink),
+        }
+    }
+
+    // One of two, by a condition.
+    #[cycle(eval)]
+    #[tactic(auto, unfolding(sequence_terms::specs::Values::choice, sequence_terms::specs::Values::used_now, sequence_terms::specs::Calls::use_now, sequence_terms::specs::Direct::direct), using(crate::proofs::DirectLemmas::ends_on))]
+    fn choice<K: Sink>(
+        &self,
+        test: &Expr,
+        first: &Expr,
+        second: &Expr,
+        depth: u32,
+        held: &mut Held,
+        target: &mut Target,
+        sink: &mut K,
+    ) -> Result<u64, End>
+        ensures gives { (known : Bool) → Knows known (K.written sink.old) → Gives result (seen known held.new target.new (K.written sink.new)) (v.choice (direct false) (v.value (direct false) (calls_of self.now depth) (tree test.now) (seen known held.old target.old (K.written sink.old))) (v.value (direct false) (calls_of self.now depth) (tree first.now)) (v.value (direct false) (calls_of self.now depth) (tree second.now))) }
+        ensures knows { (known : Bool) → Knows known (K.written sink.old) → Knows known (K.written sink.new) }
+    {
+        if self.value(test, depth, held, target, sink)? == 0 {
+            self.value(second, depth, held, target, sink)
+        } else {
+            self.value(first, depth, held, target, sink)
+        }
+    }
+
+    // An assignment.
+    #[cycle(eval)]
+    #[tactic(auto, unfolding(sequence_terms::specs::Values::assigned, sequence_terms::specs::Values::stored, sequence_terms::specs::Calls::guarded, sequence_terms::specs::Direct::direct), using(crate::proofs::DirectLemmas::ends_on))]
+    fn assign<K: Sink>(
+        &self,
+        name: &Name,
+        right: &Expr,
+        depth: u32,
+        held: &mut Held,
+        target: &mut Target,
+        sink: &mut K,
+    ) -> Result<u64, End>
+        ensures gives { (known : Bool) → Knows known (K.written sink.old) → Gives result (seen known held.new target.new (K.written sink.new)) (v.assigned (direct false) name.now (v.value (direct false) (calls_of self.now depth) (tree right.now) (seen known held.old target.old (K.written sink.old)))) }
+        ensures knows { (known : Bool) → Knows known (K.written sink.old) → Knows known (K.written sink.new) }
+    {
+        let number = self.value(right, depth, held, target, sink)?;
+        held.store(name.text.as_str(), number);
+        Ok(number)
+    }
+}
+
+// 1 where it is so, and 0 where it is not.
+fn truth(test: bool) -> u64
+    ensures { result ≡ truth test }
+{
+    if test { 1 } else { 0 }
+}
