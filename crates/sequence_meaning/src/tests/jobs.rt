@@ -14,6 +14,7 @@ use std::test::Fail;
 use target_machine::*;
 
 // A step: a block of code, or a `while` with its timeout and a block inside, where there is code.
+#[derive(Clone, Copy, Drop)]
 pub enum Piece {
     Block(&'static str),
     If(&'static str, &'static str),
@@ -72,7 +73,7 @@ fn sequence(alloc: Global, name: &str, pieces: &[Piece]) -> Result<SeqEntry, Fai
 }
 
 // A set of `Main` and `Sub`.
-fn set(alloc: Global, debugvars: &str, main: &[Piece], sub: &str) -> Result<SeqSet, Fail>
+fn set(alloc: Global, debugvars: &str, main: &[Piece], sub: &'static str) -> Result<SeqSet, Fail>
     ensures { IfOk result (λ s. IsDistinct bytes_eq (map (λ e. e.name) s.entries)) }
 {
     let mut entries = ItemList::new(alloc);
@@ -83,7 +84,12 @@ fn set(alloc: Global, debugvars: &str, main: &[Piece], sub: &str) -> Result<SeqS
 }
 
 // The checked set of these.
-pub fn checked(alloc: Global, debugvars: &str, main: &[Piece], sub: &str) -> Result<Checked, Fail> {
+pub fn checked(
+    alloc: Global,
+    debugvars: &str,
+    main: &[Piece],
+    sub: &'static str,
+) -> Result<Checked, Fail> {
     match check(alloc, &set(alloc, debugvars, main, sub)?) {
         Ok(checked) => Ok(checked),
         Err(CheckFault::Fault(_, _)) => Err(Fail::new("the set is not valid")),
