@@ -24,6 +24,3 @@ mod values;
 
 pub use direct::{run_direct, run_recorded};
 pub use ended::{Direct, Recorded};
-
-#[cfg(test)]
-mod tests;
