@@ -12,7 +12,7 @@ use Rattle.target_machine.specs.declared.unit.Unit.TheVariants as unit
 use Rattle.access_regs.specs.Kept.{Kept, known, unknown, nothing_kept}
 use Rattle.access_regs.specs.Plan.{settled}
 use Rattle.access_regs.specs.declared.known.Known.{Known}
-use Rattle.access_regs.specs.Journal.{finish, issue_of, finish_of, steps_at, actions_of, forgiving_at, after_settling, planned, issue, issued, kept_from}
+use Rattle.access_regs.specs.Journal.{finish, issue_of, finish_of, steps_at, actions_of, alone_at, after_settling, planned, issue, issued, kept_from}
 use Rattle.access_regs.specs.Alone.{alone, alone_after, large_of_all}
 use Rattle.access_regs.specs.Follows.{Follows, IsTrueOf}
 use Rattle.access_regs.specs.Laws.{FreshFollows, CallGoes, CallLeaves, JournalFollows, JournalAgrees, JournalPasses, JournalStops, JournalAnswers}
@@ -28,12 +28,12 @@ use Rattle.call_terms.specs.declared.calls.Ask.{Ask}
 use Rattle.access_regs.proofs.Lists.{AllOk, step_follows, list_follows, list_passes, list_stops, list_answers}
 
 forgiving_course : (k : Kept) (large : List ℕ) (t u : TargetState) → Follows k large t u → (asked : AccessUnit) → IsUnitInRange asked → may_forgive (Access asked) ≡ true →
-    Course (after_settling u k (forgiving_at asked)) (call_done t large true (Access asked)) (Access asked) u
+    Course (after_settling u k (alone_at true asked)) (call_done t large true (Access asked)) (Access asked) u
 forgiving_course k large t u f (unit.Memory size read n address value) range may =
-    settle_course k large t u f (forgiving_at (unit.Memory size read n address value)) (call_done t large true (Access (unit.Memory size read n address value))) (Access (unit.Memory size read n address value))
+    settle_course k large t u f (alone_at true (unit.Memory size read n address value)) (call_done t large true (Access (unit.Memory size read n address value))) (Access (unit.Memory size read n address value))
     (λ v g. memory_course (settled k) large t v g (settled_calm k) size read n address value range.0)
 forgiving_course k large t u f (unit.Ap read n addr value) range may =
-    settle_course k large t u f (forgiving_at (unit.Ap read n addr value)) (call_done t large true (Access (unit.Ap read n addr value))) (Access (unit.Ap read n addr value))
+    settle_course k large t u f (alone_at true (unit.Ap read n addr value)) (call_done t large true (Access (unit.Ap read n addr value))) (Access (unit.Ap read n addr value))
     (λ v g. ap_course (settled k) large t v g (settled_calm k) read n addr value range.0 range.1)
 forgiving_course k large t u f (unit.Dp read addr value) range may = absurd (cc)
 forgiving_course k large t u f (unit.Poll mask value turns) range may = absurd (cc)
@@ -50,8 +50,8 @@ call_course k large t u f c ok = by_mark c.call (c.forgive && may_forgive c.call
     by_mark call false e sound range = strict_course k large t u f c.forgive call e sound range
     by_mark (Access asked) true e sound range =
         let p = both_true c.forgive (may_forgive (Access asked)) e in
-        subst (λ (b : Bool). Course (cond b (after_settling u k (forgiving_at asked)) (planned u k asked)) (call_done t large c.forgive (Access asked)) (Access asked) u) (sym e)
-        (subst (λ (b : Bool). Course (after_settling u k (forgiving_at asked)) (call_done t large b (Access asked)) (Access asked) u) (sym p.0) (forgiving_course k large t u f asked range p.1))
+        subst (λ (b : Bool). Course (cond b (after_settling u k (alone_at true asked)) (planned u k asked)) (call_done t large c.forgive (Access asked)) (Access asked) u) (sym e)
+        (subst (λ (b : Bool). Course (after_settling u k (alone_at true asked)) (call_done t large b (Access asked)) (Access asked) u) (sym p.0) (forgiving_course k large t u f asked range p.1))
     by_mark (Probe x) true e sound range = (let p = both_true c.forgive false e in let no : false ≡ true = p.1 in absurd (cc))
 
 pub all_ok : (cs : List Ask) → AreAskable cs → AllOk IsAskable call_course cs

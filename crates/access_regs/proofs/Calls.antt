@@ -10,7 +10,7 @@ use Rattle.target_machine.specs.declared.unit.Unit.TheVariants as unit
 use Rattle.access_regs.specs.Kept.{Kept, is_known}
 use Rattle.access_regs.specs.Plan.{select_value, settle, settled, needs_settle, must_follow_settling}
 use Rattle.access_regs.specs.Plan as plans
-use Rattle.access_regs.specs.Journal.{Issue, making, steps_of, before, gives, by_plan, by_csw, by_cfg, by_cfg_read, after_settling, forgiving_at, planned, issue}
+use Rattle.access_regs.specs.Journal.{Issue, making, steps_of, before, gives, by_plan, by_csw, by_cfg, by_cfg_read, after_settling, alone_at, planned, issue}
 use Rattle.access_regs.specs.Follows.{Follows}
 use Rattle.access_regs.specs.declared.known.Unsettled.{Unsettled}
 use Rattle.access_regs.proofs.Course.{course_before, actions_steps}
@@ -156,5 +156,5 @@ module _ (k : Kept) (large : List ℕ) (t u : TargetState) (f : Follows k large 
   pub strict_course : (forgive : Bool) (call : Call) → (forgive && may_forgive call) ≡ false → IsSoundCall call → IsCallInRange call → Course (issue u k forgive call) (call_done t large forgive call) call u
   strict_course forgive (Access asked) e sound range =
       subst (λ (d : CallDone). Course (issue u k forgive (Access asked)) d (Access asked) u) (sym (strict_done forgive (Access asked) e))
-      (subst (λ (b : Bool). Course (cond b (after_settling u k (forgiving_at asked)) (planned u k asked)) (call_done t large false (Access asked)) (Access asked) u) (sym e) (planned_course asked sound range))
+      (subst (λ (b : Bool). Course (cond b (after_settling u k (alone_at true asked)) (planned u k asked)) (call_done t large false (Access asked)) (Access asked) u) (sym e) (planned_course asked sound range))
   strict_course forgive (Probe c) e sound range = probe_course k large t u f forgive c

@@ -13,7 +13,7 @@ use Rattle.target_machine.specs.declared.unit.Call.TheVariants.{Access}
 use Rattle.target_machine.specs.declared.unit.Unit.{Unit as AccessUnit}
 use Rattle.target_machine.specs.declared.unit.Unit.TheVariants as unit
 use Rattle.access_regs.specs.Kept.{Kept, known, with_known, forgotten}
-use Rattle.access_regs.specs.Journal.{Issue, Step, actions_of, port_of, large_of, part_of, parts_of, is_early, issue_done, is_last, select_written, select_after, kept_after, forgiving_at}
+use Rattle.access_regs.specs.Journal.{Issue, Step, actions_of, port_of, large_of, part_of, parts_of, is_early, issue_done, is_last, select_written, select_after, kept_after, alone_at}
 use Rattle.access_regs.specs.Follows.{Follows}
 use Rattle.access_regs.specs.declared.known.Known.{Known}
 use Rattle.access_regs.proofs.Stage.{is_true_of}
@@ -333,7 +333,7 @@ joined_other l n q false ne = refl
 
 module _ (k : Kept) (large : List ℕ) (t u : TargetState) (f : Follows k large t u) (calm : k.unsettled ≡ None) where
   pub ap_course : (read : Bool) (n addr value : ℕ) → n < 256 → addr < 256 →
-      Course (forgiving_at (unit.Ap read n addr value) u k) (call_done t large true (Access (unit.Ap read n addr value))) (Access (unit.Ap read n addr value)) u
+      Course (alone_at true (unit.Ap read n addr value) u k) (call_done t large true (Access (unit.Ap read n addr value))) (Access (unit.Ap read n addr value)) u
   ap_course read n addr value lt fits =
       let asked : AccessUnit = unit.Ap read n addr value in
       let xs : List Action = unit_actions t large asked in
@@ -344,12 +344,12 @@ module _ (k : Kept) (large : List ℕ) (t u : TargetState) (f : Follows k large 
       let c = by_fault k large t u f calm asked lt xs false large (large_of k asked) (refl, (refl, tt)) left
       (λ e. record { front = Makes (select_of n (addr / 16)) ∷ []; last = ap_access_of read (addr % 16) value; is = refl; ends = refl })
       same_large (λ q ne. refl) (is_fault (in_order u xs).outcome) refl in
-      subst (λ (d : CallDone). Course (forgiving_at asked u k) d (Access asked) u) (sym (port_done t large read n addr value))
+      subst (λ (d : CallDone). Course (alone_at true asked u k) d (Access asked) u) (sym (port_done t large read n addr value))
       (subst (λ (d : CallDone). Course (issue_done k asked d) DT (Access asked) u)
       (sym (port_done u (large_of k asked) read n addr value)) c)
 
   pub memory_course : (size : ℕ) (read : Bool) (n address value : ℕ) → n < 256 →
-      Course (forgiving_at (unit.Memory size read n address value) u k) (call_done t large true (Access (unit.Memory size read n address value))) (Access (unit.Memory size read n address value)) u
+      Course (alone_at true (unit.Memory size read n address value) u k) (call_done t large true (Access (unit.Memory size read n address value))) (Access (unit.Memory size read n address value)) u
   memory_course size read n address value lt =
       let asked : AccessUnit = unit.Memory size read n address value in
       let l2 : List ℕ = large_of k asked in
@@ -382,6 +382,6 @@ module _ (k : Kept) (large : List ℕ) (t u : TargetState) (f : Follows k large 
       memory_done u l2 size read n address value
       ∙ ap (λ (z : List Action). D u (needs_cfg l2 n address) (has_large u n) z l2) xu
       ∙ ap (λ (z : Bool). D u z (has_large u n) xs l2) needs ∙ ap (λ (z : Bool). D u w z xs l2) has in
-      subst (λ (d : CallDone). Course (forgiving_at asked u k) d (Access asked) u) (sym dt)
+      subst (λ (d : CallDone). Course (alone_at true asked u k) d (Access asked) u) (sym dt)
       (subst (λ (d : CallDone). Course (issue_done k asked d) (D t w b xs large) (Access asked) u)
       (sym du) c)

@@ -13,7 +13,7 @@ use Rattle.access_regs.specs.Alone.{KeepsMemory}
 use Rattle.access_regs.specs.Closed.{closes}
 use Rattle.access_regs.specs.Kept.{Kept}
 use Rattle.access_regs.specs.Plan.{settle, settled, settling}
-use Rattle.access_regs.specs.Journal.{Step, steps_of, making, parts_of, is_last, is_early, large_of, forgiving_at, after_settling}
+use Rattle.access_regs.specs.Journal.{Step, steps_of, making, parts_of, is_last, is_early, large_of, alone_at, after_settling}
 use Rattle.access_regs.specs.Follows.{Follows}
 use Rattle.access_regs.specs.declared.known.Unsettled.{Unsettled}
 use Rattle.access_regs.proofs.OneEnd.{AllParts, IsNoEnd, OneEnd, leads_one, never}
@@ -158,9 +158,9 @@ parts_ended early asked false false x next large actions P with_ without = subst
 
 -- from where it is made, and from any bank without memory
 pub record ForgivingKeeps (v : TargetState) (k : Kept) (asked : AccessUnit) : Type 0 where
-  pub one : OneEnd IsNoEnd (forgiving_at asked v k).steps
-  pub clear : v.sticky ≡ false → KeepsMemory v (forgiving_at asked v k).steps
-  pub plain : (t : TargetState) → IsPlainBank t → KeepsMemory t (forgiving_at asked v k).steps
+  pub one : OneEnd IsNoEnd (alone_at true asked v k).steps
+  pub clear : v.sticky ≡ false → KeepsMemory v (alone_at true asked v k).steps
+  pub plain : (t : TargetState) → IsPlainBank t → KeepsMemory t (alone_at true asked v k).steps
 
 memory_keeps : (v : TargetState) (k : Kept) (size : ℕ) (read : Bool) (n address value : ℕ) → n < 256 → ForgivingKeeps v k (unit.Memory size read n address value)
 unfolding call_done
@@ -188,7 +188,7 @@ memory_keeps v k size read n address value lt = record {
     ran : Attempt
     ran = in_order v (unit_actions v large here)
 
-    by_end : (P : List Step → Type 0) → ((ys : List Step) → AreSkips ys → P (parts_of early here (issued v (unit_actions v large here)) ++ ys)) → P (forgiving_at here v k).steps
+    by_end : (P : List Step → Type 0) → ((ys : List Step) → AreSkips ys → P (parts_of early here (issued v (unit_actions v large here)) ++ ys)) → P (alone_at true here v k).steps
     by_end P each = parts_ended early here (is_fault ran.outcome) (is_small v large (Access here)) (result_of (Access here) (given ran.outcome)) ran.next (large_after v large (Access here)) (issued v (unit_actions v large here)) P
         (each (skip early ∷ []) (skips early)) (each [] no_skips)
 
@@ -241,7 +241,7 @@ port_keeps v k read n addr value = record {
     ran : Attempt
     ran = in_order v (unit_actions v large here)
 
-    by_end : (P : List Step → Type 0) → ((ys : List Step) → AreSkips ys → P (parts_of early here (issued v (unit_actions v large here)) ++ ys)) → P (forgiving_at here v k).steps
+    by_end : (P : List Step → Type 0) → ((ys : List Step) → AreSkips ys → P (parts_of early here (issued v (unit_actions v large here)) ++ ys)) → P (alone_at true here v k).steps
     by_end P each = parts_ended early here (is_fault ran.outcome) (is_small v large (Access here)) (result_of (Access here) (given ran.outcome)) ran.next (large_after v large (Access here)) (issued v (unit_actions v large here)) P
         (each (skip early ∷ []) (skips early)) (each [] no_skips)
 
@@ -252,14 +252,14 @@ forgiving_keeps v k (unit.Dp read addr value) range may = absurd (cc)
 forgiving_keeps v k (unit.Poll mask value turns) range may = absurd (cc)
 
 -- after the settling that comes first
-pub settled_keeps : (k : Kept) (large : List ℕ) (t u : TargetState) → Follows k large t u → (asked : AccessUnit) → IsUnitInRange asked → may_forgive (Access asked) ≡ true → Keeps u (after_settling u k (forgiving_at asked)).steps
+pub settled_keeps : (k : Kept) (large : List ℕ) (t u : TargetState) → Follows k large t u → (asked : AccessUnit) → IsUnitInRange asked → may_forgive (Access asked) ≡ true → Keeps u (after_settling u k (alone_at true asked)).steps
 settled_keeps k large t u f asked range may = by_unsettled k.unsettled refl
   where
     v : TargetState
     v = after u (making (settle k))
 
     rest : List Step
-    rest = (forgiving_at asked v (settled k)).steps
+    rest = (alone_at true asked v (settled k)).steps
 
     h : ForgivingKeeps v (settled k) asked
     h = forgiving_keeps v (settled k) asked range may

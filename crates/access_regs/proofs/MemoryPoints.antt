@@ -14,7 +14,7 @@ use Rattle.call_terms.specs.declared.journal.Part.TheVariants.{Settles, Leads, E
 use Rattle.access_regs.specs.Alone.{KeepsMemory, alone, alone_after}
 use Rattle.access_regs.specs.Closed.{MemoryFollowsCalls, closed_after, closed_by, closes}
 use Rattle.access_regs.specs.Follows.{Follows}
-use Rattle.access_regs.specs.Journal.{Step, steps_of, actions_of, issue, issue_of, finish, finish_of, steps_at, entries_at, numbered, issued_from, planned, after_settling, forgiving_at}
+use Rattle.access_regs.specs.Journal.{Step, steps_of, actions_of, issue, issue_of, finish, finish_of, steps_at, entries_at, numbered, issued_from, planned, after_settling, alone_at}
 use Rattle.access_regs.specs.Kept.{Kept, nothing_kept}
 use Rattle.access_regs.specs.Plan.{settle, settling}
 use Rattle.access_regs.specs.declared.known.Unsettled.{Unsettled}
@@ -33,10 +33,10 @@ issue_keeps k large t u f c ok = by_mark c.call (c.forgive && may_forgive c.call
   where
     by_mark : (call : Call) (b : Bool) → (c.forgive && may_forgive call) ≡ b → IsCallInRange call → Keeps u (issue u k c.forgive call).steps
     by_mark (Access asked) false e range =
-        subst (λ (b : Bool). Keeps u (cond b (after_settling u k (forgiving_at asked)) (planned u k asked)).steps) (sym e)
+        subst (λ (b : Bool). Keeps u (cond b (after_settling u k (alone_at true asked)) (planned u k asked)).steps) (sym e)
         (record { memory = planned_keep k large t u f asked range; one = planned_one IsNoEnd u k asked })
     by_mark (Access asked) true e range =
-        subst (λ (b : Bool). Keeps u (cond b (after_settling u k (forgiving_at asked)) (planned u k asked)).steps) (sym e)
+        subst (λ (b : Bool). Keeps u (cond b (after_settling u k (alone_at true asked)) (planned u k asked)).steps) (sym e)
         (settled_keeps k large t u f asked range (let p = both_true c.forgive (may_forgive (Access asked)) e in p.1))
     by_mark (Probe x) b e range = record { memory = ((λ ne. absurd (ne refl)), tt); one = ((λ e. tt), tt) }
 
@@ -176,7 +176,7 @@ strict_one k u c strict = by_call c.call strict
   where
     by_call : (call : Call) → (c.forgive && may_forgive call) ≡ false → OneEnd IsSettling (issue u k c.forgive call).steps
     by_call (Access asked) e =
-        subst (λ (b : Bool). OneEnd IsSettling (cond b (after_settling u k (forgiving_at asked)) (planned u k asked)).steps) (sym e) (planned_one IsSettling u k asked)
+        subst (λ (b : Bool). OneEnd IsSettling (cond b (after_settling u k (alone_at true asked)) (planned u k asked)).steps) (sym e) (planned_one IsSettling u k asked)
     by_call (Probe x) e = ((λ p. tt), tt)
 
 among : (P : Part → Type 0) (xs : List Entry) (e : Entry) (more : List Entry) → AllAre P (xs ++ e ∷ more) → P e.part

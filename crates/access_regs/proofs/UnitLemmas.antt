@@ -3,7 +3,7 @@ use Rattle.std.proofs.Common.{◌≡◌, ◌⊎◌, inl, inr, ◌∙◌, ℕ, su
 use Rattle.access_regs.proofs.Seams.{InFirst, InSecond, seam_in}
 use Rattle.access_regs.proofs.StopLists.{finish_settles, numbered_unit}
 use Rattle.access_regs.specs.Entries.{UnitsInRange}
-use Rattle.access_regs.specs.Journal.{Issue, Step, actions_of, after_settling, before, by_cfg, by_cfg_read, by_csw, by_plan, entries_at, finish_of, forgiving_at, forgiving_done, gives, is_early, is_last, issue, issue_of, issued_from, last_action, making, numbered, part_of, parts_of, planned, port_of, steps_at, steps_of}
+use Rattle.access_regs.specs.Journal.{Issue, Step, actions_of, after_settling, before, by_cfg, by_cfg_read, by_csw, by_plan, entries_at, finish_of, alone_at, done_alone, gives, is_early, is_last, issue, issue_of, issued_from, last_action, making, numbered, part_of, parts_of, planned, port_of, steps_at, steps_of}
 use Rattle.access_regs.specs.Kept.{Kept, nothing_kept}
 use Rattle.access_regs.specs.Plan.{cfg_plan, first_plan, leads, learned, learned_cfg, needs_cfg, needs_csw}
 use Rattle.call_terms.specs.Asks.{is_forgiving}
@@ -77,8 +77,8 @@ none_first : (t : TargetState) (c : Ask) → NoneSettles (issue_of t nothing_kep
 unfolding NoneSettles
 none_first t c = by_call c.forgive c.call
   where
-    by_mark : (b : Bool) (asked : AccessUnit) → NoneSettles (cond b (after_settling t nothing_kept (forgiving_at asked)) (planned t nothing_kept asked)).steps
-    by_mark true asked = none_map (is_early asked (forgiving_done t nothing_kept asked).actions) asked (forgiving_done t nothing_kept asked).actions
+    by_mark : (b : Bool) (asked : AccessUnit) → NoneSettles (cond b (after_settling t nothing_kept (alone_at true asked)) (planned t nothing_kept asked)).steps
+    by_mark true asked = none_map (is_early asked (done_alone t nothing_kept true asked).actions) asked (done_alone t nothing_kept true asked).actions
     by_mark false asked = none_cfg t nothing_kept asked
 
     by_call : (f : Bool) (call : Call) → NoneSettles (issue t nothing_kept f call).steps

@@ -1,7 +1,7 @@
 -- No entry is a poll of no turns.
 use Rattle.std.proofs.Common.{◌≡◌, ℕ, ◌+◌, ◌/◌, ◌%◌, ◌^◌, Bool, true, false, cond, ◌&&◌, List, [], ◌∷◌, ◌++◌, refl, ap}
 use Rattle.access_regs.specs.Entries.{JournalWeighs}
-use Rattle.access_regs.specs.Journal.{Issue, Step, actions_of, after_settling, before, by_cfg, by_cfg_read, by_csw, by_plan, entries_at, finish, finish_of, forgiving_at, forgiving_done, gives, is_early, issue, issue_of, issued_from, large_of, last_action, making, numbered, parts_of, planned, port_of, steps_at, steps_of}
+use Rattle.access_regs.specs.Journal.{Issue, Step, actions_of, after_settling, before, by_cfg, by_cfg_read, by_csw, by_plan, entries_at, finish, finish_of, alone_at, done_alone, gives, is_early, issue, issue_of, issued_from, large_of, last_action, making, numbered, parts_of, planned, port_of, steps_at, steps_of}
 use Rattle.access_regs.specs.Kept.{Kept, nothing_kept}
 use Rattle.access_regs.specs.Plan.{cfg_plan, first_plan, leads, learned, learned_cfg, needs_cfg, needs_csw, needs_settle, settle, settled}
 use Rattle.call_terms.specs.Asks.{AreAskable}
@@ -140,8 +140,8 @@ issue_weighs : (t : TargetState) (k : Kept) (forgive : Bool) (call : Call) → I
 unfolding Weighs
 issue_weighs t k forgive (Access asked) h = by_mark (forgive && may_forgive (Access asked)) refl
   where
-    by_mark : (b : Bool) → (forgive && may_forgive (Access asked)) ≡ b → Weighs (cond b (after_settling t k (forgiving_at asked)) (planned t k asked)).steps
-    by_mark true e = settling_weighs t k (forgiving_at asked) (λ u l. map_weighs (is_early asked (forgiving_done u l asked).actions) asked (forgiving_done u l asked).actions (done_weighs u (large_of l asked) asked (both_true forgive (may_forgive (Access asked)) e)))
+    by_mark : (b : Bool) → (forgive && may_forgive (Access asked)) ≡ b → Weighs (cond b (after_settling t k (alone_at true asked)) (planned t k asked)).steps
+    by_mark true e = settling_weighs t k (alone_at true asked) (λ u l. map_weighs (is_early asked (done_alone u l true asked).actions) asked (done_alone u l true asked).actions (done_weighs u (large_of l asked) asked (both_true forgive (may_forgive (Access asked)) e)))
     by_mark false e = planned_weighs t k asked h
 issue_weighs t k forgive (Probe asked) h = (tt, tt)
 

@@ -9,6 +9,7 @@ use Rattle.call_terms.specs.declared.journal.Part.{Part}
 use Rattle.call_terms.specs.declared.journal.Part.TheVariants.{Settles, Leads, Ends, Skips}
 use Rattle.access_regs.specs.Alone.{alone_after}
 use Rattle.access_regs.specs.Journal.{issued}
+use Rattle.access_regs.specs.declared.planner.Planner.{Planner}
 
 -- the entry is the access that its unit is for, or the skip of its unit
 abbrev pub closes : Part → Bool
@@ -29,5 +30,5 @@ closed_after units entries = fold closed_by units entries
 -- one that the calls leave up to the last one whose own access or skip is among them. Neither settling nor what comes before
 -- that access changes it.
 abbrev pub MemoryFollowsCalls : Type 0
-MemoryFollowsCalls = (t : TargetState) (calls : List Ask) (front more : List Entry) → IsFresh t → AreAskable calls → Passes t front → issued t calls ≡ front ++ more →
+MemoryFollowsCalls = (p : Planner) (t : TargetState) (calls : List Ask) (front more : List Entry) → IsFresh t → AreAskable calls → Passes t front → issued p t calls ≡ front ++ more →
     (target_after t front).words ≡ (alone_after t [] (take (closed_after 0 front) calls)).words

@@ -1,11 +1,11 @@
 -- How a call goes that is made by what it issues, against the same call alone and at once.
-use Rattle.std.specs.Prelude.{◌≡◌, ◌≢◌, true, false, ◌&&◌, List, [], ◌∷◌, ◌++◌}
+use Rattle.std.specs.Prelude.{◌≡◌, ◌≢◌, Bool, true, false, ◌&&◌, List, [], ◌∷◌, ◌++◌}
 use Rattle.target_machine.specs.Lists.{after, PassTo}
-use Rattle.target_machine.specs.Plain.{Action, acted, given, is_fault, result_of, CallDone, Answered, Skipped, Faulted, Small}
+use Rattle.target_machine.specs.Plain.{Action, Commands, acted, forgives, given, is_fault, result_of, CallDone, Answered, Skipped, Faulted, Small}
 use Rattle.target_machine.specs.State.{TargetState}
 use Rattle.target_machine.specs.declared.unit.Call.{Call}
 use Rattle.call_terms.specs.Journal.{settles}
-use Rattle.call_terms.specs.declared.journal.Part.TheVariants.{Settles, Ends}
+use Rattle.call_terms.specs.declared.journal.Part.TheVariants.{Settles, Ends, Skips}
 use Rattle.access_regs.specs.Follows.{Follows}
 use Rattle.access_regs.specs.Journal.{Issue, Step, actions_of}
 
@@ -45,8 +45,16 @@ abbrev pub IsPassing : TargetState → List Step → Type 0
 IsPassing u [] = Unit {0}
 IsPassing u (s ∷ steps) = ((is_fault (acted u s.action).outcome && settles s.part) ≡ false) × IsPassing (acted u s.action).next steps
 
--- The call is skipped, as it forgives a fault of its own.
+-- The call is skipped, as it forgives a fault of its own: one step faults, and the write of ABORT comes right after it and last.
 pub record IsSkipped (i : Issue) (d : CallDone) (u : TargetState) : Type 0 where
+  pub leads : List Step
+  pub step : Step
+  pub early : Bool
+  pub at : TargetState
+  pub steps : i.steps ≡ leads ++ step ∷ record { part = Skips early; action = Commands forgives } ∷ []
+  pub own : step.part ≢ Settles
+  pub pass : PassTo u (actions_of leads) at
+  pub bad : is_fault (acted at step.action).outcome ≡ true
   pub end : d.end ≡ Skipped
   pub passes : IsPassing u i.steps
   pub follows : Follows i.kept d.large d.next (after u (actions_of i.steps))

@@ -15,48 +15,49 @@ use Rattle.access_regs.specs.Alone.{NoneFaults, alone, alone_after, large_of_all
 use Rattle.access_regs.specs.Journal.{issue_of, issued, kept_from, numbered, steps_of}
 use Rattle.access_regs.specs.Kept.{Kept, nothing_kept}
 use Rattle.access_regs.specs.Plan.{settle, settled, unless}
+use Rattle.access_regs.specs.declared.planner.Planner.{Planner}
 
 -- what is known after the entries of calls
-abbrev pub kept_by : TargetState → List Ask → Kept
-kept_by t asks = kept_from nothing_kept t asks
+abbrev pub kept_by : Planner → TargetState → List Ask → Kept
+kept_by p t asks = kept_from p nothing_kept t asks
 
 -- the target after the entries of calls
-abbrev pub target_by : TargetState → List Ask → TargetState
-target_by t asks = target_after t (issued t asks)
+abbrev pub target_by : Planner → TargetState → List Ask → TargetState
+target_by p t asks = target_after t (issued p t asks)
 
 -- One more call, with no `finish` after it, adds what it issues from there.
 abbrev pub JournalGrows : Type 0
-JournalGrows = (t : TargetState) (asks : List Ask) (ask : Ask) → ask.settled ≡ false →
-    (issued t (asks ++ ask ∷ []) ≡ issued t asks ++ numbered (length asks) (is_forgiving ask) (issue_of (target_by t asks) (kept_by t asks) ask).steps)
-    × (kept_by t (asks ++ ask ∷ []) ≡ (issue_of (target_by t asks) (kept_by t asks) ask).kept)
+JournalGrows = (p : Planner) (t : TargetState) (asks : List Ask) (ask : Ask) → ask.settled ≡ false →
+    (issued p t (asks ++ ask ∷ []) ≡ issued p t asks ++ numbered (length asks) (is_forgiving ask) (issue_of p (target_by p t asks) (kept_by p t asks) ask).steps)
+    × (kept_by p t (asks ++ ask ∷ []) ≡ (issue_of p (target_by p t asks) (kept_by p t asks) ask).kept)
 
 -- A `finish` after the last call adds the settling of the unsettled AP; where it was marked already, there is none.
 abbrev pub JournalMarks : Type 0
-JournalMarks = (t : TargetState) (asks : List Ask) →
-    (issued t (settled_last asks) ≡ issued t asks ++ numbered (length asks) false (steps_of Settles (settle (kept_by t asks))))
-    × (kept_by t (settled_last asks) ≡ settled (kept_by t asks))
+JournalMarks = (p : Planner) (t : TargetState) (asks : List Ask) →
+    (issued p t (settled_last asks) ≡ issued p t asks ++ numbered (length asks) false (steps_of Settles (settle (kept_by p t asks))))
+    × (kept_by p t (settled_last asks) ≡ settled (kept_by p t asks))
 
 -- The unit of each entry is one of the calls.
 abbrev pub UnitsInRange : Type 0
-UnitsInRange = (t : TargetState) (asks : List Ask) (front : List Entry) (e : Entry) (more : List Entry) → issued t asks ≡ front ++ e ∷ more → (1 ≤ e.unit) × (e.unit ≤ length asks)
+UnitsInRange = (p : Planner) (t : TargetState) (asks : List Ask) (front : List Entry) (e : Entry) (more : List Entry) → issued p t asks ≡ front ++ e ∷ more → (1 ≤ e.unit) × (e.unit ≤ length asks)
 
 -- No entry is a poll of no turns.
 abbrev pub JournalWeighs : Type 0
-JournalWeighs = (t : TargetState) (asks : List Ask) → AreAskable asks → AreWeighty (issued t asks)
+JournalWeighs = (p : Planner) (t : TargetState) (asks : List Ask) → AreAskable asks → AreWeighty (issued p t asks)
 
 -- The result of a call after others is given by the last entry that it issues itself.
-pub record AnsweredAt (t : TargetState) (entries : List Entry) (asks : List Ask) (ask : Ask) (v : ℕ) : Type 0 where
+pub record AnsweredAt (p : Planner) (t : TargetState) (entries : List Entry) (asks : List Ask) (ask : Ask) (v : ℕ) : Type 0 where
   pub front : List Entry
   pub entry : Entry
   pub more : List Entry
   pub is : entries ≡ front ++ entry ∷ more
-  pub at : length front + 1 ≡ length (issued t asks) + length (issue_of (target_by t asks) (kept_by t asks) ask).steps
+  pub at : length front + 1 ≡ length (issued p t asks) + length (issue_of p (target_by p t asks) (kept_by p t asks) ask).steps
   pub gives_it : result_of ask.call (given (acted (target_after t front) entry.action).outcome) ≡ v
 
 -- Where no call before it ends at a fault, a call that has a result has it so.
 abbrev pub CallAnswers : Type 0
-CallAnswers = (t : TargetState) (asks : List Ask) (ask : Ask) (more : List Ask) (v : ℕ) → IsFresh t → AreAskable (asks ++ ask ∷ more) → NoneFaults t [] asks →
-    (alone (alone_after t [] asks) (large_of_all t [] asks) ask).end ≡ Answered v → AnsweredAt t (issued t (asks ++ ask ∷ more)) asks ask v
+CallAnswers = (p : Planner) (t : TargetState) (asks : List Ask) (ask : Ask) (more : List Ask) (v : ℕ) → IsFresh t → AreAskable (asks ++ ask ∷ more) → NoneFaults t [] asks →
+    (alone (alone_after t [] asks) (large_of_all t [] asks) ask).end ≡ Answered v → AnsweredAt p t (issued p t (asks ++ ask ∷ more)) asks ask v
 
 -- None of these accesses faults.
 abbrev pub NoneFault : TargetState → List RegAccess → Type 0

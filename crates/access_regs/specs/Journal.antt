@@ -17,6 +17,8 @@ use Rattle.call_terms.specs.declared.calls.Ask.{Ask}
 use Rattle.call_terms.specs.declared.journal.Part.{Part}
 use Rattle.call_terms.specs.declared.journal.Part.TheVariants.{Settles, Leads, Ends, Skips}
 use Rattle.access_regs.specs.Kept.{Kept, known, with_known, forgotten, nothing_kept}
+use Rattle.access_regs.specs.declared.planner.Planner.{Planner}
+use Rattle.access_regs.specs.declared.planner.Planner.TheVariants.{Managed, Plain}
 use Rattle.access_regs.specs.Plan.{leads, last_access, made, needs_csw, first_plan, learned, needs_cfg, cfg_plan, learned_cfg, settle, settled, needs_settle}
 
 -- accesses as actions
@@ -93,7 +95,7 @@ after_settling t k next = before (steps_of Settles (settle k)) (next (after t (m
 abbrev pub planned : TargetState → Kept → AccessUnit → Issue
 planned t k asked = if needs_settle k asked then after_settling t k (λ u l. by_cfg u l asked) else by_cfg t k asked
 
--- ---- forgiving units: settling, and then the accesses of the unit made alone
+-- ---- units made alone: settling, and then the accesses of the unit as it is made alone
 
 -- the access is the one that the unit is for
 abbrev pub is_last : AccessUnit → RegAccess → Bool
@@ -110,13 +112,13 @@ is_end asked (Commands c) = false
 abbrev pub is_early : AccessUnit → List Action → Bool
 is_early asked actions = not (list_any (is_end asked) actions)
 
--- what an action is to a forgiving unit, whose skip comes early or not
+-- what an action is to a unit made alone, whose skip comes early or not
 abbrev pub part_of : Bool → AccessUnit → Action → Part
 part_of early asked (Makes a) = if is_last asked a then Ends else Leads
 part_of early asked (Polls mask value turns) = Ends
 part_of early asked (Commands c) = Skips early
 
--- the actions of a forgiving unit, as steps
+-- the actions of a unit made alone, as steps
 abbrev pub parts_of : Bool → AccessUnit → List Action → List Step
 parts_of early asked actions = map (λ a. record { part = part_of early asked a; action = a }) actions
 
@@ -133,28 +135,35 @@ select_written old _ = old
 abbrev pub select_after : Option ℕ → List Action → Option ℕ
 select_after old actions = fold select_written old actions
 
--- what is known after a forgiving unit: of its AP only whether it has large addresses, and SELECT
+-- what is known after a unit made alone: of its AP only whether it has large addresses, and SELECT
 abbrev pub kept_after : Kept → AccessUnit → CallDone → Kept
 kept_after k asked d =
     record (with_known k (port_of asked) (record (forgotten (known k (port_of asked))) { large = contains d.large (port_of asked) }))
     { select = select_after k.select d.actions }
 
--- a forgiving unit made alone, where nothing is unsettled
-abbrev pub forgiving_done : TargetState → Kept → AccessUnit → CallDone
-forgiving_done t k asked = call_done t (large_of k asked) true (Access asked)
+-- a unit made alone, which forgives a fault or not, where nothing is unsettled
+abbrev pub done_alone : TargetState → Kept → Bool → AccessUnit → CallDone
+done_alone t k forgive asked = call_done t (large_of k asked) forgive (Access asked)
 
 -- its actions, and what is known after them
 abbrev pub issue_done : Kept → AccessUnit → CallDone → Issue
 issue_done k asked d = record { steps = parts_of (is_early asked d.actions) asked d.actions; kept = kept_after k asked d }
 
--- A forgiving unit, where nothing is unsettled.
-abbrev pub forgiving_at : AccessUnit → TargetState → Kept → Issue
-forgiving_at asked t k = issue_done k asked (forgiving_done t k asked)
+-- A unit made alone, where nothing is unsettled.
+abbrev pub alone_at : Bool → AccessUnit → TargetState → Kept → Issue
+alone_at forgive asked t k = issue_done k asked (done_alone t k forgive asked)
+
+-- ---- calls
+
+-- A memory or AP unit is made alone: by the plain planner each one, by the managed planner those that forgive a fault.
+abbrev pub is_alone : Planner → Bool → Bool
+is_alone Managed forgive = forgive
+is_alone Plain forgive = true
 
 -- What a call issues.
-abbrev pub issue : TargetState → Kept → Bool → Call → Issue
-issue t k forgive (Access asked) = if forgive && may_forgive (Access asked) then after_settling t k (forgiving_at asked) else planned t k asked
-issue t k forgive (Probe asked) = record { steps = record { part = Ends; action = Commands asked } ∷ []; kept = k }
+abbrev pub issue : Planner → TargetState → Kept → Bool → Call → Issue
+issue p t k forgive (Access asked) = if is_alone p forgive && may_forgive (Access asked) then after_settling t k (alone_at forgive asked) else planned t k asked
+issue p t k forgive (Probe asked) = record { steps = record { part = Ends; action = Commands asked } ∷ []; kept = k }
 
 -- A `finish` after a call settles.
 abbrev pub finish : Bool → Kept → Issue
@@ -169,42 +178,42 @@ numbered units forgiving steps =
     map (λ s. record { unit = if settles s.part then units else units + 1; part = s.part; forgiving = forgiving && not (settles s.part); action = s.action }) steps
 
 -- what a call issues with its mark of forgiving
-abbrev pub issue_of : TargetState → Kept → Ask → Issue
-issue_of t k c = issue t k c.forgive c.call
+abbrev pub issue_of : Planner → TargetState → Kept → Ask → Issue
+issue_of p t k c = issue p t k c.forgive c.call
 
 -- what the `finish` after it issues, where there is one
-abbrev pub finish_of : TargetState → Kept → Ask → Issue
-finish_of t k c = finish c.settled (issue_of t k c).kept
+abbrev pub finish_of : Planner → TargetState → Kept → Ask → Issue
+finish_of p t k c = finish c.settled (issue_of p t k c).kept
 
 -- the steps of both
-abbrev pub steps_at : TargetState → Kept → Ask → List Step
-steps_at t k c = (issue_of t k c).steps ++ (finish_of t k c).steps
+abbrev pub steps_at : Planner → TargetState → Kept → Ask → List Step
+steps_at p t k c = (issue_of p t k c).steps ++ (finish_of p t k c).steps
 
 -- the entries of both, after so many units
-abbrev pub entries_at : ℕ → TargetState → Kept → Ask → List Entry
-entries_at units t k c = numbered units (is_forgiving c) (issue_of t k c).steps ++ numbered (units + 1) false (finish_of t k c).steps
+abbrev pub entries_at : Planner → ℕ → TargetState → Kept → Ask → List Entry
+entries_at p units t k c = numbered units (is_forgiving c) (issue_of p t k c).steps ++ numbered (units + 1) false (finish_of p t k c).steps
 
 -- what is known after both
-abbrev pub kept_at : TargetState → Kept → Ask → Kept
-kept_at t k c = (finish_of t k c).kept
+abbrev pub kept_at : Planner → TargetState → Kept → Ask → Kept
+kept_at p t k c = (finish_of p t k c).kept
 
 -- the target after both
-abbrev pub target_at : TargetState → Kept → Ask → TargetState
-target_at t k c = after t (actions_of (steps_at t k c))
+abbrev pub target_at : Planner → TargetState → Kept → Ask → TargetState
+target_at p t k c = after t (actions_of (steps_at p t k c))
 
 -- the journal of calls, from what is known and so many units that were asked before
-abbrev pub issued_from : ℕ → Kept → TargetState → List Ask → List Entry
-issued_from units k t [] = []
-issued_from units k t (c ∷ cs) = entries_at units t k c ++ issued_from (units + 1) (kept_at t k c) (target_at t k c) cs
+abbrev pub issued_from : Planner → ℕ → Kept → TargetState → List Ask → List Entry
+issued_from p units k t [] = []
+issued_from p units k t (c ∷ cs) = entries_at p units t k c ++ issued_from p (units + 1) (kept_at p t k c) (target_at p t k c) cs
 
 -- what is known after calls
-abbrev pub kept_from : Kept → TargetState → List Ask → Kept
-kept_from k t [] = k
-kept_from k t (c ∷ cs) = kept_from (kept_at t k c) (target_at t k c) cs
+abbrev pub kept_from : Planner → Kept → TargetState → List Ask → Kept
+kept_from p k t [] = k
+kept_from p k t (c ∷ cs) = kept_from p (kept_at p t k c) (target_at p t k c) cs
 
 -- The journal of calls, from a target of which nothing is known.
-abbrev pub issued : TargetState → List Ask → List Entry
-issued t calls = issued_from 0 nothing_kept t calls
+abbrev pub issued : Planner → TargetState → List Ask → List Entry
+issued p t calls = issued_from p 0 nothing_kept t calls
 
 -- The target after the first k entries, one at a time.
 abbrev pub after_entries : TargetState → List Entry → ℕ → TargetState

@@ -1,4 +1,4 @@
--- What is true of the journal of any calls.
+-- What is true of the journal of any calls, by either planner.
 use Rattle.std.specs.Prelude.{◌≡◌, ◌≢◌, ◌+◌, ℕ, true, List, [], ◌∷◌, ◌++◌, length, None}
 use Rattle.target_machine.specs.Plain.{Answered, Faulted}
 use Rattle.target_machine.specs.declared.unit.Unit.{Unit as AccessUnit}
@@ -13,6 +13,7 @@ use Rattle.access_regs.specs.Plan.{settled}
 use Rattle.call_terms.specs.declared.calls.Ask.{Ask}
 use Rattle.access_regs.specs.Course.{Course}
 use Rattle.access_regs.specs.Follows.{Follows}
+use Rattle.access_regs.specs.declared.planner.Planner.{Planner}
 
 -- At a fresh target, of which nothing is known, calls may begin.
 abbrev pub FreshFollows : Type 0
@@ -20,50 +21,50 @@ FreshFollows = (t : TargetState) → IsFresh t → Follows nothing_kept [] t t
 
 -- One call goes as it goes alone, from where the calls before it led.
 abbrev pub CallGoes : Type 0
-CallGoes = (k : Kept) (large : List ℕ) (t u : TargetState) (c : Ask) → Follows k large t u → IsAskable c → Course (issue_of u k c) (alone t large c) c.call u
+CallGoes = (p : Planner) (k : Kept) (large : List ℕ) (t u : TargetState) (c : Ask) → Follows k large t u → IsAskable c → Course (issue_of p u k c) (alone t large c) c.call u
 
 -- Where it does not end at a fault, the next call may follow: it and the `finish` after it leave what it leaves alone.
 abbrev pub CallLeaves : Type 0
-CallLeaves = (k : Kept) (large : List ℕ) (t u : TargetState) (c : Ask) → Follows k large t u → IsAskable c → (alone t large c).end ≢ Faulted →
-    Follows (kept_at u k c) (alone t large c).large (alone t large c).next (target_at u k c)
+CallLeaves = (p : Planner) (k : Kept) (large : List ℕ) (t u : TargetState) (c : Ask) → Follows k large t u → IsAskable c → (alone t large c).end ≢ Faulted →
+    Follows (kept_at p u k c) (alone t large c).large (alone t large c).next (target_at p u k c)
 
 -- Where no call ends at a fault, the target after the journal differs from the one after the calls alone at most in RDBUFF,
 -- and in CSW and TAR of the AP that is unsettled.
 abbrev pub JournalFollows : Type 0
-JournalFollows = (t : TargetState) (calls : List Ask) → IsFresh t → AreAskable calls → NoneFaults t [] calls →
-    Follows (kept_from nothing_kept t calls) (large_of_all t [] calls) (alone_after t [] calls) (target_after t (issued t calls))
+JournalFollows = (p : Planner) (t : TargetState) (calls : List Ask) → IsFresh t → AreAskable calls → NoneFaults t [] calls →
+    Follows (kept_from p nothing_kept t calls) (large_of_all t [] calls) (alone_after t [] calls) (target_after t (issued p t calls))
 
 -- Where a `finish` was made after the last of them, the two agree.
 abbrev pub JournalAgrees : Type 0
-JournalAgrees = (t : TargetState) (calls : List Ask) → IsFresh t → AreAskable calls → NoneFaults t [] calls → is_settled calls ≡ true →
-    Agree (alone_after t [] calls) (target_after t (issued t calls))
+JournalAgrees = (p : Planner) (t : TargetState) (calls : List Ask) → IsFresh t → AreAskable calls → NoneFaults t [] calls → is_settled calls ≡ true →
+    Agree (alone_after t [] calls) (target_after t (issued p t calls))
 
 -- No entry gives a fault that its unit does not forgive.
 abbrev pub JournalPasses : Type 0
-JournalPasses = (t : TargetState) (calls : List Ask) → IsFresh t → AreAskable calls → NoneFaults t [] calls → Passes t (issued t calls)
+JournalPasses = (p : Planner) (t : TargetState) (calls : List Ask) → IsFresh t → AreAskable calls → NoneFaults t [] calls → Passes t (issued p t calls)
 
 -- Where the last call ends at a fault, and none before it, the first entry that gives a fault which its unit does not forgive is
 -- an own one of that call, and leaves the memory that the call alone leaves.
 abbrev pub JournalStops : Type 0
-JournalStops = (t : TargetState) (calls : List Ask) (last : Ask) → IsFresh t → AreAskable calls → IsAskable last → NoneFaults t [] calls →
+JournalStops = (p : Planner) (t : TargetState) (calls : List Ask) (last : Ask) → IsFresh t → AreAskable calls → IsAskable last → NoneFaults t [] calls →
     (alone (alone_after t [] calls) (large_of_all t [] calls) last).end ≡ Faulted →
-    StopsInLast t (issued t (calls ++ last ∷ [])) (length calls + 1) (alone (alone_after t [] calls) (large_of_all t [] calls) last).next
+    StopsInLast t (issued p t (calls ++ last ∷ [])) (length calls + 1) (alone (alone_after t [] calls) (large_of_all t [] calls) last).next
 
 -- A call that has a result has it from the entry that its unit is for.
 abbrev pub JournalAnswers : Type 0
-JournalAnswers = (t : TargetState) (calls more : List Ask) (c : Ask) (n : ℕ) → IsFresh t → AreAskable calls → IsAskable c → NoneFaults t [] calls →
+JournalAnswers = (p : Planner) (t : TargetState) (calls more : List Ask) (c : Ask) (n : ℕ) → IsFresh t → AreAskable calls → IsAskable c → NoneFaults t [] calls →
     (alone (alone_after t [] calls) (large_of_all t [] calls) c).end ≡ Answered n →
-    AnswersWith t (issued t (calls ++ c ∷ more)) (length calls + 1) c.call n
+    AnswersWith t (issued p t (calls ++ c ∷ more)) (length calls + 1) c.call n
 
 -- The journal of more calls is that of the first ones, and then that of the others from the target and from what is kept.
 abbrev pub JournalJoins : Type 0
-JournalJoins = (units : ℕ) (k : Kept) (t : TargetState) (xs ys : List Ask) →
-    issued_from units k t (xs ++ ys) ≡ issued_from units k t xs ++ issued_from (units + length xs) (kept_from k t xs) (target_after t (issued_from units k t xs)) ys
+JournalJoins = (p : Planner) (units : ℕ) (k : Kept) (t : TargetState) (xs ys : List Ask) →
+    issued_from p units k t (xs ++ ys) ≡ issued_from p units k t xs ++ issued_from p (units + length xs) (kept_from p k t xs) (target_after t (issued_from p units k t xs)) ys
 
 -- So it is with what is kept.
 abbrev pub KeptJoins : Type 0
-KeptJoins = (units : ℕ) (k : Kept) (t : TargetState) (xs ys : List Ask) →
-    kept_from k t (xs ++ ys) ≡ kept_from (kept_from k t xs) (target_after t (issued_from units k t xs)) ys
+KeptJoins = (p : Planner) (units : ℕ) (k : Kept) (t : TargetState) (xs ys : List Ask) →
+    kept_from p k t (xs ++ ys) ≡ kept_from p (kept_from p k t xs) (target_after t (issued_from p units k t xs)) ys
 
 -- After a settling no AP is unsettled.
 abbrev pub SettlingEnds : Type 0

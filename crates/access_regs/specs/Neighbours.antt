@@ -7,6 +7,7 @@ use Rattle.access_regs.specs.Journal.{issued_from}
 use Rattle.call_terms.specs.Journal.{Entry, settles}
 use Rattle.call_terms.specs.declared.calls.Ask.{Ask}
 use Rattle.access_regs.specs.Kept.{Kept, known}
+use Rattle.access_regs.specs.declared.planner.Planner.TheVariants.{Managed}
 
 -- how many entries are their unit's own, and settle nothing
 abbrev pub own_entries : List Entry → ℕ
@@ -34,4 +35,4 @@ more_than_one_each large address = if large then 5 else (if nat_lt address (2 ^ 
 abbrev pub NeighboursAreFew : Type 0
 NeighboursAreFew = (units : ℕ) (k : Kept) (t : TargetState) (size ap address : ℕ) (calls : List Ask) →
     length k.ports ≡ 256 → ap < 256 → ((size ≡ 1) ⊎ ((size ≡ 2) ⊎ (size ≡ 4))) → address % size ≡ 0 → address % 1024 + size * length calls ≤ 1024 →
-    AreNeighbours size ap address calls → own_entries (issued_from units k t calls) ≤ length calls + more_than_one_each (known k ap).large address
+    AreNeighbours size ap address calls → own_entries (issued_from Managed units k t calls) ≤ length calls + more_than_one_each (known k ap).large address

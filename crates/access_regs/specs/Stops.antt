@@ -10,6 +10,7 @@ use Rattle.call_terms.specs.declared.calls.Ask.{Ask}
 use Rattle.call_terms.specs.declared.journal.Part.TheVariants.{Settles}
 use Rattle.access_regs.specs.Alone.{NoneFaults}
 use Rattle.access_regs.specs.Journal.{issued}
+use Rattle.access_regs.specs.declared.planner.Planner.{Planner}
 
 -- a world of this target and list of APs
 abbrev pub world_at : TargetState → List ℕ → Option ℕ → World
@@ -41,14 +42,14 @@ pub record NoneStops (t : TargetState) (large : List ℕ) (asks : List Ask) : Ty
 
 -- At the first entry that gives a fault which its unit does not forgive, its call stops, and no call before it.
 abbrev pub FaultStops : Type 0
-FaultStops = (t : TargetState) (asks : List Ask) (front : List Entry) (e : Entry) (more : List Entry) → IsFresh t → AreAskable asks → issued t asks ≡ front ++ e ∷ more →
+FaultStops = (p : Planner) (t : TargetState) (asks : List Ask) (front : List Entry) (e : Entry) (more : List Entry) → IsFresh t → AreAskable asks → issued p t asks ≡ front ++ e ∷ more →
     Passes t front → is_fault (acted (target_after t front) e.action).outcome ≡ true → e.forgiving ≡ false → StopsThere 0 t [] asks e
 
 -- At an entry before which all pass, a retry that ends stops the calls after those that have lines before it.
 abbrev pub WaitStops : Type 0
-WaitStops = (t : TargetState) (asks : List Ask) (front : List Entry) (e : Entry) (more : List Entry) → IsFresh t → AreAskable asks → issued t asks ≡ front ++ e ∷ more →
+WaitStops = (p : Planner) (t : TargetState) (asks : List Ask) (front : List Entry) (e : Entry) (more : List Entry) → IsFresh t → AreAskable asks → issued p t asks ≡ front ++ e ∷ more →
     Passes t front → StaysThere 0 t [] asks e
 
 -- Where all entries pass, no call stops.
 abbrev pub PassingStops : Type 0
-PassingStops = (t : TargetState) (asks : List Ask) → IsFresh t → AreAskable asks → Passes t (issued t asks) → NoneStops t [] asks
+PassingStops = (p : Planner) (t : TargetState) (asks : List Ask) → IsFresh t → AreAskable asks → Passes t (issued p t asks) → NoneStops t [] asks

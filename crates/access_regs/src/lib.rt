@@ -6,11 +6,13 @@ mod known;
 pub mod laws;
 mod managed;
 mod plan;
+mod planner;
 mod values;
 
 pub use known::{Known, Unsettled};
 pub use managed::Managed;
 pub use plan::Plan;
+pub use planner::Planner;
 
 #[cfg(test)]
 mod tests;

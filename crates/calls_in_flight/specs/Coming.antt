@@ -12,19 +12,20 @@ use Rattle.call_terms.specs.declared.calls.Ask.{Ask}
 use Rattle.access_regs.specs.Entries.{kept_by, target_by}
 use Rattle.access_regs.specs.Journal.{issue_of, issued}
 use Rattle.access_regs.specs.Kept.{Kept}
+use Rattle.access_regs.specs.declared.planner.Planner.{Planner}
 use Rattle.access_calls.specs.Reported.{Reported, world_from}
 use Rattle.calls_in_flight.specs.Flying.{IsFlying}
 use Rattle.calls_in_flight.specs.Sending.{IsSending}
 
 -- Where nothing lies in the flight and nothing is left, no call stops in a world that answers them all.
 abbrev pub NoneStopped : Type 0
-NoneStopped = (calls : List Ask) (confirmed count : ℕ) (came : List ℕ) (m0 m : BenchState) (n : Option ℕ) →
-    IsSending calls confirmed count [] [] [] came m0 m → AtLeast (length calls) n → stop (world_from m0 n) calls ≡ None
+NoneStopped = (p : Planner) (calls : List Ask) (confirmed count : ℕ) (came : List ℕ) (m0 m : BenchState) (n : Option ℕ) →
+    IsSending p calls confirmed count [] [] [] came m0 m → AtLeast (length calls) n → stop (world_from m0 n) calls ≡ None
 
 -- All calls came: the access reports so.
-pub record HasCome (calls : List Ask) (confirmed : ℕ) (b : Reported) (kept : Kept) (came : List ℕ) (m0 : BenchState) : Type 0 where
+pub record HasCome (p : Planner) (calls : List Ask) (confirmed : ℕ) (b : Reported) (kept : Kept) (came : List ℕ) (m0 : BenchState) : Type 0 where
   pub calls_are : b.asks.calls ≡ calls
-  pub kept_is : kept_by (target_of m0.probe) calls ≡ kept
+  pub kept_is : kept_by p (target_of m0.probe) calls ≡ kept
   pub confirmed_is : b.confirmed ≡ confirmed
   pub issued_is : b.issued ≡ confirmed
   pub came_is : b.came ≡ length calls
@@ -33,13 +34,13 @@ pub record HasCome (calls : List Ask) (confirmed : ℕ) (b : Reported) (kept : K
 
 -- Then it keeps that, and nothing lies in the flight.
 abbrev pub AllCame : Type 0
-AllCame = (calls : List Ask) (confirmed count : ℕ) (old came : List ℕ) (m0 m : BenchState) (b : Reported) (kept : Kept) →
-    IsSending calls confirmed count [] [] [] old m0 m → HasCome calls confirmed b kept came m0 → IsFlying b kept [] came m0 m
+AllCame = (p : Planner) (calls : List Ask) (confirmed count : ℕ) (old came : List ℕ) (m0 m : BenchState) (b : Reported) (kept : Kept) →
+    IsSending p calls confirmed count [] [] [] old m0 m → HasCome p calls confirmed b kept came m0 → IsFlying p b kept [] came m0 m
 
 -- The result of a call that forgives nothing, and does not end because its AP has no large addresses, is given by the last entry
 -- that it issues itself.
 abbrev pub ResultGiven : Type 0
-ResultGiven = (t : TargetState) (asks : List Ask) (ask : Ask) (more : List Ask) (front : List Entry) (e : Entry) (rest : List Entry) → IsFresh t → AreAskable (asks ++ ask ∷ more) →
+ResultGiven = (p : Planner) (t : TargetState) (asks : List Ask) (ask : Ask) (more : List Ask) (front : List Entry) (e : Entry) (rest : List Entry) → IsFresh t → AreAskable (asks ++ ask ∷ more) →
     stop (start_world t None) (asks ++ ask ∷ more) ≡ None → is_forgiving ask ≡ false → small_now (start_world t None) asks ask ≡ false →
-    issued t (asks ++ ask ∷ more) ≡ front ++ e ∷ rest → length front + 1 ≡ length (issued t asks) + length (issue_of (target_by t asks) (kept_by t asks) ask).steps →
+    issued p t (asks ++ ask ∷ more) ≡ front ++ e ∷ rest → length front + 1 ≡ length (issued p t asks) + length (issue_of p (target_by p t asks) (kept_by p t asks) ask).steps →
     slice_index (results (start_world t None) (asks ++ ask ∷ more)) (length asks) ≡ result_of ask.call (given (acted (target_after t front) e.action).outcome)

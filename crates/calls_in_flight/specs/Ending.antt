@@ -14,6 +14,7 @@ use Rattle.call_terms.specs.World.{World, results, stop}
 use Rattle.call_terms.specs.declared.calls.Ask.{Ask}
 use Rattle.access_regs.specs.Journal.{issued}
 use Rattle.access_regs.specs.Kept.{Kept}
+use Rattle.access_regs.specs.declared.planner.Planner.{Planner}
 use Rattle.access_calls.specs.Left.{IsLeft}
 use Rattle.access_calls.specs.Numbers.{HasNumbers}
 use Rattle.access_calls.specs.Reported.{Reported, began, world_from}
@@ -28,28 +29,28 @@ use Rattle.calls_in_flight.specs.Flying.{IsFlying}
 use Rattle.calls_in_flight.specs.Sending.{IsSending}
 
 -- It has ended so: what the contract of accesses says of the end is so, and the results that came stay, in each world that is left.
-pub record IsEnded (s : Stop) (a : Reported) (came : List ℕ) (m0 m : BenchState) : Type 0 where
-  pub stands : (n : Option ℕ) → IsLeft a n → StandsAt (Some s) (issued (target_of m0.probe) a.asks.calls) a (began m0 n) m
+pub record IsEnded (p : Planner) (s : Stop) (a : Reported) (came : List ℕ) (m0 m : BenchState) : Type 0 where
+  pub stands : (n : Option ℕ) → IsLeft a n → StandsAt (Some s) (issued p (target_of m0.probe) a.asks.calls) a (began m0 n) m
   pub results_are : (n : Option ℕ) → IsLeft a n → take (length came) (results (world_from m0 n) a.asks.calls) ≡ came
 
 -- by its end: its calls lie in the flight, or it has ended
-abbrev pub BegunAt : Option Stop → Reported → Kept → List RegAccess → List ℕ → BenchState → BenchState → Type 0
-BegunAt None a kept accesses came m0 m = IsFlying a kept accesses came m0 m
-BegunAt (Some s) a kept accesses came m0 m = IsEnded s a came m0 m
+abbrev pub BegunAt : Planner → Option Stop → Reported → Kept → List RegAccess → List ℕ → BenchState → BenchState → Type 0
+BegunAt p None a kept accesses came m0 m = IsFlying p a kept accesses came m0 m
+BegunAt p (Some s) a kept accesses came m0 m = IsEnded p s a came m0 m
 
 -- The access began when its bench had this state.
-pub record IsBegun (a : Reported) (kept : Kept) (accesses : List RegAccess) (came : List ℕ) (m0 : BenchState) : Type 0 where
-  pub so : WhereObservable a.state (λ m. BegunAt a.end a kept accesses came m0 m)
+pub record IsBegun (p : Planner) (a : Reported) (kept : Kept) (accesses : List RegAccess) (came : List ℕ) (m0 : BenchState) : Type 0 where
+  pub so : WhereObservable a.state (λ m. BegunAt p a.end a kept accesses came m0 m)
 
 -- So it has come as far as the contract of accesses says.
 abbrev pub BegunStands : Type 0
-BegunStands = (a : Reported) (kept : Kept) (accesses : List RegAccess) (came : List ℕ) (m0 : BenchState) (n : Option ℕ) →
-    IsBegun a kept accesses came m0 → IsLeft a n → Stands issued a (began m0 n)
+BegunStands = (p : Planner) (a : Reported) (kept : Kept) (accesses : List RegAccess) (came : List ℕ) (m0 : BenchState) (n : Option ℕ) →
+    IsBegun p a kept accesses came m0 → IsLeft a n → Stands (issued p) a (began m0 n)
 
 -- The results that came are those of the first calls in each world that is left, also after an end.
 abbrev pub BegunCame : Type 0
-BegunCame = (a : Reported) (kept : Kept) (accesses : List RegAccess) (came : List ℕ) (m0 : BenchState) (n : Option ℕ) →
-    IsBegun a kept accesses came m0 → IsLeft a n → take (length came) (results (world_from m0 n) a.asks.calls) ≡ came
+BegunCame = (p : Planner) (a : Reported) (kept : Kept) (accesses : List RegAccess) (came : List ℕ) (m0 : BenchState) (n : Option ℕ) →
+    IsBegun p a kept accesses came m0 → IsLeft a n → take (length came) (results (world_from m0 n) a.asks.calls) ≡ came
 
 -- ---- a cut
 
@@ -64,9 +65,9 @@ IsStrictAt Faulted flying = AreStrict flying
 IsStrictAt NoAnswer flying = Unit {0}
 
 -- The access is cut: it reports the end, with the numbers of a stop, and counts as come the calls that have their lines before it.
-pub record IsCutOff (r : Report) (b : Reported) (m0 : BenchState) : Type 0 where
+pub record IsCutOff (p : Planner) (r : Report) (b : Reported) (m0 : BenchState) : Type 0 where
   pub end : b.end ≡ Some (Cut r)
-  pub numbers : HasNumbers (issued (target_of m0.probe) b.asks.calls) b.asks.calls b.skipped b.lines r
+  pub numbers : HasNumbers (issued p (target_of m0.probe) b.asks.calls) b.asks.calls b.skipped b.lines r
   pub came : b.came ≡ b.lines
 
 -- at a fault the calls stop right after those that have their lines before it; where a retry ended they do, or all have and a
@@ -76,25 +77,25 @@ StopsBy Faulted w asks lines = stop w asks ≡ Some (lines + 1)
 StopsBy NoAnswer w asks lines = (stop w asks ≡ Some (lines + 1)) ⊎ ((stop w asks ≡ None) × ((lines ≡ length asks) × (is_settled asks ≡ true)))
 
 -- what is true after a cut: it has ended so, no call that came is lost, and there the calls stop
-pub record EndsCut (r : Report) (b : Reported) (count : ℕ) (came : List ℕ) (m0 o : BenchState) : Type 0 where
-  pub ended : IsEnded (Cut r) b came m0 o
+pub record EndsCut (p : Planner) (r : Report) (b : Reported) (count : ℕ) (came : List ℕ) (m0 o : BenchState) : Type 0 where
+  pub ended : IsEnded p (Cut r) b came m0 o
   pub kept : count ≤ b.lines
   pub stops : (n : Option ℕ) → IsLeft b n → StopsBy r.cause (world_from m0 n) b.asks.calls b.lines
 
 -- A flight was cut.
 abbrev pub FlightEnds : Type 0
-FlightEnds = (confirmed count : ℕ) (flying rest : List Entry) (accesses : List RegAccess) (came : List ℕ) (m0 m o : BenchState) (part : Part) (r : Report) (b : Reported) →
-    IsSending b.asks.calls confirmed count flying rest accesses came m0 m → Flies accesses part m o → part.response ≡ response_of_cause r.cause →
-    IsStrictAt r.cause flying → r.accesses ≡ confirmed + part.performed → r.confirmed ≡ confirmed + part.confirmed → IsCutOff r b m0 →
-    EndsCut r b count came m0 o
+FlightEnds = (p : Planner) (confirmed count : ℕ) (flying rest : List Entry) (accesses : List RegAccess) (came : List ℕ) (m0 m o : BenchState) (part : Part) (r : Report) (b : Reported) →
+    IsSending p b.asks.calls confirmed count flying rest accesses came m0 m → Flies accesses part m o → part.response ≡ response_of_cause r.cause →
+    IsStrictAt r.cause flying → r.accesses ≡ confirmed + part.performed → r.confirmed ≡ confirmed + part.confirmed → IsCutOff p r b m0 →
+    EndsCut p r b count came m0 o
 
 -- A retry ended in a poll that is made read by read, whose reads changed nothing.
 abbrev pub PollEnds : Type 0
-PollEnds = (confirmed count : ℕ) (e : Entry) (rest : List Entry) (came : List ℕ) (m0 m o : BenchState) (work : ℕ) (r : Report) (b : Reported) →
-    IsSending b.asks.calls confirmed count [] (e ∷ rest) [] came m0 m →
+PollEnds = (p : Planner) (confirmed count : ℕ) (e : Entry) (rest : List Entry) (came : List ℕ) (m0 m o : BenchState) (work : ℕ) (r : Report) (b : Reported) →
+    IsSending p b.asks.calls confirmed count [] (e ∷ rest) [] came m0 m →
     work_of o.probe ≡ work_of m.probe + work → work < weight (target_of m.probe) e.action → Agree (target_of o.probe) (target_of m.probe) →
     ended_retries_of o.probe ≡ ended_retries_of m.probe + 1 → number_of o ≤ number_of m + work + 1 → pending_of o ≡ false →
-    r.cause ≡ NoAnswer → r.accesses ≡ confirmed → r.confirmed ≡ confirmed → IsCutOff r b m0 → EndsCut r b count came m0 o
+    r.cause ≡ NoAnswer → r.accesses ≡ confirmed → r.confirmed ≡ confirmed → IsCutOff p r b m0 → EndsCut p r b count came m0 o
 
 -- ---- a bench that failed
 
@@ -105,15 +106,15 @@ pub record IsBenchEnd (issued confirmed count : ℕ) (b : Reported) : Type 0 whe
 
 -- The bench failed in a flight.
 abbrev pub FlightFails : Type 0
-FlightFails = (confirmed count : ℕ) (flying rest : List Entry) (accesses : List RegAccess) (came : List ℕ) (m0 m o : BenchState) (part : Part) (b : Reported) →
-    IsSending b.asks.calls confirmed count flying rest accesses came m0 m →
+FlightFails = (p : Planner) (confirmed count : ℕ) (flying rest : List Entry) (accesses : List RegAccess) (came : List ℕ) (m0 m o : BenchState) (part : Part) (b : Reported) →
+    IsSending p b.asks.calls confirmed count flying rest accesses came m0 m →
     (transfers_of o ≡ transfers_of m) ⊎ DoesPart (transfers_of m) (transfers_of o) accesses part → (part.response ≡ Mismatch → ⊥) →
-    IsBenchEnd (confirmed + length flying) confirmed count b → IsEnded (BenchFault (confirmed + length flying) confirmed) b came m0 o
+    IsBenchEnd (confirmed + length flying) confirmed count b → IsEnded p (BenchFault (confirmed + length flying) confirmed) b came m0 o
 
 -- The bench failed in a poll or a command of the probe, of which a part was done, or nothing.
 abbrev pub ActionFails : Type 0
-ActionFails = (confirmed count : ℕ) (e : Entry) (rest : List Entry) (came : List ℕ) (m0 m o : BenchState) (work : ℕ) (b : Reported) →
-    IsSending b.asks.calls confirmed count [] (e ∷ rest) [] came m0 m →
+ActionFails = (p : Planner) (confirmed count : ℕ) (e : Entry) (rest : List Entry) (came : List ℕ) (m0 m o : BenchState) (work : ℕ) (b : Reported) →
+    IsSending p b.asks.calls confirmed count [] (e ∷ rest) [] came m0 m →
     work_of o.probe ≡ work_of m.probe + work → work < weight (target_of m.probe) e.action →
     Agree (target_of o.probe) (target_of m.probe) ⊎ IsPart e.action (target_of m.probe) (target_of o.probe) →
-    IsBenchEnd (confirmed + 1) confirmed count b → IsEnded (BenchFault (confirmed + 1) confirmed) b came m0 o
+    IsBenchEnd (confirmed + 1) confirmed count b → IsEnded p (BenchFault (confirmed + 1) confirmed) b came m0 o

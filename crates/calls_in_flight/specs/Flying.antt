@@ -11,6 +11,7 @@ use Rattle.call_terms.specs.declared.calls.Ask.{Ask}
 use Rattle.access_regs.specs.Entries.{kept_by}
 use Rattle.access_regs.specs.Journal.{issued}
 use Rattle.access_regs.specs.Kept.{Kept}
+use Rattle.access_regs.specs.declared.planner.Planner.{Planner}
 use Rattle.access_calls.specs.Reported.{Reported, began, world_from}
 use Rattle.access_calls.specs.Standing.{IsOpen}
 use Rattle.calls_in_flight.specs.Flights.{AreStrict}
@@ -20,13 +21,13 @@ use Rattle.calls_in_flight.specs.UnderWay.{IsUnderWay}
 -- units that forgive nothing. What is kept of the registers is what is known after all of them. The first calls, all of
 -- whose entries were made, came to these results and so many skips. Once a `finish` was made after the last call, nothing lies
 -- in the flight.
-pub record IsFlying (a : Reported) (kept : Kept) (accesses : List RegAccess) (came : List ℕ) (m0 m : BenchState) : Type 0 where
+pub record IsFlying (p : Planner) (a : Reported) (kept : Kept) (accesses : List RegAccess) (came : List ℕ) (m0 m : BenchState) : Type 0 where
   pub fresh : IsFresh (target_of m0.probe)
   pub askable : AreAskable a.asks.calls
   pub made : List Entry
   pub flying : List Entry
-  pub on : IsUnderWay (issued (target_of m0.probe) a.asks.calls) made flying [] accesses m0 m
-  pub kept_is : kept_by (target_of m0.probe) a.asks.calls ≡ kept
+  pub on : IsUnderWay (issued p (target_of m0.probe) a.asks.calls) made flying [] accesses m0 m
+  pub kept_is : kept_by p (target_of m0.probe) a.asks.calls ≡ kept
   pub confirmed : length made ≡ a.confirmed
   pub issued_is : length made + length flying ≡ a.issued
   pub strict : AreStrict flying
@@ -36,7 +37,7 @@ pub record IsFlying (a : Reported) (kept : Kept) (accesses : List RegAccess) (ca
   pub calls : a.asks.calls ≡ front ++ back
   -- entries of the others that were made, where a flight was sent in the middle of a call
   pub part : List Entry
-  pub made_is : made ≡ issued (target_of m0.probe) front ++ part
+  pub made_is : made ≡ issued p (target_of m0.probe) front ++ part
   pub came_is : a.came ≡ length front
   pub came_are : came ≡ results (start_world (target_of m0.probe) None) front
   pub skipped_is : a.skipped ≡ skips (start_world (target_of m0.probe) None) front
@@ -45,12 +46,12 @@ pub record IsFlying (a : Reported) (kept : Kept) (accesses : List RegAccess) (ca
 
 -- So an access has come without an end.
 abbrev pub OpenStands : Type 0
-OpenStands = (a : Reported) (kept : Kept) (accesses : List RegAccess) (came : List ℕ) (n : Option ℕ) (m0 m : BenchState) →
-    IsFlying a kept accesses came m0 m → AtLeast a.came n →
-    IsOpen (issued (target_of m0.probe) a.asks.calls) a (began m0 n) m
+OpenStands = (p : Planner) (a : Reported) (kept : Kept) (accesses : List RegAccess) (came : List ℕ) (n : Option ℕ) (m0 m : BenchState) →
+    IsFlying p a kept accesses came m0 m → AtLeast a.came n →
+    IsOpen (issued p (target_of m0.probe) a.asks.calls) a (began m0 n) m
 
 -- The results that came are those of the first calls in each world that is left, whatever comes after them.
 abbrev pub CameStands : Type 0
-CameStands = (a : Reported) (kept : Kept) (accesses : List RegAccess) (came : List ℕ) (n : Option ℕ) (m0 m : BenchState) →
-    IsFlying a kept accesses came m0 m → AtLeast a.came n →
+CameStands = (p : Planner) (a : Reported) (kept : Kept) (accesses : List RegAccess) (came : List ℕ) (n : Option ℕ) (m0 m : BenchState) →
+    IsFlying p a kept accesses came m0 m → AtLeast a.came n →
     (length came ≡ a.came) × (take a.came (results (world_from m0 n) a.asks.calls) ≡ came)

@@ -1,5 +1,5 @@
--- Into which flights the accesses of a forgiving unit are cut.
-use Rattle.std.specs.Prelude.{◌≡◌, true, false, if◌then◌else◌, List, [], ◌∷◌, ◌++◌, map}
+-- Into which flights the accesses of a unit made alone are cut.
+use Rattle.std.specs.Prelude.{◌≡◌, Bool, true, false, if◌then◌else◌, List, [], ◌∷◌, ◌++◌, map}
 use Rattle.target_machine.specs.Lists.{after}
 use Rattle.target_machine.specs.Plain.{Action, Commands, Makes, acted, call_actions, forgives, is_fault, may_forgive}
 use Rattle.target_machine.specs.State.{TargetState}
@@ -8,7 +8,7 @@ use Rattle.target_machine.specs.declared.unit.Call.TheVariants.{Access}
 use Rattle.target_machine.specs.declared.unit.Unit.{Unit as AccessUnit}
 use Rattle.call_terms.specs.declared.journal.Part.TheVariants.{Ends, Leads, Skips}
 use Rattle.access_regs.specs.Entries.{NoneFault}
-use Rattle.access_regs.specs.Journal.{Step, forgiving_at, is_early, is_last, large_of, making}
+use Rattle.access_regs.specs.Journal.{Step, alone_at, is_early, is_last, large_of, making}
 use Rattle.access_regs.specs.Kept.{Kept}
 
 -- accesses of a unit as steps: the one that it is for, and those that lead to it
@@ -25,11 +25,15 @@ pub record BeginsWith (steps : List Step) (asked : AccessUnit) (accesses : List 
   pub is : steps ≡ steps_of_unit asked accesses ++ more
   pub end : rest ≡ [] → more ≡ []
 
--- Where the accesses before one do not fault, the steps of a forgiving unit begin with them and that one: where it faults, the
--- write of ABORT follows and nothing else, and where it does not, the rest follows. So a flight may be sent after it, before it is
--- known how the unit goes on.
-abbrev pub ForgivingFlight : Type 0
-ForgivingFlight = (asked : AccessUnit) (t : TargetState) (k : Kept) (lead : List RegAccess) (a : RegAccess) (rest : List Action) → may_forgive (Access asked) ≡ true →
+-- what follows accesses of which the last faulted: the write of ABORT, where the unit forgives the fault
+abbrev pub after_fault : Bool → AccessUnit → List RegAccess → List Step
+after_fault forgive asked accesses = if forgive then abort_after asked accesses ∷ [] else []
+
+-- Where the accesses before one do not fault, the steps of a unit made alone begin with them and that one: where it faults, the
+-- write of ABORT follows for a unit that forgives it, and nothing else; and where it does not, the rest follows. So a flight may be
+-- sent after it, before it is known how the unit goes on.
+abbrev pub AloneFlight : Type 0
+AloneFlight = (forgive : Bool) (asked : AccessUnit) (t : TargetState) (k : Kept) (lead : List RegAccess) (a : RegAccess) (rest : List Action) → may_forgive (Access asked) ≡ true →
     call_actions t (large_of k asked) (Access asked) ≡ making (lead ++ a ∷ []) ++ rest → NoneFault t lead →
-    (is_fault (acted (after t (making lead)) (Makes a)).outcome ≡ true → (forgiving_at asked t k).steps ≡ steps_of_unit asked (lead ++ a ∷ []) ++ abort_after asked (lead ++ a ∷ []) ∷ [])
-    × (is_fault (acted (after t (making lead)) (Makes a)).outcome ≡ false → BeginsWith (forgiving_at asked t k).steps asked (lead ++ a ∷ []) rest)
+    (is_fault (acted (after t (making lead)) (Makes a)).outcome ≡ true → (alone_at forgive asked t k).steps ≡ steps_of_unit asked (lead ++ a ∷ []) ++ after_fault forgive asked (lead ++ a ∷ []))
+    × (is_fault (acted (after t (making lead)) (Makes a)).outcome ≡ false → BeginsWith (alone_at forgive asked t k).steps asked (lead ++ a ∷ []) rest)

@@ -11,6 +11,7 @@ use Rattle.call_terms.specs.declared.calls.Ask.{Ask}
 use Rattle.access_regs.specs.Entries.{target_by}
 use Rattle.access_regs.specs.Journal.{actions_of, issue_of, making}
 use Rattle.access_regs.specs.Kept.{Kept}
+use Rattle.access_regs.specs.declared.planner.Planner.{Planner}
 use Rattle.access_calls.specs.Reported.{Reported}
 use Rattle.calls_in_flight.specs.Flights.{Flies}
 use Rattle.calls_in_flight.specs.Flying.{IsFlying}
@@ -26,17 +27,17 @@ pub record IsFlushed (a b : Reported) (came : List ℕ) (m0 : BenchState) : Type
 
 -- After that nothing lies in the flight.
 abbrev pub FlushGoes : Type 0
-FlushGoes = (a b : Reported) (kept : Kept) (accesses : List RegAccess) (came flushed : List ℕ) (m0 m o : BenchState) (part : Part) →
-    IsFlying a kept accesses came m0 m → Flies accesses part m o → part.response ≡ Good → IsFlushed a b flushed m0 → IsFlying b kept [] flushed m0 o
+FlushGoes = (p : Planner) (a b : Reported) (kept : Kept) (accesses : List RegAccess) (came flushed : List ℕ) (m0 m o : BenchState) (part : Part) →
+    IsFlying p a kept accesses came m0 m → Flies accesses part m o → part.response ≡ Good → IsFlushed a b flushed m0 → IsFlying p b kept [] flushed m0 o
 
 -- A call that forgives nothing was asked, and the accesses that it issues were pushed; nothing was sent.
-pub record IsPushed (a b : Reported) (ask : Ask) (kept learned : Kept) (more : List RegAccess) (m0 m : BenchState) : Type 0 where
+pub record IsPushed (p : Planner) (a b : Reported) (ask : Ask) (kept learned : Kept) (more : List RegAccess) (m0 m : BenchState) : Type 0 where
   pub calls : b.asks.calls ≡ a.asks.calls ++ ask ∷ []
   pub unmarked : ask.settled ≡ false
   pub mild : is_forgiving ask ≡ false
   pub askable : IsAskable ask
-  pub accesses : actions_of (issue_of (target_by (target_of m0.probe) a.asks.calls) kept ask).steps ≡ making more
-  pub kept_is : learned ≡ (issue_of (target_by (target_of m0.probe) a.asks.calls) kept ask).kept
+  pub accesses : actions_of (issue_of p (target_by p (target_of m0.probe) a.asks.calls) kept ask).steps ≡ making more
+  pub kept_is : learned ≡ (issue_of p (target_by p (target_of m0.probe) a.asks.calls) kept ask).kept
   pub confirmed : b.confirmed ≡ a.confirmed
   pub issued : b.issued ≡ a.issued + length more
   pub came : b.came ≡ a.came
@@ -45,5 +46,5 @@ pub record IsPushed (a b : Reported) (ask : Ask) (kept learned : Kept) (more : L
 
 -- After that they lie in the flight too.
 abbrev pub PushGoes : Type 0
-PushGoes = (a b : Reported) (ask : Ask) (kept learned : Kept) (accesses more : List RegAccess) (came : List ℕ) (m0 m : BenchState) →
-    IsFlying a kept accesses came m0 m → IsPushed a b ask kept learned more m0 m → IsFlying b learned (accesses ++ more) came m0 m
+PushGoes = (p : Planner) (a b : Reported) (ask : Ask) (kept learned : Kept) (accesses more : List RegAccess) (came : List ℕ) (m0 m : BenchState) →
+    IsFlying p a kept accesses came m0 m → IsPushed p a b ask kept learned more m0 m → IsFlying p b learned (accesses ++ more) came m0 m

@@ -7,30 +7,31 @@ use Rattle.call_terms.specs.Journal.{lines_before}
 use Rattle.call_terms.specs.World.{AtLeast, results, start_world, stop}
 use Rattle.call_terms.specs.declared.calls.Ask.{Ask}
 use Rattle.access_regs.specs.Journal.{issued}
+use Rattle.access_regs.specs.declared.planner.Planner.{Planner}
 use Rattle.access_calls.specs.Numbers.{HasNumbers}
 use Rattle.access_calls.specs.declared.stop.Report.{Report}
 use Rattle.calls_in_flight.specs.Flights.{IsCutAt, IsFaultAt}
 
 -- At a fault the calls stop right after those that have their lines before it.
 abbrev pub StopsAtFault : Type 0
-StopsAtFault = (t : TargetState) (asks : List Ask) (r : Report) (skipped lines : ℕ) (n : Option ℕ) → IsFresh t → AreAskable asks →
-    IsFaultAt (issued t asks) r.confirmed t → HasNumbers (issued t asks) asks skipped lines r → AtLeast lines n →
+StopsAtFault = (p : Planner) (t : TargetState) (asks : List Ask) (r : Report) (skipped lines : ℕ) (n : Option ℕ) → IsFresh t → AreAskable asks →
+    IsFaultAt (issued p t asks) r.confirmed t → HasNumbers (issued p t asks) asks skipped lines r → AtLeast lines n →
     stop (start_world t n) asks ≡ Some (lines + 1)
 
 -- Where a retry ended, and just so many calls are answered as have their lines before it, they stop right after these; or all
 -- of them have, and the retry ended in the settling after the last.
 abbrev pub StopsAtWait : Type 0
-StopsAtWait = (t : TargetState) (asks : List Ask) (r : Report) (skipped lines : ℕ) → IsFresh t → AreAskable asks →
-    IsCutAt (issued t asks) r.confirmed t → HasNumbers (issued t asks) asks skipped lines r →
+StopsAtWait = (p : Planner) (t : TargetState) (asks : List Ask) (r : Report) (skipped lines : ℕ) → IsFresh t → AreAskable asks →
+    IsCutAt (issued p t asks) r.confirmed t → HasNumbers (issued p t asks) asks skipped lines r →
     (stop (start_world t (Some lines)) asks ≡ Some (lines + 1)) ⊎ ((stop (start_world t (Some lines)) asks ≡ None) × ((lines ≡ length asks) × (is_settled asks ≡ true)))
 
 -- Calls all of whose entries come before the cut have their lines before it.
 abbrev pub CameBefore : Type 0
-CameBefore = (t : TargetState) (front back : List Ask) (c : ℕ) → length (issued t front) ≤ c → (cut : IsCutAt (issued t (front ++ back)) c t) →
+CameBefore = (p : Planner) (t : TargetState) (front back : List Ask) (c : ℕ) → length (issued p t front) ≤ c → (cut : IsCutAt (issued p t (front ++ back)) c t) →
     length front ≤ lines_before cut.entry
 
 -- The results of the calls that have their lines before the cut stay.
 abbrev pub ResultsStay : Type 0
-ResultsStay = (t : TargetState) (asks : List Ask) (r : Report) (skipped lines : ℕ) (n : Option ℕ) → IsFresh t → AreAskable asks →
-    IsCutAt (issued t asks) r.confirmed t → HasNumbers (issued t asks) asks skipped lines r → AtLeast lines n →
+ResultsStay = (p : Planner) (t : TargetState) (asks : List Ask) (r : Report) (skipped lines : ℕ) (n : Option ℕ) → IsFresh t → AreAskable asks →
+    IsCutAt (issued p t asks) r.confirmed t → HasNumbers (issued p t asks) asks skipped lines r → AtLeast lines n →
     (lines ≤ length asks) × (take lines (results (start_world t n) asks) ≡ results (start_world t None) (take lines asks))

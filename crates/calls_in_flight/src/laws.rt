@@ -4,12 +4,12 @@ ghost use Rattle.calls_in_flight.specs.Coming.{AllCame, NoneStopped, ResultGiven
 ghost use Rattle.calls_in_flight.specs.Ending.{ActionFails, BegunCame, BegunStands, FlightEnds, FlightFails, PollEnds};
 ghost use Rattle.calls_in_flight.specs.Flights.{BenchFlies, FaultFlies, ValuesCame, WaitFlies, WholeFlies};
 ghost use Rattle.calls_in_flight.specs.Flying.{CameStands, OpenStands};
-ghost use Rattle.calls_in_flight.specs.Forgiving.{ForgivingFlight};
+ghost use Rattle.calls_in_flight.specs.Forgiving.{AloneFlight};
 ghost use Rattle.calls_in_flight.specs.GoesOn.{FlushGoes, PushGoes};
 ghost use Rattle.calls_in_flight.specs.Packets.{FewPackets, FullFlight};
 ghost use Rattle.calls_in_flight.specs.Pushing.{EntryPushed, JournalGrew, PlanGives, ValueGiven};
 ghost use Rattle.calls_in_flight.specs.Sending.{ActionSends, CallSends, FinishSends, FlyingSends, ForgivenSends, PushSends, WholeSends};
-ghost use Rattle.calls_in_flight.specs.Small.{NotSmall, SmallByCfg};
+ghost use Rattle.calls_in_flight.specs.Small.{NotSmall, SmallAlone, SmallByCfg};
 ghost use Rattle.calls_in_flight.specs.Stopping.{CameBefore, ResultsStay, StopsAtFault, StopsAtWait};
 ghost use Rattle.calls_in_flight.specs.UnderWay.{FrontPerformed};
 
@@ -81,6 +81,7 @@ pub fn an_access_goes_on()
 pub fn small_units()
     ensures none { NotSmall }
     ensures cfg { SmallByCfg }
+    ensures alone { SmallAlone }
 {}
 
 /// What an access keeps in the middle of a call: a call or a `finish` adds entries, which are pushed, sent, or made by themselves.
@@ -115,7 +116,7 @@ pub fn all_calls_came()
     ensures result { ResultGiven }
 {}
 
-/// The steps of a forgiving unit begin with those of a flight, whether that faults at its last access or not.
-pub fn flights_of_forgiving_units()
-    ensures steps { ForgivingFlight }
+/// The steps of a unit made alone begin with those of a flight, whether that faults at its last access or not.
+pub fn flights_of_units_alone()
+    ensures steps { AloneFlight }
 {}
