@@ -12,7 +12,7 @@ use Rattle.target_machine.specs.declared.unit.Unit.TheVariants as unit
 use Rattle.access_regs.specs.Kept.{Kept, known, unknown, nothing_kept}
 use Rattle.access_regs.specs.Plan.{settled}
 use Rattle.access_regs.specs.declared.known.Known.{Known}
-use Rattle.access_regs.specs.Journal.{finish, issue_of, finish_of, steps_at, actions_of, alone_at, after_settling, planned, issue, issued, kept_from}
+use Rattle.access_regs.specs.Journal.{finish, issue_of, finish_of, steps_at, actions_of, alone_at, is_alone, after_settling, planned, issue, issued, kept_from}
 use Rattle.access_regs.specs.Alone.{alone, alone_after, large_of_all}
 use Rattle.access_regs.specs.Follows.{Follows, IsTrueOf}
 use Rattle.access_regs.specs.Laws.{FreshFollows, CallGoes, CallLeaves, JournalFollows, JournalAgrees, JournalPasses, JournalStops, JournalAnswers}
@@ -22,41 +22,59 @@ use Rattle.access_regs.proofs.Calls.{strict_course, settle_course}
 use Rattle.access_regs.proofs.Forgiving.{ap_course, memory_course}
 use Rattle.access_regs.proofs.Agreeing.{follows_facts}
 use Rattle.target_machine.specs.Lists.{after}
+use Rattle.access_regs.specs.declared.planner.Planner.{Planner}
+use Rattle.access_regs.specs.declared.planner.Planner.TheVariants.{Managed, Plain}
+use Rattle.access_regs.proofs.Singles.{probe_course}
 use Rattle.call_terms.specs.Asks.{IsUnitInRange, IsCallInRange, IsAskable, AreAskable, is_settled}
 use Rattle.call_terms.specs.Journal.{actions_in}
 use Rattle.call_terms.specs.declared.calls.Ask.{Ask}
 use Rattle.access_regs.proofs.Lists.{AllOk, step_follows, list_follows, list_passes, list_stops, list_answers}
 
-forgiving_course : (k : Kept) (large : List ℕ) (t u : TargetState) → Follows k large t u → (asked : AccessUnit) → IsUnitInRange asked → may_forgive (Access asked) ≡ true →
-    Course (after_settling u k (alone_at true asked)) (call_done t large true (Access asked)) (Access asked) u
-forgiving_course k large t u f (unit.Memory size read n address value) range may =
-    settle_course k large t u f (alone_at true (unit.Memory size read n address value)) (call_done t large true (Access (unit.Memory size read n address value))) (Access (unit.Memory size read n address value))
-    (λ v g. memory_course (settled k) large t v g (settled_calm k) size read n address value range.0)
-forgiving_course k large t u f (unit.Ap read n addr value) range may =
-    settle_course k large t u f (alone_at true (unit.Ap read n addr value)) (call_done t large true (Access (unit.Ap read n addr value))) (Access (unit.Ap read n addr value))
-    (λ v g. ap_course (settled k) large t v g (settled_calm k) read n addr value range.0 range.1)
-forgiving_course k large t u f (unit.Dp read addr value) range may = absurd (cc)
-forgiving_course k large t u f (unit.Poll mask value turns) range may = absurd (cc)
+alone_course : (k : Kept) (large : List ℕ) (t u : TargetState) → Follows k large t u → (forgive : Bool) (asked : AccessUnit) → IsUnitInRange asked → may_forgive (Access asked) ≡ true →
+    Course (after_settling u k (alone_at forgive asked)) (call_done t large forgive (Access asked)) (Access asked) u
+alone_course k large t u f forgive (unit.Memory size read n address value) range may =
+    settle_course k large t u f (alone_at forgive (unit.Memory size read n address value)) (call_done t large forgive (Access (unit.Memory size read n address value))) (Access (unit.Memory size read n address value))
+    (λ v g. memory_course (settled k) large t v g (settled_calm k) forgive size read n address value range.0)
+alone_course k large t u f forgive (unit.Ap read n addr value) range may =
+    settle_course k large t u f (alone_at forgive (unit.Ap read n addr value)) (call_done t large forgive (Access (unit.Ap read n addr value))) (Access (unit.Ap read n addr value))
+    (λ v g. ap_course (settled k) large t v g (settled_calm k) forgive read n addr value range.0 range.1)
+alone_course k large t u f forgive (unit.Dp read addr value) range may = absurd (cc)
+alone_course k large t u f forgive (unit.Poll mask value turns) range may = absurd (cc)
 
 pub both_true : (x y : Bool) → (x && y) ≡ true → (x ≡ true) × (y ≡ true)
 both_true true y e = (refl, e)
 both_true false y e = absurd (cc)
 
--- Each call goes as it goes alone.
-pub call_course : (k : Kept) (large : List ℕ) (t u : TargetState) → Follows k large t u → (c : Ask) → IsAskable c → Course (issue_of u k c) (alone t large c) c.call u
-call_course k large t u f c ok = by_mark c.call (c.forgive && may_forgive c.call) refl ok.sound ok.range
-  where
-    by_mark : (call : Call) (b : Bool) → (c.forgive && may_forgive call) ≡ b → IsSoundCall call → IsCallInRange call → Course (issue u k c.forgive call) (call_done t large c.forgive call) call u
-    by_mark call false e sound range = strict_course k large t u f c.forgive call e sound range
-    by_mark (Access asked) true e sound range =
-        let p = both_true c.forgive (may_forgive (Access asked)) e in
-        subst (λ (b : Bool). Course (cond b (after_settling u k (alone_at true asked)) (planned u k asked)) (call_done t large c.forgive (Access asked)) (Access asked) u) (sym e)
-        (subst (λ (b : Bool). Course (after_settling u k (alone_at true asked)) (call_done t large b (Access asked)) (Access asked) u) (sym p.0) (forgiving_course k large t u f asked range p.1))
-    by_mark (Probe x) true e sound range = (let p = both_true c.forgive false e in let no : false ≡ true = p.1 in absurd (cc))
+both_false : (x : Bool) → (x && false) ≡ false
+both_false true = refl
+both_false false = refl
 
-pub all_ok : (cs : List Ask) → AreAskable cs → AllOk IsAskable call_course cs
-all_ok [] h = tt
-all_ok (c ∷ cs) h = (h.0, all_ok cs h.1)
+-- a unit that is not made alone forgives nothing
+strict_unless : (p : Planner) (forgive may : Bool) → (is_alone p forgive && may) ≡ false → (forgive && may) ≡ false
+strict_unless Managed forgive may e = e
+strict_unless Plain forgive may e = ap (λ (b : Bool). forgive && b) e ∙ both_false forgive
+
+-- Each call goes as it goes alone.
+pub call_course : (p : Planner) (k : Kept) (large : List ℕ) (t u : TargetState) → Follows k large t u → (c : Ask) → IsAskable c → Course (issue_of p u k c) (alone t large c) c.call u
+call_course p k large t u f c ok = by_call c.call ok.sound ok.range
+  where
+    by_mark : (asked : AccessUnit) (b : Bool) → (is_alone p c.forgive && may_forgive (Access asked)) ≡ b → IsSoundCall (Access asked) → IsCallInRange (Access asked) →
+        Course (issue p u k c.forgive (Access asked)) (call_done t large c.forgive (Access asked)) (Access asked) u
+    by_mark asked b e sound range =
+        subst (λ (a : Bool). Course (cond a (after_settling u k (alone_at c.forgive asked)) (planned u k asked)) (call_done t large c.forgive (Access asked)) (Access asked) u) (sym e) (by_case b e)
+      where
+        by_case : (b : Bool) → (is_alone p c.forgive && may_forgive (Access asked)) ≡ b →
+            Course (cond b (after_settling u k (alone_at c.forgive asked)) (planned u k asked)) (call_done t large c.forgive (Access asked)) (Access asked) u
+        by_case false e = strict_course k large t u f c.forgive asked (strict_unless p c.forgive (may_forgive (Access asked)) e) sound range
+        by_case true e = alone_course k large t u f c.forgive asked range (both_true (is_alone p c.forgive) (may_forgive (Access asked)) e).1
+
+    by_call : (call : Call) → IsSoundCall call → IsCallInRange call → Course (issue p u k c.forgive call) (call_done t large c.forgive call) call u
+    by_call (Access asked) sound range = by_mark asked (is_alone p c.forgive && may_forgive (Access asked)) refl sound range
+    by_call (Probe x) sound range = probe_course k large t u f c.forgive x
+
+pub all_ok : (p : Planner) (cs : List Ask) → AreAskable cs → AllOk p IsAskable (call_course p) cs
+all_ok p [] h = tt
+all_ok p (c ∷ cs) h = (h.0, all_ok p cs h.1)
 
 get_or_past : (xs : List Known) (q : ℕ) → length xs ≤ q → get_or xs q unknown ≡ unknown
 get_or_past [] q le = refl
@@ -83,40 +101,40 @@ fresh_follows t fresh = follows_facts nothing_kept [] t t (record {
 })
 
 pub call_goes : CallGoes
-call_goes k large t u c f ok = call_course k large t u f c ok
+call_goes p k large t u c f ok = call_course p k large t u f c ok
 
 pub call_leaves : CallLeaves
-call_leaves k large t u c f ok ne = step_follows IsAskable call_course k large t u f c ok ne
+call_leaves p k large t u c f ok ne = step_follows p IsAskable (call_course p) k large t u f c ok ne
 
 pub journal_follows : JournalFollows
-journal_follows t calls fresh ok none = list_follows IsAskable call_course 0 nothing_kept [] t t (fresh_follows t fresh) calls (all_ok calls ok) none
+journal_follows p t calls fresh ok none = list_follows p IsAskable (call_course p) 0 nothing_kept [] t t (fresh_follows t fresh) calls (all_ok p calls ok) none
 
 pub journal_passes : JournalPasses
-journal_passes t calls fresh ok none = list_passes IsAskable call_course 0 nothing_kept [] t t (fresh_follows t fresh) calls (all_ok calls ok) none
+journal_passes p t calls fresh ok none = list_passes p IsAskable (call_course p) 0 nothing_kept [] t t (fresh_follows t fresh) calls (all_ok p calls ok) none
 
 finish_calm : (b : Bool) (k : Kept) → b ≡ true → (finish b k).kept.unsettled ≡ None
 finish_calm true k e = settled_calm k
 finish_calm false k e = absurd (cc)
 
-some_calm : (k : Kept) (u : TargetState) (c : Ask) (cs : List Ask) → is_settled (c ∷ cs) ≡ true → (kept_from k u (c ∷ cs)).unsettled ≡ None
-some_calm k u c [] h = finish_calm c.settled (issue_of u k c).kept h
-some_calm k u c (d ∷ cs) h = some_calm (finish_of u k c).kept (after u (actions_of (steps_at u k c))) d cs h
+some_calm : (p : Planner) (k : Kept) (u : TargetState) (c : Ask) (cs : List Ask) → is_settled (c ∷ cs) ≡ true → (kept_from p k u (c ∷ cs)).unsettled ≡ None
+some_calm p k u c [] h = finish_calm c.settled (issue_of p u k c).kept h
+some_calm p k u c (d ∷ cs) h = some_calm p (finish_of p u k c).kept (after u (actions_of (steps_at p u k c))) d cs h
 
-finished_calm : (k : Kept) (u : TargetState) (cs : List Ask) → is_settled cs ≡ true → k.unsettled ≡ None → (kept_from k u cs).unsettled ≡ None
-finished_calm k u [] h calm = calm
-finished_calm k u (c ∷ cs) h calm = some_calm k u c cs h
+finished_calm : (p : Planner) (k : Kept) (u : TargetState) (cs : List Ask) → is_settled cs ≡ true → k.unsettled ≡ None → (kept_from p k u cs).unsettled ≡ None
+finished_calm p k u [] h calm = calm
+finished_calm p k u (c ∷ cs) h calm = some_calm p k u c cs h
 
 pub journal_agrees : JournalAgrees
-journal_agrees t calls fresh ok none finished =
-    follows_agree (kept_from nothing_kept t calls) (large_of_all t [] calls) (alone_after t [] calls) (after t (actions_in (issued t calls)))
-    (journal_follows t calls fresh ok none) (finished_calm nothing_kept t calls finished refl)
+journal_agrees p t calls fresh ok none finished =
+    follows_agree (kept_from p nothing_kept t calls) (large_of_all t [] calls) (alone_after t [] calls) (after t (actions_in (issued p t calls)))
+    (journal_follows p t calls fresh ok none) (finished_calm p nothing_kept t calls finished refl)
 
 pub journal_stops : JournalStops
-journal_stops t calls last fresh ok ok_last none bad =
-    let s = list_stops IsAskable call_course 0 nothing_kept [] t t (fresh_follows t fresh) calls last (all_ok calls ok) ok_last none bad in
+journal_stops p t calls last fresh ok ok_last none bad =
+    let s = list_stops p IsAskable (call_course p) 0 nothing_kept [] t t (fresh_follows t fresh) calls last (all_ok p calls ok) ok_last none bad in
     record { front = s.front; entry = s.entry; stops = s.stops; unit = s.unit ∙ omega arith; own = s.own; words = s.words }
 
 pub journal_answers : JournalAnswers
-journal_answers t calls more c n fresh ok ok_last none e =
-    let a = list_answers IsAskable call_course 0 nothing_kept [] t t (fresh_follows t fresh) calls more c n (all_ok calls ok) ok_last none e in
+journal_answers p t calls more c n fresh ok ok_last none e =
+    let a = list_answers p IsAskable (call_course p) 0 nothing_kept [] t t (fresh_follows t fresh) calls more c n (all_ok p calls ok) ok_last none e in
     record { front = a.front; entry = a.entry; more = a.more; is = a.is; unit = a.unit ∙ omega arith; ends = a.ends; gives = a.gives }

@@ -1,16 +1,16 @@
 -- Each call by what is issued for it, against the call alone and at once.
 use Rattle.std.proofs.Common.{◌≡◌, ◌∙◌, ℕ, ◌<◌, ◌⊎◌, inl, inr, Bool, true, false, cond, eqb, not, ◌&&◌, ◌||◌, nat_lt, List, Option, Some, None, refl, sym, ap, subst, arith, is_some}
 use Rattle.target_machine.specs.Plain.{Action, call_done, needs_cfg, may_forgive, CallDone}
-use Rattle.target_machine.specs.Sound.{IsSound, IsSoundCall}
+use Rattle.target_machine.specs.Sound.{IsSound}
 use Rattle.target_machine.specs.State.{TargetState}
 use Rattle.target_machine.specs.declared.unit.Call.{Call}
-use Rattle.target_machine.specs.declared.unit.Call.TheVariants.{Access, Probe}
+use Rattle.target_machine.specs.declared.unit.Call.TheVariants.{Access}
 use Rattle.target_machine.specs.declared.unit.Unit.{Unit as AccessUnit}
 use Rattle.target_machine.specs.declared.unit.Unit.TheVariants as unit
 use Rattle.access_regs.specs.Kept.{Kept, is_known}
 use Rattle.access_regs.specs.Plan.{select_value, settle, settled, needs_settle, must_follow_settling}
 use Rattle.access_regs.specs.Plan as plans
-use Rattle.access_regs.specs.Journal.{Issue, making, steps_of, before, gives, by_plan, by_csw, by_cfg, by_cfg_read, after_settling, alone_at, planned, issue}
+use Rattle.access_regs.specs.Journal.{Issue, making, steps_of, before, gives, by_plan, by_csw, by_cfg, by_cfg_read, after_settling, planned}
 use Rattle.access_regs.specs.Follows.{Follows}
 use Rattle.access_regs.specs.declared.known.Unsettled.{Unsettled}
 use Rattle.access_regs.proofs.Course.{course_before, actions_steps}
@@ -22,9 +22,9 @@ use Rattle.access_regs.proofs.Wide.{wide_course}
 use Rattle.access_regs.proofs.PortUnit.{port_course}
 use Rattle.target_machine.proofs.ActionLists.{pass_after}
 use Rattle.target_machine.specs.Lists.{after, PassTo}
-use Rattle.call_terms.specs.Asks.{IsUnitInRange, IsCallInRange}
+use Rattle.call_terms.specs.Asks.{IsUnitInRange}
 use Rattle.call_terms.specs.declared.journal.Part.TheVariants.{Settles, Leads}
-use Rattle.access_regs.proofs.Singles.{dp_course, poll_course, probe_course}
+use Rattle.access_regs.proofs.Singles.{dp_course, poll_course}
 
 module _ (k : Kept) (large : List ℕ) (t u : TargetState) (f : Follows k large t u) where
   -- settling first
@@ -153,8 +153,6 @@ module _ (k : Kept) (large : List ℕ) (t u : TargetState) (f : Follows k large 
   unfolding call_done
   strict_done forgive call e = rw e refl
 
-  pub strict_course : (forgive : Bool) (call : Call) → (forgive && may_forgive call) ≡ false → IsSoundCall call → IsCallInRange call → Course (issue u k forgive call) (call_done t large forgive call) call u
-  strict_course forgive (Access asked) e sound range =
-      subst (λ (d : CallDone). Course (issue u k forgive (Access asked)) d (Access asked) u) (sym (strict_done forgive (Access asked) e))
-      (subst (λ (b : Bool). Course (cond b (after_settling u k (alone_at true asked)) (planned u k asked)) (call_done t large false (Access asked)) (Access asked) u) (sym e) (planned_course asked sound range))
-  strict_course forgive (Probe c) e sound range = probe_course k large t u f forgive c
+  pub strict_course : (forgive : Bool) (asked : AccessUnit) → (forgive && may_forgive (Access asked)) ≡ false → IsSound asked → IsUnitInRange asked → Course (planned u k asked) (call_done t large forgive (Access asked)) (Access asked) u
+  strict_course forgive asked e sound range =
+      subst (λ (d : CallDone). Course (planned u k asked) d (Access asked) u) (sym (strict_done forgive (Access asked) e)) (planned_course asked sound range)

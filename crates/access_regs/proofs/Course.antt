@@ -1,6 +1,6 @@
 -- How a call goes that is made by what is issued for it, against the call alone and at once.
 use Rattle.std.proofs.Common.{◌≡◌, ◌∙◌, ℕ, Bool, ◌&&◌, List, [], ◌∷◌, ◌++◌, append_assoc, refl, sym, ap, subst}
-use Rattle.target_machine.specs.Plain.{Action, Makes, acted, CallDone, CallEnd}
+use Rattle.target_machine.specs.Plain.{Action, Commands, Makes, acted, forgives, CallDone, CallEnd}
 use Rattle.target_machine.specs.State.{TargetState}
 use Rattle.target_machine.specs.declared.access.RegAccess.{RegAccess}
 use Rattle.target_machine.specs.declared.unit.Call.{Call}
@@ -9,7 +9,7 @@ use Rattle.access_regs.specs.Course.{Course, IsPassing, answered, stopped, small
 use Rattle.access_regs.specs.Follows.{Follows}
 use Rattle.target_machine.proofs.ActionLists.{after_append, pass_append, pass_after}
 use Rattle.call_terms.specs.Journal.{settles}
-use Rattle.call_terms.specs.declared.journal.Part.TheVariants.{Ends}
+use Rattle.call_terms.specs.declared.journal.Part.TheVariants.{Ends, Skips}
 use Rattle.call_terms.specs.declared.journal.Part.{Part}
 use Rattle.target_machine.specs.Lists.{after, PassTo}
 
@@ -59,6 +59,14 @@ module _ (i : Issue) (d : CallDone) (call : Call) (u v : TargetState) (first : L
   })
   course_before (small a) = small (record { at = a.at; pass = pass_first i.steps a.at a.pass; end = a.end; follows = a.follows })
   course_before (skipped a) = skipped (record {
+    leads = first ++ a.leads;
+    step = a.step;
+    early = a.early;
+    at = a.at;
+    steps = ap (λ (l : List Step). first ++ l) a.steps ∙ sym (append_assoc first a.leads (a.step ∷ record { part = Skips a.early; action = Commands forgives } ∷ []));
+    own = a.own;
+    pass = pass_first a.leads a.at a.pass;
+    bad = a.bad;
     end = a.end;
     passes = pass_passing u v first i.steps h a.passes;
     follows =
@@ -77,4 +85,4 @@ course_like i d e call u end next large c =
     other_actions (answered a) = answered (record { leads = a.leads; action = a.action; at = a.at; steps = a.steps; pass = a.pass; good = a.good; end = a.end; follows = a.follows })
     other_actions (stopped a) = stopped (record { leads = a.leads; step = a.step; more = a.more; at = a.at; steps = a.steps; own = a.own; pass = a.pass; bad = a.bad; end = a.end; words = a.words })
     other_actions (small a) = small (record { at = a.at; pass = a.pass; end = a.end; follows = a.follows })
-    other_actions (skipped a) = skipped (record { end = a.end; passes = a.passes; follows = a.follows })
+    other_actions (skipped a) = skipped (record { leads = a.leads; step = a.step; early = a.early; at = a.at; steps = a.steps; own = a.own; pass = a.pass; bad = a.bad; end = a.end; passes = a.passes; follows = a.follows })

@@ -21,27 +21,28 @@ use Rattle.target_machine.specs.Lists.{after}
 use Rattle.target_machine.specs.State.{TargetState}
 use Rattle.target_machine.specs.Plain.{Action, acted, given, result_of, Answered, CallEnd, CallDone, Skipped, Faulted, Small}
 use Rattle.target_machine.specs.declared.access.RegAccess.{RegAccess}
+use Rattle.access_regs.specs.declared.planner.Planner.{Planner}
 
-issued_after : (t : TargetState) (xs ys : List Ask) → issued t (xs ++ ys) ≡ issued t xs ++ issued_from (length xs) (kept_from nothing_kept t xs) (after t (actions_in (issued t xs))) ys
-issued_after t xs ys =
-    journal_joins 0 nothing_kept t xs ys
-    ∙ (let number : 0 + length xs ≡ length xs = omega arith in ap (λ (i : ℕ). issued t xs ++ issued_from i (kept_from nothing_kept t xs) (after t (actions_in (issued t xs))) ys) number)
+issued_after : (p : Planner) (t : TargetState) (xs ys : List Ask) → issued p t (xs ++ ys) ≡ issued p t xs ++ issued_from p (length xs) (kept_from p nothing_kept t xs) (after t (actions_in (issued p t xs))) ys
+issued_after p t xs ys =
+    journal_joins p 0 nothing_kept t xs ys
+    ∙ (let number : 0 + length xs ≡ length xs = omega arith in ap (λ (i : ℕ). issued p t xs ++ issued_from p i (kept_from p nothing_kept t xs) (after t (actions_in (issued p t xs))) ys) number)
 
 finish_none : (n : ℕ) (b : Bool) (k : Kept) → b ≡ false → (numbered n false (finish b k).steps ≡ []) × ((finish b k).kept ≡ k)
 finish_none n true k e = absurd (cc)
 finish_none n false k e = (refl, refl)
 
 pub journal_grows : JournalGrows
-journal_grows t asks ask unmarked =
-    let k : Kept = kept_by t asks in
-    let u : TargetState = target_by t asks in
+journal_grows p t asks ask unmarked =
+    let k : Kept = kept_by p t asks in
+    let u : TargetState = target_by p t asks in
     let c : Ask = ask in
-    let own : List Entry = numbered (length asks) (is_forgiving c) (issue_of u k c).steps in
-    let none = finish_none (length asks + 1) ask.settled (issue_of u k c).kept unmarked in (
-      issued_after t asks (c ∷ [])
-          ∙ ap (λ (l : List Entry). issued t asks ++ ((own ++ l) ++ [])) none.0
-          ∙ ap (λ (l : List Entry). issued t asks ++ l) (append-nil (own ++ []) ∙ append-nil own),
-      kept_joins 0 nothing_kept t asks (c ∷ []) ∙ none.1,
+    let own : List Entry = numbered (length asks) (is_forgiving c) (issue_of p u k c).steps in
+    let none = finish_none (length asks + 1) ask.settled (issue_of p u k c).kept unmarked in (
+      issued_after p t asks (c ∷ [])
+          ∙ ap (λ (l : List Entry). issued p t asks ++ ((own ++ l) ++ [])) none.0
+          ∙ ap (λ (l : List Entry). issued p t asks ++ l) (append-nil (own ++ []) ∙ append-nil own),
+      kept_joins p 0 nothing_kept t asks (c ∷ []) ∙ none.1,
     )
 
 -- ---- a mark
@@ -58,30 +59,30 @@ one_marks n own k true =
     let calm = settle_none (settled k) (settled_calm k) in
     (sym (append-nil ((own ++ numbered n false (steps_of Settles (settle k))) ++ [])) ∙ ap (λ (l : List RegAccess). ((own ++ numbered n false (steps_of Settles (settle k))) ++ []) ++ numbered n false (steps_of Settles l)) (sym calm.0), sym calm.1)
 
-list_marks : (n : ℕ) (k : Kept) (t : TargetState) (ask : Ask) (asks : List Ask) →
-    (issued_from n k t ((settled_last (ask ∷ asks))) ≡ issued_from n k t ((ask ∷ asks)) ++ numbered (n + length (ask ∷ asks)) false (steps_of Settles (settle (kept_from k t ((ask ∷ asks))))))
-    × (kept_from k t ((settled_last (ask ∷ asks))) ≡ settled (kept_from k t ((ask ∷ asks))))
-list_marks n k t ask [] =
-    let own : List Entry = numbered n (is_forgiving ask) (issue_of t k ask).steps in
-    let m = one_marks (n + 1) own (issue_of t k ask).kept ask.settled in
+list_marks : (p : Planner) (n : ℕ) (k : Kept) (t : TargetState) (ask : Ask) (asks : List Ask) →
+    (issued_from p n k t ((settled_last (ask ∷ asks))) ≡ issued_from p n k t ((ask ∷ asks)) ++ numbered (n + length (ask ∷ asks)) false (steps_of Settles (settle (kept_from p k t ((ask ∷ asks))))))
+    × (kept_from p k t ((settled_last (ask ∷ asks))) ≡ settled (kept_from p k t ((ask ∷ asks))))
+list_marks p n k t ask [] =
+    let own : List Entry = numbered n (is_forgiving ask) (issue_of p t k ask).steps in
+    let m = one_marks (n + 1) own (issue_of p t k ask).kept ask.settled in
     (m.0, m.1)
-list_marks n k t ask (next ∷ asks) =
-    let v : TargetState = after t (actions_of (steps_at t k ask)) in
-    let rest = list_marks (n + 1) (finish_of t k ask).kept v next asks in
+list_marks p n k t ask (next ∷ asks) =
+    let v : TargetState = after t (actions_of (steps_at p t k ask)) in
+    let rest = list_marks p (n + 1) (finish_of p t k ask).kept v next asks in
     let number : (n + 1) + length (next ∷ asks) ≡ n + length (ask ∷ next ∷ asks) = omega arith in
-    let tail : List Entry = issued_from (n + 1) (finish_of t k ask).kept v ((next ∷ asks)) in (
-      ap (λ (l : List Entry). entries_at n t k ask ++ l) rest.0
-          ∙ sym (append_assoc (entries_at n t k ask) tail (numbered ((n + 1) + length (next ∷ asks)) false (steps_of Settles (settle (kept_from (finish_of t k ask).kept v ((next ∷ asks)))))))
-          ∙ ap (λ (i : ℕ). (entries_at n t k ask ++ tail) ++ numbered i false (steps_of Settles (settle (kept_from (finish_of t k ask).kept v ((next ∷ asks)))))) number,
+    let tail : List Entry = issued_from p (n + 1) (finish_of p t k ask).kept v ((next ∷ asks)) in (
+      ap (λ (l : List Entry). entries_at p n t k ask ++ l) rest.0
+          ∙ sym (append_assoc (entries_at p n t k ask) tail (numbered ((n + 1) + length (next ∷ asks)) false (steps_of Settles (settle (kept_from p (finish_of p t k ask).kept v ((next ∷ asks)))))))
+          ∙ ap (λ (i : ℕ). (entries_at p n t k ask ++ tail) ++ numbered i false (steps_of Settles (settle (kept_from p (finish_of p t k ask).kept v ((next ∷ asks)))))) number,
       rest.1,
     )
 
 pub journal_marks : JournalMarks
-journal_marks t [] = (refl, refl)
-journal_marks t (ask ∷ asks) =
-    let m = list_marks 0 nothing_kept t ask asks in
+journal_marks p t [] = (refl, refl)
+journal_marks p t (ask ∷ asks) =
+    let m = list_marks p 0 nothing_kept t ask asks in
     let number : 0 + length (ask ∷ asks) ≡ length (ask ∷ asks) = omega arith in
-    (m.0 ∙ ap (λ (i : ℕ). issued t ((ask ∷ asks)) ++ numbered i false (steps_of Settles (settle (kept_by t (ask ∷ asks))))) number, m.1)
+    (m.0 ∙ ap (λ (i : ℕ). issued p t ((ask ∷ asks)) ++ numbered i false (steps_of Settles (settle (kept_by p t (ask ∷ asks))))) number, m.1)
 
 pub weighty_both : (xs ys : List Entry) → AreWeighty xs → AreWeighty ys → AreWeighty (xs ++ ys)
 weighty_both [] ys h k = k
@@ -111,24 +112,24 @@ numbered_actions n b [] = refl
 numbered_actions n b (s ∷ steps) = ap (λ (l : List Action). s.action ∷ l) (numbered_actions n b steps)
 
 pub call_answers : CallAnswers
-call_answers t asks ask more v fresh ok none end =
-    let k : Kept = kept_by t asks in
-    let u : TargetState = target_by t asks in
+call_answers p t asks ask more v fresh ok none end =
+    let k : Kept = kept_by p t asks in
+    let u : TargetState = target_by p t asks in
     let c : Ask = ask in
     let d : CallDone = alone (alone_after t [] asks) (large_of_all t [] asks) c in
-    let course : Course (issue_of u k c) d c.call u = call_course k (large_of_all t [] asks) (alone_after t [] asks) u (journal_follows t asks fresh (askable_first asks (ask ∷ more) ok) none) c (askable_here asks ask more ok) in
-    let a : IsAnswered (issue_of u k c) d c.call u = is_answered (issue_of u k c) d c u v course end in
+    let course : Course (issue_of p u k c) d c.call u = call_course p k (large_of_all t [] asks) (alone_after t [] asks) u (journal_follows p t asks fresh (askable_first asks (ask ∷ more) ok) none) c (askable_here asks ask more ok) in
+    let a : IsAnswered (issue_of p u k c) d c.call u = is_answered (issue_of p u k c) d c u v course end in
     let last : Step = record { part = Ends; action = a.action } in
     let n : ℕ = length asks in
     let leads : List Entry = numbered n (is_forgiving c) a.leads in
-    let own : numbered n (is_forgiving c) (issue_of u k c).steps ≡ leads ++ numbered n (is_forgiving c) (last ∷ []) = ap (numbered n (is_forgiving c)) a.steps ∙ numbered_both n (is_forgiving c) a.leads (last ∷ []) in
-    let fin : List Entry = numbered (n + 1) false (finish_of u k c).steps in
-    let rest : List Entry = issued_from (n + 1) (finish_of u k c).kept (after u (actions_of (steps_at u k c))) more in
-    let before : List Entry = issued t asks in
-    let whole : issued t ((asks ++ ask ∷ more)) ≡ before ++ ((numbered n (is_forgiving c) (issue_of u k c).steps ++ fin) ++ rest) = issued_after t asks (c ∷ more) in
+    let own : numbered n (is_forgiving c) (issue_of p u k c).steps ≡ leads ++ numbered n (is_forgiving c) (last ∷ []) = ap (numbered n (is_forgiving c)) a.steps ∙ numbered_both n (is_forgiving c) a.leads (last ∷ []) in
+    let fin : List Entry = numbered (n + 1) false (finish_of p u k c).steps in
+    let rest : List Entry = issued_from p (n + 1) (finish_of p u k c).kept (after u (actions_of (steps_at p u k c))) more in
+    let before : List Entry = issued p t asks in
+    let whole : issued p t ((asks ++ ask ∷ more)) ≡ before ++ ((numbered n (is_forgiving c) (issue_of p u k c).steps ++ fin) ++ rest) = issued_after p t asks (c ∷ more) in
     let value : ◌≡◌ {A = CallEnd} (Answered (result_of c.call (given (acted a.at a.action).outcome))) (Answered v) = sym a.end ∙ end in
     let same : result_of c.call (given (acted a.at a.action).outcome) ≡ v = cc in
-    let steps : length (issue_of u k c).steps ≡ length a.leads + 1 = ap length a.steps ∙ length-append a.leads (last ∷ []) in
+    let steps : length (issue_of p u k c).steps ≡ length a.leads + 1 = ap length a.steps ∙ length-append a.leads (last ∷ []) in
     record {
       front = before ++ leads;
       entry = record { unit = n + 1; part = Ends; forgiving = is_forgiving c && not false; action = a.action };

@@ -22,6 +22,7 @@ use Rattle.call_terms.specs.declared.journal.Part.TheVariants.{Settles, Leads, E
 use Rattle.call_terms.specs.Journal.{Entry}
 use Rattle.call_terms.specs.declared.calls.Ask.{Ask}
 use Rattle.access_regs.proofs.PortFacts.{known_same, table_kept}
+use Rattle.access_regs.specs.declared.planner.Planner.TheVariants.{Managed}
 
 own_append : (xs ys : List Entry) → own_entries (xs ++ ys) ≡ own_entries xs + own_entries ys
 own_append [] ys = omega arith
@@ -261,10 +262,10 @@ module _ (size m address : ℕ) (read : Bool) (value : ℕ) where
   abbrev pub here_asked : Ask
   here_asked = record { call = Access unit_here; forgive = false; settled = false }
 
-  pub own_first : (n : ℕ) (k : Kept) (t : TargetState) (cs : List Ask) → own_entries (issued_from n k t (here_asked ∷ cs))
-      ≡ own_steps n false (planned t k unit_here).steps + own_entries (issued_from (n + 1) (planned t k unit_here).kept (after t (actions_of (steps_at t k here_asked))) cs)
+  pub own_first : (n : ℕ) (k : Kept) (t : TargetState) (cs : List Ask) → own_entries (issued_from Managed n k t (here_asked ∷ cs))
+      ≡ own_steps n false (planned t k unit_here).steps + own_entries (issued_from Managed (n + 1) (planned t k unit_here).kept (after t (actions_of (steps_at Managed t k here_asked))) cs)
   own_first n k t cs =
-      let a = own_append (entries_at n t k here_asked) (issued_from (n + 1) (planned t k unit_here).kept (after t (actions_of (steps_at t k here_asked))) cs) in
+      let a = own_append (entries_at Managed n t k here_asked) (issued_from Managed (n + 1) (planned t k unit_here).kept (after t (actions_of (steps_at Managed t k here_asked))) cs) in
       let b = own_append (numbered n false (planned t k unit_here).steps) [] in
       omega (arith, a, b)
 
@@ -278,12 +279,12 @@ rest_where l address size n (inr le) = inr (let a = mul-suc size n in omega (ari
 
 -- units after one that was made need one entry each
 pub ready_few : (c : Ask) (cs : List Ask) (n : ℕ) (k : Kept) (t : TargetState) (size m address : ℕ) → 0 < size → address % 1024 + size * suc (length cs) ≤ 1024 → AreNeighbours size m address (c ∷ cs) →
-    ((known k m).large ≡ true) ⊎ (address + size * suc (length cs) ≤ 2 ^ 32) → Ready size m address k → own_entries (issued_from n k t (c ∷ cs)) ≤ suc (length cs)
+    ((known k m).large ≡ true) ⊎ (address + size * suc (length cs) ≤ 2 ^ 32) → Ready size m address k → own_entries (issued_from Managed n k t (c ∷ cs)) ≤ suc (length cs)
 ready_few c [] n k t size m address some fits near where_ ready =
     let u = near.0 in
     let a = own_first size m address u.read u.value n k t [] in
     let b = ready_own size m address u.read u.value n t k ready in
-    subst (λ (x : Ask). own_entries (issued_from n k t (x ∷ [])) ≤ 1) (sym u.is) (omega (arith, a, b))
+    subst (λ (x : Ask). own_entries (issued_from Managed n k t (x ∷ [])) ≤ 1) (sym u.is) (omega (arith, a, b))
 ready_few c (d ∷ ds) n k t size m address some fits near where_ ready =
     let u = near.0 in
     let here : AccessUnit = unit_here size m address u.read u.value in
@@ -293,13 +294,13 @@ ready_few c (d ∷ ds) n k t size m address some fits near where_ ready =
     let next = made_ready size m address u.read u.value k ready.table some inside (next_where (known k m).large address size (length ds) where_ some) in
     let large : (known (made k here) m).large ≡ (known k m).large = made_large size m address u.read u.value k ready.table in
     let rest = rest_where (known k m).large address size (suc (length ds)) where_ in
-    let g = ready_few d ds (n + 1) (planned t k here).kept (after t (actions_of (steps_at t k (here_asked size m address u.read u.value)))) size m (address + size) some more near.1
+    let g = ready_few d ds (n + 1) (planned t k here).kept (after t (actions_of (steps_at Managed t k (here_asked size m address u.read u.value)))) size m (address + size) some more near.1
     (subst (λ (x : Kept). ((known x m).large ≡ true) ⊎ ((address + size) + size * suc (length ds) ≤ 2 ^ 32)) (sym e)
     (subst (λ (l : Bool). (l ≡ true) ⊎ ((address + size) + size * suc (length ds) ≤ 2 ^ 32)) (sym large) rest))
     (subst (Ready size m (address + size)) (sym e) next) in
     let a = own_first size m address u.read u.value n k t (d ∷ ds) in
     let b = ready_own size m address u.read u.value n t k ready in
-    subst (λ (x : Ask). own_entries (issued_from n k t (x ∷ d ∷ ds)) ≤ suc (suc (length ds))) (sym u.is) (omega (arith, a, b, g))
+    subst (λ (x : Ask). own_entries (issued_from Managed n k t (x ∷ d ∷ ds)) ≤ suc (suc (length ds))) (sym u.is) (omega (arith, a, b, g))
 
 pub some_size : (size : ℕ) → (size ≡ 1) ⊎ ((size ≡ 2) ⊎ (size ≡ 4)) → 0 < size
 some_size size (inl e) = omega arith
@@ -321,7 +322,7 @@ extra_bound false = refl
 -- where CFG is not read
 pub narrow_few : (n : ℕ) (k : Kept) (t : TargetState) (size m address : ℕ) (calls : List Ask) → length k.ports ≡ 256 → m < 256 → ((size ≡ 1) ⊎ ((size ≡ 2) ⊎ (size ≡ 4))) →
     address % size ≡ 0 → address % 1024 + size * length calls ≤ 1024 → AreNeighbours size m address calls → ((known k m).large ≡ true) ⊎ (address < 2 ^ 32) →
-    own_entries (issued_from n k t calls) ≤ length calls + cond (known k m).large 5 4
+    own_entries (issued_from Managed n k t calls) ≤ length calls + cond (known k m).large 5 4
 narrow_few n k t size m address [] table lt is aligned fits near where_ = omega arith
 narrow_few n k t size m address (c ∷ []) table lt is aligned fits near where_ =
     let u = near.0 in
@@ -329,7 +330,7 @@ narrow_few n k t size m address (c ∷ []) table lt is aligned fits near where_ 
     let few = f.few in
     let a = own_first size m address u.read u.value n k t [] in
     let b = extra_bound (known k m).large in
-    subst (λ (x : Ask). own_entries (issued_from n k t (x ∷ [])) ≤ 1 + cond (known k m).large 5 4) (sym u.is) (omega (arith, a, few, b))
+    subst (λ (x : Ask). own_entries (issued_from Managed n k t (x ∷ [])) ≤ 1 + cond (known k m).large 5 4) (sym u.is) (omega (arith, a, few, b))
 narrow_few n k t size m address (c ∷ d ∷ ds) table lt is aligned fits near where_ =
     let u = near.0 in
     let some : 0 < size = some_size size is in
@@ -345,10 +346,10 @@ narrow_few n k t size m address (c ∷ d ∷ ds) table lt is aligned fits near w
     let next = made_ready size m address u.read u.value from below some inside
     (subst (λ (l : Bool). (l ≡ true) ⊎ (address + size < 2 ^ 32)) (sym made_.large) (next_where (known k m).large address size (length ds) stored some)) in
     let large : (known (made from here) m).large ≡ (known k m).large = made_large size m address u.read u.value from below ∙ made_.large in
-    let g = ready_few d ds (n + 1) (planned t k here).kept (after t (actions_of (steps_at t k (here_asked size m address u.read u.value)))) size m (address + size) some more near.1
+    let g = ready_few d ds (n + 1) (planned t k here).kept (after t (actions_of (steps_at Managed t k (here_asked size m address u.read u.value)))) size m (address + size) some more near.1
     (subst (λ (x : Kept). ((known x m).large ≡ true) ⊎ ((address + size) + size * suc (length ds) ≤ 2 ^ 32)) (sym made_.is)
     (subst (λ (l : Bool). (l ≡ true) ⊎ ((address + size) + size * suc (length ds) ≤ 2 ^ 32)) (sym large) (rest_where (known k m).large address size (suc (length ds)) stored)))
     (subst (Ready size m (address + size)) (sym made_.is) next) in
     let a = own_first size m address u.read u.value n k t (d ∷ ds) in
     let b = extra_bound (known k m).large in
-    subst (λ (x : Ask). own_entries (issued_from n k t (x ∷ d ∷ ds)) ≤ suc (suc (length ds)) + cond (known k m).large 5 4) (sym u.is) (omega (arith, a, few, g, b))
+    subst (λ (x : Ask). own_entries (issued_from Managed n k t (x ∷ d ∷ ds)) ≤ suc (suc (length ds)) + cond (known k m).large 5 4) (sym u.is) (omega (arith, a, few, g, b))

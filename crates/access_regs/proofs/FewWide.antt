@@ -21,6 +21,7 @@ use Rattle.access_regs.specs.declared.known.Known.{Known}
 use Rattle.access_regs.specs.declared.known.Unsettled.{Unsettled}
 use Rattle.access_regs.proofs.Few.{own_steps, own_steps_append, own_leads, own_settling, few_unless, settled_large, csw_own, csw_made, made_ready, made_large, ready_few, own_first, here_asked, some_size, narrow_few, Ready}
 use Rattle.access_regs.proofs.PortFacts.{known_same, table_kept}
+use Rattle.access_regs.specs.declared.planner.Planner.TheVariants.{Managed}
 
 -- whether SELECT has to be written before a read of CFG: 1 or 0
 abbrev selects : ℕ → Kept → ℕ
@@ -108,11 +109,11 @@ module _ (size m address : ℕ) (read : Bool) (value n : ℕ) (over : 2 ^ 32 ≤
 
 -- units from one on whose CFG is read
 wide_few : (c : Ask) (cs : List Ask) (n : ℕ) (k : Kept) (t : TargetState) (size m address : ℕ) → 0 < size → m < length k.ports → address % 1024 + size * suc (length cs) ≤ 1024 →
-    AreNeighbours size m address (c ∷ cs) → 2 ^ 32 ≤ address → (known k m).large ≡ false → own_entries (issued_from n k t (c ∷ cs)) ≤ selects m k + suc (length cs) + 6
+    AreNeighbours size m address (c ∷ cs) → 2 ^ 32 ≤ address → (known k m).large ≡ false → own_entries (issued_from Managed n k t (c ∷ cs)) ≤ selects m k + suc (length cs) + 6
 wide_few c [] n k t size m address some lt fits near over small =
     let u = near.0 in
     let a = own_first size m address u.read u.value n k t [] in
-    subst (λ (x : Ask). own_entries (issued_from n k t (x ∷ [])) ≤ selects m k + 1 + 6) (sym u.is) (by_course (planned t k (unit.Memory size u.read m address u.value)) (wide_planned size m address u.read u.value n over t k lt small) a)
+    subst (λ (x : Ask). own_entries (issued_from Managed n k t (x ∷ [])) ≤ selects m k + 1 + 6) (sym u.is) (by_course (planned t k (unit.Memory size u.read m address u.value)) (wide_planned size m address u.read u.value n over t k lt small) a)
   where
     by_course : {read : Bool} {value total : ℕ} (i : Issue) → ReadsCfg size m address read value n k i → total ≡ own_steps n false i.steps + 0 → total ≤ selects m k + 1 + 6
     by_course i (goes from is table large few) e = omega (arith, few, e)
@@ -120,9 +121,9 @@ wide_few c [] n k t size m address some lt fits near over small =
 wide_few c (d ∷ ds) n k t size m address some lt fits near over small =
     let u = near.0 in
     let a = own_first size m address u.read u.value n k t (d ∷ ds) in
-    subst (λ (x : Ask). own_entries (issued_from n k t (x ∷ d ∷ ds)) ≤ selects m k + suc (suc (length ds)) + 6) (sym u.is)
+    subst (λ (x : Ask). own_entries (issued_from Managed n k t (x ∷ d ∷ ds)) ≤ selects m k + suc (suc (length ds)) + 6) (sym u.is)
     (by_course u.read u.value near.1 (planned t k (unit.Memory size u.read m address u.value)) (wide_planned size m address u.read u.value n over t k lt small)
-    (after t (actions_of (steps_at t k (here_asked size m address u.read u.value)))) a (λ l v e f g h. wide_few d ds (n + 1) l v size m (address + size) some e f near.1 g h))
+    (after t (actions_of (steps_at Managed t k (here_asked size m address u.read u.value)))) a (λ l v e f g h. wide_few d ds (n + 1) l v size m (address + size) some e f near.1 g h))
   where
     inside : address % 1024 + size < 1024
     inside = (let x = mul-suc size (suc (length ds)) in let y = mul-suc size (length ds) in omega (arith, fits, some, x, y))
@@ -131,8 +132,8 @@ wide_few c (d ∷ ds) n k t size m address some lt fits near over small =
     more = (let x = mul-suc size (suc (length ds)) in omega (arith, fits, some, x))
 
     by_course : (read : Bool) (value : ℕ) → AreNeighbours size m (address + size) (d ∷ ds) → (i : Issue) → ReadsCfg size m address read value n k i → (v : TargetState) → {total : ℕ} →
-        total ≡ own_steps n false i.steps + own_entries (issued_from (n + 1) i.kept v (d ∷ ds)) →
-        ((l : Kept) (w : TargetState) → m < length l.ports → (address + size) % 1024 + size * suc (length ds) ≤ 1024 → 2 ^ 32 ≤ address + size → (known l m).large ≡ false → own_entries (issued_from (n + 1) l w (d ∷ ds)) ≤ selects m l + suc (length ds) + 6) →
+        total ≡ own_steps n false i.steps + own_entries (issued_from Managed (n + 1) i.kept v (d ∷ ds)) →
+        ((l : Kept) (w : TargetState) → m < length l.ports → (address + size) % 1024 + size * suc (length ds) ≤ 1024 → 2 ^ 32 ≤ address + size → (known l m).large ≡ false → own_entries (issued_from Managed (n + 1) l w (d ∷ ds)) ≤ selects m l + suc (length ds) + 6) →
         total ≤ selects m k + suc (suc (length ds)) + 6
     by_course read value rest i (goes from is table large few) v e again =
         let here : m < length from.ports = subst (λ (x : ℕ). m < x) (sym table) lt in
@@ -151,23 +152,23 @@ neighbours_few n k t size m address calls table lt is aligned fits near = by_lar
     few_selects : selects m k ≤ 1
     few_selects = few_unless (is_known k.select (select_value m 15)) (select_of m 15)
 
-    narrow : (l : Bool) → (known k m).large ≡ l → (l ≡ true) ⊎ (address < 2 ^ 32) → own_entries (issued_from n k t calls) ≤ length calls + cond l 5 4
+    narrow : (l : Bool) → (known k m).large ≡ l → (l ≡ true) ⊎ (address < 2 ^ 32) → own_entries (issued_from Managed n k t calls) ≤ length calls + cond l 5 4
     narrow l e where_ =
-        subst (λ (b : Bool). own_entries (issued_from n k t calls) ≤ length calls + cond b 5 4) e
+        subst (λ (b : Bool). own_entries (issued_from Managed n k t calls) ≤ length calls + cond b 5 4) e
         (narrow_few n k t size m address calls table lt is aligned fits near (subst (λ (b : Bool). (b ≡ true) ⊎ (address < 2 ^ 32)) (sym e) where_))
 
-    wide : (xs : List Ask) → address % 1024 + size * length xs ≤ 1024 → AreNeighbours size m address xs → 2 ^ 32 ≤ address → (known k m).large ≡ false → own_entries (issued_from n k t xs) ≤ length xs + 7
+    wide : (xs : List Ask) → address % 1024 + size * length xs ≤ 1024 → AreNeighbours size m address xs → 2 ^ 32 ≤ address → (known k m).large ≡ false → own_entries (issued_from Managed n k t xs) ≤ length xs + 7
     wide [] inside all over small = omega arith
     wide (c ∷ cs) inside all over small =
         let g = wide_few c cs n k t size m address (some_size size is) (subst (λ (x : ℕ). m < x) (sym table) lt) inside all over small in
         omega (arith, g, few_selects)
 
-    by_place : (known k m).large ≡ false → (address < 2 ^ 32) ⊎ (2 ^ 32 ≤ address) → own_entries (issued_from n k t calls) ≤ length calls + cond (nat_lt address (2 ^ 32)) 4 7
+    by_place : (known k m).large ≡ false → (address < 2 ^ 32) ⊎ (2 ^ 32 ≤ address) → own_entries (issued_from Managed n k t calls) ≤ length calls + cond (nat_lt address (2 ^ 32)) 4 7
     by_place small (inl less) =
-        subst (λ (b : Bool). own_entries (issued_from n k t calls) ≤ length calls + cond b 4 7) (sym (lt-ltb address (2 ^ 32) less)) (narrow false small (inr less))
+        subst (λ (b : Bool). own_entries (issued_from Managed n k t calls) ≤ length calls + cond b 4 7) (sym (lt-ltb address (2 ^ 32) less)) (narrow false small (inr less))
     by_place small (inr over) =
-        subst (λ (b : Bool). own_entries (issued_from n k t calls) ≤ length calls + cond b 4 7) (sym (le-ltb address (2 ^ 32) over)) (wide calls fits near over small)
+        subst (λ (b : Bool). own_entries (issued_from Managed n k t calls) ≤ length calls + cond b 4 7) (sym (le-ltb address (2 ^ 32) over)) (wide calls fits near over small)
 
-    by_large : (l : Bool) → (known k m).large ≡ l → own_entries (issued_from n k t calls) ≤ length calls + more_than_one_each l address
+    by_large : (l : Bool) → (known k m).large ≡ l → own_entries (issued_from Managed n k t calls) ≤ length calls + more_than_one_each l address
     by_large true e = narrow true e (inl refl)
     by_large false e = by_place e (cases_lt address (2 ^ 32))

@@ -1,9 +1,9 @@
--- A forgiving unit, where nothing is unsettled: it is made by the accesses of the plain unit.
-use Rattle.std.proofs.Common.{◌≡◌, ◌≢◌, ◌∙◌, ℕ, ◌/◌, ◌%◌, ◌^◌, ◌<◌, ◌⊎◌, inl, inr, Bool, true, false, cond, not, ◌&&◌, ◌||◌, nat_lt, List, [], ◌∷◌, ◌++◌, Option, None, refl, sym, ap, subst, arith, length}
+-- A unit made alone, where nothing is unsettled: it is made by the accesses of the plain unit.
+use Rattle.std.proofs.Common.{◌≡◌, ◌≢◌, ◌∙◌, ℕ, ◌/◌, ◌%◌, ◌^◌, ◌<◌, ◌⊎◌, inl, inr, Bool, true, false, cond, not, ◌&&◌, ◌||◌, nat_lt, List, [], ◌∷◌, ◌++◌, Option, None, refl, sym, ap, subst, arith, length, append_assoc}
 use Rattle.std.proofs.lemmas.Bool.{eq-eqb, cases_eq}
 use Rattle.target_machine.specs.Attempt.{Attempt, attempt, done, is_free}
 use Rattle.target_machine.specs.Laws.{Alike}
-use Rattle.target_machine.specs.Plain.{Action, Makes, Polls, Commands, acted, in_order, is_fault, given, issued, contains, select_of, ap_access_of, csw_for, drw_of, needs_cfg, has_large, cfg_actions, csw_actions, memory_actions, transfer_actions, after_cfg, unit_actions, call_done, ended, result_of, large_after, is_small, commanded, forgives, CallDone, Answered, Skipped}
+use Rattle.target_machine.specs.Plain.{Action, Makes, Polls, Commands, acted, in_order, is_fault, given, issued, contains, select_of, ap_access_of, csw_for, drw_of, needs_cfg, has_large, cfg_actions, csw_actions, memory_actions, transfer_actions, after_cfg, unit_actions, call_done, ended, result_of, large_after, is_small, commanded, forgives, CallDone, Answered, Faulted, Skipped}
 use Rattle.target_machine.specs.State.{TargetState, Agree}
 use Rattle.target_machine.specs.declared.access.Outcome.{Outcome}
 use Rattle.target_machine.specs.declared.access.Outcome.TheVariants.{Fault}
@@ -19,17 +19,17 @@ use Rattle.access_regs.specs.declared.known.Known.{Known}
 use Rattle.access_regs.proofs.Stage.{is_true_of}
 use Rattle.access_regs.proofs.PortFacts.{table_kept, known_same, known_other}
 use Rattle.access_regs.proofs.Settle.{follows_agree}
-use Rattle.access_regs.specs.Course.{Course, answered, small, skipped, IsPassing}
+use Rattle.access_regs.specs.Course.{Course, answered, small, skipped, stopped, IsPassing}
 use Rattle.access_regs.proofs.FollowsFacts.{planned_clear}
 use Rattle.access_regs.proofs.Agreeing.{follows_facts, forgotten_true, whole_from}
 use Rattle.access_regs.proofs.Wide.{contains_last, contains_other}
 use Rattle.target_machine.proofs.ActionAgreement.{in_order_alike}
-use Rattle.target_machine.proofs.ActionLists.{pass_last, after_append, after_issued, issued_pass}
+use Rattle.target_machine.proofs.ActionLists.{order_fault, order_from, pass_last, after_append, after_issued, issued_pass}
 use Rattle.target_machine.specs.Lists.{after, PassTo, SpareRdbuff}
 use Rattle.dap_base.specs.Bits.{has_bit}
 use Rattle.call_terms.specs.Journal.{settles}
-use Rattle.call_terms.specs.declared.journal.Part.TheVariants.{Leads, Ends}
-use Rattle.access_regs.proofs.Runs.{spare_append, AreOf, Left, Step', run_left}
+use Rattle.call_terms.specs.declared.journal.Part.TheVariants.{Settles, Leads, Ends, Skips}
+use Rattle.access_regs.proofs.Runs.{spare_append, AreOf, Left, Step', order_step, run_left}
 
 -- ---- the actions of a memory unit
 
@@ -155,6 +155,46 @@ split_pass : (t : TargetState) (xs : List Action) (a : Action) (v : TargetState)
 split_pass t [] a v h = record { at = t; pass = refl; good = h.0; is = h.1 }
 split_pass t (x ∷ xs) a v h = let s = split_pass (acted t x).next xs a v h.1 in record { at = s.at; pass = (h.0, s.pass); good = s.good; is = s.is }
 
+both_ways : (b : Bool) → b ≡ true → b ≡ false → ⊥
+both_ways true e h = cc
+both_ways false e h = cc
+
+-- actions of which one faults: those before it pass, and it is the last that is issued
+record Faults (m : Attempt) (xs : List Action) : Type 0 where
+  front : List Action
+  action : Action
+  at : TargetState
+  is : issued m.next xs ≡ front ++ action ∷ []
+  pass : PassTo m.next front at
+  bad : is_fault (acted at action).outcome ≡ true
+  last : order_from m xs ≡ acted at action
+
+faults_from : (xs : List Action) (m : Attempt) → is_fault m.outcome ≡ false → is_fault (order_from m xs).outcome ≡ true → Faults m xs
+faults_from [] m good bad = absurd (both_ways (is_fault m.outcome) bad good)
+faults_from (y ∷ xs) m good bad = by_first (is_fault (acted m.next y).outcome) refl (λ e. faults_from xs (acted m.next y) e (ap (λ (z : Attempt). is_fault z.outcome) (sym (order_step m y xs good)) ∙ bad))
+  where
+    by_first : (b : Bool) → is_fault (acted m.next y).outcome ≡ b → (is_fault (acted m.next y).outcome ≡ false → Faults (acted m.next y) xs) → Faults m (y ∷ xs)
+    by_first true e again = record {
+      front = [];
+      action = y;
+      at = m.next;
+      is = ap (λ (b : Bool). y ∷ cond b [] (issued (acted m.next y).next xs)) e;
+      pass = refl;
+      bad = e;
+      last = order_step m y xs good ∙ order_fault (acted m.next y) xs e;
+    }
+    by_first false e again =
+        let r = again e in
+        record {
+          front = y ∷ r.front;
+          action = r.action;
+          at = r.at;
+          is = ap (λ (b : Bool). y ∷ cond b [] (issued (acted m.next y).next xs)) e ∙ ap (λ (l : List Action). y ∷ l) r.is;
+          pass = (e, r.pass);
+          bad = r.bad;
+          last = order_step m y xs good ∙ r.last;
+        }
+
 -- the last access of a list is the one that the unit is for
 pub record HasLast (asked : AccessUnit) (xs : List Action) : Type 0 where
   pub front : List Action
@@ -176,11 +216,11 @@ module _ (k : Kept) (large : List ℕ) (t u : TargetState) (f : Follows k large 
   abbrev RU : Attempt
   RU = in_order u xs
 
-  abbrev DT : CallDone
-  DT = ended (is_fault RT.outcome) true s (result_of call (given RT.outcome)) RT.next lt_after (issued t xs)
+  abbrev DT : Bool → CallDone
+  DT forgive = ended (is_fault RT.outcome) forgive s (result_of call (given RT.outcome)) RT.next lt_after (issued t xs)
 
-  abbrev DU : CallDone
-  DU = ended (is_fault RU.outcome) true s (result_of call (given RU.outcome)) RU.next lu_after (issued u xs)
+  abbrev DU : Bool → CallDone
+  DU forgive = ended (is_fault RU.outcome) forgive s (result_of call (given RU.outcome)) RU.next lu_after (issued u xs)
 
   abbrev kept_of : CallDone → Kept
   kept_of d = kept_after k asked d
@@ -263,15 +303,16 @@ module _ (k : Kept) (large : List ℕ) (t u : TargetState) (f : Follows k large 
       all_issued : (issued u xs ≡ xs) × PassTo u xs RU.next
       all_issued = issued_pass xs u good
 
-      good_course : (b : Bool) → s ≡ b → Course (issue_of (ended false true b (result_of call (given RU.outcome)) RU.next lu_after (issued u xs))) (ended false true b (result_of call (given RT.outcome)) RT.next lt_after (issued t xs)) call u
-      good_course true e =
+      good_course : (forgive b : Bool) → s ≡ b →
+          Course (issue_of (ended false forgive b (result_of call (given RU.outcome)) RU.next lu_after (issued u xs))) (ended false forgive b (result_of call (given RT.outcome)) RT.next lt_after (issued t xs)) call u
+      good_course forgive true e =
           small (record {
             at = RU.next;
             pass = subst (λ (l : List Action). PassTo u l RU.next) (sym (actions_parts (is_early asked (issued u xs)) asked (issued u xs) ∙ all_issued.0)) all_issued.1;
             end = refl;
             follows = after_follows;
           })
-      good_course false e =
+      good_course forgive false e =
           let h = last e in
           let early : Bool = is_early asked (issued u xs) in
           let p = split_pass u h.front (Makes h.last) RU.next (subst (λ (l : List Action). PassTo u l RU.next) h.is all_issued.1) in
@@ -288,36 +329,95 @@ module _ (k : Kept) (large : List ℕ) (t u : TargetState) (f : Follows k large 
             follows = subst (Follows (kept_with written) lt_after RT.next) p.is after_follows;
           })
 
-    pub by_fault : (b : Bool) → is_fault RU.outcome ≡ b → Course (issue_of DU) DT call u
-    by_fault true e =
-        let et : DT ≡ skipped_t = ap (λ (b : Bool). ended b true s (result_of call (given RT.outcome)) RT.next lt_after (issued t xs)) (ap is_fault alike.outcome ∙ e) in
-        let eu : DU ≡ skipped_u = ap (λ (b : Bool). ended b true s (result_of call (given RU.outcome)) RU.next lu_after (issued u xs)) e in
-        subst (λ (d : CallDone). Course (issue_of DU) d call u) (sym et) (subst (λ (d : CallDone). Course (issue_of d) skipped_t call u) (sym eu)
-        (skipped (record { end = refl; passes = all_pass (is_early asked skipped_u.actions) asked u skipped_u.actions; follows = skipped_follows })))
-    by_fault false e =
-        let et : DT ≡ ended false true s (result_of call (given RT.outcome)) RT.next lt_after (issued t xs) =
-        ap (λ (b : Bool). ended b true s (result_of call (given RT.outcome)) RT.next lt_after (issued t xs)) (ap is_fault alike.outcome ∙ e) in
-        let eu : DU ≡ ended false true s (result_of call (given RU.outcome)) RU.next lu_after (issued u xs) =
-        ap (λ (b : Bool). ended b true s (result_of call (given RU.outcome)) RU.next lu_after (issued u xs)) e in
-        subst (λ (d : CallDone). Course (issue_of DU) d call u) (sym et) (subst (λ (d : CallDone). Course (issue_of d) (ended false true s (result_of call (given RT.outcome)) RT.next lt_after (issued t xs)) call u) (sym eu)
-        (good_course e s refl))
+    -- it faults: its steps end with the one that does
+    module _ (bad : is_fault RU.outcome ≡ true) where
+      abbrev x : Faults (done u) xs
+      x = faults_from xs (done u) refl bad
+
+      own : (early : Bool) → part_of early asked x.action ≢ Settles
+      own early e = let settling : settles (part_of early asked x.action) ≡ true = ap settles e in absurd (both_ways (settles (part_of early asked x.action)) settling (never_settles early asked x.action))
+
+      abbrev leads : Bool → List Step
+      leads early = parts_of early asked x.front
+
+      abbrev step : Bool → Step
+      step early = record { part = part_of early asked x.action; action = x.action }
+
+      steps_are : (early : Bool) → parts_of early asked (issued u xs) ≡ leads early ++ step early ∷ []
+      steps_are early = ap (parts_of early asked) x.is ∙ parts_append early asked x.front (x.action ∷ [])
+
+      pass_leads : (early : Bool) → PassTo u (actions_of (leads early)) x.at
+      pass_leads early = subst (λ (l : List Action). PassTo u l x.at) (sym (actions_parts early asked x.front)) x.pass
+
+      skipped_course : Course (issue_of skipped_u) skipped_t call u
+      skipped_course =
+          let early : Bool = is_early asked skipped_u.actions in
+          let abort : Step = record { part = Skips early; action = Commands forgives } in
+          skipped (record {
+            leads = leads early;
+            step = step early;
+            early = early;
+            at = x.at;
+            steps = parts_append early asked (issued u xs) (Commands forgives ∷ []) ∙ ap (λ (l : List Step). l ++ abort ∷ []) (steps_are early) ∙ append_assoc (leads early) (step early ∷ []) (abort ∷ []);
+            own = own early;
+            pass = pass_leads early;
+            bad = x.bad;
+            end = refl;
+            passes = all_pass early asked u skipped_u.actions;
+            follows = skipped_follows;
+          })
+
+      stopped_course : Course (issue_of (record { end = Faulted; next = RU.next; large = lu_after; actions = issued u xs })) (record { end = Faulted; next = RT.next; large = lt_after; actions = issued t xs }) call u
+      stopped_course =
+          let early : Bool = is_early asked (issued u xs) in
+          stopped (record {
+            leads = leads early;
+            step = step early;
+            more = [];
+            at = x.at;
+            steps = steps_are early;
+            own = own early;
+            pass = pass_leads early;
+            bad = x.bad;
+            end = refl;
+            words = ap (λ (y : Attempt). y.next.words) (sym x.last) ∙ sym (ap (λ (y : TargetState). y.words) alike.next.same);
+          })
+
+      bad_course : (forgive : Bool) → Course (issue_of (ended true forgive s (result_of call (given RU.outcome)) RU.next lu_after (issued u xs))) (ended true forgive s (result_of call (given RT.outcome)) RT.next lt_after (issued t xs)) call u
+      bad_course true = skipped_course
+      bad_course false = stopped_course
+
+    pub by_fault : (forgive b : Bool) → is_fault RU.outcome ≡ b → Course (issue_of (DU forgive)) (DT forgive) call u
+    by_fault forgive b e =
+        let et : DT forgive ≡ ended b forgive s (result_of call (given RT.outcome)) RT.next lt_after (issued t xs) =
+        ap (λ (b : Bool). ended b forgive s (result_of call (given RT.outcome)) RT.next lt_after (issued t xs)) (ap is_fault alike.outcome ∙ e) in
+        let eu : DU forgive ≡ ended b forgive s (result_of call (given RU.outcome)) RU.next lu_after (issued u xs) =
+        ap (λ (b : Bool). ended b forgive s (result_of call (given RU.outcome)) RU.next lu_after (issued u xs)) e in
+        subst (λ (d : CallDone). Course (issue_of (DU forgive)) d call u) (sym et)
+        (subst (λ (d : CallDone). Course (issue_of d) (ended b forgive s (result_of call (given RT.outcome)) RT.next lt_after (issued t xs)) call u) (sym eu) (by_case b e))
+      where
+        by_case : (b : Bool) → is_fault RU.outcome ≡ b → Course (issue_of (ended b forgive s (result_of call (given RU.outcome)) RU.next lu_after (issued u xs))) (ended b forgive s (result_of call (given RT.outcome)) RT.next lt_after (issued t xs)) call u
+        by_case true e = bad_course e forgive
+        by_case false e = good_course e forgive s refl
 
 -- ---- memory units and AP units
 
 -- the call, by its actions
-abbrev pub done_of : TargetState → List ℕ → AccessUnit → List Action → Bool → CallDone
-done_of t l asked xs s =
-    ended (is_fault (in_order t xs).outcome) true s (result_of (Access asked) (given (in_order t xs).outcome)) (in_order t xs).next (large_after t l (Access asked)) (issued t xs)
+abbrev pub done_of : Bool → TargetState → List ℕ → AccessUnit → List Action → Bool → CallDone
+done_of forgive t l asked xs s =
+    ended (is_fault (in_order t xs).outcome) forgive s (result_of (Access asked) (given (in_order t xs).outcome)) (in_order t xs).next (large_after t l (Access asked)) (issued t xs)
 
-memory_done : (t : TargetState) (l : List ℕ) (size : ℕ) (read : Bool) (n address value : ℕ) → call_done t l true (Access (unit.Memory size read n address value))
-    ≡ done_of t l (unit.Memory size read n address value) (unit_actions t l (unit.Memory size read n address value)) (is_small t l (Access (unit.Memory size read n address value)))
+memory_done : (forgive : Bool) (t : TargetState) (l : List ℕ) (size : ℕ) (read : Bool) (n address value : ℕ) → call_done t l forgive (Access (unit.Memory size read n address value))
+    ≡ done_of forgive t l (unit.Memory size read n address value) (unit_actions t l (unit.Memory size read n address value)) (is_small t l (Access (unit.Memory size read n address value)))
 unfolding call_done
-memory_done t l size read n address value = refl
+memory_done true t l size read n address value = refl
+memory_done false t l size read n address value = refl
 
-port_done : (t : TargetState) (l : List ℕ) (read : Bool) (n addr value : ℕ) → call_done t l true (Access (unit.Ap read n addr value))
-    ≡ done_of t l (unit.Ap read n addr value) (unit_actions t l (unit.Ap read n addr value)) false
+port_done : (forgive : Bool) (t : TargetState) (l : List ℕ) (read : Bool) (n addr value : ℕ) → call_done t l forgive (Access (unit.Ap read n addr value))
+    ≡ done_of forgive t l (unit.Ap read n addr value) (unit_actions t l (unit.Ap read n addr value)) false
 unfolding call_done
-port_done t l read n addr value = refl
+port_done true t l read n addr value = refl
+port_done false t l read n addr value = refl
 
 contains_one : (b : Bool) (n : ℕ) → contains (cond b (n ∷ []) []) n ≡ b
 contains_one true n = ap (λ (c : Bool). c || false) (eq-eqb n n refl)
@@ -332,25 +432,24 @@ joined_other l n q true ne = contains_other l n q ne
 joined_other l n q false ne = refl
 
 module _ (k : Kept) (large : List ℕ) (t u : TargetState) (f : Follows k large t u) (calm : k.unsettled ≡ None) where
-  pub ap_course : (read : Bool) (n addr value : ℕ) → n < 256 → addr < 256 →
-      Course (alone_at true (unit.Ap read n addr value) u k) (call_done t large true (Access (unit.Ap read n addr value))) (Access (unit.Ap read n addr value)) u
-  ap_course read n addr value lt fits =
+  pub ap_course : (forgive read : Bool) (n addr value : ℕ) → n < 256 → addr < 256 →
+      Course (alone_at forgive (unit.Ap read n addr value) u k) (call_done t large forgive (Access (unit.Ap read n addr value))) (Access (unit.Ap read n addr value)) u
+  ap_course forgive read n addr value lt fits =
       let asked : AccessUnit = unit.Ap read n addr value in
       let xs : List Action = unit_actions t large asked in
       let left = run_left n lt u (addr / 16) (omega arith) (Makes (ap_access_of read (addr % 16) value) ∷ []) k.select (inr refl, tt) (planned_clear k large t u f) in
-      let DT : CallDone = done_of t large asked xs false in
-      let DU : CallDone = done_of u (large_of k asked) asked xs false in
+      let DT : CallDone = done_of forgive t large asked xs false in
       let same_large : contains (large_of k asked) n ≡ contains large n = contains_one (known k n).large n ∙ f.larges n lt in
       let c = by_fault k large t u f calm asked lt xs false large (large_of k asked) (refl, (refl, tt)) left
       (λ e. record { front = Makes (select_of n (addr / 16)) ∷ []; last = ap_access_of read (addr % 16) value; is = refl; ends = refl })
-      same_large (λ q ne. refl) (is_fault (in_order u xs).outcome) refl in
-      subst (λ (d : CallDone). Course (alone_at true asked u k) d (Access asked) u) (sym (port_done t large read n addr value))
+      same_large (λ q ne. refl) forgive (is_fault (in_order u xs).outcome) refl in
+      subst (λ (d : CallDone). Course (alone_at forgive asked u k) d (Access asked) u) (sym (port_done forgive t large read n addr value))
       (subst (λ (d : CallDone). Course (issue_done k asked d) DT (Access asked) u)
-      (sym (port_done u (large_of k asked) read n addr value)) c)
+      (sym (port_done forgive u (large_of k asked) read n addr value)) c)
 
-  pub memory_course : (size : ℕ) (read : Bool) (n address value : ℕ) → n < 256 →
-      Course (alone_at true (unit.Memory size read n address value) u k) (call_done t large true (Access (unit.Memory size read n address value))) (Access (unit.Memory size read n address value)) u
-  memory_course size read n address value lt =
+  pub memory_course : (forgive : Bool) (size : ℕ) (read : Bool) (n address value : ℕ) → n < 256 →
+      Course (alone_at forgive (unit.Memory size read n address value) u k) (call_done t large forgive (Access (unit.Memory size read n address value))) (Access (unit.Memory size read n address value)) u
+  memory_course forgive size read n address value lt =
       let asked : AccessUnit = unit.Memory size read n address value in
       let l2 : List ℕ = large_of k asked in
       let same : contains l2 n ≡ contains large n = contains_one (known k n).large n ∙ f.larges n lt in
@@ -374,14 +473,14 @@ module _ (k : Kept) (large : List ℕ) (t u : TargetState) (f : Follows k large 
       let left = left_shape size read n address value lt u (planned_clear k large t u f) k.select w b (contains large n) csw in
       let c = by_fault k large t u f calm asked lt xs s LT LU (quiet_shape size read n address value w b (contains large n) csw) left
       (λ e. record { front = shape_front size read n address value w (contains large n) csw; last = drw_of read address value; is = shape_last size read n address value w b (contains large n) csw e; ends = refl })
-      (joined_same l2 large n (w && b) same) (λ q ne. joined_other large n q (w && b) ne) (is_fault (in_order u xs).outcome) refl in
+      (joined_same l2 large n (w && b) same) (λ q ne. joined_other large n q (w && b) ne) forgive (is_fault (in_order u xs).outcome) refl in
       let D : TargetState → Bool → Bool → List Action → List ℕ → CallDone = λ v x y acts l.
-      ended (is_fault (in_order v acts).outcome) true (x && not y) (result_of (Access asked) (given (in_order v acts).outcome)) (in_order v acts).next (cond (x && y) (l ++ n ∷ []) l) (issued v acts) in
-      let dt : call_done t large true (Access asked) ≡ D t w b xs large = memory_done t large size read n address value ∙ ap (λ (z : List Action). D t w b z large) xt in
-      let du : call_done u l2 true (Access asked) ≡ D u w b xs l2 =
-      memory_done u l2 size read n address value
+      ended (is_fault (in_order v acts).outcome) forgive (x && not y) (result_of (Access asked) (given (in_order v acts).outcome)) (in_order v acts).next (cond (x && y) (l ++ n ∷ []) l) (issued v acts) in
+      let dt : call_done t large forgive (Access asked) ≡ D t w b xs large = memory_done forgive t large size read n address value ∙ ap (λ (z : List Action). D t w b z large) xt in
+      let du : call_done u l2 forgive (Access asked) ≡ D u w b xs l2 =
+      memory_done forgive u l2 size read n address value
       ∙ ap (λ (z : List Action). D u (needs_cfg l2 n address) (has_large u n) z l2) xu
       ∙ ap (λ (z : Bool). D u z (has_large u n) xs l2) needs ∙ ap (λ (z : Bool). D u w z xs l2) has in
-      subst (λ (d : CallDone). Course (alone_at true asked u k) d (Access asked) u) (sym dt)
+      subst (λ (d : CallDone). Course (alone_at forgive asked u k) d (Access asked) u) (sym dt)
       (subst (λ (d : CallDone). Course (issue_done k asked d) (D t w b xs large) (Access asked) u)
       (sym du) c)

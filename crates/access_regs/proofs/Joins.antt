@@ -11,34 +11,35 @@ use Rattle.access_regs.specs.Journal.{entries_at, kept_at, target_at, issued_fro
 use Rattle.access_regs.specs.Laws.{JournalJoins, KeptJoins, SettlingEnds}
 use Rattle.access_regs.proofs.Lists.{actions_in_append, actions_entries}
 use Rattle.access_regs.proofs.Settle.{settled_calm}
+use Rattle.access_regs.specs.declared.planner.Planner.{Planner}
 
 -- the target after the entries of a call, and then others
-pub after_entries_at : (n : ℕ) (k : Kept) (t : TargetState) (c : Ask) (rest : List Entry) → target_after t (entries_at n t k c ++ rest) ≡ target_after (target_at t k c) rest
-after_entries_at n k t c rest =
-    ap (after t) (actions_in_append (entries_at n t k c) rest)
-    ∙ after_append t (actions_in (entries_at n t k c)) (actions_in rest)
-    ∙ ap (λ (l : List Action). after (after t l) (actions_in rest)) (actions_entries n t k c)
+pub after_entries_at : (p : Planner) (n : ℕ) (k : Kept) (t : TargetState) (c : Ask) (rest : List Entry) → target_after t (entries_at p n t k c ++ rest) ≡ target_after (target_at p t k c) rest
+after_entries_at p n k t c rest =
+    ap (after t) (actions_in_append (entries_at p n t k c) rest)
+    ∙ after_append t (actions_in (entries_at p n t k c)) (actions_in rest)
+    ∙ ap (λ (l : List Action). after (after t l) (actions_in rest)) (actions_entries p n t k c)
 
 pub journal_joins : JournalJoins
-journal_joins n k t [] ys = ap (λ (m : ℕ). issued_from m k t ys) (omega arith)
-journal_joins n k t (c ∷ xs) ys =
-    let u : TargetState = target_at t k c in
-    let l : Kept = kept_at t k c in
-    let first : List Entry = issued_from (n + 1) l u xs in
+journal_joins p n k t [] ys = ap (λ (m : ℕ). issued_from p m k t ys) (omega arith)
+journal_joins p n k t (c ∷ xs) ys =
+    let u : TargetState = target_at p t k c in
+    let l : Kept = kept_at p t k c in
+    let first : List Entry = issued_from p (n + 1) l u xs in
     let count : n + 1 + length xs ≡ n + suc (length xs) = omega arith in
-    ap (λ (x : List Entry). entries_at n t k c ++ x) (journal_joins (n + 1) l u xs ys)
-    ∙ sym (append_assoc (entries_at n t k c) first (issued_from (n + 1 + length xs) (kept_from l u xs) (target_after u first) ys))
-    ∙ ap (λ (m : ℕ). (entries_at n t k c ++ first) ++ issued_from m (kept_from l u xs) (target_after u first) ys) count
-    ∙ ap (λ (s : TargetState). (entries_at n t k c ++ first) ++ issued_from (n + suc (length xs)) (kept_from l u xs) s ys) (sym (after_entries_at n k t c first))
+    ap (λ (x : List Entry). entries_at p n t k c ++ x) (journal_joins p (n + 1) l u xs ys)
+    ∙ sym (append_assoc (entries_at p n t k c) first (issued_from p (n + 1 + length xs) (kept_from p l u xs) (target_after u first) ys))
+    ∙ ap (λ (m : ℕ). (entries_at p n t k c ++ first) ++ issued_from p m (kept_from p l u xs) (target_after u first) ys) count
+    ∙ ap (λ (s : TargetState). (entries_at p n t k c ++ first) ++ issued_from p (n + suc (length xs)) (kept_from p l u xs) s ys) (sym (after_entries_at p n k t c first))
 
 pub kept_joins : KeptJoins
-kept_joins n k t [] ys = refl
-kept_joins n k t (c ∷ xs) ys =
-    let u : TargetState = target_at t k c in
-    let l : Kept = kept_at t k c in
-    let first : List Entry = issued_from (n + 1) l u xs in
-    kept_joins (n + 1) l u xs ys
-    ∙ ap (λ (s : TargetState). kept_from (kept_from l u xs) s ys) (sym (after_entries_at n k t c first))
+kept_joins p n k t [] ys = refl
+kept_joins p n k t (c ∷ xs) ys =
+    let u : TargetState = target_at p t k c in
+    let l : Kept = kept_at p t k c in
+    let first : List Entry = issued_from p (n + 1) l u xs in
+    kept_joins p (n + 1) l u xs ys
+    ∙ ap (λ (s : TargetState). kept_from p (kept_from p l u xs) s ys) (sym (after_entries_at p n k t c first))
 
 pub settling_ends : SettlingEnds
 settling_ends k = settled_calm k

@@ -36,3 +36,4 @@ pub mod LeadLemmas
 pub mod OneEnd
 pub mod ForgivingMemory
 pub mod MemoryPoints
+pub mod LightLemmas

@@ -19,6 +19,7 @@ use Rattle.call_terms.specs.declared.journal.Part.{Part}
 use Rattle.call_terms.specs.declared.calls.Ask.{Ask}
 use Rattle.call_terms.specs.Journal.{Entry, settles, actions_in, Passes}
 use Rattle.access_regs.proofs.Settle.{settled_calm, follows_agree}
+use Rattle.access_regs.specs.declared.planner.Planner.{Planner}
 
 -- ---- entries and steps
 
@@ -30,12 +31,12 @@ pub actions_in_append : (xs ys : List Entry) → actions_in (xs ++ ys) ≡ actio
 actions_in_append [] ys = refl
 actions_in_append (x ∷ xs) ys = ap (λ (l : List Action). x.action ∷ l) (actions_in_append xs ys)
 
-pub actions_entries : (n : ℕ) (u : TargetState) (k : Kept) (c : Ask) → actions_in (entries_at n u k c) ≡ actions_of (steps_at u k c)
-actions_entries n u k c =
-    actions_in_append (numbered n (is_forgiving c) (issue_of u k c).steps) (numbered (n + 1) false (finish_of u k c).steps)
-    ∙ ap (λ (l : List Action). l ++ actions_in (numbered (n + 1) false (finish_of u k c).steps)) (actions_numbered n (is_forgiving c) (issue_of u k c).steps)
-    ∙ ap (λ (l : List Action). actions_of (issue_of u k c).steps ++ l) (actions_numbered (n + 1) false (finish_of u k c).steps)
-    ∙ sym (actions_append (issue_of u k c).steps (finish_of u k c).steps)
+pub actions_entries : (p : Planner) (n : ℕ) (u : TargetState) (k : Kept) (c : Ask) → actions_in (entries_at p n u k c) ≡ actions_of (steps_at p u k c)
+actions_entries p n u k c =
+    actions_in_append (numbered n (is_forgiving c) (issue_of p u k c).steps) (numbered (n + 1) false (finish_of p u k c).steps)
+    ∙ ap (λ (l : List Action). l ++ actions_in (numbered (n + 1) false (finish_of p u k c).steps)) (actions_numbered n (is_forgiving c) (issue_of p u k c).steps)
+    ∙ ap (λ (l : List Action). actions_of (issue_of p u k c).steps ++ l) (actions_numbered (n + 1) false (finish_of p u k c).steps)
+    ∙ sym (actions_append (issue_of p u k c).steps (finish_of p u k c).steps)
 
 -- ---- one call
 
@@ -59,34 +60,34 @@ finish_follows true k large t u f =
     subst (Follows (settled k) large t)
     (sym (ap (after u) (actions_steps Settles (settle k)) ∙ pass_after u g.at (making (settle k)) g.pass)) g.follows
 
-module _ (Ok : Ask → Type 0) (each : (k : Kept) (large : List ℕ) (t u : TargetState) → Follows k large t u → (c : Ask) → Ok c → Course (issue_of u k c) (alone t large c) c.call u) where
+module _ (p : Planner) (Ok : Ask → Type 0) (each : (k : Kept) (large : List ℕ) (t u : TargetState) → Follows k large t u → (c : Ask) → Ok c → Course (issue_of p u k c) (alone t large c) c.call u) where
   abbrev pub AllOk : List Ask → Type 0
   AllOk [] = Unit {0}
   AllOk (c ∷ cs) = Ok c × AllOk cs
 
   pub step_follows : (k : Kept) (large : List ℕ) (t u : TargetState) → Follows k large t u → (c : Ask) → Ok c → (alone t large c).end ≢ Faulted →
-      Follows (finish_of u k c).kept (alone t large c).large (alone t large c).next (after u (actions_of (steps_at u k c)))
+      Follows (finish_of p u k c).kept (alone t large c).large (alone t large c).next (after u (actions_of (steps_at p u k c)))
   step_follows k large t u f c ok ne =
       let d : CallDone = alone t large c in
-      let g = course_follows (issue_of u k c) d c.call u (each k large t u f c ok) ne in
-      let h = finish_follows c.settled (issue_of u k c).kept d.large d.next (after u (actions_of (issue_of u k c).steps)) g in
-      subst (Follows (finish_of u k c).kept d.large d.next)
-      (sym (ap (after u) (actions_append (issue_of u k c).steps (finish_of u k c).steps) ∙ after_append u (actions_of (issue_of u k c).steps) (actions_of (finish_of u k c).steps))) h
+      let g = course_follows (issue_of p u k c) d c.call u (each k large t u f c ok) ne in
+      let h = finish_follows c.settled (issue_of p u k c).kept d.large d.next (after u (actions_of (issue_of p u k c).steps)) g in
+      subst (Follows (finish_of p u k c).kept d.large d.next)
+      (sym (ap (after u) (actions_append (issue_of p u k c).steps (finish_of p u k c).steps) ∙ after_append u (actions_of (issue_of p u k c).steps) (actions_of (finish_of p u k c).steps))) h
 
   -- after a list of calls
   pub list_follows : (n : ℕ) (k : Kept) (large : List ℕ) (t u : TargetState) → Follows k large t u → (cs : List Ask) → AllOk cs → NoneFaults t large cs →
-      Follows (kept_from k u cs) (large_of_all t large cs) (alone_after t large cs) (after u (actions_in (issued_from n k u cs)))
+      Follows (kept_from p k u cs) (large_of_all t large cs) (alone_after t large cs) (after u (actions_in (issued_from p n k u cs)))
   list_follows n k large t u f [] ok none = f
   list_follows n k large t u f (c ∷ cs) ok none =
       let d : CallDone = alone t large c in
-      let v : TargetState = after u (actions_of (steps_at u k c)) in
-      let g = list_follows (n + 1) (finish_of u k c).kept d.large d.next v (step_follows k large t u f c ok.0 none.0) cs ok.1 none.1 in
-      let rest : List Entry = issued_from (n + 1) (finish_of u k c).kept v cs in
-      let e : after u (actions_in (entries_at n u k c ++ rest)) ≡ after v (actions_in rest) =
-      ap (after u) (actions_in_append (entries_at n u k c) rest)
-      ∙ after_append u (actions_in (entries_at n u k c)) (actions_in rest)
-      ∙ ap (λ (l : List Action). after (after u l) (actions_in rest)) (actions_entries n u k c) in
-      subst (Follows (kept_from k u (c ∷ cs)) (large_of_all t large (c ∷ cs)) (alone_after t large (c ∷ cs))) (sym e) g
+      let v : TargetState = after u (actions_of (steps_at p u k c)) in
+      let g = list_follows (n + 1) (finish_of p u k c).kept d.large d.next v (step_follows k large t u f c ok.0 none.0) cs ok.1 none.1 in
+      let rest : List Entry = issued_from p (n + 1) (finish_of p u k c).kept v cs in
+      let e : after u (actions_in (entries_at p n u k c ++ rest)) ≡ after v (actions_in rest) =
+      ap (after u) (actions_in_append (entries_at p n u k c) rest)
+      ∙ after_append u (actions_in (entries_at p n u k c)) (actions_in rest)
+      ∙ ap (λ (l : List Action). after (after u l) (actions_in rest)) (actions_entries p n u k c) in
+      subst (Follows (kept_from p k u (c ∷ cs)) (large_of_all t large (c ∷ cs)) (alone_after t large (c ∷ cs))) (sym e) g
 
 -- ---- entries that pass
 
@@ -136,35 +137,35 @@ finish_passes n true k large t u f =
     let g = settling.settles k large t u f in
     passes_numbered n false u g.at (steps_of Settles (settle k)) (subst (λ (l : List Action). PassTo u l g.at) (sym (actions_steps Settles (settle k))) g.pass)
 
-module _ (Ok : Ask → Type 0) (each : (k : Kept) (large : List ℕ) (t u : TargetState) → Follows k large t u → (c : Ask) → Ok c → Course (issue_of u k c) (alone t large c) c.call u) where
-  step_passes : (n : ℕ) (k : Kept) (large : List ℕ) (t u : TargetState) → Follows k large t u → (c : Ask) → Ok c → (alone t large c).end ≢ Faulted → Passes u (entries_at n u k c)
+module _ (p : Planner) (Ok : Ask → Type 0) (each : (k : Kept) (large : List ℕ) (t u : TargetState) → Follows k large t u → (c : Ask) → Ok c → Course (issue_of p u k c) (alone t large c) c.call u) where
+  step_passes : (n : ℕ) (k : Kept) (large : List ℕ) (t u : TargetState) → Follows k large t u → (c : Ask) → Ok c → (alone t large c).end ≢ Faulted → Passes u (entries_at p n u k c)
   step_passes n k large t u f c ok ne =
       let d : CallDone = alone t large c in
-      let course : Course (issue_of u k c) d c.call u = each k large t u f c ok in
-      let g = course_follows (issue_of u k c) d c.call u course ne in
-      let v : TargetState = after u (actions_of (issue_of u k c).steps) in
-      passes_append u (numbered n (is_forgiving c) (issue_of u k c).steps) (numbered (n + 1) false (finish_of u k c).steps)
-      (course_passes n u t large (issue_of u k c) c course ne)
-      (subst (λ (l : List Action). Passes (after u l) (numbered (n + 1) false (finish_of u k c).steps)) (sym (actions_numbered n (is_forgiving c) (issue_of u k c).steps))
-      (finish_passes (n + 1) c.settled (issue_of u k c).kept d.large d.next v g))
+      let course : Course (issue_of p u k c) d c.call u = each k large t u f c ok in
+      let g = course_follows (issue_of p u k c) d c.call u course ne in
+      let v : TargetState = after u (actions_of (issue_of p u k c).steps) in
+      passes_append u (numbered n (is_forgiving c) (issue_of p u k c).steps) (numbered (n + 1) false (finish_of p u k c).steps)
+      (course_passes n u t large (issue_of p u k c) c course ne)
+      (subst (λ (l : List Action). Passes (after u l) (numbered (n + 1) false (finish_of p u k c).steps)) (sym (actions_numbered n (is_forgiving c) (issue_of p u k c).steps))
+      (finish_passes (n + 1) c.settled (issue_of p u k c).kept d.large d.next v g))
 
   -- no entry of a list of calls of which none ends at a fault stops
-  pub list_passes : (n : ℕ) (k : Kept) (large : List ℕ) (t u : TargetState) → Follows k large t u → (cs : List Ask) → AllOk Ok each cs → NoneFaults t large cs → Passes u (issued_from n k u cs)
+  pub list_passes : (n : ℕ) (k : Kept) (large : List ℕ) (t u : TargetState) → Follows k large t u → (cs : List Ask) → AllOk p Ok each cs → NoneFaults t large cs → Passes u (issued_from p n k u cs)
   list_passes n k large t u f [] ok none = tt
   list_passes n k large t u f (c ∷ cs) ok none =
       let d : CallDone = alone t large c in
-      let v : TargetState = after u (actions_of (steps_at u k c)) in
-      let rest : List Entry = issued_from (n + 1) (finish_of u k c).kept v cs in
-      passes_append u (entries_at n u k c) rest (step_passes n k large t u f c ok.0 none.0)
-      (subst (λ (l : List Action). Passes (after u l) rest) (sym (actions_entries n u k c))
-      (list_passes (n + 1) (finish_of u k c).kept d.large d.next v (step_follows Ok each k large t u f c ok.0 none.0) cs ok.1 none.1))
+      let v : TargetState = after u (actions_of (steps_at p u k c)) in
+      let rest : List Entry = issued_from p (n + 1) (finish_of p u k c).kept v cs in
+      passes_append u (entries_at p n u k c) rest (step_passes n k large t u f c ok.0 none.0)
+      (subst (λ (l : List Action). Passes (after u l) rest) (sym (actions_entries p n u k c))
+      (list_passes (n + 1) (finish_of p u k c).kept d.large d.next v (step_follows p Ok each k large t u f c ok.0 none.0) cs ok.1 none.1))
 
 -- ---- a call that ends at a fault
 
-pub record Stops (n units : ℕ) (k : Kept) (u : TargetState) (cs : List Ask) (left : TargetState) : Type 0 where
+pub record Stops (p : Planner) (n units : ℕ) (k : Kept) (u : TargetState) (cs : List Ask) (left : TargetState) : Type 0 where
   pub front : List Entry
   pub entry : Entry
-  pub stops : StopsAt u (issued_from n k u cs) front entry
+  pub stops : StopsAt u (issued_from p n k u cs) front entry
   pub unit : entry.unit ≡ units
   pub own : entry.part ≢ Settles
   -- the memory is the one that the calls leave
@@ -196,65 +197,65 @@ is_stopped i d call u (stopped a) e = a
 is_stopped i d call u (small a) e = let x : ◌≡◌ {A = CallEnd} Small Faulted = sym a.end ∙ e in absurd (cc)
 is_stopped i d call u (skipped a) e = let x : ◌≡◌ {A = CallEnd} Skipped Faulted = sym a.end ∙ e in absurd (cc)
 
-module _ (n : ℕ) (k : Kept) (large : List ℕ) (t u : TargetState) (c : Ask) (course : Course (issue_of u k c) (alone t large c) c.call u) (bad : (alone t large c).end ≡ Faulted) (rest : List Entry) where
-  stop : IsStopped (issue_of u k c) (alone t large c) u
-  stop = is_stopped (issue_of u k c) (alone t large c) c.call u course bad
+module _ (p : Planner) (n : ℕ) (k : Kept) (large : List ℕ) (t u : TargetState) (c : Ask) (course : Course (issue_of p u k c) (alone t large c) c.call u) (bad : (alone t large c).end ≡ Faulted) (rest : List Entry) where
+  stop : IsStopped (issue_of p u k c) (alone t large c) u
+  stop = is_stopped (issue_of p u k c) (alone t large c) c.call u course bad
 
   abbrev entry_of : Step → Entry
   entry_of s = record { unit = cond (settles s.part) n (n + 1); part = s.part; forgiving = is_forgiving c && not (settles s.part); action = s.action }
 
-  stop_entries : entries_at n u k c ++ rest ≡ numbered n (is_forgiving c) stop.leads ++ entry_of stop.step ∷ (numbered n (is_forgiving c) stop.more ++ (numbered (n + 1) false (finish_of u k c).steps ++ rest))
+  stop_entries : entries_at p n u k c ++ rest ≡ numbered n (is_forgiving c) stop.leads ++ entry_of stop.step ∷ (numbered n (is_forgiving c) stop.more ++ (numbered (n + 1) false (finish_of p u k c).steps ++ rest))
   stop_entries =
-      ap (λ (l : List Step). (numbered n (is_forgiving c) l ++ numbered (n + 1) false (finish_of u k c).steps) ++ rest) stop.steps
-      ∙ append_assoc (numbered n (is_forgiving c) (stop.leads ++ stop.step ∷ stop.more)) (numbered (n + 1) false (finish_of u k c).steps) rest
-      ∙ ap (λ (l : List Entry). l ++ (numbered (n + 1) false (finish_of u k c).steps ++ rest)) (numbered_append n (is_forgiving c) stop.leads (stop.step ∷ stop.more))
-      ∙ append_assoc (numbered n (is_forgiving c) stop.leads) (numbered n (is_forgiving c) (stop.step ∷ stop.more)) (numbered (n + 1) false (finish_of u k c).steps ++ rest)
+      ap (λ (l : List Step). (numbered n (is_forgiving c) l ++ numbered (n + 1) false (finish_of p u k c).steps) ++ rest) stop.steps
+      ∙ append_assoc (numbered n (is_forgiving c) (stop.leads ++ stop.step ∷ stop.more)) (numbered (n + 1) false (finish_of p u k c).steps) rest
+      ∙ ap (λ (l : List Entry). l ++ (numbered (n + 1) false (finish_of p u k c).steps ++ rest)) (numbered_append n (is_forgiving c) stop.leads (stop.step ∷ stop.more))
+      ∙ append_assoc (numbered n (is_forgiving c) stop.leads) (numbered n (is_forgiving c) (stop.step ∷ stop.more)) (numbered (n + 1) false (finish_of p u k c).steps ++ rest)
 
   stop_at : after u (actions_in (numbered n (is_forgiving c) stop.leads)) ≡ stop.at
   stop_at = ap (after u) (actions_numbered n (is_forgiving c) stop.leads) ∙ pass_after u stop.at (actions_of stop.leads) stop.pass
 
-  call_stops : StopsAt u (entries_at n u k c ++ rest) (numbered n (is_forgiving c) stop.leads) (entry_of stop.step)
+  call_stops : StopsAt u (entries_at p n u k c ++ rest) (numbered n (is_forgiving c) stop.leads) (entry_of stop.step)
   call_stops = record {
-    more = numbered n (is_forgiving c) stop.more ++ (numbered (n + 1) false (finish_of u k c).steps ++ rest);
+    more = numbered n (is_forgiving c) stop.more ++ (numbered (n + 1) false (finish_of p u k c).steps ++ rest);
     is = stop_entries;
     passes = passes_numbered n (is_forgiving c) u stop.at stop.leads stop.pass;
     faults = ap (λ (s : TargetState). is_fault (acted s stop.step.action).outcome) stop_at ∙ stop.bad;
     strict = ap (λ (b : Bool). b && not (settles stop.step.part)) (faulted_strict t large c bad);
   }
 
-module _ (Ok : Ask → Type 0) (each : (k : Kept) (large : List ℕ) (t u : TargetState) → Follows k large t u → (c : Ask) → Ok c → Course (issue_of u k c) (alone t large c) c.call u) where
+module _ (p : Planner) (Ok : Ask → Type 0) (each : (k : Kept) (large : List ℕ) (t u : TargetState) → Follows k large t u → (c : Ask) → Ok c → Course (issue_of p u k c) (alone t large c) c.call u) where
   -- the first entry that faults is one of the call that ends at a fault
-  pub list_stops : (n : ℕ) (k : Kept) (large : List ℕ) (t u : TargetState) → Follows k large t u → (cs : List Ask) (c : Ask) → AllOk Ok each cs → Ok c → NoneFaults t large cs →
+  pub list_stops : (n : ℕ) (k : Kept) (large : List ℕ) (t u : TargetState) → Follows k large t u → (cs : List Ask) (c : Ask) → AllOk p Ok each cs → Ok c → NoneFaults t large cs →
       (alone (alone_after t large cs) (large_of_all t large cs) c).end ≡ Faulted →
-      Stops n (n + length cs + 1) k u (cs ++ c ∷ []) (alone (alone_after t large cs) (large_of_all t large cs) c).next
+      Stops p n (n + length cs + 1) k u (cs ++ c ∷ []) (alone (alone_after t large cs) (large_of_all t large cs) c).next
   list_stops n k large t u f [] c ok okc none bad =
-      let course : Course (issue_of u k c) (alone t large c) c.call u = each k large t u f c okc in
-      let st = stop n k large t u c course bad [] in
+      let course : Course (issue_of p u k c) (alone t large c) c.call u = each k large t u f c okc in
+      let st = stop p n k large t u c course bad [] in
       record {
         front = numbered n (is_forgiving c) st.leads;
-        entry = entry_of n k large t u c course bad [] st.step;
-        stops = call_stops n k large t u c course bad [];
+        entry = entry_of p n k large t u c course bad [] st.step;
+        stops = call_stops p n k large t u c course bad [];
         unit = ap (λ (b : Bool). cond b n (n + 1)) (not_settling st.step.part st.own) ∙ omega arith;
         own = st.own;
-        words = ap (λ (s : TargetState). (acted s st.step.action).next.words) (stop_at n k large t u c course bad []) ∙ st.words;
+        words = ap (λ (s : TargetState). (acted s st.step.action).next.words) (stop_at p n k large t u c course bad []) ∙ st.words;
       }
   list_stops n k large t u f (b ∷ cs) c ok okc none bad =
       let d : CallDone = alone t large b in
-      let v : TargetState = after u (actions_of (steps_at u k b)) in
-      let g = list_stops (n + 1) (finish_of u k b).kept d.large d.next v (step_follows Ok each k large t u f b ok.0 none.0) cs c ok.1 okc none.1 bad in
+      let v : TargetState = after u (actions_of (steps_at p u k b)) in
+      let g = list_stops (n + 1) (finish_of p u k b).kept d.large d.next v (step_follows p Ok each k large t u f b ok.0 none.0) cs c ok.1 okc none.1 bad in
       let s = g.stops in
-      let at : after u (actions_in (entries_at n u k b ++ g.front)) ≡ after v (actions_in g.front) =
-      ap (after u) (actions_in_append (entries_at n u k b) g.front)
-      ∙ after_append u (actions_in (entries_at n u k b)) (actions_in g.front)
-      ∙ ap (λ (l : List Action). after (after u l) (actions_in g.front)) (actions_entries n u k b) in
+      let at : after u (actions_in (entries_at p n u k b ++ g.front)) ≡ after v (actions_in g.front) =
+      ap (after u) (actions_in_append (entries_at p n u k b) g.front)
+      ∙ after_append u (actions_in (entries_at p n u k b)) (actions_in g.front)
+      ∙ ap (λ (l : List Action). after (after u l) (actions_in g.front)) (actions_entries p n u k b) in
       record {
-        front = entries_at n u k b ++ g.front;
+        front = entries_at p n u k b ++ g.front;
         entry = g.entry;
         stops = record {
           more = s.more;
-          is = ap (λ (l : List Entry). entries_at n u k b ++ l) s.is ∙ sym (append_assoc (entries_at n u k b) g.front (g.entry ∷ s.more));
-          passes = passes_append u (entries_at n u k b) g.front (step_passes Ok each n k large t u f b ok.0 none.0)
-              (subst (λ (l : List Action). Passes (after u l) g.front) (sym (actions_entries n u k b)) s.passes);
+          is = ap (λ (l : List Entry). entries_at p n u k b ++ l) s.is ∙ sym (append_assoc (entries_at p n u k b) g.front (g.entry ∷ s.more));
+          passes = passes_append u (entries_at p n u k b) g.front (step_passes p Ok each n k large t u f b ok.0 none.0)
+              (subst (λ (l : List Action). Passes (after u l) g.front) (sym (actions_entries p n u k b)) s.passes);
           faults = ap (λ (x : TargetState). is_fault (acted x g.entry.action).outcome) at ∙ s.faults;
           strict = s.strict;
         };
@@ -269,12 +270,12 @@ is_answered i d call u v (stopped a) e = let x : ◌≡◌ {A = CallEnd} Faulted
 is_answered i d call u v (small a) e = let x : ◌≡◌ {A = CallEnd} Small (Answered v) = sym a.end ∙ e in absurd (cc)
 is_answered i d call u v (skipped a) e = let x : ◌≡◌ {A = CallEnd} Skipped (Answered v) = sym a.end ∙ e in absurd (cc)
 
-call_answers : (n : ℕ) (k : Kept) (large : List ℕ) (t u : TargetState) (c : Ask) (v : ℕ) → Course (issue_of u k c) (alone t large c) c.call u → (alone t large c).end ≡ Answered v → (rest : List Entry) →
-    AnswersWith u (entries_at n u k c ++ rest) (n + 1) c.call v
-call_answers n k large t u c v course e rest =
-    let a = is_answered (issue_of u k c) (alone t large c) c.call u v course e in
+call_answers : (p : Planner) (n : ℕ) (k : Kept) (large : List ℕ) (t u : TargetState) (c : Ask) (v : ℕ) → Course (issue_of p u k c) (alone t large c) c.call u → (alone t large c).end ≡ Answered v → (rest : List Entry) →
+    AnswersWith u (entries_at p n u k c ++ rest) (n + 1) c.call v
+call_answers p n k large t u c v course e rest =
+    let a = is_answered (issue_of p u k c) (alone t large c) c.call u v course e in
     let last : Step = record { part = Ends; action = a.action } in
-    let fin : List Entry = numbered (n + 1) false (finish_of u k c).steps in
+    let fin : List Entry = numbered (n + 1) false (finish_of p u k c).steps in
     let at : after u (actions_in (numbered n (is_forgiving c) a.leads)) ≡ a.at = ap (after u) (actions_numbered n (is_forgiving c) a.leads) ∙ pass_after u a.at (actions_of a.leads) a.pass in
     let value : ◌≡◌ {A = CallEnd} (Answered (result_of c.call (given (acted a.at a.action).outcome))) (Answered v) = sym a.end ∙ e in
     let same : result_of c.call (given (acted a.at a.action).outcome) ≡ v = cc in
@@ -292,26 +293,26 @@ call_answers n k large t u c v course e rest =
       gives = ap (λ (s : TargetState). result_of c.call (given (acted s a.action).outcome)) at ∙ same;
     }
 
-module _ (Ok : Ask → Type 0) (each : (k : Kept) (large : List ℕ) (t u : TargetState) → Follows k large t u → (c : Ask) → Ok c → Course (issue_of u k c) (alone t large c) c.call u) where
+module _ (p : Planner) (Ok : Ask → Type 0) (each : (k : Kept) (large : List ℕ) (t u : TargetState) → Follows k large t u → (c : Ask) → Ok c → Course (issue_of p u k c) (alone t large c) c.call u) where
   -- each answer is given by the last own entry of its unit
-  pub list_answers : (n : ℕ) (k : Kept) (large : List ℕ) (t u : TargetState) → Follows k large t u → (cs more : List Ask) (c : Ask) (v : ℕ) → AllOk Ok each cs → Ok c → NoneFaults t large cs →
-      (alone (alone_after t large cs) (large_of_all t large cs) c).end ≡ Answered v → AnswersWith u (issued_from n k u (cs ++ c ∷ more)) (n + length cs + 1) c.call v
+  pub list_answers : (n : ℕ) (k : Kept) (large : List ℕ) (t u : TargetState) → Follows k large t u → (cs more : List Ask) (c : Ask) (v : ℕ) → AllOk p Ok each cs → Ok c → NoneFaults t large cs →
+      (alone (alone_after t large cs) (large_of_all t large cs) c).end ≡ Answered v → AnswersWith u (issued_from p n k u (cs ++ c ∷ more)) (n + length cs + 1) c.call v
   list_answers n k large t u f [] more c v ok okc none e =
-      let a = call_answers n k large t u c v (each k large t u f c okc) e (issued_from (n + 1) (finish_of u k c).kept (after u (actions_of (steps_at u k c))) more) in
+      let a = call_answers p n k large t u c v (each k large t u f c okc) e (issued_from p (n + 1) (finish_of p u k c).kept (after u (actions_of (steps_at p u k c))) more) in
       record { front = a.front; entry = a.entry; more = a.more; is = a.is; unit = a.unit ∙ omega arith; ends = a.ends; gives = a.gives }
   list_answers n k large t u f (b ∷ cs) more c v ok okc none e =
       let d : CallDone = alone t large b in
-      let w : TargetState = after u (actions_of (steps_at u k b)) in
-      let g = list_answers (n + 1) (finish_of u k b).kept d.large d.next w (step_follows Ok each k large t u f b ok.0 none.0) cs more c v ok.1 okc none.1 e in
-      let at : after u (actions_in (entries_at n u k b ++ g.front)) ≡ after w (actions_in g.front) =
-      ap (after u) (actions_in_append (entries_at n u k b) g.front)
-      ∙ after_append u (actions_in (entries_at n u k b)) (actions_in g.front)
-      ∙ ap (λ (l : List Action). after (after u l) (actions_in g.front)) (actions_entries n u k b) in
+      let w : TargetState = after u (actions_of (steps_at p u k b)) in
+      let g = list_answers (n + 1) (finish_of p u k b).kept d.large d.next w (step_follows p Ok each k large t u f b ok.0 none.0) cs more c v ok.1 okc none.1 e in
+      let at : after u (actions_in (entries_at p n u k b ++ g.front)) ≡ after w (actions_in g.front) =
+      ap (after u) (actions_in_append (entries_at p n u k b) g.front)
+      ∙ after_append u (actions_in (entries_at p n u k b)) (actions_in g.front)
+      ∙ ap (λ (l : List Action). after (after u l) (actions_in g.front)) (actions_entries p n u k b) in
       record {
-        front = entries_at n u k b ++ g.front;
+        front = entries_at p n u k b ++ g.front;
         entry = g.entry;
         more = g.more;
-        is = ap (λ (l : List Entry). entries_at n u k b ++ l) g.is ∙ sym (append_assoc (entries_at n u k b) g.front (g.entry ∷ g.more));
+        is = ap (λ (l : List Entry). entries_at p n u k b ++ l) g.is ∙ sym (append_assoc (entries_at p n u k b) g.front (g.entry ∷ g.more));
         unit = g.unit ∙ omega arith;
         ends = g.ends;
         gives = ap (λ (x : TargetState). result_of c.call (given (acted x g.entry.action).outcome)) at ∙ g.gives;

@@ -5,6 +5,7 @@ use Rattle.target_machine.specs.Plain.{acted, may_forgive, Faulted, CallDone}
 use Rattle.target_machine.specs.State.{TargetState}
 use Rattle.target_machine.specs.declared.unit.Call.{Call}
 use Rattle.target_machine.specs.declared.unit.Call.TheVariants.{Access, Probe}
+use Rattle.target_machine.specs.declared.unit.Unit.{Unit as AccessUnit}
 use Rattle.call_terms.specs.Asks.{AreAskable, IsAskable, IsCallInRange, is_forgiving}
 use Rattle.call_terms.specs.Journal.{Entry, Passes, settles, target_after}
 use Rattle.call_terms.specs.World.{is_faulted}
@@ -14,31 +15,32 @@ use Rattle.call_terms.specs.declared.journal.Part.TheVariants.{Settles, Leads, E
 use Rattle.access_regs.specs.Alone.{KeepsMemory, alone, alone_after}
 use Rattle.access_regs.specs.Closed.{MemoryFollowsCalls, closed_after, closed_by, closes}
 use Rattle.access_regs.specs.Follows.{Follows}
-use Rattle.access_regs.specs.Journal.{Step, steps_of, actions_of, issue, issue_of, finish, finish_of, steps_at, entries_at, numbered, issued_from, planned, after_settling, alone_at}
+use Rattle.access_regs.specs.Journal.{Step, steps_of, actions_of, issue, issue_of, finish, finish_of, steps_at, entries_at, numbered, issued_from, planned, after_settling, alone_at, is_alone}
 use Rattle.access_regs.specs.Kept.{Kept, nothing_kept}
 use Rattle.access_regs.specs.Plan.{settle, settling}
 use Rattle.access_regs.specs.declared.known.Unsettled.{Unsettled}
 use Rattle.access_regs.proofs.AllCalls.{both_true, call_course, fresh_follows}
-use Rattle.access_regs.proofs.ForgivingMemory.{Keeps, settled_keeps}
+use Rattle.access_regs.proofs.ForgivingMemory.{Keeps, settled_keeps, skips}
 use Rattle.access_regs.proofs.Keeps.{planned_keep, settle_keep}
 use Rattle.access_regs.proofs.Lists.{actions_entries, course_follows, faulted_strict, step_follows}
 use Rattle.access_regs.proofs.OneEnd.{AllParts, IsNoEnd, IsSettling, OneEnd, planned_one, finish_settles, never}
 use Rattle.access_regs.proofs.Seams.{InFirst, InSecond, after_split, passes_first, passes_none, passes_second, seam_in}
 use Rattle.access_regs.proofs.StopLists.{FirstBreak, ends_how, first_break}
+use Rattle.access_regs.specs.declared.planner.Planner.{Planner}
 
 -- ---- what one call issues
 
-issue_keeps : (k : Kept) (large : List ℕ) (t u : TargetState) → Follows k large t u → (c : Ask) → IsAskable c → Keeps u (issue_of u k c).steps
-issue_keeps k large t u f c ok = by_mark c.call (c.forgive && may_forgive c.call) refl ok.range
+issue_keeps : (p : Planner) (k : Kept) (large : List ℕ) (t u : TargetState) → Follows k large t u → (c : Ask) → IsAskable c → Keeps IsNoEnd u (issue_of p u k c).steps
+issue_keeps p k large t u f c ok = by_call c.call ok.range
   where
-    by_mark : (call : Call) (b : Bool) → (c.forgive && may_forgive call) ≡ b → IsCallInRange call → Keeps u (issue u k c.forgive call).steps
-    by_mark (Access asked) false e range =
-        subst (λ (b : Bool). Keeps u (cond b (after_settling u k (alone_at true asked)) (planned u k asked)).steps) (sym e)
-        (record { memory = planned_keep k large t u f asked range; one = planned_one IsNoEnd u k asked })
-    by_mark (Access asked) true e range =
-        subst (λ (b : Bool). Keeps u (cond b (after_settling u k (alone_at true asked)) (planned u k asked)).steps) (sym e)
-        (settled_keeps k large t u f asked range (let p = both_true c.forgive (may_forgive (Access asked)) e in p.1))
-    by_mark (Probe x) b e range = record { memory = ((λ ne. absurd (ne refl)), tt); one = ((λ e. tt), tt) }
+    by_mark : (asked : AccessUnit) (b : Bool) → (is_alone p c.forgive && may_forgive (Access asked)) ≡ b → IsCallInRange (Access asked) →
+        Keeps IsNoEnd u (cond b (after_settling u k (alone_at c.forgive asked)) (planned u k asked)).steps
+    by_mark asked false e range = record { memory = planned_keep k large t u f asked range; one = planned_one IsNoEnd u k asked }
+    by_mark asked true e range = settled_keeps IsNoEnd c.forgive (λ h early. skips early) k large t u f asked range (both_true (is_alone p c.forgive) (may_forgive (Access asked)) e).1
+
+    by_call : (call : Call) → IsCallInRange call → Keeps IsNoEnd u (issue p u k c.forgive call).steps
+    by_call (Access asked) range = by_mark asked (is_alone p c.forgive && may_forgive (Access asked)) refl range
+    by_call (Probe x) range = record { memory = ((λ ne. absurd (ne refl)), tt); one = ((λ e. tt), tt) }
 
 finish_keeps : (b : Bool) (k : Kept) (large : List ℕ) (t u : TargetState) → Follows k large t u → KeepsMemory u (finish b k).steps
 finish_keeps false k large t u f = tt
@@ -142,14 +144,14 @@ cut n units u (x ∷ es) (y ∷ front) more h is =
         by_rest (open_ count words) kept same = open_ (ap (λ (m : ℕ). closed_after m front) same ∙ count) (words ∙ kept)
         by_rest (shut count words) kept same = shut (ap (λ (m : ℕ). closed_after m front) same ∙ count) words
 
-entries_keep : (n : ℕ) (k : Kept) (large : List ℕ) (t u : TargetState) → Follows k large t u → (c : Ask) → IsAskable c → (alone t large c).end ≢ Faulted → EntriesKeep IsNoEnd n u (entries_at n u k c)
-entries_keep n k large t u f c ok ne =
+entries_keep : (p : Planner) (n : ℕ) (k : Kept) (large : List ℕ) (t u : TargetState) → Follows k large t u → (c : Ask) → IsAskable c → (alone t large c).end ≢ Faulted → EntriesKeep IsNoEnd n u (entries_at p n u k c)
+entries_keep p n k large t u f c ok ne =
     let d : CallDone = alone t large c in
-    let h = issue_keeps k large t u f c ok in
-    let g = course_follows (issue_of u k c) d c.call u (call_course k large t u f c ok) ne in
-    let v : TargetState = after u (actions_of (issue_of u k c).steps) in
-    keep_numbered IsNoEnd n (n + 1) (is_forgiving c) (issue_of u k c).steps (finish_of u k c).steps u h.memory h.one (finish_settles IsNoEnd (λ e. absurd (cc)) c.settled (issue_of u k c).kept)
-    (settling_keep IsNoEnd n (n + 1) (finish_of u k c).steps v (finish_settles IsSettling refl c.settled (issue_of u k c).kept) (finish_keeps c.settled (issue_of u k c).kept d.large d.next v g))
+    let h = issue_keeps p k large t u f c ok in
+    let g = course_follows (issue_of p u k c) d c.call u (call_course p k large t u f c ok) ne in
+    let v : TargetState = after u (actions_of (issue_of p u k c).steps) in
+    keep_numbered IsNoEnd n (n + 1) (is_forgiving c) (issue_of p u k c).steps (finish_of p u k c).steps u h.memory h.one (finish_settles IsNoEnd (λ e. absurd (cc)) c.settled (issue_of p u k c).kept)
+    (settling_keep IsNoEnd n (n + 1) (finish_of p u k c).steps v (finish_settles IsSettling refl c.settled (issue_of p u k c).kept) (finish_keeps c.settled (issue_of p u k c).kept d.large d.next v g))
 
 -- a list that is joined in two ways: the front ends in the first part, or in the second
 pub data Seam {A : Type 0} (xs ys front more : List A) : Type 0 where
@@ -171,13 +173,20 @@ seam (x ∷ xs) ys (y ∷ front) more is =
 -- ---- a call that ends at a fault
 
 -- a call that forgives nothing issues nothing after the access that it is for
-strict_one : (k : Kept) (u : TargetState) (c : Ask) → is_forgiving c ≡ false → OneEnd IsSettling (issue_of u k c).steps
-strict_one k u c strict = by_call c.call strict
+strict_one : (p : Planner) (k : Kept) (large : List ℕ) (t u : TargetState) → Follows k large t u → (c : Ask) → IsAskable c → is_forgiving c ≡ false → OneEnd IsSettling (issue_of p u k c).steps
+strict_one p k large t u f c ok strict = by_call c.call ok.range strict
   where
-    by_call : (call : Call) → (c.forgive && may_forgive call) ≡ false → OneEnd IsSettling (issue u k c.forgive call).steps
-    by_call (Access asked) e =
-        subst (λ (b : Bool). OneEnd IsSettling (cond b (after_settling u k (alone_at true asked)) (planned u k asked)).steps) (sym e) (planned_one IsSettling u k asked)
-    by_call (Probe x) e = ((λ p. tt), tt)
+    by_mark : (asked : AccessUnit) (b : Bool) → (is_alone p c.forgive && may_forgive (Access asked)) ≡ b → IsCallInRange (Access asked) → (c.forgive && may_forgive (Access asked)) ≡ false →
+        OneEnd IsSettling (cond b (after_settling u k (alone_at c.forgive asked)) (planned u k asked)).steps
+    by_mark asked false e range mild = planned_one IsSettling u k asked
+    by_mark asked true e range mild =
+        let may = (both_true (is_alone p c.forgive) (may_forgive (Access asked)) e).1 in
+        let kept = settled_keeps IsSettling c.forgive (λ h early. never (c.forgive && may_forgive (Access asked)) mild (ap (λ (x : Bool). x && may_forgive (Access asked)) h ∙ may)) k large t u f asked range may in
+        kept.one
+
+    by_call : (call : Call) → IsCallInRange call → (c.forgive && may_forgive call) ≡ false → OneEnd IsSettling (issue p u k c.forgive call).steps
+    by_call (Access asked) range mild = by_mark asked (is_alone p c.forgive && may_forgive (Access asked)) refl range mild
+    by_call (Probe x) range mild = ((λ e. tt), tt)
 
 among : (P : Part → Type 0) (xs : List Entry) (e : Entry) (more : List Entry) → AllAre P (xs ++ e ∷ more) → P e.part
 unfolding AllAre
@@ -211,33 +220,33 @@ none_left n u = tt
 unmarked : Ask → Ask
 unmarked c = record c { settled = false }
 
-faulted_open : (n units : ℕ) (k : Kept) (large : List ℕ) (t u : TargetState) → Follows k large t u → (c : Ask) → IsAskable c → (alone t large c).end ≡ Faulted → (front more rest : List Entry) →
-    Passes u front → entries_at n u k c ++ rest ≡ front ++ more → Open units u front
+faulted_open : (p : Planner) (n units : ℕ) (k : Kept) (large : List ℕ) (t u : TargetState) → Follows k large t u → (c : Ask) → IsAskable c → (alone t large c).end ≡ Faulted → (front more rest : List Entry) →
+    Passes u front → entries_at p n u k c ++ rest ≡ front ++ more → Open units u front
 unfolding unmarked
-faulted_open n units k large t u f c ok bad front more rest pass is =
-    by_seam (seam own (numbered (n + 1) false (finish_of u k c).steps ++ rest) front more (sym (append_assoc own (numbered (n + 1) false (finish_of u k c).steps) rest) ∙ is))
+faulted_open p n units k large t u f c ok bad front more rest pass is =
+    by_seam (seam own (numbered (n + 1) false (finish_of p u k c).steps ++ rest) front more (sym (append_assoc own (numbered (n + 1) false (finish_of p u k c).steps) rest) ∙ is))
   where
     own : List Entry
-    own = numbered n (is_forgiving c) (issue_of u k c).steps
+    own = numbered n (is_forgiving c) (issue_of p u k c).steps
 
-    b : FirstBreak n k u (unmarked c)
-    b = first_break n k large t u f (unmarked c) (record { sound = ok.sound; range = ok.range }) bad
+    b : FirstBreak p n k u (unmarked c)
+    b = first_break p n k large t u f (unmarked c) (record { sound = ok.sound; range = ok.range }) bad
 
     broken : own ≡ b.front ++ b.entry ∷ b.more
     broken = sym (append-nil own) ∙ b.is
 
     keeps : EntriesKeep IsSettling n u own
     keeps =
-        let h = issue_keeps k large t u f c ok in
+        let h = issue_keeps p k large t u f c ok in
         subst (EntriesKeep IsSettling n u) (append-nil own)
-        (keep_numbered IsSettling n (n + 1) (is_forgiving c) (issue_of u k c).steps [] u h.memory (strict_one k u c (faulted_strict t large c bad)) tt (none_left n (after u (actions_of (issue_of u k c).steps))))
+        (keep_numbered IsSettling n (n + 1) (is_forgiving c) (issue_of p u k c).steps [] u h.memory (strict_one p k large t u f c ok (faulted_strict t large c bad)) tt (none_left n (after u (actions_of (issue_of p u k c).steps))))
 
     before : (back : List Entry) → own ≡ front ++ back → InFirst front b.front b.entry ⊎ InSecond front back b.front b.entry b.more → Open units u front
     before back split (inl first_) = absurd (passes_none u front b.front b.entry first_.more pass first_.is b.bad)
     before back split (inr second_) =
         stays_open n units u front second_.back b.entry b.more (subst (EntriesKeep IsSettling n u) (split ∙ ap (λ (l : List Entry). front ++ l) second_.is) keeps) b.own
 
-    by_seam : Seam own (numbered (n + 1) false (finish_of u k c).steps ++ rest) front more → Open units u front
+    by_seam : Seam own (numbered (n + 1) false (finish_of p u k c).steps ++ rest) front more → Open units u front
     by_seam (first back split) = before back split (seam_in front back b.front b.entry b.more (sym split ∙ broken))
     by_seam (second back split tail) =
         absurd (passes_none u own b.front b.entry b.more (passes_first u own back (subst (Passes u) split pass)) broken b.bad)
@@ -257,30 +266,30 @@ closed_append units [] ys = refl
 closed_append units (x ∷ xs) ys = closed_append (closed_by units x) xs ys
 
 -- one call that does not end at a fault, and the calls after it
-module _ (n units : ℕ) (k : Kept) (large : List ℕ) (t u : TargetState) (f : Follows k large t u) (c : Ask) (cs : List Ask) (ok : IsAskable c) (ne : (alone t large c).end ≢ Faulted) (front more : List Entry) (pass : Passes u front) where
+module _ (p : Planner) (n units : ℕ) (k : Kept) (large : List ℕ) (t u : TargetState) (f : Follows k large t u) (c : Ask) (cs : List Ask) (ok : IsAskable c) (ne : (alone t large c).end ≢ Faulted) (front more : List Entry) (pass : Passes u front) where
   abbrev es : List Entry
-  es = entries_at n u k c
+  es = entries_at p n u k c
 
   abbrev v : TargetState
-  v = after u (actions_of (steps_at u k c))
+  v = after u (actions_of (steps_at p u k c))
 
   abbrev d : CallDone
   d = alone t large c
 
   abbrev rest : List Entry
-  rest = issued_from (n + 1) (finish_of u k c).kept v cs
+  rest = issued_from p (n + 1) (finish_of p u k c).kept v cs
 
   keeps : EntriesKeep IsNoEnd n u es
-  keeps = entries_keep n k large t u f c ok ne
+  keeps = entries_keep p n k large t u f c ok ne
 
-  next : Follows (finish_of u k c).kept d.large d.next v
-  next = step_follows IsAskable call_course k large t u f c ok ne
+  next : Follows (finish_of p u k c).kept d.large d.next v
+  next = step_follows p IsAskable (call_course p) k large t u f c ok ne
 
   whole : target_after u es ≡ v
-  whole = ap (after u) (actions_entries n u k c)
+  whole = ap (after u) (actions_entries p n u k c)
 
   after_call : (target_after u es).words ≡ d.next.words
-  after_call = ap (λ (s : TargetState). s.words) whole ∙ same_words (finish_of u k c).kept d.large d.next v next
+  after_call = ap (λ (s : TargetState). s.words) whole ∙ same_words (finish_of p u k c).kept d.large d.next v next
 
   one_call : (m : ℕ) → m ≡ n + 1 → (alone_after t large (take (m - n) (c ∷ cs))).words ≡ d.next.words
   one_call m e =
@@ -317,7 +326,7 @@ module _ (n units : ℕ) (k : Kept) (large : List ℕ) (t u : TargetState) (f : 
           some (omega (arith, counts, at_least))
           (words_at ∙ words ∙ more_calls (closed_after m back) at_least ∙ ap (λ (i : ℕ). (alone_after t large (take (i - n) (c ∷ cs))).words) (sym counts))
 
-  goes_on : ((m : ℕ) → Follows (finish_of u k c).kept d.large d.next v → (back : List Entry) → Passes v back → rest ≡ back ++ more → Reached (n + 1) m d.large d.next v cs back) → es ++ rest ≡ front ++ more →
+  goes_on : ((m : ℕ) → Follows (finish_of p u k c).kept d.large d.next v → (back : List Entry) → Passes v back → rest ≡ back ++ more → Reached (n + 1) m d.large d.next v cs back) → es ++ rest ≡ front ++ more →
       Reached n units large t u (c ∷ cs) front
   goes_on recurse is = by_seam (seam es rest front more is)
     where
@@ -327,25 +336,25 @@ module _ (n units : ℕ) (k : Kept) (large : List ℕ) (t u : TargetState) (f : 
           let passed : Passes v back = subst (λ (s : TargetState). Passes s back) whole (passes_second u es back (subst (Passes u) split pass)) in
           beyond back split (recurse (closed_after units es) next back passed tail)
 
-reached : (n units : ℕ) (k : Kept) (large : List ℕ) (t u : TargetState) → Follows k large t u → (calls : List Ask) → AreAskable calls → (front more : List Entry) → Passes u front →
-    issued_from n k u calls ≡ front ++ more → Reached n units large t u calls front
-reached n units k large t u f [] ok [] more pass is = none refl (same_words k large t u f)
-reached n units k large t u f [] ok (e ∷ front) more pass is = absurd (cc)
-reached n units k large t u f (c ∷ cs) ok front more pass is =
+reached : (p : Planner) (n units : ℕ) (k : Kept) (large : List ℕ) (t u : TargetState) → Follows k large t u → (calls : List Ask) → AreAskable calls → (front more : List Entry) → Passes u front →
+    issued_from p n k u calls ≡ front ++ more → Reached n units large t u calls front
+reached p n units k large t u f [] ok [] more pass is = none refl (same_words k large t u f)
+reached p n units k large t u f [] ok (e ∷ front) more pass is = absurd (cc)
+reached p n units k large t u f (c ∷ cs) ok front more pass is =
     by_end (ends_how (alone t large c).end)
-    (λ m next back passed tail. reached (n + 1) m (finish_of u k c).kept (alone t large c).large (alone t large c).next (after u (actions_of (steps_at u k c))) next cs ok.1 back more passed tail)
+    (λ m next back passed tail. reached p (n + 1) m (finish_of p u k c).kept (alone t large c).large (alone t large c).next (after u (actions_of (steps_at p u k c))) next cs ok.1 back more passed tail)
   where
     by_end : ((alone t large c).end ≡ Faulted) ⊎ (((alone t large c).end ≢ Faulted) × (is_faulted (alone t large c).end ≡ false)) →
-        ((m : ℕ) → Follows (finish_of u k c).kept (alone t large c).large (alone t large c).next (after u (actions_of (steps_at u k c))) → (back : List Entry) → Passes (after u (actions_of (steps_at u k c))) back →
-        issued_from (n + 1) (finish_of u k c).kept (after u (actions_of (steps_at u k c))) cs ≡ back ++ more → Reached (n + 1) m (alone t large c).large (alone t large c).next (after u (actions_of (steps_at u k c))) cs back) →
+        ((m : ℕ) → Follows (finish_of p u k c).kept (alone t large c).large (alone t large c).next (after u (actions_of (steps_at p u k c))) → (back : List Entry) → Passes (after u (actions_of (steps_at p u k c))) back →
+        issued_from p (n + 1) (finish_of p u k c).kept (after u (actions_of (steps_at p u k c))) cs ≡ back ++ more → Reached (n + 1) m (alone t large c).large (alone t large c).next (after u (actions_of (steps_at p u k c))) cs back) →
         Reached n units large t u (c ∷ cs) front
     by_end (inl bad) recurse =
-        let o = faulted_open n units k large t u f c ok.0 bad front more (issued_from (n + 1) (finish_of u k c).kept (after u (actions_of (steps_at u k c))) cs) pass is in
+        let o = faulted_open p n units k large t u f c ok.0 bad front more (issued_from p (n + 1) (finish_of p u k c).kept (after u (actions_of (steps_at p u k c))) cs) pass is in
         none o.count (o.words ∙ same_words k large t u f)
-    by_end (inr good) recurse = goes_on n units k large t u f c cs ok.0 good.0 front more pass recurse is
+    by_end (inr good) recurse = goes_on p n units k large t u f c cs ok.0 good.0 front more pass recurse is
 
 pub memory_follows : MemoryFollowsCalls
-memory_follows t calls front more fresh ok pass is = by_reached (reached 0 0 nothing_kept [] t t (fresh_follows t fresh) calls ok front more pass is)
+memory_follows p t calls front more fresh ok pass is = by_reached (reached p 0 0 nothing_kept [] t t (fresh_follows t fresh) calls ok front more pass is)
   where
     by_reached : Reached 0 0 [] t t calls front → (target_after t front).words ≡ (alone_after t [] (take (closed_after 0 front) calls)).words
     by_reached (none count words) = words ∙ sym (ap (λ (i : ℕ). (alone_after t [] (take i calls)).words) count)

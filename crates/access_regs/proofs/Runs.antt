@@ -20,7 +20,7 @@ spare_append (x ∷ xs) ys h k = (h.0, spare_append xs ys h.1 k)
 
 -- ---- what is issued, one action after the other
 
-order_step : (m : Attempt) (x : Action) (xs : List Action) → is_fault m.outcome ≡ false → order_from m (x ∷ xs) ≡ order_from (acted m.next x) xs
+pub order_step : (m : Attempt) (x : Action) (xs : List Action) → is_fault m.outcome ≡ false → order_from m (x ∷ xs) ≡ order_from (acted m.next x) xs
 order_step m x xs good = ap (λ (b : Bool). order_from (cond b m (acted m.next x)) xs) good
 
 -- ---- accesses of one AP

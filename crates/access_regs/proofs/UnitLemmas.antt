@@ -3,7 +3,7 @@ use Rattle.std.proofs.Common.{◌≡◌, ◌⊎◌, inl, inr, ◌∙◌, ℕ, su
 use Rattle.access_regs.proofs.Seams.{InFirst, InSecond, seam_in}
 use Rattle.access_regs.proofs.StopLists.{finish_settles, numbered_unit}
 use Rattle.access_regs.specs.Entries.{UnitsInRange}
-use Rattle.access_regs.specs.Journal.{Issue, Step, actions_of, after_settling, before, by_cfg, by_cfg_read, by_csw, by_plan, entries_at, finish_of, alone_at, done_alone, gives, is_early, is_last, issue, issue_of, issued_from, last_action, making, numbered, part_of, parts_of, planned, port_of, steps_at, steps_of}
+use Rattle.access_regs.specs.Journal.{Issue, Step, actions_of, after_settling, before, by_cfg, by_cfg_read, by_csw, by_plan, entries_at, finish_of, alone_at, done_alone, gives, is_alone, is_early, is_last, issue, issue_of, issued_from, last_action, making, numbered, part_of, parts_of, planned, port_of, steps_at, steps_of}
 use Rattle.access_regs.specs.Kept.{Kept, nothing_kept}
 use Rattle.access_regs.specs.Plan.{cfg_plan, first_plan, leads, learned, learned_cfg, needs_cfg, needs_csw}
 use Rattle.call_terms.specs.Asks.{is_forgiving}
@@ -18,6 +18,7 @@ use Rattle.target_machine.specs.declared.access.RegAccess.{RegAccess}
 use Rattle.target_machine.specs.declared.unit.Call.{Call}
 use Rattle.target_machine.specs.declared.unit.Call.TheVariants.{Access, Probe}
 use Rattle.target_machine.specs.declared.unit.Unit.{Unit as AccessUnit}
+use Rattle.access_regs.specs.declared.planner.Planner.{Planner}
 
 NoneSettles : List Step → Type 0
 NoneSettles [] = Unit {0}
@@ -73,16 +74,16 @@ none_map early asked [] = tt
 none_map early asked (x ∷ xs) = (none_part early asked x, none_map early asked xs)
 
 -- before anything is unsettled
-none_first : (t : TargetState) (c : Ask) → NoneSettles (issue_of t nothing_kept c).steps
+none_first : (p : Planner) (t : TargetState) (c : Ask) → NoneSettles (issue_of p t nothing_kept c).steps
 unfolding NoneSettles
-none_first t c = by_call c.forgive c.call
+none_first p t c = by_call c.forgive c.call
   where
-    by_mark : (b : Bool) (asked : AccessUnit) → NoneSettles (cond b (after_settling t nothing_kept (alone_at true asked)) (planned t nothing_kept asked)).steps
-    by_mark true asked = none_map (is_early asked (done_alone t nothing_kept true asked).actions) asked (done_alone t nothing_kept true asked).actions
-    by_mark false asked = none_cfg t nothing_kept asked
+    by_mark : (b f : Bool) (asked : AccessUnit) → NoneSettles (cond b (after_settling t nothing_kept (alone_at f asked)) (planned t nothing_kept asked)).steps
+    by_mark true f asked = none_map (is_early asked (done_alone t nothing_kept f asked).actions) asked (done_alone t nothing_kept f asked).actions
+    by_mark false f asked = none_cfg t nothing_kept asked
 
-    by_call : (f : Bool) (call : Call) → NoneSettles (issue t nothing_kept f call).steps
-    by_call f (Access asked) = by_mark (f && may_forgive (Access asked)) asked
+    by_call : (f : Bool) (call : Call) → NoneSettles (issue p t nothing_kept f call).steps
+    by_call f (Access asked) = by_mark (is_alone p f && may_forgive (Access asked)) f asked
     by_call f (Probe asked) = (refl, tt)
 
 none_at : (n : ℕ) (b : Bool) (steps : List Step) (front : List Entry) (e : Entry) (more : List Entry) → NoneSettles steps → numbered n b steps ≡ front ++ e ∷ more → settles e.part ≡ false
@@ -98,39 +99,39 @@ unit_by : (b : Bool) (n u : ℕ) → u ≡ cond b n (n + 1) → (n ≤ u) × (u 
 unit_by true n u e = (omega (arith, e), omega (arith, e))
 unit_by false n u e = (omega (arith, e), omega (arith, e))
 
-pub list_units : (n : ℕ) (k : Kept) (t : TargetState) (asks : List Ask) (front : List Entry) (e : Entry) (more : List Entry) → issued_from n k t asks ≡ front ++ e ∷ more → (n ≤ e.unit) × (e.unit ≤ n + length asks)
-list_units n k t [] [] e more is = absurd (cc)
-list_units n k t [] (x ∷ front) e more is = absurd (cc)
-list_units n k t (ask ∷ asks) front e more is =
-    by_seam (seam_in (entries_at n t k ask) (issued_from (n + 1) (finish_of t k ask).kept (after t (actions_of (steps_at t k ask))) asks) front e more is)
-    (λ back h. (let r = list_units (n + 1) (finish_of t k ask).kept (after t (actions_of (steps_at t k ask))) asks back e more h in (omega (arith, r.0), omega (arith, r.1))))
+pub list_units : (p : Planner) (n : ℕ) (k : Kept) (t : TargetState) (asks : List Ask) (front : List Entry) (e : Entry) (more : List Entry) → issued_from p n k t asks ≡ front ++ e ∷ more → (n ≤ e.unit) × (e.unit ≤ n + length asks)
+list_units p n k t [] [] e more is = absurd (cc)
+list_units p n k t [] (x ∷ front) e more is = absurd (cc)
+list_units p n k t (ask ∷ asks) front e more is =
+    by_seam (seam_in (entries_at p n t k ask) (issued_from p (n + 1) (finish_of p t k ask).kept (after t (actions_of (steps_at p t k ask))) asks) front e more is)
+    (λ back h. (let r = list_units p (n + 1) (finish_of p t k ask).kept (after t (actions_of (steps_at p t k ask))) asks back e more h in (omega (arith, r.0), omega (arith, r.1))))
   where
-    by_half : (more' : List Entry) → InFirst (numbered n (is_forgiving ask) (issue_of t k ask).steps) front e ⊎ InSecond (numbered n (is_forgiving ask) (issue_of t k ask).steps) (numbered (n + 1) false (finish_of t k ask).steps) front e more' → (n ≤ e.unit) × (e.unit ≤ n + suc (length asks))
-    by_half more' (inl i) = (let u = unit_by (settles e.part) n e.unit (numbered_unit n (is_forgiving ask) (issue_of t k ask).steps front e i.more i.is) in (u.0, omega (arith, u.1)))
-    by_half more' (inr i) = (let s = finish_settles (n + 1) ask.settled (issue_of t k ask).kept i.back e more' i.is in let u = numbered_unit (n + 1) false (finish_of t k ask).steps i.back e more' i.is ∙ ap (λ (b : Bool). cond b (n + 1) (n + 1 + 1)) s in (omega (arith, u), omega (arith, u)))
+    by_half : (more' : List Entry) → InFirst (numbered n (is_forgiving ask) (issue_of p t k ask).steps) front e ⊎ InSecond (numbered n (is_forgiving ask) (issue_of p t k ask).steps) (numbered (n + 1) false (finish_of p t k ask).steps) front e more' → (n ≤ e.unit) × (e.unit ≤ n + suc (length asks))
+    by_half more' (inl i) = (let u = unit_by (settles e.part) n e.unit (numbered_unit n (is_forgiving ask) (issue_of p t k ask).steps front e i.more i.is) in (u.0, omega (arith, u.1)))
+    by_half more' (inr i) = (let s = finish_settles (n + 1) ask.settled (issue_of p t k ask).kept i.back e more' i.is in let u = numbered_unit (n + 1) false (finish_of p t k ask).steps i.back e more' i.is ∙ ap (λ (b : Bool). cond b (n + 1) (n + 1 + 1)) s in (omega (arith, u), omega (arith, u)))
 
-    by_seam : InFirst (entries_at n t k ask) front e ⊎ InSecond (entries_at n t k ask) (issued_from (n + 1) (finish_of t k ask).kept (after t (actions_of (steps_at t k ask))) asks) front e more
-        → ((back : List Entry) → issued_from (n + 1) (finish_of t k ask).kept (after t (actions_of (steps_at t k ask))) asks ≡ back ++ e ∷ more → (n ≤ e.unit) × (e.unit ≤ n + suc (length asks))) → (n ≤ e.unit) × (e.unit ≤ n + suc (length asks))
-    by_seam (inl i) again = by_half i.more (seam_in (numbered n (is_forgiving ask) (issue_of t k ask).steps) (numbered (n + 1) false (finish_of t k ask).steps) front e i.more i.is)
+    by_seam : InFirst (entries_at p n t k ask) front e ⊎ InSecond (entries_at p n t k ask) (issued_from p (n + 1) (finish_of p t k ask).kept (after t (actions_of (steps_at p t k ask))) asks) front e more
+        → ((back : List Entry) → issued_from p (n + 1) (finish_of p t k ask).kept (after t (actions_of (steps_at p t k ask))) asks ≡ back ++ e ∷ more → (n ≤ e.unit) × (e.unit ≤ n + suc (length asks))) → (n ≤ e.unit) × (e.unit ≤ n + suc (length asks))
+    by_seam (inl i) again = by_half i.more (seam_in (numbered n (is_forgiving ask) (issue_of p t k ask).steps) (numbered (n + 1) false (finish_of p t k ask).steps) front e i.more i.is)
     by_seam (inr i) again = again i.back i.is
 
 pub units_in_range : UnitsInRange
-units_in_range t [] [] e more is = absurd (cc)
-units_in_range t [] (x ∷ front) e more is = absurd (cc)
-units_in_range t (ask ∷ asks) front e more is =
-    let u = list_units 0 nothing_kept t (ask ∷ asks) front e more is in
-    (by_seam (seam_in (entries_at 0 t nothing_kept ask) rest front e more is), omega (arith, u.1))
+units_in_range p t [] [] e more is = absurd (cc)
+units_in_range p t [] (x ∷ front) e more is = absurd (cc)
+units_in_range p t (ask ∷ asks) front e more is =
+    let u = list_units p 0 nothing_kept t (ask ∷ asks) front e more is in
+    (by_seam (seam_in (entries_at p 0 t nothing_kept ask) rest front e more is), omega (arith, u.1))
   where
     rest : List Entry
-    rest = issued_from 1 (finish_of t nothing_kept ask).kept (after t (actions_of (steps_at t nothing_kept ask))) asks
+    rest = issued_from p 1 (finish_of p t nothing_kept ask).kept (after t (actions_of (steps_at p t nothing_kept ask))) asks
 
-    by_half : (more' : List Entry) → InFirst (numbered 0 (is_forgiving ask) (issue_of t nothing_kept ask).steps) front e ⊎ InSecond (numbered 0 (is_forgiving ask) (issue_of t nothing_kept ask).steps) (numbered 1 false (finish_of t nothing_kept ask).steps) front e more' → 1 ≤ e.unit
+    by_half : (more' : List Entry) → InFirst (numbered 0 (is_forgiving ask) (issue_of p t nothing_kept ask).steps) front e ⊎ InSecond (numbered 0 (is_forgiving ask) (issue_of p t nothing_kept ask).steps) (numbered 1 false (finish_of p t nothing_kept ask).steps) front e more' → 1 ≤ e.unit
     by_half more' (inl i) =
-        let s = none_at 0 (is_forgiving ask) (issue_of t nothing_kept ask).steps front e i.more (none_first t ask) i.is in
-        let u = numbered_unit 0 (is_forgiving ask) (issue_of t nothing_kept ask).steps front e i.more i.is ∙ ap (λ (b : Bool). cond b 0 (0 + 1)) s in
+        let s = none_at 0 (is_forgiving ask) (issue_of p t nothing_kept ask).steps front e i.more (none_first p t ask) i.is in
+        let u = numbered_unit 0 (is_forgiving ask) (issue_of p t nothing_kept ask).steps front e i.more i.is ∙ ap (λ (b : Bool). cond b 0 (0 + 1)) s in
         omega (arith, u)
-    by_half more' (inr i) = (unit_by (settles e.part) 1 e.unit (numbered_unit 1 false (finish_of t nothing_kept ask).steps i.back e more' i.is)).0
+    by_half more' (inr i) = (unit_by (settles e.part) 1 e.unit (numbered_unit 1 false (finish_of p t nothing_kept ask).steps i.back e more' i.is)).0
 
-    by_seam : InFirst (entries_at 0 t nothing_kept ask) front e ⊎ InSecond (entries_at 0 t nothing_kept ask) (issued_from 1 (finish_of t nothing_kept ask).kept (after t (actions_of (steps_at t nothing_kept ask))) asks) front e more → 1 ≤ e.unit
-    by_seam (inl i) = by_half i.more (seam_in (numbered 0 (is_forgiving ask) (issue_of t nothing_kept ask).steps) (numbered 1 false (finish_of t nothing_kept ask).steps) front e i.more i.is)
-    by_seam (inr i) = (list_units 1 (finish_of t nothing_kept ask).kept (after t (actions_of (steps_at t nothing_kept ask))) asks i.back e more i.is).0
+    by_seam : InFirst (entries_at p 0 t nothing_kept ask) front e ⊎ InSecond (entries_at p 0 t nothing_kept ask) (issued_from p 1 (finish_of p t nothing_kept ask).kept (after t (actions_of (steps_at p t nothing_kept ask))) asks) front e more → 1 ≤ e.unit
+    by_seam (inl i) = by_half i.more (seam_in (numbered 0 (is_forgiving ask) (issue_of p t nothing_kept ask).steps) (numbered 1 false (finish_of p t nothing_kept ask).steps) front e i.more i.is)
+    by_seam (inr i) = (list_units p 1 (finish_of p t nothing_kept ask).kept (after t (actions_of (steps_at p t nothing_kept ask))) asks i.back e more i.is).0

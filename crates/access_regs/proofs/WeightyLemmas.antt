@@ -1,7 +1,7 @@
 -- No entry is a poll of no turns.
 use Rattle.std.proofs.Common.{◌≡◌, ℕ, ◌+◌, ◌/◌, ◌%◌, ◌^◌, Bool, true, false, cond, ◌&&◌, List, [], ◌∷◌, ◌++◌, refl, ap}
 use Rattle.access_regs.specs.Entries.{JournalWeighs}
-use Rattle.access_regs.specs.Journal.{Issue, Step, actions_of, after_settling, before, by_cfg, by_cfg_read, by_csw, by_plan, entries_at, finish, finish_of, alone_at, done_alone, gives, is_early, issue, issue_of, issued_from, large_of, last_action, making, numbered, parts_of, planned, port_of, steps_at, steps_of}
+use Rattle.access_regs.specs.Journal.{Issue, Step, actions_of, after_settling, before, by_cfg, by_cfg_read, by_csw, by_plan, entries_at, finish, finish_of, alone_at, done_alone, gives, is_alone, is_early, issue, issue_of, issued_from, large_of, last_action, making, numbered, parts_of, planned, port_of, steps_at, steps_of}
 use Rattle.access_regs.specs.Kept.{Kept, nothing_kept}
 use Rattle.access_regs.specs.Plan.{cfg_plan, first_plan, leads, learned, learned_cfg, needs_cfg, needs_csw, needs_settle, settle, settled}
 use Rattle.call_terms.specs.Asks.{AreAskable}
@@ -20,6 +20,7 @@ use Rattle.target_machine.specs.declared.unit.Call.TheVariants.{Access, Probe}
 use Rattle.target_machine.specs.declared.unit.Unit.{Unit as AccessUnit}
 use Rattle.target_machine.specs.declared.unit.Unit.TheVariants as unit
 use Rattle.access_regs.proofs.EntryLemmas.{weighty_both}
+use Rattle.access_regs.specs.declared.planner.Planner.{Planner}
 
 Weighs : List Step → Type 0
 Weighs [] = Unit {0}
@@ -121,9 +122,9 @@ ended_weighs true false s v t l xs h = h
 ended_weighs false f true v t l xs h = h
 ended_weighs false f false v t l xs h = h
 
-done_weighs : (t : TargetState) (large : List ℕ) (asked : AccessUnit) → may_forgive (Access asked) ≡ true → ActionsWeigh (call_done t large true (Access asked)).actions
+done_weighs : (t : TargetState) (large : List ℕ) (forgive : Bool) (asked : AccessUnit) → may_forgive (Access asked) ≡ true → ActionsWeigh (call_done t large forgive (Access asked)).actions
 unfolding call_done
-done_weighs t large asked e = ended_weighs _ _ _ _ _ _ _ (issued_weighs t (unit_actions t large asked) (unit_weighs t large asked e))
+done_weighs t large forgive asked e = ended_weighs _ _ _ _ _ _ _ (issued_weighs t (unit_actions t large asked) (unit_weighs t large asked e))
 
 map_weighs : (early : Bool) (asked : AccessUnit) (xs : List Action) → ActionsWeigh xs → Weighs (parts_of early asked xs)
 unfolding Weighs ActionsWeigh
@@ -136,14 +137,14 @@ both_true : (x y : Bool) → (x && y) ≡ true → y ≡ true
 both_true true y e = e
 both_true false y e = absurd (cc)
 
-issue_weighs : (t : TargetState) (k : Kept) (forgive : Bool) (call : Call) → IsSoundCall call → Weighs (issue t k forgive call).steps
+issue_weighs : (p : Planner) (t : TargetState) (k : Kept) (forgive : Bool) (call : Call) → IsSoundCall call → Weighs (issue p t k forgive call).steps
 unfolding Weighs
-issue_weighs t k forgive (Access asked) h = by_mark (forgive && may_forgive (Access asked)) refl
+issue_weighs p t k forgive (Access asked) h = by_mark (is_alone p forgive && may_forgive (Access asked)) refl
   where
-    by_mark : (b : Bool) → (forgive && may_forgive (Access asked)) ≡ b → Weighs (cond b (after_settling t k (alone_at true asked)) (planned t k asked)).steps
-    by_mark true e = settling_weighs t k (alone_at true asked) (λ u l. map_weighs (is_early asked (done_alone u l true asked).actions) asked (done_alone u l true asked).actions (done_weighs u (large_of l asked) asked (both_true forgive (may_forgive (Access asked)) e)))
+    by_mark : (b : Bool) → (is_alone p forgive && may_forgive (Access asked)) ≡ b → Weighs (cond b (after_settling t k (alone_at forgive asked)) (planned t k asked)).steps
+    by_mark true e = settling_weighs t k (alone_at forgive asked) (λ u l. map_weighs (is_early asked (done_alone u l forgive asked).actions) asked (done_alone u l forgive asked).actions (done_weighs u (large_of l asked) forgive asked (both_true (is_alone p forgive) (may_forgive (Access asked)) e)))
     by_mark false e = planned_weighs t k asked h
-issue_weighs t k forgive (Probe asked) h = (tt, tt)
+issue_weighs p t k forgive (Probe asked) h = (tt, tt)
 
 finish_weighs : (b : Bool) (k : Kept) → Weighs (finish b k).steps
 unfolding Weighs
@@ -155,14 +156,14 @@ unfolding Weighs
 numbered_weighs n b [] h = tt
 numbered_weighs n b (s ∷ steps) h = (h.0, numbered_weighs n b steps h.1)
 
-list_weighs : (n : ℕ) (k : Kept) (t : TargetState) (asks : List Ask) → AreAskable asks → AreWeighty (issued_from n k t asks)
-list_weighs n k t [] h = tt
-list_weighs n k t (ask ∷ asks) h =
+list_weighs : (p : Planner) (n : ℕ) (k : Kept) (t : TargetState) (asks : List Ask) → AreAskable asks → AreWeighty (issued_from p n k t asks)
+list_weighs p n k t [] h = tt
+list_weighs p n k t (ask ∷ asks) h =
     let c : Ask = ask in
-    weighty_both (entries_at n t k c) (issued_from (n + 1) (finish_of t k c).kept (after t (actions_of (steps_at t k c))) asks)
-    (weighty_both (numbered n (c.forgive && may_forgive c.call) (issue_of t k c).steps) (numbered (n + 1) false (finish_of t k c).steps)
-    (numbered_weighs n (c.forgive && may_forgive c.call) (issue_of t k c).steps (issue_weighs t k c.forgive c.call h.0.sound)) (numbered_weighs (n + 1) false (finish_of t k c).steps (finish_weighs c.settled (issue_of t k c).kept)))
-    (list_weighs (n + 1) (finish_of t k c).kept (after t (actions_of (steps_at t k c))) asks h.1)
+    weighty_both (entries_at p n t k c) (issued_from p (n + 1) (finish_of p t k c).kept (after t (actions_of (steps_at p t k c))) asks)
+    (weighty_both (numbered n (c.forgive && may_forgive c.call) (issue_of p t k c).steps) (numbered (n + 1) false (finish_of p t k c).steps)
+    (numbered_weighs n (c.forgive && may_forgive c.call) (issue_of p t k c).steps (issue_weighs p t k c.forgive c.call h.0.sound)) (numbered_weighs (n + 1) false (finish_of p t k c).steps (finish_weighs c.settled (issue_of p t k c).kept)))
+    (list_weighs p (n + 1) (finish_of p t k c).kept (after t (actions_of (steps_at p t k c))) asks h.1)
 
 pub journal_weighs : JournalWeighs
-journal_weighs t asks h = list_weighs 0 nothing_kept t asks h
+journal_weighs p t asks h = list_weighs p 0 nothing_kept t asks h

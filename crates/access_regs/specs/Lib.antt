@@ -10,3 +10,5 @@ pub mod Entries
 pub mod Laws
 pub mod Neighbours
 pub mod Closed
+pub mod Costs
+pub mod Light

@@ -8,6 +8,7 @@ use Rattle.target_machine.specs.State.{TargetState}
 use Rattle.target_machine.specs.declared.unit.Call.{Call}
 use Rattle.target_machine.specs.declared.unit.Call.TheVariants.{Access}
 use Rattle.target_machine.specs.declared.unit.Unit.TheVariants as unit
+use Rattle.target_machine.proofs.ActionAgreement.{in_order_alike}
 use Rattle.target_machine.proofs.ActionLists.{pass_after, pass_last}
 use Rattle.target_machine.proofs.Agreement.{attempt_agrees}
 use Rattle.call_terms.specs.Asks.{unit_ask}
@@ -26,9 +27,10 @@ use Rattle.access_regs.proofs.FollowsFacts.{at_select, follows_select, plain_sel
 use Rattle.access_regs.proofs.Select.{making_append}
 use Rattle.access_regs.proofs.Settle.{follows_agree, settled_calm, settles}
 use Rattle.access_regs.proofs.Wide.{cfg_access}
-use Rattle.calls_in_flight.specs.Small.{SmallByCfg}
+use Rattle.calls_in_flight.specs.Small.{SmallAlone, SmallByCfg}
 use Rattle.calls_in_flight.proofs.OpenLemmas.{after_alone, large_alone}
 use Rattle.calls_in_flight.proofs.SmallLemmas.{NeverStops, never_stops, not_small}
+use Rattle.access_regs.specs.declared.planner.Planner.{Planner}
 
 -- where nothing is unsettled, CFG is read the same from the planned target as from the plain one
 module _ (k : Kept) (large : List ℕ) (t u : TargetState) (f : Follows k large t u) (calm : k.unsettled ≡ None) (n : ℕ) (lt : n < 256) where
@@ -87,21 +89,44 @@ module _ (large : List ℕ) (size : ℕ) (read : Bool) (n address value : ℕ) (
       by_large false = small_when _ _ _ _ _ _ (ap (λ (xs : List Action). is_fault (in_order t xs).outcome) (append-nil (cfg_actions n)) ∙ good)
 
 pub small_by_cfg : SmallByCfg
-small_by_cfg t asks n size read port address value forgive fresh ok whole lt wide good =
+small_by_cfg p t asks n size read port address value forgive fresh ok whole lt wide good =
     let s : NeverStops t [] n asks = never_stops t [] n asks whole in
     let plain : TargetState = alone_after t [] asks in
     let large : List ℕ = large_of_all t [] asks in
-    let follows : Follows (kept_by t asks) large plain (target_by t asks) = journal_follows t asks fresh ok s.none in
-    let g = settles (kept_by t asks) large plain (target_by t asks) follows in
-    let at : after (target_by t asks) (making (settle (kept_by t asks))) ≡ g.at = pass_after (target_by t asks) g.at (making (settle (kept_by t asks))) g.pass in
-    let k : Kept = settled (kept_by t asks) in
-    let f : Follows k large plain (after (target_by t asks) (making (settle (kept_by t asks)))) = subst (Follows k large plain) (sym at) g.follows in
-    let u : TargetState = after (target_by t asks) (making (settle (kept_by t asks))) in
+    let follows : Follows (kept_by p t asks) large plain (target_by p t asks) = journal_follows p t asks fresh ok s.none in
+    let g = settles (kept_by p t asks) large plain (target_by p t asks) follows in
+    let at : after (target_by p t asks) (making (settle (kept_by p t asks))) ≡ g.at = pass_after (target_by p t asks) g.at (making (settle (kept_by p t asks))) g.pass in
+    let k : Kept = settled (kept_by p t asks) in
+    let f : Follows k large plain (after (target_by p t asks) (making (settle (kept_by p t asks)))) = subst (Follows k large plain) (sym at) g.follows in
+    let u : TargetState = after (target_by p t asks) (making (settle (kept_by p t asks))) in
     let needs : needs_cfg large port address ≡ true = ap (λ (b : Bool). nat_lt 0xFFFF_FFFF address && not b) (sym (f.larges port lt)) ∙ wide in
-    let clear : is_fault (in_order plain (cfg_actions port)).outcome ≡ false = ap is_fault (same_read k large plain u f (settled_calm (kept_by t asks)) port lt) ∙ good in
+    let clear : is_fault (in_order plain (cfg_actions port)).outcome ≡ false = ap is_fault (same_read k large plain u f (settled_calm (kept_by p t asks)) port lt) ∙ good in
     let target = after_alone t [] n asks s.none s.enough in
     let larges = large_alone t [] n asks s.none s.enough in
     one_small (start_world t n) asks (unit_ask (unit.Memory size read port address value) forgive) whole
     ∙ (λ j. is_small_end (call_done (target j) (larges j) forgive (Access (unit.Memory size read port address value))).end)
     ∙ small_shape large size read port address value forgive plain needs clear
-    ∙ ap not (same_large k large plain u f (settled_calm (kept_by t asks)) port lt)
+    ∙ ap not (same_large k large plain u f (settled_calm (kept_by p t asks)) port lt)
+
+-- ---- a unit that is made alone
+
+pub small_alone : SmallAlone
+small_alone p t asks n size read port address value forgive fresh ok whole lt wide good =
+    let s : NeverStops t [] n asks = never_stops t [] n asks whole in
+    let plain : TargetState = alone_after t [] asks in
+    let large : List ℕ = large_of_all t [] asks in
+    let follows : Follows (kept_by p t asks) large plain (target_by p t asks) = journal_follows p t asks fresh ok s.none in
+    let g = settles (kept_by p t asks) large plain (target_by p t asks) follows in
+    let at : after (target_by p t asks) (making (settle (kept_by p t asks))) ≡ g.at = pass_after (target_by p t asks) g.at (making (settle (kept_by p t asks))) g.pass in
+    let k : Kept = settled (kept_by p t asks) in
+    let u : TargetState = after (target_by p t asks) (making (settle (kept_by p t asks))) in
+    let f : Follows k large plain u = subst (Follows k large plain) (sym at) g.follows in
+    let needs : needs_cfg large port address ≡ true = ap (λ (b : Bool). nat_lt 0xFFFF_FFFF address && not b) (sym (f.larges port lt)) ∙ wide in
+    let same = in_order_alike (cfg_actions port) plain u (follows_agree k large plain u f (settled_calm (kept_by p t asks))) (refl, (refl, tt)) in
+    let clear : is_fault (in_order plain (cfg_actions port)).outcome ≡ false = ap is_fault same.outcome ∙ good in
+    let target = after_alone t [] n asks s.none s.enough in
+    let larges = large_alone t [] n asks s.none s.enough in
+    one_small (start_world t n) asks (unit_ask (unit.Memory size read port address value) forgive) whole
+    ∙ (λ j. is_small_end (call_done (target j) (larges j) forgive (Access (unit.Memory size read port address value))).end)
+    ∙ small_shape large size read port address value forgive plain needs clear
+    ∙ ap (λ o. not (has_bit (given o) 2)) same.outcome

@@ -22,23 +22,24 @@ use Rattle.calls_in_flight.specs.UnderWay.{IsUnderWay}
 use Rattle.calls_in_flight.proofs.OpenLemmas.{after_alone, large_alone}
 use Rattle.calls_in_flight.proofs.PushLemmas.{same_cut}
 use Rattle.calls_in_flight.proofs.SmallLemmas.{NeverStops, never_stops}
+use Rattle.access_regs.specs.declared.planner.Planner.{Planner}
 
 -- all entries were made
-all_made : (calls : List Ask) (confirmed count : ℕ) (came : List ℕ) (m0 m : BenchState) → (s : IsSending calls confirmed count [] [] [] came m0 m) → issued (target_of m0.probe) calls ≡ s.made
-all_made calls confirmed count came m0 m s = s.on.are ∙ append-nil s.made
+all_made : (p : Planner) (calls : List Ask) (confirmed count : ℕ) (came : List ℕ) (m0 m : BenchState) → (s : IsSending p calls confirmed count [] [] [] came m0 m) → issued p (target_of m0.probe) calls ≡ s.made
+all_made p calls confirmed count came m0 m s = s.on.are ∙ append-nil s.made
 
 pub none_stopped : NoneStopped
-none_stopped calls confirmed count came m0 m n s enough =
-    (passing_stops (target_of m0.probe) calls s.fresh s.askable (subst (Passes (target_of m0.probe)) (sym (all_made calls confirmed count came m0 m s)) s.on.passes)).stops n enough
+none_stopped p calls confirmed count came m0 m n s enough =
+    (passing_stops p (target_of m0.probe) calls s.fresh s.askable (subst (Passes (target_of m0.probe)) (sym (all_made p calls confirmed count came m0 m s)) s.on.passes)).stops n enough
 
 pub all_came : AllCame
-all_came calls confirmed count old came m0 m b kept s h = record {
+all_came p calls confirmed count old came m0 m b kept s h = record {
   fresh = s.fresh;
   askable = subst AreAskable (sym h.calls_are) s.askable;
   made = s.made;
   flying = [];
-  on = subst (λ (l : List Ask). IsUnderWay (issued (target_of m0.probe) l) s.made [] [] [] m0 m) (sym h.calls_are) s.on;
-  kept_is = ap (kept_by (target_of m0.probe)) h.calls_are ∙ h.kept_is;
+  on = subst (λ (l : List Ask). IsUnderWay (issued p (target_of m0.probe) l) s.made [] [] [] m0 m) (sym h.calls_are) s.on;
+  kept_is = ap (kept_by p (target_of m0.probe)) h.calls_are ∙ h.kept_is;
   confirmed = s.confirmed_is ∙ sym h.confirmed_is;
   issued_is = (let c = s.confirmed_is in let i = h.issued_is in omega (arith, c, i));
   strict = tt;
@@ -46,7 +47,7 @@ all_came calls confirmed count old came m0 m b kept s h = record {
   back = [];
   calls = h.calls_are ∙ sym (append-nil calls);
   part = [];
-  made_is = sym (all_made calls confirmed count old m0 m s) ∙ sym (append-nil (issued (target_of m0.probe) calls));
+  made_is = sym (all_made p calls confirmed count old m0 m s) ∙ sym (append-nil (issued p (target_of m0.probe) calls));
   came_is = h.came_is;
   came_are = h.came_are;
   skipped_is = h.skipped_is;
@@ -90,7 +91,7 @@ module _ (t : TargetState) (asks : List Ask) (ask : Ask) (more : List Ask) (whol
       ∙ one_last w asks ask before_whole goes_here
 
 pub result_given : ResultGiven
-result_given t asks ask more front e rest fresh ok whole mild large is at = result_there t asks ask more whole ∙ by_end (done_now (world_after (start_world t None) asks) ask).end refl
+result_given p t asks ask more front e rest fresh ok whole mild large is at = result_there t asks ask more whole ∙ by_end (done_now (world_after (start_world t None) asks) ask).end refl
   where
     never : NeverStops t [] None asks
     never = never_stops t [] None asks (before_whole t asks ask more whole)
@@ -103,7 +104,7 @@ result_given t asks ask more front e rest fresh ok whole mild large is at = resu
 
     by_end : (x : CallEnd) → (done_now (world_after (start_world t None) asks) ask).end ≡ x → end_result x ≡ result_of ask.call (given (acted (target_after t front) e.action).outcome)
     by_end (Answered v) end =
-        let a : AnsweredAt t (issued t (asks ++ ask ∷ more)) asks ask v = call_answers t asks ask more v fresh ok never.none (sym alone_is ∙ end) in
+        let a : AnsweredAt p t (issued p t (asks ++ ask ∷ more)) asks ask v = call_answers p t asks ask more v fresh ok never.none (sym alone_is ∙ end) in
         let there = a.at in
         let same = same_cut a.front front a.entry e a.more rest (sym a.is ∙ is) (omega (arith, there, at)) in
         sym a.gives_it ∙ (λ j. result_of ask.call (given (acted (target_after t (same.0 j)) (same.1 j).action).outcome))

@@ -23,51 +23,52 @@ use Rattle.calls_in_flight.proofs.ActionLemmas.{action_bench_law, action_wait_la
 use Rattle.calls_in_flight.proofs.CutLemmas.{bench_flies, fault_flies, wait_flies}
 use Rattle.calls_in_flight.proofs.OpenLemmas.{came_stands, open_stands}
 use Rattle.calls_in_flight.proofs.StopLemmas.{lines_cut, stops_at_fault, stops_at_wait}
+use Rattle.access_regs.specs.declared.planner.Planner.{Planner}
 
 -- ---- from the beginning on
 
 enough : (a : Reported) (n : Option ℕ) → a.end ≡ None → IsLeft a n → AtLeast a.came n
 enough a n none left = subst (λ (e : Option Stop). IsLeftAt e a.lines a.came n) none left.so
 
-stands_at : (e : Option Stop) (a : Reported) (kept : Kept) (accesses : List RegAccess) (came : List ℕ) (n : Option ℕ) (m0 m : BenchState) → a.end ≡ e → BegunAt e a kept accesses came m0 m → IsLeft a n
-    → StandsAt e (issued (target_of m0.probe) a.asks.calls) a (began m0 n) m
-stands_at None a kept accesses came n m0 m is begun left = open_stands a kept accesses came n m0 m begun (enough a n is left)
-stands_at (Some s) a kept accesses came n m0 m is begun left = begun.stands n left
+stands_at : (p : Planner) (e : Option Stop) (a : Reported) (kept : Kept) (accesses : List RegAccess) (came : List ℕ) (n : Option ℕ) (m0 m : BenchState) → a.end ≡ e → BegunAt p e a kept accesses came m0 m → IsLeft a n
+    → StandsAt e (issued p (target_of m0.probe) a.asks.calls) a (began m0 n) m
+stands_at p None a kept accesses came n m0 m is begun left = open_stands p a kept accesses came n m0 m begun (enough a n is left)
+stands_at p (Some s) a kept accesses came n m0 m is begun left = begun.stands n left
 
-stands_where : (x : Option BenchState) (a : Reported) (kept : Kept) (accesses : List RegAccess) (came : List ℕ) (n : Option ℕ) (m0 : BenchState) → WhereObservable x (λ m. BegunAt a.end a kept accesses came m0 m) → IsLeft a n
-    → WhereObservable x (λ m. StandsAt a.end (issued (target_of m0.probe) a.asks.calls) a (began m0 n) m)
-stands_where None a kept accesses came n m0 begun left = begun
-stands_where (Some m) a kept accesses came n m0 begun left = stands_at a.end a kept accesses came n m0 m refl begun left
+stands_where : (p : Planner) (x : Option BenchState) (a : Reported) (kept : Kept) (accesses : List RegAccess) (came : List ℕ) (n : Option ℕ) (m0 : BenchState) → WhereObservable x (λ m. BegunAt p a.end a kept accesses came m0 m) → IsLeft a n
+    → WhereObservable x (λ m. StandsAt a.end (issued p (target_of m0.probe) a.asks.calls) a (began m0 n) m)
+stands_where p None a kept accesses came n m0 begun left = begun
+stands_where p (Some m) a kept accesses came n m0 begun left = stands_at p a.end a kept accesses came n m0 m refl begun left
 
 pub begun_stands : BegunStands
-begun_stands a kept accesses came m0 n begun left = stands_where a.state a kept accesses came n m0 begun.so left
+begun_stands p a kept accesses came m0 n begun left = stands_where p a.state a kept accesses came n m0 begun.so left
 
-came_at : (e : Option Stop) (a : Reported) (kept : Kept) (accesses : List RegAccess) (came : List ℕ) (n : Option ℕ) (m0 m : BenchState) → a.end ≡ e → BegunAt e a kept accesses came m0 m → IsLeft a n
+came_at : (p : Planner) (e : Option Stop) (a : Reported) (kept : Kept) (accesses : List RegAccess) (came : List ℕ) (n : Option ℕ) (m0 m : BenchState) → a.end ≡ e → BegunAt p e a kept accesses came m0 m → IsLeft a n
     → take (length came) (results (world_from m0 n) a.asks.calls) ≡ came
-came_at None a kept accesses came n m0 m is begun left =
-    let c = came_stands a kept accesses came n m0 m begun (enough a n is left) in
+came_at p None a kept accesses came n m0 m is begun left =
+    let c = came_stands p a kept accesses came n m0 m begun (enough a n is left) in
     ap (λ (k : ℕ). take k (results (world_from m0 n) a.asks.calls)) c.0 ∙ c.1
-came_at (Some s) a kept accesses came n m0 m is begun left = begun.results_are n left
+came_at p (Some s) a kept accesses came n m0 m is begun left = begun.results_are n left
 
-came_where : (x : Option BenchState) (a : Reported) (kept : Kept) (accesses : List RegAccess) (came : List ℕ) (n : Option ℕ) (m0 : BenchState) → WhereObservable x (λ m. BegunAt a.end a kept accesses came m0 m) → IsLeft a n
+came_where : (p : Planner) (x : Option BenchState) (a : Reported) (kept : Kept) (accesses : List RegAccess) (came : List ℕ) (n : Option ℕ) (m0 : BenchState) → WhereObservable x (λ m. BegunAt p a.end a kept accesses came m0 m) → IsLeft a n
     → take (length came) (results (world_from m0 n) a.asks.calls) ≡ came
-came_where None a kept accesses came n m0 begun left = absurd begun
-came_where (Some m) a kept accesses came n m0 begun left = came_at a.end a kept accesses came n m0 m refl begun left
+came_where p None a kept accesses came n m0 begun left = absurd begun
+came_where p (Some m) a kept accesses came n m0 begun left = came_at p a.end a kept accesses came n m0 m refl begun left
 
 pub begun_came : BegunCame
-begun_came a kept accesses came m0 n begun left = came_where a.state a kept accesses came n m0 begun.so left
+begun_came p a kept accesses came m0 n begun left = came_where p a.state a kept accesses came n m0 begun.so left
 
 -- ---- a cut
 
 -- what a cut makes of an access, by its cause
-record Cutting (why : StopCause) (r : Report) (b : Reported) (m0 o : BenchState) : Type 0 where
-  stands : (n : Option ℕ) → IsCut why (issued (target_of m0.probe) b.asks.calls) r b (began m0 n) o
-  cut : IsCutAt (issued (target_of m0.probe) b.asks.calls) r.confirmed (target_of m0.probe)
+record Cutting (p : Planner) (why : StopCause) (r : Report) (b : Reported) (m0 o : BenchState) : Type 0 where
+  stands : (n : Option ℕ) → IsCut why (issued p (target_of m0.probe) b.asks.calls) r b (began m0 n) o
+  cut : IsCutAt (issued p (target_of m0.probe) b.asks.calls) r.confirmed (target_of m0.probe)
   stops : (n : Option ℕ) → IsLeftCut why b.lines b.lines n → StopsBy why (world_from m0 n) b.asks.calls b.lines
 
 -- the world that is left after a cut
-left_cut : (r : Report) (b : Reported) (m0 : BenchState) (n : Option ℕ) → IsCutOff r b m0 → IsLeft b n → IsLeftCut r.cause b.lines b.lines n
-left_cut r b m0 n off left = subst (λ (k : ℕ). IsLeftCut r.cause b.lines k n) off.came (subst (λ (e : Option Stop). IsLeftAt e b.lines b.came n) off.end left.so)
+left_cut : (p : Planner) (r : Report) (b : Reported) (m0 : BenchState) (n : Option ℕ) → IsCutOff p r b m0 → IsLeft b n → IsLeftCut r.cause b.lines b.lines n
+left_cut p r b m0 n off left = subst (λ (k : ℕ). IsLeftCut r.cause b.lines k n) off.came (subst (λ (e : Option Stop). IsLeftAt e b.lines b.came n) off.end left.so)
 
 -- the calls that have their lines before it are answered
 lines_answered : (why : StopCause) (lines : ℕ) (n : Option ℕ) → IsLeftCut why lines lines n → AtLeast lines n
@@ -78,36 +79,36 @@ fewer_answered : (few many : ℕ) (n : Option ℕ) → few ≤ many → AtLeast 
 fewer_answered few many None le h = tt
 fewer_answered few many (Some n) le h = omega (arith, le, h)
 
-ends_cut : (confirmed count : ℕ) (flying rest : List Entry) (accesses : List RegAccess) (came : List ℕ) (m0 m o : BenchState) (r : Report) (b : Reported)
-    → IsSending b.asks.calls confirmed count flying rest accesses came m0 m → confirmed ≤ r.confirmed → IsCutOff r b m0 → Cutting r.cause r b m0 o → EndsCut r b count came m0 o
-ends_cut confirmed count flying rest accesses came m0 m o r b s low off c =
-    let kept : count ≤ b.lines = (let l = lines_cut (issued (target_of m0.probe) b.asks.calls) (target_of m0.probe) b.asks.calls b.skipped b.lines r c.cut off.numbers in
+ends_cut : (p : Planner) (confirmed count : ℕ) (flying rest : List Entry) (accesses : List RegAccess) (came : List ℕ) (m0 m o : BenchState) (r : Report) (b : Reported)
+    → IsSending p b.asks.calls confirmed count flying rest accesses came m0 m → confirmed ≤ r.confirmed → IsCutOff p r b m0 → Cutting p r.cause r b m0 o → EndsCut p r b count came m0 o
+ends_cut p confirmed count flying rest accesses came m0 m o r b s low off c =
+    let kept : count ≤ b.lines = (let l = lines_cut (issued p (target_of m0.probe) b.asks.calls) (target_of m0.probe) b.asks.calls b.skipped b.lines r c.cut off.numbers in
     let k = s.lines r.confirmed low c.cut in omega (arith, l, k)) in
     record {
       ended = record {
         stands = λ n left. c.stands n;
         results_are = λ n left.
             ap (λ (k : ℕ). take k (results (world_from m0 n) b.asks.calls)) s.length_is
-            ∙ s.results_are n (fewer_answered count b.lines n kept (lines_answered r.cause b.lines n (left_cut r b m0 n off left)));
+            ∙ s.results_are n (fewer_answered count b.lines n kept (lines_answered r.cause b.lines n (left_cut p r b m0 n off left)));
       };
       kept = kept;
-      stops = λ n left. c.stops n (left_cut r b m0 n off left);
+      stops = λ n left. c.stops n (left_cut p r b m0 n off left);
     }
 
 -- where a retry ended the calls stop in the world of so many calls
-wait_stops_by : (b : Reported) (m0 : BenchState) (r : Report) (confirmed count : ℕ) (flying rest : List Entry) (accesses : List RegAccess) (came : List ℕ) (m : BenchState)
-    → IsSending b.asks.calls confirmed count flying rest accesses came m0 m → IsCutOff r b m0 → IsCutAt (issued (target_of m0.probe) b.asks.calls) r.confirmed (target_of m0.probe)
+wait_stops_by : (p : Planner) (b : Reported) (m0 : BenchState) (r : Report) (confirmed count : ℕ) (flying rest : List Entry) (accesses : List RegAccess) (came : List ℕ) (m : BenchState)
+    → IsSending p b.asks.calls confirmed count flying rest accesses came m0 m → IsCutOff p r b m0 → IsCutAt (issued p (target_of m0.probe) b.asks.calls) r.confirmed (target_of m0.probe)
     → (n : Option ℕ) → n ≡ Some b.lines → StopsBy NoAnswer (world_from m0 n) b.asks.calls b.lines
-wait_stops_by b m0 r confirmed count flying rest accesses came m s off cut n is =
+wait_stops_by p b m0 r confirmed count flying rest accesses came m s off cut n is =
     subst (λ (k : Option ℕ). StopsBy NoAnswer (world_from m0 k) b.asks.calls b.lines) (sym is)
-    (flat (stops_at_wait (target_of m0.probe) b.asks.calls r b.skipped b.lines s.fresh s.askable cut off.numbers))
+    (flat (stops_at_wait p (target_of m0.probe) b.asks.calls r b.skipped b.lines s.fresh s.askable cut off.numbers))
   where
     flat : StopsBy NoAnswer (world_from m0 (Some b.lines)) b.asks.calls b.lines → StopsBy NoAnswer (world_from m0 (Some b.lines)) b.asks.calls b.lines
     flat h = h
 
 pub flight_ends : FlightEnds
-flight_ends confirmed count flying rest accesses came m0 m o part r b s flies response strict accesses_is confirmed_is off =
-    ends_cut confirmed count flying rest accesses came m0 m o r b s (omega (arith, confirmed_is)) off (by_cause r.cause response strict)
+flight_ends p confirmed count flying rest accesses came m0 m o part r b s flies response strict accesses_is confirmed_is off =
+    ends_cut p confirmed count flying rest accesses came m0 m o r b s (omega (arith, confirmed_is)) off (by_cause r.cause response strict)
   where
     t0 : TargetState
     t0 = target_of m0.probe
@@ -118,34 +119,34 @@ flight_ends confirmed count flying rest accesses came m0 m o part r b s flies re
     known : r.confirmed ≡ length s.made + part.confirmed
     known = (let c = s.confirmed_is in omega (arith, c, confirmed_is))
 
-    by_cause : (why : StopCause) → part.response ≡ response_of_cause why → IsStrictAt why flying → Cutting why r b m0 o
+    by_cause : (why : StopCause) → part.response ≡ response_of_cause why → IsStrictAt why flying → Cutting p why r b m0 o
     by_cause Faulted bad strict =
-        let f = λ (n : Option ℕ). fault_flies (issued (target_of m0.probe) b.asks.calls) s.made flying rest accesses n m0 m o part r b s.on flies bad strict performed known off.numbers in
+        let f = λ (n : Option ℕ). fault_flies (issued p (target_of m0.probe) b.asks.calls) s.made flying rest accesses n m0 m o part r b s.on flies bad strict performed known off.numbers in
         record {
           stands = λ n. (f n).0;
           cut = (f None).1.cut;
-          stops = λ n left. stops_at_fault (target_of m0.probe) b.asks.calls r b.skipped b.lines n s.fresh s.askable (f None).1 off.numbers left;
+          stops = λ n left. stops_at_fault p (target_of m0.probe) b.asks.calls r b.skipped b.lines n s.fresh s.askable (f None).1 off.numbers left;
         }
     by_cause NoAnswer wait strict =
-        let f = λ (n : Option ℕ). wait_flies (issued (target_of m0.probe) b.asks.calls) s.made flying rest accesses n m0 m o part r b s.on flies wait performed known off.numbers in
+        let f = λ (n : Option ℕ). wait_flies (issued p (target_of m0.probe) b.asks.calls) s.made flying rest accesses n m0 m o part r b s.on flies wait performed known off.numbers in
         record {
           stands = λ n. (f n).0;
           cut = (f None).1;
-          stops = λ n left. wait_stops_by b m0 r confirmed count flying rest accesses came m s off (f None).1 n left;
+          stops = λ n left. wait_stops_by p b m0 r confirmed count flying rest accesses came m s off (f None).1 n left;
         }
 
 pub poll_ends : PollEnds
-poll_ends confirmed count e rest came m0 m o work r b s grown less same retries number pending why accesses_is confirmed_is off =
-    ends_cut confirmed count [] (e ∷ rest) [] came m0 m o r b s (omega (arith, confirmed_is)) off (subst (λ (c : StopCause). Cutting c r b m0 o) (sym why) cutting)
+poll_ends p confirmed count e rest came m0 m o work r b s grown less same retries number pending why accesses_is confirmed_is off =
+    ends_cut p confirmed count [] (e ∷ rest) [] came m0 m o r b s (omega (arith, confirmed_is)) off (subst (λ (c : StopCause). Cutting p c r b m0 o) (sym why) cutting)
   where
-    cut : IsCutAt (issued (target_of m0.probe) b.asks.calls) r.confirmed (target_of m0.probe)
+    cut : IsCutAt (issued p (target_of m0.probe) b.asks.calls) r.confirmed (target_of m0.probe)
     cut = record { front = s.made; entry = e; more = rest; is = s.on.are; at = s.confirmed_is ∙ sym confirmed_is; passes = s.on.passes }
 
-    cutting : Cutting NoAnswer r b m0 o
+    cutting : Cutting p NoAnswer r b m0 o
     cutting = record {
-      stands = λ n. action_wait_law (issued (target_of m0.probe) b.asks.calls) s.made e rest n m0 m o work r b s.on grown less same retries number pending (accesses_is ∙ sym s.confirmed_is) (confirmed_is ∙ sym s.confirmed_is) off.numbers;
+      stands = λ n. action_wait_law (issued p (target_of m0.probe) b.asks.calls) s.made e rest n m0 m o work r b s.on grown less same retries number pending (accesses_is ∙ sym s.confirmed_is) (confirmed_is ∙ sym s.confirmed_is) off.numbers;
       cut = cut;
-      stops = λ n left. wait_stops_by b m0 r confirmed count [] (e ∷ rest) [] came m s off cut n left;
+      stops = λ n left. wait_stops_by p b m0 r confirmed count [] (e ∷ rest) [] came m s off cut n left;
     }
 
 -- ---- a bench that failed
@@ -155,18 +156,18 @@ came_left : (issued confirmed : ℕ) (b : Reported) (n : Option ℕ) → b.end �
 came_left issued confirmed b n end left = subst (λ (e : Option Stop). IsLeftAt e b.lines b.came n) end left.so
 
 pub flight_fails : FlightFails
-flight_fails confirmed count flying rest accesses came m0 m o part b s either never ended = record {
-  stands = λ n left. subst (λ (k : ℕ). IsBenchFault (issued (target_of m0.probe) b.asks.calls) (k + length flying) k (began m0 n) o) s.confirmed_is
-      (bench_flies (issued (target_of m0.probe) b.asks.calls) s.made flying rest accesses n m0 m o part s.on either never);
+flight_fails p confirmed count flying rest accesses came m0 m o part b s either never ended = record {
+  stands = λ n left. subst (λ (k : ℕ). IsBenchFault (issued p (target_of m0.probe) b.asks.calls) (k + length flying) k (began m0 n) o) s.confirmed_is
+      (bench_flies (issued p (target_of m0.probe) b.asks.calls) s.made flying rest accesses n m0 m o part s.on either never);
   results_are = λ n left.
       ap (λ (k : ℕ). take k (results (world_from m0 n) b.asks.calls)) s.length_is
       ∙ s.results_are n (subst (λ (k : ℕ). AtLeast k n) ended.came (came_left (confirmed + length flying) confirmed b n ended.end left));
 }
 
 pub action_fails : ActionFails
-action_fails confirmed count e rest came m0 m o work b s grown less either ended = record {
-  stands = λ n left. subst (λ (k : ℕ). IsBenchFault (issued (target_of m0.probe) b.asks.calls) (k + 1) k (began m0 n) o) s.confirmed_is
-      (action_bench_law (issued (target_of m0.probe) b.asks.calls) s.made e rest n m0 m o work s.on grown less either);
+action_fails p confirmed count e rest came m0 m o work b s grown less either ended = record {
+  stands = λ n left. subst (λ (k : ℕ). IsBenchFault (issued p (target_of m0.probe) b.asks.calls) (k + 1) k (began m0 n) o) s.confirmed_is
+      (action_bench_law (issued p (target_of m0.probe) b.asks.calls) s.made e rest n m0 m o work s.on grown less either);
   results_are = λ n left.
       ap (λ (k : ℕ). take k (results (world_from m0 n) b.asks.calls)) s.length_is
       ∙ s.results_are n (subst (λ (k : ℕ). AtLeast k n) ended.came (came_left (confirmed + 1) confirmed b n ended.end left));

@@ -21,18 +21,19 @@ use Rattle.target_machine.specs.Plain.{Makes}
 use Rattle.target_machine.specs.State.{TargetState}
 use Rattle.target_machine.specs.declared.access.RegAccess.{RegAccess}
 use Rattle.call_terms.specs.declared.calls.Ask.{Ask}
+use Rattle.access_regs.specs.declared.planner.Planner.{Planner}
 
 pub flush_goes : FlushGoes
-flush_goes a b kept accesses came flushed m0 m o part f flies good h =
+flush_goes p a b kept accesses came flushed m0 m o part f flies good h =
     let t0 : TargetState = target_of m0.probe in
-    let whole = whole_flies (issued t0 a.asks.calls) f.made f.flying [] accesses m0 m o part f.on flies good in
+    let whole = whole_flies (issued p t0 a.asks.calls) f.made f.flying [] accesses m0 m o part f.on flies good in
     record {
       fresh = f.fresh;
       askable = subst (λ (l : List Ask). AreAskable l) (sym h.calls) f.askable;
       made = f.made ++ f.flying;
       flying = [];
-      on = subst (λ (l : List Ask). IsUnderWay (issued t0 l) (f.made ++ f.flying) [] [] [] m0 o) (sym h.calls) whole;
-      kept_is = ap (kept_by t0) h.calls ∙ f.kept_is;
+      on = subst (λ (l : List Ask). IsUnderWay (issued p t0 l) (f.made ++ f.flying) [] [] [] m0 o) (sym h.calls) whole;
+      kept_is = ap (kept_by p t0) h.calls ∙ f.kept_is;
       confirmed = length-append f.made f.flying ∙ f.issued_is ∙ sym h.confirmed;
       issued_is = (let l = length-append f.made f.flying in let i = f.issued_is in let j = h.issued in omega (arith, l, i, j));
       strict = tt;
@@ -40,10 +41,10 @@ flush_goes a b kept accesses came flushed m0 m o part f flies good h =
       back = [];
       calls = h.calls ∙ sym (append-nil a.asks.calls);
       part = [];
-      made_is = sym (append-nil (f.made ++ f.flying)) ∙ append_assoc f.made f.flying [] ∙ sym f.on.are ∙ sym (append-nil (issued t0 a.asks.calls));
+      made_is = sym (append-nil (f.made ++ f.flying)) ∙ append_assoc f.made f.flying [] ∙ sym f.on.are ∙ sym (append-nil (issued p t0 a.asks.calls));
       came_is = h.came_all;
       came_are = h.came_are;
-      skipped_is = h.skipped ∙ is_skipped a kept accesses came None m0 m f tt;
+      skipped_is = h.skipped ∙ is_skipped p a kept accesses came None m0 m f tt;
       mild = tt;
       calm = λ _. (refl, refl);
     }
@@ -72,21 +73,21 @@ weighty_makes : (es : List Entry) (accesses : List RegAccess) → actions_in es 
 weighty_makes [] accesses e = tt
 weighty_makes (x ∷ es) [] e = absurd (cc)
 weighty_makes (x ∷ es) (a ∷ accesses) e =
-    let p = head_makes x.action (Makes a) (actions_in es) (making accesses) e in
-    (subst IsWeighty (sym p.0) tt, weighty_makes es accesses p.1)
+    let h = head_makes x.action (Makes a) (actions_in es) (making accesses) e in
+    (subst IsWeighty (sym h.0) tt, weighty_makes es accesses h.1)
 
 pub push_goes : PushGoes
-push_goes a b ask kept learned accesses more came m0 m f h =
+push_goes p a b ask kept learned accesses more came m0 m f h =
     let t0 : TargetState = target_of m0.probe in
     let calls : List Ask = a.asks.calls in
-    let u : TargetState = target_by t0 calls in
-    let steps : List Step = (issue_of u kept ask).steps in
+    let u : TargetState = target_by p t0 calls in
+    let steps : List Step = (issue_of p u kept ask).steps in
     let own : List Entry = numbered (length calls) (is_forgiving ask) steps in
     let acts : actions_in own ≡ making more = numbered_actions (length calls) (is_forgiving ask) steps ∙ h.accesses in
-    let grows = journal_grows t0 calls ask h.unmarked in
-    let entries : issued t0 b.asks.calls ≡ issued t0 calls ++ own =
-    ap (λ (l : List Ask). issued t0 l) h.calls ∙ grows.0
-    ∙ ap (λ (k : Kept). issued t0 calls ++ numbered (length calls) (is_forgiving ask) (issue_of u k ask).steps) f.kept_is in
+    let grows = journal_grows p t0 calls ask h.unmarked in
+    let entries : issued p t0 b.asks.calls ≡ issued p t0 calls ++ own =
+    ap (λ (l : List Ask). issued p t0 l) h.calls ∙ grows.0
+    ∙ ap (λ (k : Kept). issued p t0 calls ++ numbered (length calls) (is_forgiving ask) (issue_of p u k ask).steps) f.kept_is in
     let len : length own ≡ length more = flight_length own more acts in
     let on = f.on in
     record {
@@ -96,7 +97,7 @@ push_goes a b ask kept learned accesses more came m0 m f h =
       flying = f.flying ++ own;
       on = record {
         are = entries ∙ ap (λ (l : List Entry). l ++ own) on.are ∙ append_assoc f.made (f.flying ++ []) own ∙ ap (λ (l : List Entry). f.made ++ (l ++ own)) (append-nil f.flying) ∙ ap (λ (l : List Entry). f.made ++ l) (sym (append-nil (f.flying ++ own)));
-        weighty = subst AreWeighty (sym entries) (weighty_both (issued t0 calls) own on.weighty (weighty_makes own more acts));
+        weighty = subst AreWeighty (sym entries) (weighty_both (issued p t0 calls) own on.weighty (weighty_makes own more acts));
         flight = actions_in_append f.flying own ∙ (λ j. on.flight j ++ acts j) ∙ sym (map-append (λ (x : RegAccess). Makes x) accesses more);
         passes = on.passes;
         target = on.target;
@@ -107,7 +108,7 @@ push_goes a b ask kept learned accesses more came m0 m f h =
         few = on.few;
         number = on.number;
       };
-      kept_is = ap (kept_by t0) h.calls ∙ grows.1 ∙ ap (λ (k : Kept). (issue_of u k ask).kept) f.kept_is ∙ sym h.kept_is;
+      kept_is = ap (kept_by p t0) h.calls ∙ grows.1 ∙ ap (λ (k : Kept). (issue_of p u k ask).kept) f.kept_is ∙ sym h.kept_is;
       confirmed = f.confirmed ∙ sym h.confirmed;
       issued_is = (let l = length-append f.flying own in let i = f.issued_is in let j = h.issued in omega (arith, l, len, i, j));
       strict = strict_both f.flying own f.strict (strict_numbered (length calls) (is_forgiving ask) steps h.mild);

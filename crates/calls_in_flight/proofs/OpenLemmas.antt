@@ -24,6 +24,7 @@ use Rattle.access_calls.specs.Reported.{Reported, began}
 use Rattle.access_calls.specs.Standing.{HasPerformed, IsOpen}
 use Rattle.calls_in_flight.specs.Flying.{IsFlying}
 use Rattle.calls_in_flight.proofs.CutLemmas.{has_at}
+use Rattle.access_regs.specs.declared.planner.Planner.{Planner}
 
 agree_sym : (t u : TargetState) → Agree t u → Agree u t
 agree_sym t u h = record { same = sym h.same }
@@ -59,7 +60,7 @@ large_alone t large n (c ∷ calls) none enough =
     let good : is_faulted (alone t large c).end ≡ false = good_end (alone t large c).end none.0 in
     rw (live.0, good) (large_alone (alone t large c).next (alone t large c).large (one_fewer n) calls none.1 live.1)
 
-module _ (a : Reported) (kept : Kept) (accesses : List RegAccess) (came : List ℕ) (n : Option ℕ) (m0 m : BenchState) (f : IsFlying a kept accesses came m0 m) (enough : AtLeast a.came n) where
+module _ (p : Planner) (a : Reported) (kept : Kept) (accesses : List RegAccess) (came : List ℕ) (n : Option ℕ) (m0 m : BenchState) (f : IsFlying p a kept accesses came m0 m) (enough : AtLeast a.came n) where
   abbrev t0 : TargetState
   t0 = target_of m0.probe
 
@@ -67,7 +68,7 @@ module _ (a : Reported) (kept : Kept) (accesses : List RegAccess) (came : List �
   w = start_world t0 n
 
   pub front_none : NoneStops t0 [] f.front
-  front_none = passing_stops t0 f.front f.fresh (askable_first f.front f.back (subst AreAskable f.calls f.askable)) (pass_front t0 (issued t0 f.front) f.part (subst (Passes t0) f.made_is f.on.passes))
+  front_none = passing_stops p t0 f.front f.fresh (askable_first f.front f.back (subst AreAskable f.calls f.askable)) (pass_front t0 (issued p t0 f.front) f.part (subst (Passes t0) f.made_is f.on.passes))
 
   front_enough : AtLeast (length f.front) n
   front_enough = subst (λ (k : ℕ). AtLeast k n) f.came_is enough
@@ -75,16 +76,16 @@ module _ (a : Reported) (kept : Kept) (accesses : List RegAccess) (came : List �
   front_whole : stop w f.front ≡ None
   front_whole = front_none.stops n front_enough
 
-  is_performed : HasPerformed (issued t0 a.asks.calls) a.confirmed (began m0 n) m
-  is_performed = has_at (issued t0 a.asks.calls) f.made (f.flying ++ []) a.confirmed n m0 m f.on.are f.on.weighty f.confirmed f.on.work f.on.target
+  is_performed : HasPerformed (issued p t0 a.asks.calls) a.confirmed (began m0 n) m
+  is_performed = has_at (issued p t0 a.asks.calls) f.made (f.flying ++ []) a.confirmed n m0 m f.on.are f.on.weighty f.confirmed f.on.work f.on.target
 
-  is_good : first_fault t0 (take a.confirmed (issued t0 a.asks.calls)) ≡ None
+  is_good : first_fault t0 (take a.confirmed (issued p t0 a.asks.calls)) ≡ None
   is_good =
       (λ j. first_fault t0 (take (sym f.confirmed j) (f.on.are j)))
       ∙ ap (first_fault t0) (take-append_seam f.made (f.flying ++ []))
       ∙ pass_none t0 f.made f.on.passes
 
-  is_issued : a.issued ≡ length (issued t0 a.asks.calls)
+  is_issued : a.issued ≡ length (issued p t0 a.asks.calls)
   is_issued =
       let all = ap length f.on.are in
       let split = length-append f.made (f.flying ++ []) in
@@ -105,14 +106,14 @@ module _ (a : Reported) (kept : Kept) (accesses : List RegAccess) (came : List �
   is_calm settled =
       let c = f.calm settled in
       let all : a.asks.calls ≡ f.front = f.calls ∙ ap (λ (l : List Ask). f.front ++ l) c.0 ∙ append-nil f.front in
-      let made : issued t0 a.asks.calls ≡ f.made = f.on.are ∙ ap (λ (l : List Entry). f.made ++ (l ++ [])) c.1 ∙ append-nil f.made in
+      let made : issued p t0 a.asks.calls ≡ f.made = f.on.are ∙ ap (λ (l : List Entry). f.made ++ (l ++ [])) c.1 ∙ append-nil f.made in
       let none : NoneFaults t0 [] a.asks.calls = subst (NoneFaults t0 []) (sym all) front_none.none in
-      let here : Agree (alone_after t0 [] a.asks.calls) (target_after t0 (issued t0 a.asks.calls)) = journal_agrees t0 a.asks.calls f.fresh f.askable none settled in
-      let target : target_after t0 (issued t0 a.asks.calls) ≡ target_of m.probe = ap (target_after t0) made ∙ sym f.on.target in
+      let here : Agree (alone_after t0 [] a.asks.calls) (target_after t0 (issued p t0 a.asks.calls)) = journal_agrees p t0 a.asks.calls f.fresh f.askable none settled in
+      let target : target_after t0 (issued p t0 a.asks.calls) ≡ target_of m.probe = ap (target_after t0) made ∙ sym f.on.target in
       let alone_is : (world_after w a.asks.calls).target ≡ alone_after t0 [] a.asks.calls = after_alone t0 [] n a.asks.calls none (subst (λ (l : List Ask). AtLeast (length l) n) (sym all) front_enough) in
       agree_sym _ _ (subst (λ (t : TargetState). Agree t (target_of m.probe)) (sym alone_is) (subst (Agree (alone_after t0 [] a.asks.calls)) target here))
 
-  pub open_stands : IsOpen (issued t0 a.asks.calls) a (began m0 n) m
+  pub open_stands : IsOpen (issued p t0 a.asks.calls) a (began m0 n) m
   open_stands = record { issued = is_issued; performed = is_performed; good = is_good; retries = f.on.retries; skipped = is_skipped; settled = is_calm }
 
   came_length : length came ≡ a.came

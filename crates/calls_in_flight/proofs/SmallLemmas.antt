@@ -18,6 +18,7 @@ use Rattle.access_regs.specs.Stops.{world_at}
 use Rattle.access_regs.proofs.AllCalls.{journal_follows}
 use Rattle.calls_in_flight.specs.Small.{NotSmall}
 use Rattle.calls_in_flight.proofs.OpenLemmas.{after_alone, large_alone}
+use Rattle.access_regs.specs.declared.planner.Planner.{Planner}
 
 clash : (b : Bool) → b ≡ true → b ≡ false → ⊥
 clash true e f = cc
@@ -76,13 +77,13 @@ unfolding call_done
 done_small t large forgive call none = not_small _ _ (is_small t large call) _ _ _ _ none
 
 pub not_small_now : NotSmall
-not_small_now a kept accesses came n m0 m asked forgive f enough range none = by_stop (stop (world_at (target_of m0.probe) [] n) a.asks.calls) refl
+not_small_now p a kept accesses came n m0 m asked forgive f enough range none = by_stop (stop (world_at (target_of m0.probe) [] n) a.asks.calls) refl
   where
     by_stop : (x : Option ℕ) → stop (world_at (target_of m0.probe) [] n) a.asks.calls ≡ x → small_after x (world_after (world_at (target_of m0.probe) [] n) a.asks.calls) (unit_ask asked forgive) ≡ false
     by_stop (Some k) e = refl
     by_stop None e =
         let s = never_stops (target_of m0.probe) [] n a.asks.calls e in
-        let follows = journal_follows (target_of m0.probe) a.asks.calls f.fresh f.askable s.none in
+        let follows = journal_follows p (target_of m0.probe) a.asks.calls f.fresh f.askable s.none in
         let target = after_alone (target_of m0.probe) [] n a.asks.calls s.none s.enough in
         let large = large_alone (target_of m0.probe) [] n a.asks.calls s.none s.enough in
         let larges : (q : ℕ) → q < 256 → (known kept q).large ≡ contains (large_of_all (target_of m0.probe) [] a.asks.calls) q =

@@ -20,6 +20,7 @@ use Rattle.access_calls.specs.Numbers.{HasNumbers, lines_at}
 use Rattle.access_calls.specs.declared.stop.Report.{Report}
 use Rattle.calls_in_flight.specs.Flights.{IsCutAt}
 use Rattle.calls_in_flight.specs.Stopping.{CameBefore, ResultsStay, StopsAtFault, StopsAtWait}
+use Rattle.access_regs.specs.declared.planner.Planner.{Planner}
 
 -- the entry after the first ones
 entry_at : (front : List Entry) (e : Entry) (more : List Entry) → slice_get (front ++ e ∷ more) (length front) ≡ Some e
@@ -40,19 +41,19 @@ not_settling Ends ne = refl
 not_settling (Skips attempted) ne = refl
 
 pub stops_at_fault : StopsAtFault
-stops_at_fault t asks r skipped lines n fresh ok at numbers enough =
+stops_at_fault p t asks r skipped lines n fresh ok at numbers enough =
     let cut = at.cut in
-    let s : StopsThere 0 t [] asks cut.entry = fault_stops t asks cut.front cut.entry cut.more fresh ok cut.is cut.passes at.bad at.strict in
+    let s : StopsThere 0 t [] asks cut.entry = fault_stops p t asks cut.front cut.entry cut.more fresh ok cut.is cut.passes at.bad at.strict in
     let same : lines ≡ s.at =
-    lines_cut (issued t asks) t asks skipped lines r cut numbers
+    lines_cut (issued p t asks) t asks skipped lines r cut numbers
     ∙ ap (λ (x : Bool). cond x cut.entry.unit (cut.entry.unit - 1)) (not_settling cut.entry.part s.own)
     ∙ (let u = s.unit in omega (arith, u)) in
     s.stops n (subst (λ (k : ℕ). AtLeast k n) same enough) ∙ (let next : suc s.at ≡ lines + 1 = omega (arith, same) in ap Some next)
 
 pub stops_at_wait : StopsAtWait
-stops_at_wait t asks r skipped lines fresh ok cut numbers =
-    let s : StaysThere 0 t [] asks cut.entry = wait_stops t asks cut.front cut.entry cut.more fresh ok cut.is cut.passes in
-    let same : lines ≡ s.at = lines_cut (issued t asks) t asks skipped lines r cut numbers ∙ s.lines ∙ omega arith in
+stops_at_wait p t asks r skipped lines fresh ok cut numbers =
+    let s : StaysThere 0 t [] asks cut.entry = wait_stops p t asks cut.front cut.entry cut.more fresh ok cut.is cut.passes in
+    let same : lines ≡ s.at = lines_cut (issued p t asks) t asks skipped lines r cut numbers ∙ s.lines ∙ omega arith in
     by_stop s.at s.stops same
   where
     by_stop : (k : ℕ) → (stop (world_at t [] (Some k)) asks ≡ Some (suc k)) ⊎ ((stop (world_at t [] (Some k)) asks ≡ None) × ((k ≡ length asks) × (is_settled asks ≡ true))) → lines ≡ k
@@ -63,45 +64,45 @@ stops_at_wait t asks r skipped lines fresh ok cut numbers =
 -- ---- lines of entries after others
 
 -- all lines of so many units come before each entry of later ones
-pub lines_from : (n : ℕ) (k : Kept) (u : TargetState) (asks : List Ask) (front : List Entry) (e : Entry) (more : List Entry) → issued_from n k u asks ≡ front ++ e ∷ more → n ≤ lines_before e
-lines_from n k u [] [] e more is = absurd (cc)
-lines_from n k u [] (x ∷ front) e more is = absurd (cc)
-lines_from n k u (ask ∷ asks) front e more is =
-    by_seam (seam_in (entries_at n u k c) rest front e more is)
-    (λ back h. (let low = lines_from (n + 1) (finish_of u k c).kept (after u (actions_of (steps_at u k c))) asks back e more h in omega (arith, low)))
+pub lines_from : (p : Planner) (n : ℕ) (k : Kept) (u : TargetState) (asks : List Ask) (front : List Entry) (e : Entry) (more : List Entry) → issued_from p n k u asks ≡ front ++ e ∷ more → n ≤ lines_before e
+lines_from p n k u [] [] e more is = absurd (cc)
+lines_from p n k u [] (x ∷ front) e more is = absurd (cc)
+lines_from p n k u (ask ∷ asks) front e more is =
+    by_seam (seam_in (entries_at p n u k c) rest front e more is)
+    (λ back h. (let low = lines_from p (n + 1) (finish_of p u k c).kept (after u (actions_of (steps_at p u k c))) asks back e more h in omega (arith, low)))
   where
     c : Ask
     c = ask
 
     rest : List Entry
-    rest = issued_from (n + 1) (finish_of u k ask).kept (after u (actions_of (steps_at u k ask))) asks
+    rest = issued_from p (n + 1) (finish_of p u k ask).kept (after u (actions_of (steps_at p u k ask))) asks
 
-    by_half : (more' : List Entry) → InFirst (numbered n (is_forgiving ask) (issue_of u k ask).steps) front e ⊎ InSecond (numbered n (is_forgiving ask) (issue_of u k ask).steps) (numbered (n + 1) false (finish_of u k ask).steps) front e more' → n ≤ lines_before e
-    by_half more' (inl i) = (let x = lines_own n e (numbered_unit n (is_forgiving ask) (issue_of u k ask).steps front e i.more i.is) in omega (arith, x))
-    by_half more' (inr i) = (let x = lines_own (n + 1) e (numbered_unit (n + 1) false (finish_of u k ask).steps i.back e more' i.is) in omega (arith, x))
+    by_half : (more' : List Entry) → InFirst (numbered n (is_forgiving ask) (issue_of p u k ask).steps) front e ⊎ InSecond (numbered n (is_forgiving ask) (issue_of p u k ask).steps) (numbered (n + 1) false (finish_of p u k ask).steps) front e more' → n ≤ lines_before e
+    by_half more' (inl i) = (let x = lines_own n e (numbered_unit n (is_forgiving ask) (issue_of p u k ask).steps front e i.more i.is) in omega (arith, x))
+    by_half more' (inr i) = (let x = lines_own (n + 1) e (numbered_unit (n + 1) false (finish_of p u k ask).steps i.back e more' i.is) in omega (arith, x))
 
-    by_seam : InFirst (entries_at n u k ask) front e ⊎ InSecond (entries_at n u k ask) (issued_from (n + 1) (finish_of u k ask).kept (after u (actions_of (steps_at u k ask))) asks) front e more
-        → ((back : List Entry) → issued_from (n + 1) (finish_of u k ask).kept (after u (actions_of (steps_at u k ask))) asks ≡ back ++ e ∷ more → n ≤ lines_before e) → n ≤ lines_before e
-    by_seam (inl i) again = by_half i.more (seam_in (numbered n (is_forgiving ask) (issue_of u k ask).steps) (numbered (n + 1) false (finish_of u k ask).steps) front e i.more i.is)
+    by_seam : InFirst (entries_at p n u k ask) front e ⊎ InSecond (entries_at p n u k ask) (issued_from p (n + 1) (finish_of p u k ask).kept (after u (actions_of (steps_at p u k ask))) asks) front e more
+        → ((back : List Entry) → issued_from p (n + 1) (finish_of p u k ask).kept (after u (actions_of (steps_at p u k ask))) asks ≡ back ++ e ∷ more → n ≤ lines_before e) → n ≤ lines_before e
+    by_seam (inl i) again = by_half i.more (seam_in (numbered n (is_forgiving ask) (issue_of p u k ask).steps) (numbered (n + 1) false (finish_of p u k ask).steps) front e i.more i.is)
     by_seam (inr i) again = again i.back i.is
 
 pub came_before : CameBefore
-came_before t front back c low cut = by_seam (seam_in (issued t front) rest cut.front cut.entry cut.more (sym split ∙ cut.is))
+came_before p t front back c low cut = by_seam (seam_in (issued p t front) rest cut.front cut.entry cut.more (sym split ∙ cut.is))
   where
     rest : List Entry
-    rest = issued_from (0 + length front) (kept_from nothing_kept t front) (target_after t (issued t front)) back
+    rest = issued_from p (0 + length front) (kept_from p nothing_kept t front) (target_after t (issued p t front)) back
 
-    split : issued t (front ++ back) ≡ issued t front ++ issued_from (0 + length front) (kept_from nothing_kept t front) (target_after t (issued t front)) back
-    split = journal_joins 0 nothing_kept t front back
+    split : issued p t (front ++ back) ≡ issued p t front ++ issued_from p (0 + length front) (kept_from p nothing_kept t front) (target_after t (issued p t front)) back
+    split = journal_joins p 0 nothing_kept t front back
 
-    by_seam : InFirst (issued t front) cut.front cut.entry ⊎ InSecond (issued t front) (issued_from (0 + length front) (kept_from nothing_kept t front) (target_after t (issued t front)) back) cut.front cut.entry cut.more
+    by_seam : InFirst (issued p t front) cut.front cut.entry ⊎ InSecond (issued p t front) (issued_from p (0 + length front) (kept_from p nothing_kept t front) (target_after t (issued p t front)) back) cut.front cut.entry cut.more
         → length front ≤ lines_before cut.entry
     by_seam (inl i) = absurd (let a = ap length i.is ∙ length-append cut.front (cut.entry ∷ i.more) in let b = cut.at in omega (arith, a, b, low))
-    by_seam (inr i) = (let a = lines_from (0 + length front) (kept_from nothing_kept t front) (target_after t (issued t front)) back i.back cut.entry cut.more i.is in omega (arith, a))
+    by_seam (inr i) = (let a = lines_from p (0 + length front) (kept_from p nothing_kept t front) (target_after t (issued p t front)) back i.back cut.entry cut.more i.is in omega (arith, a))
 
 pub results_stay : ResultsStay
-results_stay t asks r skipped lines n fresh ok cut numbers enough =
-    let s : StaysThere 0 t [] asks cut.entry = wait_stops t asks cut.front cut.entry cut.more fresh ok cut.is cut.passes in
-    let same : s.at ≡ lines = sym (lines_cut (issued t asks) t asks skipped lines r cut numbers ∙ s.lines ∙ omega arith) in
+results_stay p t asks r skipped lines n fresh ok cut numbers enough =
+    let s : StaysThere 0 t [] asks cut.entry = wait_stops p t asks cut.front cut.entry cut.more fresh ok cut.is cut.passes in
+    let same : s.at ≡ lines = sym (lines_cut (issued p t asks) t asks skipped lines r cut numbers ∙ s.lines ∙ omega arith) in
     let le : lines ≤ length asks = (let w = s.within in omega (arith, w, same)) in
     (le, front_first (start_world t n) asks lines enough ∙ sym (results_take (start_world t None) asks lines))

@@ -1,4 +1,4 @@
-use Rattle.calls_in_flight.proofs.CfgLemmas.{small_by_cfg}
+use Rattle.calls_in_flight.proofs.CfgLemmas.{small_alone, small_by_cfg}
 use Rattle.calls_in_flight.proofs.SmallLemmas.{not_small_now}
 use Rattle.calls_in_flight.proofs.laws.small_units.Goals as goal
 
@@ -7,3 +7,6 @@ returns-clause-none c = not_small_now
 
 pub returns-clause-cfg : goal.returns-clause-cfg
 returns-clause-cfg c = small_by_cfg
+
+pub returns-clause-alone : goal.returns-clause-alone
+returns-clause-alone c = small_alone

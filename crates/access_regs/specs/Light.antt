@@ -1,0 +1,13 @@
+-- How much calls weigh at most.
+use Rattle.std.specs.Prelude.{ℕ, ◌*◌, ◌≤◌, List, length}
+use Rattle.target_machine.specs.State.{TargetState}
+use Rattle.call_terms.specs.Asks.{AreAskable}
+use Rattle.call_terms.specs.Weights.{weight_in}
+use Rattle.call_terms.specs.declared.calls.Ask.{Ask}
+use Rattle.access_regs.specs.Journal.{issued}
+use Rattle.access_regs.specs.declared.planner.Planner.{Planner}
+
+-- The entries of calls weigh together at most 60,000,012 for each call: the turns of the longest poll, and what comes before and
+-- after it.
+abbrev pub JournalIsLight : Type 0
+JournalIsLight = (p : Planner) (t : TargetState) (asks : List Ask) → AreAskable asks → weight_in t (issued p t asks) ≤ 60000012 * length asks
