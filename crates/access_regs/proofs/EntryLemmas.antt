@@ -96,7 +96,7 @@ is_answered i d c u v (stopped a) e = let x : ◌≡◌ {A = CallEnd} Faulted (A
 is_answered i d c u v (small a) e = let x : ◌≡◌ {A = CallEnd} Small (Answered v) = sym a.end ∙ e in absurd (cc)
 is_answered i d c u v (skipped a) e = let x : ◌≡◌ {A = CallEnd} Skipped (Answered v) = sym a.end ∙ e in absurd (cc)
 
-askable_first : (xs ys : List Ask) → AreAskable (xs ++ ys) → AreAskable xs
+pub askable_first : (xs ys : List Ask) → AreAskable (xs ++ ys) → AreAskable xs
 askable_first [] ys h = tt
 askable_first (x ∷ xs) ys h = (h.0, askable_first xs ys h.1)
 

@@ -419,7 +419,7 @@ unfolding call_done
 port_done true t l read n addr value = refl
 port_done false t l read n addr value = refl
 
-contains_one : (b : Bool) (n : ℕ) → contains (cond b (n ∷ []) []) n ≡ b
+pub contains_one : (b : Bool) (n : ℕ) → contains (cond b (n ∷ []) []) n ≡ b
 contains_one true n = ap (λ (c : Bool). c || false) (eq-eqb n n refl)
 contains_one false n = refl
 

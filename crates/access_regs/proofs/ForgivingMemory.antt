@@ -38,7 +38,7 @@ AreSkips P ys = AllParts P ys × OneEnd P ys × ((v : TargetState) → KeepsMemo
 abort_words : (t : TargetState) → (commanded t forgives).next.words ≡ t.words
 abort_words t = ap (λ (x : Attempt). x.next.words) (forgiving.aborts t)
 
-pub skip : Bool → Step
+unfoldable pub skip : Bool → Step
 skip early = record { part = Skips early; action = Commands forgives }
 
 pub skips : (early : Bool) → AreSkips IsNoEnd (skip early ∷ [])
@@ -150,7 +150,7 @@ pub record Keeps (P : Part → Type 0) (t : TargetState) (steps_ : List Step) : 
   pub one : OneEnd P steps_
 
 -- its actions with the skip, where there is one
-parts_ended : (early : Bool) (asked : AccessUnit) (b forgive small : Bool) (x : ℕ) (next : TargetState) (large : List ℕ) (actions : List Action) → (P : List Step → Type 0) →
+pub parts_ended : (early : Bool) (asked : AccessUnit) (b forgive small : Bool) (x : ℕ) (next : TargetState) (large : List ℕ) (actions : List Action) → (P : List Step → Type 0) →
     (forgive ≡ true → P (parts_of early asked actions ++ skip early ∷ [])) → P (parts_of early asked actions ++ []) → P (parts_of early asked (ended b forgive small x next large actions).actions)
 unfolding skip
 parts_ended early asked true true small x next large actions P with_ without = subst P (sym (forgiving.parts_append early asked actions (Commands forgives ∷ []))) (with_ refl)

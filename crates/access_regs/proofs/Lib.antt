@@ -37,3 +37,5 @@ pub mod OneEnd
 pub mod ForgivingMemory
 pub mod MemoryPoints
 pub mod LightLemmas
+pub mod SkipLemmas
+pub mod CostLemmas

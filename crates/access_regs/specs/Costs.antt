@@ -1,8 +1,8 @@
 -- How many need points a call makes by itself, by what it issues after others.
-use Rattle.std.specs.Prelude.{◌≡◌, ℕ, ◌+◌, ◌/◌, Bool, true, false, if◌then◌else◌, List, [], sum_by}
+use Rattle.std.specs.Prelude.{◌≡◌, ℕ, ◌+◌, ◌/◌, ◌<◌, Bool, true, false, if◌then◌else◌, List, [], sum_by}
 use Rattle.dap_base.specs.Bits.{has_bit}
 use Rattle.target_machine.specs.Lists.{after}
-use Rattle.target_machine.specs.Plain.{Action, Makes, Polls, Commands}
+use Rattle.target_machine.specs.Plain.{Action, Makes, Polls, Commands, has_large}
 use Rattle.target_machine.specs.Registers.{cfg_la}
 use Rattle.target_machine.specs.State.{TargetState}
 use Rattle.target_machine.specs.declared.unit.Call.{Call}
@@ -19,7 +19,7 @@ use Rattle.call_terms.specs.declared.calls.Ask.{Ask}
 use Rattle.call_terms.specs.declared.journal.Part.{Part}
 use Rattle.call_terms.specs.declared.journal.Part.TheVariants.{Settles, Leads, Ends, Skips}
 use Rattle.access_regs.specs.Entries.{kept_by, target_by}
-use Rattle.access_regs.specs.Journal.{Step, by_cfg, by_csw, by_plan, gives, issue_of, making, planned, port_of}
+use Rattle.access_regs.specs.Journal.{Step, alone_at, gives, issue_of, making, planned, port_of}
 use Rattle.access_regs.specs.Kept.{Kept}
 use Rattle.access_regs.specs.Plan.{bank_zero, cfg_plan, learned_cfg, needs_cfg, needs_csw, needs_settle, settle, settled}
 use Rattle.access_regs.specs.declared.planner.Planner.{Planner}
@@ -87,3 +87,13 @@ PlannedAsks = (t : TargetState) (k : Kept) (asked : AccessUnit) →
     let cfg : ℕ = gives u (cfg_plan l (port_of asked)) in
     questions (planned t k asked).steps
     ≡ (if needs_cfg l asked then 1 + (if has_bit cfg cfg_la then one_if (needs_csw (learned_cfg l (port_of asked) cfg) asked) else 0) else one_if (needs_csw l asked))
+
+-- Reads of CSW and CFG of a unit that is made alone: CFG where it is needed, and CSW, except after a CFG that shows no large addresses.
+-- A read that faults counts too.
+abbrev pub AloneAsks : Type 0
+AloneAsks = (t : TargetState) (k : Kept) (forgive : Bool) (size : ℕ) (read : Bool) (ap address value : ℕ) → t.sticky ≡ false → ap < 256 →
+    questions (alone_at forgive (unit.Memory size read ap address value) t k).steps ≡ (if needs_cfg k (unit.Memory size read ap address value) then 1 + one_if (has_large t ap) else 1)
+
+-- An AP unit that is made alone has none.
+abbrev pub PortAsks : Type 0
+PortAsks = (t : TargetState) (k : Kept) (forgive read : Bool) (ap addr value : ℕ) → questions (alone_at forgive (unit.Ap read ap addr value) t k).steps ≡ 0

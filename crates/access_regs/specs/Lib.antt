@@ -12,3 +12,4 @@ pub mod Neighbours
 pub mod Closed
 pub mod Costs
 pub mod Light
+pub mod Skips

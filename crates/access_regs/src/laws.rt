@@ -1,7 +1,10 @@
 //! What follows from the definitions: each law is the contract of a function that does nothing.
 ghost use Rattle.access_regs.specs.Closed.{MemoryFollowsCalls};
+ghost use Rattle.access_regs.specs.Costs.{AloneAsks, PlannedAsks, PortAsks};
 ghost use Rattle.access_regs.specs.Entries.{CallAnswers, JournalGrows, JournalMarks, JournalWeighs, LeadsAreGood, SelectIsGood, UnitsInRange};
 ghost use Rattle.access_regs.specs.Laws.{CallGoes, CallLeaves, FreshFollows, JournalAgrees, JournalAnswers, JournalFollows, JournalJoins, JournalPasses, JournalStops, KeptJoins, SettlingEnds, UnitKeepsMemory};
+ghost use Rattle.access_regs.specs.Light.{JournalIsLight};
+ghost use Rattle.access_regs.specs.Skips.{FaultSkips, PassingIsMade};
 ghost use Rattle.access_regs.specs.Stops.{FaultStops, PassingStops, WaitStops};
 ghost use Rattle.access_regs.specs.Neighbours.{NeighboursAreFew};
 
@@ -77,4 +80,25 @@ pub fn only_the_last_access_changes_memory()
 #[tactic(auto, using(crate::proofs::MemoryPoints::memory_follows))]
 pub fn memory_follows_calls()
     ensures { MemoryFollowsCalls }
+{}
+
+/// A call that forgives a fault is skipped exactly where one of its accesses faults.
+#[tactic(auto, using(crate::proofs::SkipLemmas::fault_skips, crate::proofs::SkipLemmas::passing_is_made))]
+pub fn faults_skip_calls()
+    ensures fault { FaultSkips }
+    ensures passing { PassingIsMade }
+{}
+
+/// The entries of calls weigh together no more than so much for each call.
+#[tactic(auto, using(crate::proofs::LightLemmas::journal_light))]
+pub fn calls_are_light()
+    ensures { JournalIsLight }
+{}
+
+/// How many reads of CSW and CFG lead to the access that a unit is for.
+#[tactic(auto, using(crate::proofs::CostLemmas::planned_asks, crate::proofs::CostLemmas::alone_asks, crate::proofs::CostLemmas::port_asks))]
+pub fn reads_that_lead()
+    ensures planned { PlannedAsks }
+    ensures alone { AloneAsks }
+    ensures port { PortAsks }
 {}

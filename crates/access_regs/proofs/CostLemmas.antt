@@ -1,0 +1,291 @@
+-- Which reads of CSW and CFG lead to the access of a unit.
+use Rattle.std.proofs.Common.{◌≡◌, ◌∙◌, ℕ, ◌+◌, ◌/◌, ◌%◌, ◌^◌, ◌<◌, ◌⊎◌, inl, inr, Bool, true, false, cond, not, ◌&&◌, ◌||◌, nat_lt, None, List, [], ◌∷◌, ◌++◌, refl, sym, ap, subst, arith}
+use Rattle.std.proofs.lemmas.List.Sums.{sum_by-append, sum_by-cons}
+use Rattle.access_regs.proofs.Course.{steps_append}
+use Rattle.access_regs.proofs.Forgiving.{contains_one, csw_at, memory_shape, shape}
+use Rattle.access_regs.proofs.ForgivingMemory.{parts_ended, skip}
+use Rattle.access_regs.proofs.Runs.{select_left}
+use Rattle.access_regs.proofs.Select.{select_write}
+use Rattle.access_regs.specs.Costs.{AloneAsks, PlannedAsks, PortAsks, is_question, questions, reads}
+use Rattle.access_regs.specs.Journal.{Issue, Step, after_settling, alone_at, before, is_early, is_last, large_of, part_of, parts_of, by_cfg, by_cfg_read, by_csw, by_plan, gives, last_action, making, planned, port_of, steps_of}
+use Rattle.access_regs.specs.Kept.{Kept, csw_of, is_known, known}
+use Rattle.access_regs.specs.Plan.{cfg_plan, csw_needed, first_plan, high_needed, leads, learned, learned_cfg, needs_cfg, needs_csw, needs_settle, planned_csw, port_writes, select_needed, select_value, settle, settled, tar_needed, unless}
+use Rattle.access_regs.specs.declared.known.Known.{Known}
+use Rattle.call_terms.specs.Journal.{one_if}
+use Rattle.call_terms.specs.declared.journal.Part.{Part}
+use Rattle.call_terms.specs.declared.journal.Part.TheVariants.{Ends, Leads, Settles}
+use Rattle.dap_base.specs.Bits.{has_bit}
+use Rattle.target_machine.specs.Lists.{after}
+use Rattle.target_machine.proofs.OneAp.{one_ap_changed}
+use Rattle.target_machine.specs.Attempt.{Attempt, attempt}
+use Rattle.target_machine.specs.Plain.{Action, Makes, Polls, Commands, acted, ap_access_of, call_done, cfg_actions, contains, csw_actions, ended, given, has_large, in_order, is_fault, is_small, issued, large_after, needs_cfg as wants_cfg, result_of, select_of, transfer_actions, unit_actions}
+use Rattle.target_machine.specs.declared.access.Outcome.{Outcome}
+use Rattle.target_machine.specs.declared.access.Outcome.TheVariants.{Value, Done, Fault}
+use Rattle.target_machine.specs.declared.unit.Call.TheVariants.{Access}
+use Rattle.target_machine.specs.State.{TargetState}
+use Rattle.target_machine.specs.declared.access.RegAccess.{RegAccess}
+use Rattle.target_machine.specs.declared.unit.Unit.{Unit as AccessUnit}
+use Rattle.target_machine.specs.declared.unit.Unit.TheVariants as unit
+
+asks_both : (xs ys : List Step) → questions (xs ++ ys) ≡ questions xs + questions ys
+asks_both xs ys = sum_by-append (λ (s : Step). one_if (is_question s.part s.action)) xs ys
+
+settles_ask : (xs : List RegAccess) → questions (steps_of Settles xs) ≡ 0
+settles_ask [] = refl
+settles_ask (x ∷ xs) =
+    let e = settles_ask xs in
+    let c = sum_by-cons (λ (s : Step). one_if (is_question s.part s.action)) (record { part = Settles; action = Makes x }) (steps_of Settles xs) in
+    omega (arith, c, e)
+
+-- accesses that lead, one list after the other
+leads_both : (xs ys : List RegAccess) → questions (steps_of Leads (xs ++ ys)) ≡ questions (steps_of Leads xs) + questions (steps_of Leads ys)
+leads_both xs ys = ap questions (steps_append Leads xs ys) ∙ asks_both (steps_of Leads xs) (steps_of Leads ys)
+
+write_asks : (b : Bool) (a : RegAccess) → a.read ≡ false → questions (steps_of Leads (unless b a)) ≡ 0
+write_asks true a e = refl
+write_asks false a e = ap (λ (r : Bool). 0 + one_if r) e
+
+select_asks : (k : Kept) (n bank : ℕ) → questions (steps_of Leads (select_needed k n bank)) ≡ 0
+select_asks k n bank = write_asks (is_known k.select (select_value n bank)) (select_of n bank) refl
+
+writes_ask : (n : Known) (size address : ℕ) → questions (steps_of Leads (port_writes n size address)) ≡ 0
+writes_ask n size address =
+    let a = write_asks (is_known n.csw (planned_csw (csw_of n) size)) (ap_access_of false 0 (planned_csw (csw_of n) size)) refl in
+    let b = write_asks (not n.large || is_known n.high (address / 2 ^ 32)) (ap_access_of false 8 (address / 2 ^ 32)) refl in
+    let c = write_asks (is_known n.tar (address % 2 ^ 32)) (ap_access_of false 4 (address % 2 ^ 32)) refl in
+    let d = leads_both (csw_needed n size) (high_needed n address ++ tar_needed n address) in
+    let e = leads_both (high_needed n address) (tar_needed n address) in
+    omega (arith, a, b, c, d, e)
+
+leads_ask : (k : Kept) (asked : AccessUnit) → questions (steps_of Leads (leads k asked)) ≡ 0
+leads_ask k (unit.Memory size read n address value) =
+    let a = select_asks k n 0 in
+    let b = writes_ask (known k n) size address in
+    let c = leads_both (select_needed k n 0) (port_writes (known k n) size address) in
+    omega (arith, a, b, c)
+leads_ask k (unit.Ap read n addr value) = select_asks k n (addr / 16)
+leads_ask k (unit.Dp read addr value) = refl
+leads_ask k (unit.Poll mask value turns) = refl
+
+plan_asks : (k : Kept) (asked : AccessUnit) → questions (by_plan k asked).steps ≡ 0
+plan_asks k asked =
+    let a = asks_both (steps_of Leads (leads k asked)) (record { part = Ends; action = last_action asked } ∷ []) in
+    let b = leads_ask k asked in
+    omega (arith, a, b)
+
+-- SELECT, and a read
+read_asks : (k : Kept) (n bank : ℕ) (a : RegAccess) → a.read ≡ true → questions (steps_of Leads (select_needed k n bank ++ a ∷ [])) ≡ 1
+read_asks k n bank a e =
+    let x = select_asks k n bank in
+    let y = leads_both (select_needed k n bank) (a ∷ []) in
+    let z : questions (steps_of Leads (a ∷ [])) ≡ 1 = ap (λ (r : Bool). 0 + one_if r) e in
+    omega (arith, x, y, z)
+
+csw_asks : (t : TargetState) (k : Kept) (asked : AccessUnit) → questions (by_csw t k asked).steps ≡ one_if (needs_csw k asked)
+csw_asks t k asked = by_needs (needs_csw k asked)
+  where
+    l : Kept
+    l = learned k (port_of asked) (gives t (first_plan k (port_of asked)))
+
+    by_needs : (b : Bool) → questions (cond b (before (steps_of Leads (first_plan k (port_of asked))) (by_plan (learned k (port_of asked) (gives t (first_plan k (port_of asked)))) asked)) (by_plan k asked)).steps ≡ one_if b
+    by_needs true =
+        let a = asks_both (steps_of Leads (first_plan k (port_of asked))) (by_plan l asked).steps in
+        let b = read_asks k (port_of asked) 0 (ap_access_of true 0 0) refl in
+        let c = plan_asks l asked in
+        omega (arith, a, b, c)
+    by_needs false = plan_asks k asked
+
+read_is : (t : TargetState) (k : Kept) (asked : AccessUnit) (cfg : ℕ) → questions (by_cfg_read t k asked cfg).steps ≡ cond (has_bit cfg 2) (one_if (needs_csw (learned_cfg k (port_of asked) cfg) asked)) 0
+read_is t k asked cfg = by_large (has_bit cfg 2)
+  where
+    by_large : (b : Bool) → questions (cond b (by_csw t (learned_cfg k (port_of asked) cfg) asked) (record { steps = []; kept = learned_cfg k (port_of asked) cfg })).steps
+        ≡ cond b (one_if (needs_csw (learned_cfg k (port_of asked) cfg) asked)) 0
+    by_large true = csw_asks t (learned_cfg k (port_of asked) cfg) asked
+    by_large false = refl
+
+cfg_asks : (t : TargetState) (k : Kept) (asked : AccessUnit) → questions (by_cfg t k asked).steps
+    ≡ cond (needs_cfg k asked) (1 + cond (has_bit (gives t (cfg_plan k (port_of asked))) 2) (one_if (needs_csw (learned_cfg k (port_of asked) (gives t (cfg_plan k (port_of asked)))) asked)) 0) (one_if (needs_csw k asked))
+cfg_asks t k asked = by_needs (needs_cfg k asked)
+  where
+    cfg : ℕ
+    cfg = gives t (cfg_plan k (port_of asked))
+
+    w : TargetState
+    w = after t (making (cfg_plan k (port_of asked)))
+
+    by_needs : (b : Bool) → questions (cond b (before (steps_of Leads (cfg_plan k (port_of asked))) (by_cfg_read w k asked cfg)) (by_csw t k asked)).steps
+        ≡ cond b (1 + cond (has_bit cfg 2) (one_if (needs_csw (learned_cfg k (port_of asked) cfg) asked)) 0) (one_if (needs_csw k asked))
+    by_needs true =
+        let a = asks_both (steps_of Leads (cfg_plan k (port_of asked))) (by_cfg_read w k asked cfg).steps in
+        let b = read_asks k (port_of asked) 15 (ap_access_of true 4 0) refl in
+        let c = read_is w k asked cfg in
+        omega (arith, a, b, c)
+    by_needs false = csw_asks t k asked
+
+abbrev cost_shape : AccessUnit → TargetState → Kept → ℕ
+cost_shape asked u l =
+    cond (needs_cfg l asked) (1 + cond (has_bit (gives u (cfg_plan l (port_of asked))) 2) (one_if (needs_csw (learned_cfg l (port_of asked) (gives u (cfg_plan l (port_of asked)))) asked)) 0) (one_if (needs_csw l asked))
+
+pub planned_asks : PlannedAsks
+planned_asks t k asked = by_settle (needs_settle k asked)
+  where
+    by_settle : (b : Bool) → questions (cond b (after_settling t k (λ u l. by_cfg u l asked)) (by_cfg t k asked)).steps ≡ cost_shape asked (after t (making (cond b (settle k) []))) (cond b (settled k) k)
+    by_settle true =
+        let u : TargetState = after t (making (settle k)) in
+        let a = asks_both (steps_of Settles (settle k)) (by_cfg u (settled k) asked).steps in
+        let b = settles_ask (settle k) in
+        let c = cfg_asks u (settled k) asked in
+        omega (arith, a, b, c)
+    by_settle false = cfg_asks t k asked
+
+-- ---- units made alone
+
+-- writes, and the access that the unit is for
+abbrev IsQuiet : AccessUnit → Action → Type 0
+IsQuiet asked (Makes a) = (a.read ≡ false) ⊎ (is_last asked a ≡ true)
+IsQuiet asked (Polls mask value turns) = ⊥
+IsQuiet asked (Commands c) = ⊥
+
+abbrev AreQuiet : AccessUnit → List Action → Type 0
+AreQuiet asked [] = Unit {0}
+AreQuiet asked (x ∷ xs) = IsQuiet asked x × AreQuiet asked xs
+
+step_asks : (early : Bool) (asked : AccessUnit) (x : Action) (xs : List Action) → questions (parts_of early asked (x ∷ xs)) ≡ one_if (is_question (part_of early asked x) x) + questions (parts_of early asked xs)
+step_asks early asked x xs = sum_by-cons (λ (s : Step). one_if (is_question s.part s.action)) (record { part = part_of early asked x; action = x }) (parts_of early asked xs)
+
+quiet_step : (early : Bool) (asked : AccessUnit) (x : Action) → IsQuiet asked x → is_question (part_of early asked x) x ≡ false
+quiet_step early asked (Makes a) (inl write) = by_last (is_last asked a)
+  where
+    by_last : (b : Bool) → is_question (cond b Ends Leads) (Makes a) ≡ false
+    by_last true = refl
+    by_last false = write
+quiet_step early asked (Makes a) (inr last) = ap (λ (b : Bool). is_question (cond b Ends Leads) (Makes a)) last
+quiet_step early asked (Polls mask value turns) h = absurd h
+quiet_step early asked (Commands c) h = absurd h
+
+quiet_asks : (early : Bool) (asked : AccessUnit) (v : TargetState) (xs : List Action) → AreQuiet asked xs → questions (parts_of early asked (issued v xs)) ≡ 0
+quiet_asks early asked v [] h = refl
+quiet_asks early asked v (x ∷ xs) h =
+    step_asks early asked x (cond (is_fault (acted v x).outcome) [] (issued (acted v x).next xs))
+    ∙ ap (λ (b : Bool). one_if b + questions (parts_of early asked (cond (is_fault (acted v x).outcome) [] (issued (acted v x).next xs)))) (quiet_step early asked x h.0)
+    ∙ by_fault (is_fault (acted v x).outcome) (quiet_asks early asked (acted v x).next xs h.1)
+  where
+    by_fault : (b : Bool) → questions (parts_of early asked (issued (acted v x).next xs)) ≡ 0 → 0 + questions (parts_of early asked (cond b [] (issued (acted v x).next xs))) ≡ 0
+    by_fault true e = refl
+    by_fault false e = omega (arith, e)
+
+-- SELECT, and a read that is asked for
+module _ (early : Bool) (asked : AccessUnit) (v : TargetState) (n bank : ℕ) (lt : n < 256) (banked : bank < 16) (clear : v.sticky ≡ false) (a : RegAccess) (is_read : a.read ≡ true) (not_last : is_last asked a ≡ false)
+    (select_leads : is_last asked (select_of n bank) ≡ false) (rest : List Action) where
+  abbrev w : TargetState
+  w = (attempt v (select_of n bank)).next
+
+  select_good : is_fault (attempt v (select_of n bank)).outcome ≡ false
+  select_good = ap (λ (y : Attempt). is_fault y.outcome) (select_write n bank lt banked v clear)
+
+  select_clear : w.sticky ≡ false
+  select_clear = (select_left n lt v bank banked v None clear (λ q ne. refl) (λ h. h) refl).clear select_good
+
+  reads_one : questions (parts_of early asked (issued v (Makes (select_of n bank) ∷ Makes a ∷ rest))) ≡ 1 + questions (parts_of early asked (cond (is_fault (attempt w a).outcome) [] (issued (attempt w a).next rest)))
+  reads_one =
+      let last : List Action = cond (is_fault (attempt w a).outcome) [] (issued (attempt w a).next rest) in
+      let first : one_if (is_question (part_of early asked (Makes (select_of n bank))) (Makes (select_of n bank))) ≡ 0 = ap one_if (quiet_step early asked (Makes (select_of n bank)) (inl refl)) in
+      let second : one_if (is_question (part_of early asked (Makes a)) (Makes a)) ≡ 1 = (λ j. one_if (is_question (cond (not_last j) Ends Leads) (Makes a))) ∙ ap one_if is_read in
+      let x = step_asks early asked (Makes (select_of n bank)) (Makes a ∷ last) in
+      let y = step_asks early asked (Makes a) last in
+      ap (λ (b : Bool). questions (parts_of early asked (Makes (select_of n bank) ∷ cond b [] (Makes a ∷ last)))) select_good
+      ∙ omega (arith, first, second, x, y)
+
+module _ (early : Bool) (size : ℕ) (read : Bool) (n address value : ℕ) (lt : n < 256) where
+  abbrev here : AccessUnit
+  here = unit.Memory size read n address value
+
+  tail_quiet : (l : Bool) (csw : ℕ) → AreQuiet here (transfer_actions l size read address value csw)
+  tail_quiet true csw = (inl refl, (inl refl, (inl refl, (inr refl, tt))))
+  tail_quiet false csw = (inl refl, (inl refl, (inr refl, tt)))
+
+  csw_part : (v : TargetState) → v.sticky ≡ false → (l : Bool) (csw : ℕ) → questions (parts_of early here (issued v (csw_actions n ++ transfer_actions l size read address value csw))) ≡ 1
+  csw_part v clear l csw =
+      let w : TargetState = (attempt v (select_of n 0)).next in
+      let a : RegAccess = ap_access_of true 0 0 in
+      let rest : List Action = transfer_actions l size read address value csw in
+      let one = reads_one early here v n 0 lt (omega arith) clear a refl refl refl rest in
+      one ∙ by_fault (is_fault (attempt w a).outcome) (quiet_asks early here (attempt w a).next rest (tail_quiet l csw))
+    where
+      by_fault : (b : Bool) → questions (parts_of early here (issued (attempt (attempt v (select_of n 0)).next (ap_access_of true 0 0)).next (transfer_actions l size read address value csw))) ≡ 0 →
+          1 + questions (parts_of early here (cond b [] (issued (attempt (attempt v (select_of n 0)).next (ap_access_of true 0 0)).next (transfer_actions l size read address value csw)))) ≡ 1
+      by_fault true e = refl
+      by_fault false e = omega (arith, e)
+
+  module _ (v : TargetState) (clear : v.sticky ≡ false) where
+    abbrev s : TargetState
+    s = (attempt v (select_of n 15)).next
+
+    abbrev cfg : RegAccess
+    cfg = ap_access_of true 4 0
+
+    s_clear : s.sticky ≡ false
+    s_clear = select_clear early here v n 15 lt (omega arith) clear cfg refl refl refl []
+
+    -- what the two accesses give
+    cfg_given : in_order v (cfg_actions n) ≡ attempt s cfg
+    cfg_given = ap (λ (b : Bool). cond b (attempt v (select_of n 15)) (attempt s cfg)) (select_good early here v n 15 lt (omega arith) clear cfg refl refl refl [])
+
+    cfg_good : has_large v n ≡ true → is_fault (attempt s cfg).outcome ≡ false
+    cfg_good large = by_outcome (attempt s cfg).outcome (ap (λ (x : Attempt). has_bit (given x.outcome) 2) (sym cfg_given) ∙ large)
+      where
+        by_outcome : (o : Outcome) → has_bit (given o) 2 ≡ true → is_fault o ≡ false
+        by_outcome (Value x) e = refl
+        by_outcome Done e = refl
+        by_outcome Fault e = absurd (cc)
+
+    cfg_part : (b l : Bool) (csw : ℕ) → has_large v n ≡ b → questions (parts_of early here (issued v (shape size read n address value true b l csw))) ≡ 1 + one_if b
+    cfg_part true l csw e =
+        let good = cfg_good e in
+        let after_clear : (attempt s cfg).next.sticky ≡ false = (one_ap_changed s cfg refl).sticky good ∙ s_clear in
+        let one = reads_one early here v n 15 lt (omega arith) clear cfg refl refl refl (csw_actions n ++ transfer_actions true size read address value csw) in
+        let two = csw_part (attempt s cfg).next after_clear true csw in
+        one ∙ ap (λ (b : Bool). 1 + questions (parts_of early here (cond b [] (issued (attempt s cfg).next (csw_actions n ++ transfer_actions true size read address value csw))))) good ∙ ap (λ (m : ℕ). 1 + m) two
+    cfg_part false l csw e =
+        reads_one early here v n 15 lt (omega arith) clear cfg refl refl refl [] ∙ by_fault (is_fault (attempt s cfg).outcome)
+      where
+        by_fault : (b : Bool) → 1 + questions (parts_of early here (cond b [] [])) ≡ 1
+        by_fault true = refl
+        by_fault false = refl
+
+    shape_part : (w l : Bool) (csw : ℕ) → questions (parts_of early here (issued v (shape size read n address value w (has_large v n) l csw))) ≡ cond w (1 + one_if (has_large v n)) 1
+    shape_part true l csw = cfg_part (has_large v n) l csw refl
+    shape_part false l csw = csw_part v clear l csw
+
+-- the write of ABORT is none
+ended_ask : (early : Bool) (asked : AccessUnit) (b forgive small : Bool) (x : ℕ) (next : TargetState) (large : List ℕ) (actions : List Action) (m : ℕ) → questions (parts_of early asked actions) ≡ m →
+    questions (parts_of early asked (ended b forgive small x next large actions).actions) ≡ m
+unfolding skip
+ended_ask early asked b forgive small x next large actions m e =
+    parts_ended early asked b forgive small x next large actions (λ (l : List Step). questions l ≡ m)
+    (λ f. asks_both (parts_of early asked actions) (skip early ∷ []) ∙ omega (arith, e)) (asks_both (parts_of early asked actions) [] ∙ omega (arith, e))
+
+pub alone_asks : AloneAsks
+unfolding call_done
+alone_asks t k forgive size read n address value clear lt =
+    let asked : AccessUnit = unit.Memory size read n address value in
+    let l2 : List ℕ = large_of k asked in
+    let early : Bool = is_early asked (call_done t l2 forgive (Access asked)).actions in
+    let ran : Attempt = in_order t (unit_actions t l2 asked) in
+    let wide : wants_cfg l2 n address ≡ needs_cfg k asked = ap (λ (c : Bool). nat_lt 0xFFFF_FFFF address && not c) (contains_one (known k n).large n) in
+    let own : questions (parts_of early asked (issued t (unit_actions t l2 asked))) ≡ cond (wants_cfg l2 n address) (1 + one_if (has_large t n)) 1 =
+    ap (λ (l : List Action). questions (parts_of early asked (issued t l))) (memory_shape size read n address value t l2)
+    ∙ shape_part early size read n address value lt t clear (wants_cfg l2 n address) (contains l2 n) (csw_at size read n address value t (wants_cfg l2 n address)) in
+    ended_ask early asked (is_fault ran.outcome) (forgive && true) (is_small t l2 (Access asked)) (result_of (Access asked) (given ran.outcome)) ran.next (large_after t l2 (Access asked)) (issued t (unit_actions t l2 asked))
+    (cond (wants_cfg l2 n address) (1 + one_if (has_large t n)) 1) own
+    ∙ ap (λ (b : Bool). cond b (1 + one_if (has_large t n)) 1) wide
+
+pub port_asks : PortAsks
+unfolding call_done
+port_asks t k forgive read n addr value =
+    let asked : AccessUnit = unit.Ap read n addr value in
+    let l2 : List ℕ = large_of k asked in
+    let early : Bool = is_early asked (call_done t l2 forgive (Access asked)).actions in
+    let ran : Attempt = in_order t (unit_actions t l2 asked) in
+    ended_ask early asked (is_fault ran.outcome) (forgive && true) false (result_of (Access asked) (given ran.outcome)) ran.next (large_after t l2 (Access asked)) (issued t (unit_actions t l2 asked)) 0
+    (quiet_asks early asked t (unit_actions t l2 asked) (inl refl, (inr refl, tt)))
