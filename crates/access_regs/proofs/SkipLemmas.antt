@@ -49,11 +49,13 @@ module _ (i : Issue) (d : CallDone) (c : Ask) (u : TargetState) where
   faults_skip (small a) ne leads step more at is pass bad = absurd (steps_fail u at a.at i.steps leads step more is a.pass pass bad)
   faults_skip (skipped a) ne leads step more at is pass bad = a.end
 
-  passing_made : Course i d c.call u → (v : TargetState) → PassTo u (actions_of i.steps) v → d.end ≢ Skipped
-  passing_made (answered a) v all e = let x : ◌≡◌ {A = CallEnd} (Answered _) Skipped = sym a.end ∙ e in absurd (cc)
-  passing_made (stopped a) v all e = let x : ◌≡◌ {A = CallEnd} Faulted Skipped = sym a.end ∙ e in absurd (cc)
-  passing_made (small a) v all e = let x : ◌≡◌ {A = CallEnd} Small Skipped = sym a.end ∙ e in absurd (cc)
-  passing_made (skipped a) v all e = steps_fail u a.at v i.steps a.leads a.step _ a.steps all a.pass a.bad
+  passing_made : Course i d c.call u → (v : TargetState) → PassTo u (actions_of i.steps) v → (d.end ≢ Skipped) × (d.end ≢ Faulted)
+  passing_made (answered a) v all =
+      ((λ e. (let x : ◌≡◌ {A = CallEnd} (Answered _) Skipped = sym a.end ∙ e in absurd (cc))), (λ e. (let x : ◌≡◌ {A = CallEnd} (Answered _) Faulted = sym a.end ∙ e in absurd (cc))))
+  passing_made (stopped a) v all = absurd (steps_fail u a.at v i.steps a.leads a.step a.more a.steps all a.pass a.bad)
+  passing_made (small a) v all =
+      ((λ e. (let x : ◌≡◌ {A = CallEnd} Small Skipped = sym a.end ∙ e in absurd (cc))), (λ e. (let x : ◌≡◌ {A = CallEnd} Small Faulted = sym a.end ∙ e in absurd (cc))))
+  passing_made (skipped a) v all = absurd (steps_fail u a.at v i.steps a.leads a.step _ a.steps all a.pass a.bad)
 
 pub fault_skips : FaultSkips
 fault_skips p t asks ask leads step more at fresh ok none forgives is pass bad =

@@ -2,7 +2,7 @@
 use Rattle.std.specs.Prelude.{◌≡◌, ◌≢◌, true, List, [], ◌∷◌, ◌++◌}
 use Rattle.target_machine.specs.Fresh.{IsFresh}
 use Rattle.target_machine.specs.Lists.{PassTo}
-use Rattle.target_machine.specs.Plain.{Skipped, acted, is_fault}
+use Rattle.target_machine.specs.Plain.{Faulted, Skipped, acted, is_fault}
 use Rattle.target_machine.specs.State.{TargetState}
 use Rattle.call_terms.specs.Asks.{AreAskable, is_forgiving}
 use Rattle.call_terms.specs.declared.calls.Ask.{Ask}
@@ -22,7 +22,7 @@ FaultSkips = (p : Planner) (t : TargetState) (asks : List Ask) (ask : Ask) (lead
     PassTo (target_by p t asks) (actions_of leads) at → is_fault (acted at step.action).outcome ≡ true →
     (alone (alone_after t [] asks) (large_of_all t [] asks) ask).end ≡ Skipped
 
--- Where none of its steps faults, it is not.
+-- Where none of its steps faults, a call is neither skipped, nor does it end at a fault.
 abbrev pub PassingIsMade : Type 0
 PassingIsMade = (p : Planner) (t : TargetState) (asks : List Ask) (ask : Ask) (at : TargetState) → IsFresh t → AreAskable (asks ++ ask ∷ []) → NoneFaults t [] asks →
-    PassTo (target_by p t asks) (actions_of (own_steps p t asks ask)) at → (alone (alone_after t [] asks) (large_of_all t [] asks) ask).end ≢ Skipped
+    PassTo (target_by p t asks) (actions_of (own_steps p t asks ask)) at → ((alone (alone_after t [] asks) (large_of_all t [] asks) ask).end ≢ Skipped) × ((alone (alone_after t [] asks) (large_of_all t [] asks) ask).end ≢ Faulted)

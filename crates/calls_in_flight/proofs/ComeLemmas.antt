@@ -1,22 +1,25 @@
 -- Calls all of whose entries were made.
-use Rattle.std.proofs.Common.{◌≡◌, ◌∙◌, ℕ, suc, Bool, true, false, ◌||◌, List, [], ◌∷◌, ◌++◌, length, slice_index, Option, Some, None, refl, sym, ap, subst, arith, append-nil, append_assoc, length-append}
+use Rattle.std.proofs.Common.{◌≡◌, ◌∙◌, ℕ, suc, ◌+◌, Bool, true, false, cond, ◌||◌, List, [], ◌∷◌, ◌++◌, length, slice_index, Option, Some, None, refl, sym, ap, subst, arith, append-nil, append_assoc, length-append}
 use Rattle.target_machine.specs.Plain.{CallEnd, Answered, Faulted, Skipped, Small, acted, call_done, given, result_of}
 use Rattle.target_machine.specs.State.{TargetState}
 use Rattle.probe_core.specs.Bench.{BenchState}
 use Rattle.probe_core.specs.Probe.{target_of}
 use Rattle.call_terms.specs.Asks.{AreAskable, is_forgiving}
-use Rattle.call_terms.specs.Journal.{Passes, target_after}
-use Rattle.call_terms.specs.World.{World, done_now, end_result, is_small_end, results, small_now, start_world, stop, stops_here, world_after}
+use Rattle.call_terms.specs.Journal.{Entry, Passes, target_after}
+use Rattle.target_machine.specs.Fresh.{IsFresh}
+use Rattle.call_terms.specs.World.{World, done_now, end_result, is_faulted, is_over, is_small_end, left_at, next_world, one_if_skipped, results, skips, small_now, start_world, stop, stops_here, world_after}
 use Rattle.call_terms.specs.declared.calls.Ask.{Ask}
-use Rattle.call_terms.proofs.CallLists.{count_of, results_front, whole_front}
+use Rattle.call_terms.proofs.CallLists.{count_of, head_of, results_front, whole_front}
 use Rattle.call_terms.proofs.EndLemmas.{skipped_forgives}
-use Rattle.call_terms.proofs.OneCall.{one_last, one_small, one_stops}
+use Rattle.call_terms.proofs.OneCall.{one_last, one_results, one_skips, one_small, one_stops}
 use Rattle.access_regs.specs.Alone.{alone, alone_after, large_of_all}
-use Rattle.access_regs.specs.Entries.{AnsweredAt, kept_by}
-use Rattle.access_regs.specs.Journal.{issued}
+use Rattle.access_regs.specs.Entries.{AnsweredAt, kept_by, target_by}
+use Rattle.access_regs.specs.Journal.{issue_of, issued}
+use Rattle.access_regs.specs.Stops.{world_at}
+use Rattle.access_regs.proofs.SkipLemmas.{fault_skips, passing_is_made}
 use Rattle.access_regs.proofs.EntryLemmas.{call_answers}
 use Rattle.access_regs.proofs.StopLists.{passing_stops}
-use Rattle.calls_in_flight.specs.Coming.{AllCame, NoneStopped, ResultGiven}
+use Rattle.calls_in_flight.specs.Coming.{AllCame, NoneStopped, PassComes, PassGiven, ResultGiven, SkipComes, SmallGiven}
 use Rattle.calls_in_flight.specs.Sending.{IsSending}
 use Rattle.calls_in_flight.specs.UnderWay.{IsUnderWay}
 use Rattle.calls_in_flight.proofs.OpenLemmas.{after_alone, large_alone}
@@ -61,6 +64,14 @@ clash : (b : Bool) → b ≡ true → b ≡ false → ⊥
 clash true e f = cc
 clash false e f = cc
 
+-- all calls are answered there
+never_over : (asks : List Ask) (t : TargetState) (large : List ℕ) → stop (world_at t large None) asks ≡ None → (world_after (world_at t large None) asks).answered ≡ None
+never_over [] t large whole = refl
+never_over (x ∷ asks) t large whole =
+    let h = head_of (stops_here (world_at t large None) x) (stop (next_world (world_at t large None) x) asks) whole in
+    ap (λ (b : Bool). (cond b (left_at (world_at t large None) x) (world_after (next_world (world_at t large None) x) asks)).answered) h.0
+    ∙ never_over asks (alone t large x).next (alone t large x).large h.1
+
 module _ (t : TargetState) (asks : List Ask) (ask : Ask) (more : List Ask) (whole : stop (start_world t None) (asks ++ ask ∷ more) ≡ None) where
   abbrev w : World
   w = start_world t None
@@ -90,24 +101,45 @@ module _ (t : TargetState) (asks : List Ask) (ask : Ask) (more : List Ask) (whol
       ∙ results_front w (asks ++ ask ∷ []) more (length asks) (omega (arith, count, long))
       ∙ one_last w asks ask before_whole goes_here
 
+-- the end of a call after others that do not stop, by the calls alone
+module _ (t : TargetState) (asks : List Ask) (ask : Ask) (whole : stop (start_world t None) asks ≡ None) where
+  pub never : NeverStops t [] None asks
+  never = never_stops t [] None asks whole
+
+  abbrev pub there : CallEnd
+  there = (done_now (world_after (start_world t None) asks) ask).end
+
+  pub alone_is : there ≡ (alone (alone_after t [] asks) (large_of_all t [] asks) ask).end
+  alone_is =
+      let target = after_alone t [] None asks never.none never.enough in
+      let larges = large_alone t [] None asks never.none never.enough in
+      (λ j. (call_done (target j) (larges j) ask.forgive ask.call).end)
+
+  -- a call that does not end at a fault is no stop
+  pub goes_on : (x : CallEnd) → there ≡ x → is_faulted x ≡ false → stops_here (world_after (start_world t None) asks) ask ≡ false
+  goes_on x is good =
+      let live : is_over (world_after (start_world t None) asks).answered ≡ false = ap is_over (never_over asks t [] whole) in
+      (λ j. live j || is_faulted (is j)) ∙ good
+
+-- the answer of a call that is answered
+module _ (p : Planner) (t : TargetState) (asks : List Ask) (ask : Ask) (more : List Ask) (front : List Entry) (e : Entry) (rest : List Entry) (fresh : IsFresh t) (ok : AreAskable (asks ++ ask ∷ more))
+    (whole : stop (start_world t None) asks ≡ None) (is : issued p t (asks ++ ask ∷ more) ≡ front ++ e ∷ rest)
+    (at : length front + 1 ≡ length (issued p t asks) + length (issue_of p (target_by p t asks) (kept_by p t asks) ask).steps) where
+  pub answer_given : (v : ℕ) → there t asks ask whole ≡ Answered v → v ≡ result_of ask.call (given (acted (target_after t front) e.action).outcome)
+  answer_given v end =
+      let a : AnsweredAt p t (issued p t (asks ++ ask ∷ more)) asks ask v = call_answers p t asks ask more v fresh ok (never t asks ask whole).none (sym (alone_is t asks ask whole) ∙ end) in
+      let place = a.at in
+      let same = same_cut a.front front a.entry e a.more rest (sym a.is ∙ is) (omega (arith, place, at)) in
+      sym a.gives_it ∙ (λ j. result_of ask.call (given (acted (target_after t (same.0 j)) (same.1 j).action).outcome))
+
 pub result_given : ResultGiven
 result_given p t asks ask more front e rest fresh ok whole mild large is at = result_there t asks ask more whole ∙ by_end (done_now (world_after (start_world t None) asks) ask).end refl
   where
-    never : NeverStops t [] None asks
-    never = never_stops t [] None asks (before_whole t asks ask more whole)
-
-    alone_is : (done_now (world_after (start_world t None) asks) ask).end ≡ (alone (alone_after t [] asks) (large_of_all t [] asks) ask).end
-    alone_is =
-        let target = after_alone t [] None asks never.none never.enough in
-        let larges = large_alone t [] None asks never.none never.enough in
-        (λ j. (call_done (target j) (larges j) ask.forgive ask.call).end)
+    before : stop (start_world t None) asks ≡ None
+    before = before_whole t asks ask more whole
 
     by_end : (x : CallEnd) → (done_now (world_after (start_world t None) asks) ask).end ≡ x → end_result x ≡ result_of ask.call (given (acted (target_after t front) e.action).outcome)
-    by_end (Answered v) end =
-        let a : AnsweredAt p t (issued p t (asks ++ ask ∷ more)) asks ask v = call_answers p t asks ask more v fresh ok never.none (sym alone_is ∙ end) in
-        let there = a.at in
-        let same = same_cut a.front front a.entry e a.more rest (sym a.is ∙ is) (omega (arith, there, at)) in
-        sym a.gives_it ∙ (λ j. result_of ask.call (given (acted (target_after t (same.0 j)) (same.1 j).action).outcome))
+    by_end (Answered v) end = answer_given p t asks ask more front e rest fresh ok before is at v end
     by_end Skipped end = absurd (clash (is_forgiving ask) (skipped_forgives (world_after (start_world t None) asks) ask end) mild)
     by_end Faulted end = absurd (clash (stops_here (world_after (start_world t None) asks) ask) (faulted_here end) (goes_here t asks ask more whole))
       where
@@ -117,4 +149,67 @@ result_given p t asks ask more front e rest fresh ok whole mild large is at = re
             or_true : (b : Bool) → (b || true) ≡ true
             or_true true = refl
             or_true false = refl
-    by_end Small end = absurd (clash (small_now (start_world t None) asks ask) (one_small (start_world t None) asks ask (before_whole t asks ask more whole) ∙ ap is_small_end end) large)
+    by_end Small end = absurd (clash (small_now (start_world t None) asks ask) (one_small (start_world t None) asks ask before ∙ ap is_small_end end) large)
+
+-- ---- one call more
+
+pub skip_comes : SkipComes
+skip_comes p t asks ask leads step more at fresh ok whole forgives is pass bad =
+    let end : there t asks ask whole ≡ Skipped = alone_is t asks ask whole ∙ fault_skips p t asks ask leads step more at fresh ok (never t asks ask whole).none forgives is pass bad in
+    let goes = goes_on t asks ask whole Skipped end refl in (
+      one_skips (start_world t None) asks ask whole goes ∙ ap (λ (x : CallEnd). skips (start_world t None) asks + one_if_skipped x) end,
+      one_results (start_world t None) asks ask whole goes ∙ ap (λ (x : CallEnd). results (start_world t None) asks ++ end_result x ∷ []) end,
+    )
+
+pub pass_comes : PassComes
+pass_comes p t asks ask at fresh ok whole pass =
+    let ends = passing_is_made p t asks ask at fresh ok (never t asks ask whole).none pass in
+    by_end (there t asks ask whole) refl (λ e. ends.0 (sym (alone_is t asks ask whole) ∙ e)) (λ e. ends.1 (sym (alone_is t asks ask whole) ∙ e))
+  where
+    w : World
+    w = start_world t None
+
+    by_end : (x : CallEnd) → there t asks ask whole ≡ x → (there t asks ask whole ≡ Skipped → ⊥) → (there t asks ask whole ≡ Faulted → ⊥) → skips w (asks ++ ask ∷ []) ≡ skips w asks
+    by_end (Answered v) e no_skip no_fault = one_skips w asks ask whole (goes_on t asks ask whole (Answered v) e refl) ∙ ap (λ (x : CallEnd). skips w asks + one_if_skipped x) e ∙ omega arith
+    by_end Skipped e no_skip no_fault = absurd (no_skip e)
+    by_end Faulted e no_skip no_fault = absurd (no_fault e)
+    by_end Small e no_skip no_fault = one_skips w asks ask whole (goes_on t asks ask whole Small e refl) ∙ ap (λ (x : CallEnd). skips w asks + one_if_skipped x) e ∙ omega arith
+
+pub pass_given : PassGiven
+pass_given p t asks ask front e rest at fresh ok whole pass large is place =
+    let ends = passing_is_made p t asks ask at fresh ok (never t asks ask whole).none pass in
+    by_end (there t asks ask whole) refl (λ e. ends.0 (sym (alone_is t asks ask whole) ∙ e)) (λ e. ends.1 (sym (alone_is t asks ask whole) ∙ e))
+  where
+    w : World
+    w = start_world t None
+
+    value : ℕ
+    value = result_of ask.call (given (acted (target_after t front) e.action).outcome)
+
+    by_end : (x : CallEnd) → there t asks ask whole ≡ x → (there t asks ask whole ≡ Skipped → ⊥) → (there t asks ask whole ≡ Faulted → ⊥) →
+        results w (asks ++ ask ∷ []) ≡ results w asks ++ result_of ask.call (given (acted (target_after t front) e.action).outcome) ∷ []
+    by_end (Answered v) end no_skip no_fault =
+        one_results w asks ask whole (goes_on t asks ask whole (Answered v) end refl) ∙ ap (λ (x : CallEnd). results w asks ++ end_result x ∷ []) end
+        ∙ ap (λ (n : ℕ). results w asks ++ n ∷ []) (answer_given p t asks ask [] front e rest fresh ok whole is place v end)
+    by_end Skipped end no_skip no_fault = absurd (no_skip end)
+    by_end Faulted end no_skip no_fault = absurd (no_fault end)
+    by_end Small end no_skip no_fault = absurd (clash (small_now w asks ask) (one_small w asks ask whole ∙ ap is_small_end end) large)
+
+pub small_given : SmallGiven
+small_given t asks ask whole small =
+    by_end (there t asks ask whole) refl
+  where
+    w : World
+    w = start_world t None
+
+    is_end : is_small_end (there t asks ask whole) ≡ true
+    is_end = sym (one_small w asks ask whole) ∙ small
+
+    by_end : (x : CallEnd) → there t asks ask whole ≡ x → (skips w (asks ++ ask ∷ []) ≡ skips w asks) × (results w (asks ++ ask ∷ []) ≡ results w asks ++ 0 ∷ [])
+    by_end Small e = (
+      one_skips w asks ask whole (goes_on t asks ask whole Small e refl) ∙ ap (λ (x : CallEnd). skips w asks + one_if_skipped x) e ∙ omega arith,
+      one_results w asks ask whole (goes_on t asks ask whole Small e refl) ∙ ap (λ (x : CallEnd). results w asks ++ end_result x ∷ []) e,
+    )
+    by_end (Answered v) e = absurd (clash (is_small_end (there t asks ask whole)) is_end (ap is_small_end e))
+    by_end Skipped e = absurd (clash (is_small_end (there t asks ask whole)) is_end (ap is_small_end e))
+    by_end Faulted e = absurd (clash (is_small_end (there t asks ask whole)) is_end (ap is_small_end e))

@@ -1,6 +1,6 @@
 //! What follows from the definitions: each law is the contract of a function that does nothing.
 ghost use Rattle.calls_in_flight.specs.Actions.{ActionBench, ActionDone, ActionWait, FaultForgiven};
-ghost use Rattle.calls_in_flight.specs.Coming.{AllCame, NoneStopped, ResultGiven};
+ghost use Rattle.calls_in_flight.specs.Coming.{AllCame, NoneStopped, PassComes, PassGiven, ResultGiven, SkipComes, SmallGiven};
 ghost use Rattle.calls_in_flight.specs.Ending.{ActionFails, BegunCame, BegunStands, FlightEnds, FlightFails, PollEnds};
 ghost use Rattle.calls_in_flight.specs.Flights.{BenchFlies, FaultFlies, ValuesCame, WaitFlies, WholeFlies};
 ghost use Rattle.calls_in_flight.specs.Flying.{CameStands, OpenStands};
@@ -114,6 +114,14 @@ pub fn all_calls_came()
     ensures none_stops { NoneStopped }
     ensures came { AllCame }
     ensures result { ResultGiven }
+{}
+
+/// What one call more adds to the results and to the skips, by what its steps came to.
+pub fn one_call_came()
+    ensures skip { SkipComes }
+    ensures pass { PassComes }
+    ensures given { PassGiven }
+    ensures small { SmallGiven }
 {}
 
 /// The steps of a unit made alone begin with those of a flight, whether that faults at its last access or not.
