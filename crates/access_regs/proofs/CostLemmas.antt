@@ -174,17 +174,40 @@ quiet_asks early asked v (x ∷ xs) h =
     by_fault true e = refl
     by_fault false e = omega (arith, e)
 
+-- SELECT, and the read of CFG after it
+pub select_passes : (v : TargetState) (n bank : ℕ) → n < 256 → bank < 16 → v.sticky ≡ false → is_fault (attempt v (select_of n bank)).outcome ≡ false
+select_passes v n bank lt banked clear = ap (λ (y : Attempt). is_fault y.outcome) (select_write n bank lt banked v clear)
+
+pub select_clears : (v : TargetState) (n bank : ℕ) → n < 256 → bank < 16 → v.sticky ≡ false → (attempt v (select_of n bank)).next.sticky ≡ false
+select_clears v n bank lt banked clear = (select_left n lt v bank banked v None clear (λ q ne. refl) (λ h. h) refl).clear (select_passes v n bank lt banked clear)
+
+module _ (v : TargetState) (clear : v.sticky ≡ false) (n : ℕ) (lt : n < 256) where
+  abbrev pub at_cfg : TargetState
+  at_cfg = (attempt v (select_of n 15)).next
+
+  abbrev pub cfg_read : RegAccess
+  cfg_read = ap_access_of true 4 0
+
+  cfg_given : in_order v (cfg_actions n) ≡ attempt at_cfg cfg_read
+  cfg_given = ap (λ (b : Bool). cond b (attempt v (select_of n 15)) (attempt at_cfg cfg_read)) (select_passes v n 15 lt (omega arith) clear)
+
+  -- a CFG that shows large addresses was read without a fault
+  pub cfg_good : has_large v n ≡ true → is_fault (attempt at_cfg cfg_read).outcome ≡ false
+  cfg_good large = by_outcome (attempt at_cfg cfg_read).outcome (ap (λ (x : Attempt). has_bit (given x.outcome) 2) (sym cfg_given) ∙ large)
+    where
+      by_outcome : (o : Outcome) → has_bit (given o) 2 ≡ true → is_fault o ≡ false
+      by_outcome (Value x) e = refl
+      by_outcome Done e = refl
+      by_outcome Fault e = absurd (cc)
+
+  pub cfg_clears : has_large v n ≡ true → (attempt at_cfg cfg_read).next.sticky ≡ false
+  cfg_clears large = (one_ap_changed at_cfg cfg_read refl).sticky (cfg_good large) ∙ select_clears v n 15 lt (omega arith) clear
+
 -- SELECT, and a read that is asked for
 module _ (early : Bool) (asked : AccessUnit) (v : TargetState) (n bank : ℕ) (lt : n < 256) (banked : bank < 16) (clear : v.sticky ≡ false) (a : RegAccess) (is_read : a.read ≡ true) (not_last : is_last asked a ≡ false)
     (select_leads : is_last asked (select_of n bank) ≡ false) (rest : List Action) where
   abbrev w : TargetState
   w = (attempt v (select_of n bank)).next
-
-  select_good : is_fault (attempt v (select_of n bank)).outcome ≡ false
-  select_good = ap (λ (y : Attempt). is_fault y.outcome) (select_write n bank lt banked v clear)
-
-  select_clear : w.sticky ≡ false
-  select_clear = (select_left n lt v bank banked v None clear (λ q ne. refl) (λ h. h) refl).clear select_good
 
   reads_one : questions (parts_of early asked (issued v (Makes (select_of n bank) ∷ Makes a ∷ rest))) ≡ 1 + questions (parts_of early asked (cond (is_fault (attempt w a).outcome) [] (issued (attempt w a).next rest)))
   reads_one =
@@ -193,7 +216,7 @@ module _ (early : Bool) (asked : AccessUnit) (v : TargetState) (n bank : ℕ) (l
       let second : one_if (is_question (part_of early asked (Makes a)) (Makes a)) ≡ 1 = (λ j. one_if (is_question (cond (not_last j) Ends Leads) (Makes a))) ∙ ap one_if is_read in
       let x = step_asks early asked (Makes (select_of n bank)) (Makes a ∷ last) in
       let y = step_asks early asked (Makes a) last in
-      ap (λ (b : Bool). questions (parts_of early asked (Makes (select_of n bank) ∷ cond b [] (Makes a ∷ last)))) select_good
+      ap (λ (b : Bool). questions (parts_of early asked (Makes (select_of n bank) ∷ cond b [] (Makes a ∷ last)))) (select_passes v n bank lt banked clear)
       ∙ omega (arith, first, second, x, y)
 
 module _ (early : Bool) (size : ℕ) (read : Bool) (n address value : ℕ) (lt : n < 256) where
@@ -218,36 +241,16 @@ module _ (early : Bool) (size : ℕ) (read : Bool) (n address value : ℕ) (lt :
       by_fault false e = omega (arith, e)
 
   module _ (v : TargetState) (clear : v.sticky ≡ false) where
-    abbrev s : TargetState
-    s = (attempt v (select_of n 15)).next
-
-    abbrev cfg : RegAccess
-    cfg = ap_access_of true 4 0
-
-    s_clear : s.sticky ≡ false
-    s_clear = select_clear early here v n 15 lt (omega arith) clear cfg refl refl refl []
-
-    -- what the two accesses give
-    cfg_given : in_order v (cfg_actions n) ≡ attempt s cfg
-    cfg_given = ap (λ (b : Bool). cond b (attempt v (select_of n 15)) (attempt s cfg)) (select_good early here v n 15 lt (omega arith) clear cfg refl refl refl [])
-
-    cfg_good : has_large v n ≡ true → is_fault (attempt s cfg).outcome ≡ false
-    cfg_good large = by_outcome (attempt s cfg).outcome (ap (λ (x : Attempt). has_bit (given x.outcome) 2) (sym cfg_given) ∙ large)
-      where
-        by_outcome : (o : Outcome) → has_bit (given o) 2 ≡ true → is_fault o ≡ false
-        by_outcome (Value x) e = refl
-        by_outcome Done e = refl
-        by_outcome Fault e = absurd (cc)
-
     cfg_part : (b l : Bool) (csw : ℕ) → has_large v n ≡ b → questions (parts_of early here (issued v (shape size read n address value true b l csw))) ≡ 1 + one_if b
     cfg_part true l csw e =
-        let good = cfg_good e in
-        let after_clear : (attempt s cfg).next.sticky ≡ false = (one_ap_changed s cfg refl).sticky good ∙ s_clear in
+        let s : TargetState = at_cfg v clear n lt in
+        let cfg : RegAccess = cfg_read v clear n lt in
+        let good = cfg_good v clear n lt e in
         let one = reads_one early here v n 15 lt (omega arith) clear cfg refl refl refl (csw_actions n ++ transfer_actions true size read address value csw) in
-        let two = csw_part (attempt s cfg).next after_clear true csw in
+        let two = csw_part (attempt s cfg).next (cfg_clears v clear n lt e) true csw in
         one ∙ ap (λ (b : Bool). 1 + questions (parts_of early here (cond b [] (issued (attempt s cfg).next (csw_actions n ++ transfer_actions true size read address value csw))))) good ∙ ap (λ (m : ℕ). 1 + m) two
     cfg_part false l csw e =
-        reads_one early here v n 15 lt (omega arith) clear cfg refl refl refl [] ∙ by_fault (is_fault (attempt s cfg).outcome)
+        reads_one early here v n 15 lt (omega arith) clear (cfg_read v clear n lt) refl refl refl [] ∙ by_fault (is_fault (attempt (at_cfg v clear n lt) (cfg_read v clear n lt)).outcome)
       where
         by_fault : (b : Bool) → 1 + questions (parts_of early here (cond b [] [])) ≡ 1
         by_fault true = refl

@@ -141,7 +141,7 @@ all_pass early asked u [] = tt
 all_pass early asked u (x ∷ xs) =
     (ap (λ (b : Bool). is_fault (acted u x).outcome && b) (never_settles early asked x) ∙ and_false (is_fault (acted u x).outcome), all_pass early asked (acted u x).next xs)
 
-select_append : (written : Option ℕ) (xs ys : List Action) → select_after written (xs ++ ys) ≡ select_after (select_after written xs) ys
+pub select_append : (written : Option ℕ) (xs ys : List Action) → select_after written (xs ++ ys) ≡ select_after (select_after written xs) ys
 select_append written [] ys = refl
 select_append written (x ∷ xs) ys = select_append (select_written written x) xs ys
 

@@ -39,3 +39,4 @@ pub mod MemoryPoints
 pub mod LightLemmas
 pub mod SkipLemmas
 pub mod CostLemmas
+pub mod KeptLemmas

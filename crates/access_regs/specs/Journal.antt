@@ -19,7 +19,7 @@ use Rattle.call_terms.specs.declared.journal.Part.TheVariants.{Settles, Leads, E
 use Rattle.access_regs.specs.Kept.{Kept, known, with_known, forgotten, nothing_kept}
 use Rattle.access_regs.specs.declared.planner.Planner.{Planner}
 use Rattle.access_regs.specs.declared.planner.Planner.TheVariants.{Managed, Plain}
-use Rattle.access_regs.specs.Plan.{leads, last_access, made, needs_csw, first_plan, learned, needs_cfg, cfg_plan, learned_cfg, settle, settled, needs_settle}
+use Rattle.access_regs.specs.Plan.{leads, last_access, made, select_value, needs_csw, first_plan, learned, needs_cfg, cfg_plan, learned_cfg, settle, settled, needs_settle}
 
 -- accesses as actions
 abbrev pub making : List RegAccess → List Action
@@ -152,6 +152,10 @@ issue_done k asked d = record { steps = parts_of (is_early asked d.actions) aske
 -- A unit made alone, where nothing is unsettled.
 abbrev pub alone_at : Bool → AccessUnit → TargetState → Kept → Issue
 alone_at forgive asked t k = issue_done k asked (done_alone t k forgive asked)
+
+-- what is known after a unit made alone that wrote SELECT with this bank last, by whether its AP has large addresses
+abbrev pub kept_alone : Kept → ℕ → ℕ → Bool → Kept
+kept_alone k ap bank large = record (with_known k ap (record (forgotten (known k ap)) { large = large })) { select = Some (select_value ap bank) }
 
 -- ---- calls
 

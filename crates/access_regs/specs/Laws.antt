@@ -1,15 +1,16 @@
 -- What is true of the journal of any calls, by either planner.
-use Rattle.std.specs.Prelude.{◌≡◌, ◌≢◌, ◌+◌, ℕ, true, List, [], ◌∷◌, ◌++◌, length, None}
-use Rattle.target_machine.specs.Plain.{Answered, Faulted}
+use Rattle.std.specs.Prelude.{◌≡◌, ◌≢◌, ◌+◌, ◌/◌, ◌<◌, ℕ, Bool, true, false, if◌then◌else◌, List, [], ◌∷◌, ◌++◌, length, None}
+use Rattle.target_machine.specs.Plain.{Answered, Faulted, has_large}
 use Rattle.target_machine.specs.declared.unit.Unit.{Unit as AccessUnit}
+use Rattle.target_machine.specs.declared.unit.Unit.TheVariants as unit
 use Rattle.target_machine.specs.State.{TargetState, Agree}
-use Rattle.access_regs.specs.Journal.{issue_of, issued, issued_from, kept_at, kept_from, target_at, planned}
+use Rattle.access_regs.specs.Journal.{alone_at, issue_of, kept_alone, issued, issued_from, kept_at, kept_from, target_at, planned}
 use Rattle.access_regs.specs.Alone.{alone, alone_after, large_of_all, NoneFaults, StopsInLast, AnswersWith, KeepsMemory}
 use Rattle.target_machine.specs.Fresh.{IsFresh}
 use Rattle.call_terms.specs.Journal.{Passes, target_after}
 use Rattle.call_terms.specs.Asks.{AreAskable, IsAskable, is_settled, IsUnitInRange}
-use Rattle.access_regs.specs.Kept.{Kept, nothing_kept}
-use Rattle.access_regs.specs.Plan.{settled}
+use Rattle.access_regs.specs.Kept.{Kept, known, nothing_kept}
+use Rattle.access_regs.specs.Plan.{needs_cfg, settled}
 use Rattle.call_terms.specs.declared.calls.Ask.{Ask}
 use Rattle.access_regs.specs.Course.{Course}
 use Rattle.access_regs.specs.Follows.{Follows}
@@ -73,3 +74,15 @@ SettlingEnds = (k : Kept) → (settled k).unsettled ≡ None
 -- Of the steps of a unit that forgives nothing, settling with them, only the one that the unit is for changes the memory.
 abbrev pub UnitKeepsMemory : Type 0
 UnitKeepsMemory = (k : Kept) (large : List ℕ) (t u : TargetState) (asked : AccessUnit) → Follows k large t u → IsUnitInRange asked → KeepsMemory u (planned u k asked).steps
+
+-- After a memory unit that is made alone SELECT has bank 0, except where CFG was read and shows no large addresses: then it has
+-- bank F. What is known of its AP is whether that has large addresses.
+abbrev pub AloneKept : Type 0
+AloneKept = (t : TargetState) (k : Kept) (forgive : Bool) (size : ℕ) (read : Bool) (ap address value : ℕ) → t.sticky ≡ false → ap < 256 →
+    (alone_at forgive (unit.Memory size read ap address value) t k).kept
+    ≡ (if needs_cfg k (unit.Memory size read ap address value) then kept_alone k ap (if has_large t ap then 0 else 15) (has_large t ap) else kept_alone k ap 0 (known k ap).large)
+
+-- So it is after an AP unit, with the bank of its register.
+abbrev pub PortKept : Type 0
+PortKept = (t : TargetState) (k : Kept) (forgive read : Bool) (ap addr value : ℕ) → t.sticky ≡ false → ap < 256 → addr < 256 →
+    (alone_at forgive (unit.Ap read ap addr value) t k).kept ≡ kept_alone k ap (addr / 16) (known k ap).large
