@@ -12,3 +12,4 @@ pub mod EndLemmas
 pub mod ComeLemmas
 pub mod CfgLemmas
 pub mod ForgivingLemmas
+pub mod RoomLemmas

@@ -11,3 +11,4 @@ pub mod Sending
 pub mod Ending
 pub mod Coming
 pub mod Forgiving
+pub mod Room

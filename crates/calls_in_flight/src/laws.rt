@@ -8,6 +8,7 @@ ghost use Rattle.calls_in_flight.specs.Forgiving.{AloneFlight};
 ghost use Rattle.calls_in_flight.specs.GoesOn.{FlushGoes, PushGoes};
 ghost use Rattle.calls_in_flight.specs.Packets.{FewPackets, FullFlight};
 ghost use Rattle.calls_in_flight.specs.Pushing.{EntryPushed, JournalGrew, PlanGives, ValueGiven};
+ghost use Rattle.calls_in_flight.specs.Room.{ActionRoom, CallRoom, ForgivenRoom, PushRoom};
 ghost use Rattle.calls_in_flight.specs.Sending.{ActionSends, CallSends, FinishSends, FlyingSends, ForgivenSends, PushSends, WholeSends};
 ghost use Rattle.calls_in_flight.specs.Small.{NotSmall, SmallAlone, SmallByCfg};
 ghost use Rattle.calls_in_flight.specs.Stopping.{CameBefore, ResultsStay, StopsAtFault, StopsAtWait};
@@ -93,6 +94,14 @@ pub fn a_flight_is_sent()
     ensures whole { WholeSends }
     ensures action { ActionSends }
     ensures forgiven { ForgivenSends }
+{}
+
+/// The probe's work leaves room for what is pushed, done or forgiven next, while the calls are not too many.
+pub fn there_is_room()
+    ensures push { PushRoom }
+    ensures action { ActionRoom }
+    ensures forgiven { ForgivenRoom }
+    ensures call { CallRoom }
 {}
 
 /// From its beginning on, and after its end, an access has come as far as the contract of accesses says, and keeps its results.
