@@ -1,12 +1,16 @@
 -- What is known after a unit that is made alone.
-use Rattle.std.proofs.Common.{◌≡◌, ◌∙◌, ℕ, ◌/◌, ◌%◌, ◌<◌, Bool, true, false, cond, eqb, not, ◌&&◌, ◌||◌, nat_lt, List, [], ◌∷◌, ◌++◌, Option, None, Some, refl, sym, ap, arith}
+use Rattle.std.proofs.Common.{◌≡◌, ◌∙◌, ℕ, ◌/◌, ◌%◌, ◌<◌, Bool, true, false, cond, eqb, not, ◌&&◌, ◌||◌, nat_lt, List, [], ◌∷◌, ◌++◌, Option, None, Some, refl, sym, ap, arith, length}
 use Rattle.access_regs.proofs.CostLemmas.{at_cfg, cfg_clears, cfg_good, cfg_read, select_passes}
 use Rattle.access_regs.proofs.Forgiving.{contains_one, csw_at, memory_shape, select_append, shape}
 use Rattle.access_regs.proofs.Wide.{contains_last}
 use Rattle.access_regs.specs.Journal.{kept_alone, large_of, select_after, select_written}
-use Rattle.access_regs.specs.Kept.{Kept, forgotten, known, with_known}
-use Rattle.access_regs.specs.Laws.{AloneKept, PortKept}
-use Rattle.access_regs.specs.Plan.{needs_cfg, select_value}
+use Rattle.access_regs.specs.Kept.{Kept, forget, forgotten, known, selected, with_known}
+use Rattle.access_regs.specs.declared.known.Known.{Known}
+use Rattle.access_regs.proofs.PortFacts.{known_same}
+use Rattle.std.proofs.lemmas.List.{set-set}
+use Rattle.dap_base.specs.Bits.{has_bit}
+use Rattle.access_regs.specs.Laws.{AloneKept, KeptAfterCfg, KeptByCfg, KeptBySelect, PortKept}
+use Rattle.access_regs.specs.Plan.{learned_cfg, needs_cfg, select_value}
 use Rattle.target_machine.specs.Attempt.{Attempt, attempt}
 use Rattle.target_machine.specs.Plain.{Action, CallDone, Makes, Polls, Commands, acted, ap_access_of, call_done, contains, csw_actions, ended, forgives, given, has_large, in_order, is_fault, is_small, issued, large_after, needs_cfg as wants_cfg, result_of, select_of, transfer_actions, unit_actions}
 use Rattle.target_machine.specs.State.{TargetState}
@@ -125,3 +129,34 @@ port_kept t k forgive read n addr value clear lt fits =
     let large : contains (call_done t l2 forgive (Access asked)).large n ≡ (known k n).large =
     ap (λ (l : List ℕ). contains l n) (ended_large (is_fault ran.outcome) (forgive && true) false (result_of (Access asked) (given ran.outcome)) ran.next l2 (issued t xs)) ∙ contains_one (known k n).large n in
     same_kept k n _ _ _ _ select large
+
+-- ---- how it is noted
+
+pub kept_by_select : KeptBySelect
+kept_by_select k n bank = refl
+
+-- a port is noted twice
+noted_twice : (k : Kept) (n : ℕ) (a b : Known) → with_known (with_known k n a) n b ≡ with_known k n b
+noted_twice k n a b = ap (λ (l : List Known). record k { ports = l }) (set-set k.ports n a b)
+
+module _ (k : Kept) (select n cfg : ℕ) (table : length k.ports ≡ 256) (lt : n < 256) where
+  abbrev noted : Known
+  noted = record (known k n) { large = (known k n).large || has_bit cfg 2 }
+
+  here : known (with_known k n noted) n ≡ noted
+  here = known_same k n noted (omega (arith, table, lt))
+
+  twice : with_known (with_known k n noted) n (forgotten (known (with_known k n noted) n)) ≡ with_known k n (record (forgotten (known k n)) { large = (known k n).large || has_bit cfg 2 })
+  twice = noted_twice k n noted (forgotten (known (with_known k n noted) n)) ∙ ap (λ (a : Known). with_known k n (forgotten a)) here
+
+  pub by_cfg : forget (learned_cfg (selected k select) n cfg) n ≡ kept_alone k n 15 ((known k n).large || has_bit cfg 2)
+  by_cfg = ap (λ (l : Kept). record l { select = Some (select_value n 15) }) twice
+
+  pub after_cfg : (bank : ℕ) → forget (selected (learned_cfg (selected k select) n cfg) (select_value n bank)) n ≡ kept_alone k n bank ((known k n).large || has_bit cfg 2)
+  after_cfg bank = ap (λ (l : Kept). record l { select = Some (select_value n bank) }) twice
+
+pub kept_by_cfg : KeptByCfg
+kept_by_cfg k select n cfg table lt = by_cfg k select n cfg table lt
+
+pub kept_after_cfg : KeptAfterCfg
+kept_after_cfg k select n cfg bank table lt = after_cfg k select n cfg table lt bank

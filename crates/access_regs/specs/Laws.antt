@@ -1,5 +1,7 @@
 -- What is true of the journal of any calls, by either planner.
-use Rattle.std.specs.Prelude.{◌≡◌, ◌≢◌, ◌+◌, ◌/◌, ◌<◌, ℕ, Bool, true, false, if◌then◌else◌, List, [], ◌∷◌, ◌++◌, length, None}
+use Rattle.std.specs.Prelude.{◌≡◌, ◌≢◌, ◌+◌, ◌/◌, ◌<◌, ℕ, Bool, true, false, ◌||◌, if◌then◌else◌, List, [], ◌∷◌, ◌++◌, length, None}
+use Rattle.dap_base.specs.Bits.{has_bit}
+use Rattle.target_machine.specs.Registers.{cfg_la}
 use Rattle.target_machine.specs.Plain.{Answered, Faulted, has_large}
 use Rattle.target_machine.specs.declared.unit.Unit.{Unit as AccessUnit}
 use Rattle.target_machine.specs.declared.unit.Unit.TheVariants as unit
@@ -9,8 +11,8 @@ use Rattle.access_regs.specs.Alone.{alone, alone_after, large_of_all, NoneFaults
 use Rattle.target_machine.specs.Fresh.{IsFresh}
 use Rattle.call_terms.specs.Journal.{Passes, target_after}
 use Rattle.call_terms.specs.Asks.{AreAskable, IsAskable, is_settled, IsUnitInRange}
-use Rattle.access_regs.specs.Kept.{Kept, known, nothing_kept}
-use Rattle.access_regs.specs.Plan.{needs_cfg, settled}
+use Rattle.access_regs.specs.Kept.{Kept, forget, known, nothing_kept, selected}
+use Rattle.access_regs.specs.Plan.{learned_cfg, needs_cfg, select_value, settled}
 use Rattle.call_terms.specs.declared.calls.Ask.{Ask}
 use Rattle.access_regs.specs.Course.{Course}
 use Rattle.access_regs.specs.Follows.{Follows}
@@ -86,3 +88,17 @@ AloneKept = (t : TargetState) (k : Kept) (forgive : Bool) (size : ℕ) (read : B
 abbrev pub PortKept : Type 0
 PortKept = (t : TargetState) (k : Kept) (forgive read : Bool) (ap addr value : ℕ) → t.sticky ≡ false → ap < 256 → addr < 256 →
     (alone_at forgive (unit.Ap read ap addr value) t k).kept ≡ kept_alone k ap (addr / 16) (known k ap).large
+
+-- What is known after a unit that is made alone is noted so: its writes of SELECT, the CFG that it reads, and at the end that nothing
+-- else is known of its AP.
+abbrev pub KeptBySelect : Type 0
+KeptBySelect = (k : Kept) (ap bank : ℕ) → forget (selected k (select_value ap bank)) ap ≡ kept_alone k ap bank (known k ap).large
+
+-- The CFG was read, and no SELECT written after it.
+abbrev pub KeptByCfg : Type 0
+KeptByCfg = (k : Kept) (select ap cfg : ℕ) → length k.ports ≡ 256 → ap < 256 → forget (learned_cfg (selected k select) ap cfg) ap ≡ kept_alone k ap 15 ((known k ap).large || has_bit cfg cfg_la)
+
+-- The CFG was read, and SELECT written after it.
+abbrev pub KeptAfterCfg : Type 0
+KeptAfterCfg = (k : Kept) (select ap cfg bank : ℕ) → length k.ports ≡ 256 → ap < 256 →
+    forget (selected (learned_cfg (selected k select) ap cfg) (select_value ap bank)) ap ≡ kept_alone k ap bank ((known k ap).large || has_bit cfg cfg_la)

@@ -2,7 +2,7 @@
 ghost use Rattle.access_regs.specs.Closed.{MemoryFollowsCalls};
 ghost use Rattle.access_regs.specs.Costs.{AloneAsks, PlannedAsks, PortAsks};
 ghost use Rattle.access_regs.specs.Entries.{CallAnswers, JournalGrows, JournalMarks, JournalWeighs, LeadsAreGood, SelectIsGood, UnitsInRange};
-ghost use Rattle.access_regs.specs.Laws.{AloneKept, CallGoes, CallLeaves, FreshFollows, JournalAgrees, JournalAnswers, JournalFollows, JournalJoins, JournalPasses, JournalStops, KeptJoins, PortKept, SettlingEnds, UnitKeepsMemory};
+ghost use Rattle.access_regs.specs.Laws.{AloneKept, CallGoes, CallLeaves, FreshFollows, JournalAgrees, JournalAnswers, JournalFollows, JournalJoins, JournalPasses, JournalStops, KeptAfterCfg, KeptByCfg, KeptBySelect, KeptJoins, PortKept, SettlingEnds, UnitKeepsMemory};
 ghost use Rattle.access_regs.specs.Light.{JournalIsLight};
 ghost use Rattle.access_regs.specs.Skips.{FaultSkips, PassingIsMade};
 ghost use Rattle.access_regs.specs.Stops.{FaultStops, PassingStops, WaitStops};
@@ -104,8 +104,11 @@ pub fn reads_that_lead()
 {}
 
 /// What is known after a unit that is made alone, whether it faults or not.
-#[tactic(auto, using(crate::proofs::KeptLemmas::alone_kept, crate::proofs::KeptLemmas::port_kept))]
+#[tactic(auto, using(crate::proofs::KeptLemmas::alone_kept, crate::proofs::KeptLemmas::port_kept, crate::proofs::KeptLemmas::kept_by_select))]
 pub fn units_alone_are_known()
     ensures memory { AloneKept }
     ensures port { PortKept }
+    ensures select { KeptBySelect }
+    ensures cfg { KeptByCfg }
+    ensures after { KeptAfterCfg }
 {}
