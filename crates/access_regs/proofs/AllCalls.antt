@@ -81,7 +81,7 @@ get_or_past [] q le = refl
 get_or_past (x ∷ xs) zero le = absurd (omega arith)
 get_or_past (x ∷ xs) (suc q) le = get_or_past xs q (omega arith)
 
-known_nothing : (q : ℕ) → known nothing_kept q ≡ unknown
+pub known_nothing : (q : ℕ) → known nothing_kept q ≡ unknown
 known_nothing q = by_place (cases_lt q 256)
   where
     by_place : (q < 256) ⊎ (256 ≤ q) → known nothing_kept q ≡ unknown

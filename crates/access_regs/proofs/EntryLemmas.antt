@@ -47,7 +47,7 @@ journal_grows p t asks ask unmarked =
 
 -- ---- a mark
 
-settle_none : (k : Kept) → k.unsettled ≡ None → (settle k ≡ []) × (settled k ≡ k)
+pub settle_none : (k : Kept) → k.unsettled ≡ None → (settle k ≡ []) × (settled k ≡ k)
 settle_none k calm = (ap (settling k) calm, ap (settled_at k) calm)
 
 -- one call that is marked, against the same one as it was

@@ -115,7 +115,7 @@ aborts t = by_sticky t.sticky
     by_sticky true = refl
     by_sticky false = refl
 
-actions_parts : (early : Bool) (asked : AccessUnit) (xs : List Action) → actions_of (parts_of early asked xs) ≡ xs
+pub actions_parts : (early : Bool) (asked : AccessUnit) (xs : List Action) → actions_of (parts_of early asked xs) ≡ xs
 actions_parts early asked [] = refl
 actions_parts early asked (x ∷ xs) = ap (λ (l : List Action). x ∷ l) (actions_parts early asked xs)
 
@@ -407,13 +407,13 @@ abbrev pub done_of : Bool → TargetState → List ℕ → AccessUnit → List A
 done_of forgive t l asked xs s =
     ended (is_fault (in_order t xs).outcome) forgive s (result_of (Access asked) (given (in_order t xs).outcome)) (in_order t xs).next (large_after t l (Access asked)) (issued t xs)
 
-memory_done : (forgive : Bool) (t : TargetState) (l : List ℕ) (size : ℕ) (read : Bool) (n address value : ℕ) → call_done t l forgive (Access (unit.Memory size read n address value))
+pub memory_done : (forgive : Bool) (t : TargetState) (l : List ℕ) (size : ℕ) (read : Bool) (n address value : ℕ) → call_done t l forgive (Access (unit.Memory size read n address value))
     ≡ done_of forgive t l (unit.Memory size read n address value) (unit_actions t l (unit.Memory size read n address value)) (is_small t l (Access (unit.Memory size read n address value)))
 unfolding call_done
 memory_done true t l size read n address value = refl
 memory_done false t l size read n address value = refl
 
-port_done : (forgive : Bool) (t : TargetState) (l : List ℕ) (read : Bool) (n addr value : ℕ) → call_done t l forgive (Access (unit.Ap read n addr value))
+pub port_done : (forgive : Bool) (t : TargetState) (l : List ℕ) (read : Bool) (n addr value : ℕ) → call_done t l forgive (Access (unit.Ap read n addr value))
     ≡ done_of forgive t l (unit.Ap read n addr value) (unit_actions t l (unit.Ap read n addr value)) false
 unfolding call_done
 port_done true t l read n addr value = refl
@@ -423,11 +423,11 @@ pub contains_one : (b : Bool) (n : ℕ) → contains (cond b (n ∷ []) []) n �
 contains_one true n = ap (λ (c : Bool). c || false) (eq-eqb n n refl)
 contains_one false n = refl
 
-joined_same : (l m : List ℕ) (n : ℕ) (b : Bool) → contains l n ≡ contains m n → contains (cond b (l ++ n ∷ []) l) n ≡ contains (cond b (m ++ n ∷ []) m) n
+pub joined_same : (l m : List ℕ) (n : ℕ) (b : Bool) → contains l n ≡ contains m n → contains (cond b (l ++ n ∷ []) l) n ≡ contains (cond b (m ++ n ∷ []) m) n
 joined_same l m n true e = contains_last l n ∙ sym (contains_last m n)
 joined_same l m n false e = e
 
-joined_other : (l : List ℕ) (n q : ℕ) (b : Bool) → q ≢ n → contains (cond b (l ++ n ∷ []) l) q ≡ contains l q
+pub joined_other : (l : List ℕ) (n q : ℕ) (b : Bool) → q ≢ n → contains (cond b (l ++ n ∷ []) l) q ≡ contains l q
 joined_other l n q true ne = contains_other l n q ne
 joined_other l n q false ne = refl
 

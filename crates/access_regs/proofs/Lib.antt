@@ -40,3 +40,4 @@ pub mod LightLemmas
 pub mod SkipLemmas
 pub mod CostLemmas
 pub mod KeptLemmas
+pub mod PlainLemmas

@@ -1,6 +1,6 @@
 -- Calls made alone and at once, one after the other; and what the journal says of them.
 use Rattle.std.specs.Prelude.{◌≡◌, ◌≢◌, ℕ, true, false, List, [], ◌∷◌, ◌++◌}
-use Rattle.target_machine.specs.Plain.{acted, call_done, given, is_fault, result_of, CallDone, Faulted}
+use Rattle.target_machine.specs.Plain.{Action, acted, call_done, given, is_fault, result_of, CallDone, Faulted}
 use Rattle.target_machine.specs.State.{TargetState}
 use Rattle.target_machine.specs.declared.unit.Call.{Call}
 use Rattle.call_terms.specs.Journal.{Entry, Passes, target_after}
@@ -58,3 +58,8 @@ pub record AnswersWith (t : TargetState) (entries : List Entry) (units : ℕ) (c
 abbrev pub KeepsMemory : TargetState → List Step → Type 0
 KeepsMemory t [] = Unit {0}
 KeepsMemory t (s ∷ steps) = (s.part ≢ Ends → (acted t s.action).next.words ≡ t.words) × KeepsMemory (acted t s.action).next steps
+
+-- what the calls issue, each made alone
+abbrev pub actions_alone : TargetState → List ℕ → List Ask → List Action
+actions_alone t large [] = []
+actions_alone t large (c ∷ cs) = (alone t large c).actions ++ actions_alone (alone t large c).next (alone t large c).large cs

@@ -7,9 +7,9 @@ use Rattle.target_machine.specs.declared.unit.Unit.{Unit as AccessUnit}
 use Rattle.target_machine.specs.declared.unit.Unit.TheVariants as unit
 use Rattle.target_machine.specs.State.{TargetState, Agree}
 use Rattle.access_regs.specs.Journal.{alone_at, issue_of, kept_alone, issued, issued_from, kept_at, kept_from, target_at, planned}
-use Rattle.access_regs.specs.Alone.{alone, alone_after, large_of_all, NoneFaults, StopsInLast, AnswersWith, KeepsMemory}
+use Rattle.access_regs.specs.Alone.{actions_alone, alone, alone_after, large_of_all, NoneFaults, StopsInLast, AnswersWith, KeepsMemory}
 use Rattle.target_machine.specs.Fresh.{IsFresh}
-use Rattle.call_terms.specs.Journal.{Passes, target_after}
+use Rattle.call_terms.specs.Journal.{Passes, actions_in, target_after}
 use Rattle.call_terms.specs.Asks.{AreAskable, IsAskable, is_settled, IsUnitInRange}
 use Rattle.access_regs.specs.Kept.{Kept, forget, known, nothing_kept, selected}
 use Rattle.access_regs.specs.Plan.{learned_cfg, needs_cfg, select_value, settled}
@@ -17,6 +17,7 @@ use Rattle.call_terms.specs.declared.calls.Ask.{Ask}
 use Rattle.access_regs.specs.Course.{Course}
 use Rattle.access_regs.specs.Follows.{Follows}
 use Rattle.access_regs.specs.declared.planner.Planner.{Planner}
+use Rattle.access_regs.specs.declared.planner.Planner.TheVariants.{Plain}
 
 -- At a fresh target, of which nothing is known, calls may begin.
 abbrev pub FreshFollows : Type 0
@@ -102,3 +103,9 @@ KeptByCfg = (k : Kept) (select ap cfg : ℕ) → length k.ports ≡ 256 → ap <
 abbrev pub KeptAfterCfg : Type 0
 KeptAfterCfg = (k : Kept) (select ap cfg bank : ℕ) → length k.ports ≡ 256 → ap < 256 →
     forget (selected (learned_cfg (selected k select) ap cfg) (select_value ap bank)) ap ≡ kept_alone k ap bank ((known k ap).large || has_bit cfg cfg_la)
+
+-- By the plain planner calls issue what they issue when each is made alone, in order, and leave the very same target; faults of any
+-- call with them.
+abbrev pub PlainIsAlone : Type 0
+PlainIsAlone = (t : TargetState) (calls : List Ask) → AreAskable calls →
+    (actions_in (issued Plain t calls) ≡ actions_alone t [] calls) × (target_after t (issued Plain t calls) ≡ alone_after t [] calls)

@@ -2,7 +2,7 @@
 ghost use Rattle.access_regs.specs.Closed.{MemoryFollowsCalls};
 ghost use Rattle.access_regs.specs.Costs.{AloneAsks, PlannedAsks, PortAsks};
 ghost use Rattle.access_regs.specs.Entries.{CallAnswers, JournalGrows, JournalMarks, JournalWeighs, LeadsAreGood, SelectIsGood, UnitsInRange};
-ghost use Rattle.access_regs.specs.Laws.{AloneKept, CallGoes, CallLeaves, FreshFollows, JournalAgrees, JournalAnswers, JournalFollows, JournalJoins, JournalPasses, JournalStops, KeptAfterCfg, KeptByCfg, KeptBySelect, KeptJoins, PortKept, SettlingEnds, UnitKeepsMemory};
+ghost use Rattle.access_regs.specs.Laws.{AloneKept, CallGoes, CallLeaves, FreshFollows, JournalAgrees, JournalAnswers, JournalFollows, JournalJoins, JournalPasses, JournalStops, KeptAfterCfg, KeptByCfg, KeptBySelect, KeptJoins, PlainIsAlone, PortKept, SettlingEnds, UnitKeepsMemory};
 ghost use Rattle.access_regs.specs.Light.{JournalIsLight};
 ghost use Rattle.access_regs.specs.Skips.{FaultSkips, PassingIsMade};
 ghost use Rattle.access_regs.specs.Stops.{FaultStops, PassingStops, WaitStops};
@@ -111,4 +111,10 @@ pub fn units_alone_are_known()
     ensures select { KeptBySelect }
     ensures cfg { KeptByCfg }
     ensures after { KeptAfterCfg }
+{}
+
+/// By the plain planner calls issue what they issue when each is made alone.
+#[tactic(auto, using(crate::proofs::PlainLemmas::plain_is_alone))]
+pub fn plain_calls_go_alone()
+    ensures { PlainIsAlone }
 {}
