@@ -1,18 +1,18 @@
 -- Which reads of CSW and CFG lead to the access of a unit.
-use Rattle.std.proofs.Common.{◌≡◌, ◌∙◌, ℕ, ◌+◌, ◌/◌, ◌%◌, ◌^◌, ◌<◌, ◌⊎◌, inl, inr, Bool, true, false, cond, not, ◌&&◌, ◌||◌, nat_lt, None, List, [], ◌∷◌, ◌++◌, refl, sym, ap, subst, arith}
+use Rattle.std.proofs.Common.{◌≡◌, ◌∙◌, ℕ, ◌+◌, ◌/◌, ◌%◌, ◌^◌, ◌<◌, ◌⊎◌, inl, inr, Bool, true, false, cond, not, ◌&&◌, ◌||◌, nat_lt, None, List, [], ◌∷◌, ◌++◌, refl, sym, ap, arith}
 use Rattle.std.proofs.lemmas.List.Sums.{sum_by-append, sum_by-cons}
 use Rattle.access_regs.proofs.Course.{steps_append}
-use Rattle.access_regs.proofs.Forgiving.{contains_one, csw_at, memory_shape, shape}
+use Rattle.access_regs.proofs.Forgiving.{contains_one}
+use Rattle.access_regs.proofs.MemoryShape.{csw_at, memory_shape, shape}
 use Rattle.access_regs.proofs.ForgivingMemory.{parts_ended, skip}
 use Rattle.access_regs.proofs.Runs.{select_left}
 use Rattle.access_regs.proofs.Select.{select_write}
-use Rattle.access_regs.specs.Costs.{AloneAsks, PlannedAsks, PortAsks, is_question, questions, reads}
-use Rattle.access_regs.specs.Journal.{Issue, Step, after_settling, alone_at, before, is_early, is_last, large_of, part_of, parts_of, by_cfg, by_cfg_read, by_csw, by_plan, gives, last_action, making, planned, port_of, steps_of}
+use Rattle.access_regs.specs.Costs.{AloneAsks, PlannedAsks, PortAsks, is_question, questions}
+use Rattle.access_regs.specs.Journal.{Step, after_settling, before, is_early, is_last, large_of, part_of, parts_of, by_cfg, by_cfg_read, by_csw, by_plan, gives, last_action, making, port_of, steps_of}
 use Rattle.access_regs.specs.Kept.{Kept, csw_of, is_known, known}
 use Rattle.access_regs.specs.Plan.{cfg_plan, csw_needed, first_plan, high_needed, leads, learned, learned_cfg, needs_cfg, needs_csw, needs_settle, planned_csw, port_writes, select_needed, select_value, settle, settled, tar_needed, unless}
 use Rattle.access_regs.specs.declared.known.Known.{Known}
 use Rattle.call_terms.specs.Journal.{one_if}
-use Rattle.call_terms.specs.declared.journal.Part.{Part}
 use Rattle.call_terms.specs.declared.journal.Part.TheVariants.{Ends, Leads, Settles}
 use Rattle.dap_base.specs.Bits.{has_bit}
 use Rattle.target_machine.specs.Lists.{after}

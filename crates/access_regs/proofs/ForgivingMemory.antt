@@ -20,6 +20,7 @@ use Rattle.access_regs.specs.declared.known.Unsettled.{Unsettled}
 use Rattle.access_regs.proofs.OneEnd.{AllParts, IsNoEnd, OneEnd, leads_one, never}
 use Rattle.access_regs.proofs.Still.{IsPlainBank, IsLead, lead_plain, plain_select, select_words}
 use Rattle.access_regs.proofs.Forgiving as forgiving
+use Rattle.access_regs.proofs.MemoryShape as memory
 use Rattle.access_regs.proofs.Keeps.{settle_keep}
 use Rattle.access_regs.proofs.FollowsFacts.{planned_clear}
 use Rattle.target_machine.specs.Lists.{after}
@@ -126,7 +127,7 @@ module _ (size : ℕ) (read : Bool) (n address value : ℕ) (lt : n < 256) where
   select_lead : (bank : ℕ) → (bank ≡ 0) ⊎ (bank ≡ 0xF) → IsLead (select_of n bank)
   select_lead bank banked = inl (n, bank, lt, banked, refl)
 
-  shape_begins : (w b l : Bool) (csw : ℕ) → Begins (forgiving.shape size read n address value w b l csw)
+  shape_begins : (w b l : Bool) (csw : ℕ) → Begins (memory.shape size read n address value w b l csw)
   shape_begins true true l csw = record {
     bank = 0xF;
     banked = inr refl;
@@ -139,8 +140,8 @@ module _ (size : ℕ) (read : Bool) (n address value : ℕ) (lt : n < 256) where
 
   actions_begin : (t : TargetState) (large : List ℕ) → Begins (unit_actions t large asked)
   actions_begin t large =
-      subst Begins (sym (forgiving.memory_shape size read n address value t large))
-      (shape_begins (needs_cfg large n address) (has_large t n) (contains large n) (forgiving.csw_at size read n address value t (needs_cfg large n address)))
+      subst Begins (sym (memory.memory_shape size read n address value t large))
+      (shape_begins (needs_cfg large n address) (has_large t n) (contains large n) (memory.csw_at size read n address value t (needs_cfg large n address)))
 
 -- ---- a unit made alone, where nothing is unsettled
 

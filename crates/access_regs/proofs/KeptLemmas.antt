@@ -1,9 +1,10 @@
 -- What is known after a unit that is made alone.
-use Rattle.std.proofs.Common.{◌≡◌, ◌∙◌, ℕ, ◌/◌, ◌%◌, ◌<◌, Bool, true, false, cond, eqb, not, ◌&&◌, ◌||◌, nat_lt, List, [], ◌∷◌, ◌++◌, Option, None, Some, refl, sym, ap, arith, length}
+use Rattle.std.proofs.Common.{◌≡◌, ◌∙◌, ℕ, ◌/◌, ◌%◌, ◌<◌, Bool, true, false, cond, eqb, not, ◌&&◌, ◌||◌, nat_lt, List, [], ◌∷◌, ◌++◌, Option, Some, refl, ap, arith, length}
 use Rattle.access_regs.proofs.CostLemmas.{at_cfg, cfg_clears, cfg_good, cfg_read, select_passes}
-use Rattle.access_regs.proofs.Forgiving.{contains_one, csw_at, memory_shape, select_append, shape}
+use Rattle.access_regs.proofs.Forgiving.{contains_one, select_append}
+use Rattle.access_regs.proofs.MemoryShape.{csw_at, memory_shape, shape}
 use Rattle.access_regs.proofs.Wide.{contains_last}
-use Rattle.access_regs.specs.Journal.{kept_alone, large_of, select_after, select_written}
+use Rattle.access_regs.specs.Journal.{kept_alone, large_of, select_after}
 use Rattle.access_regs.specs.Kept.{Kept, forget, forgotten, known, selected, with_known}
 use Rattle.access_regs.specs.declared.known.Known.{Known}
 use Rattle.access_regs.proofs.PortFacts.{known_same}
@@ -12,7 +13,7 @@ use Rattle.dap_base.specs.Bits.{has_bit}
 use Rattle.access_regs.specs.Laws.{AloneKept, KeptAfterCfg, KeptByCfg, KeptBySelect, PortKept}
 use Rattle.access_regs.specs.Plan.{learned_cfg, needs_cfg, select_value}
 use Rattle.target_machine.specs.Attempt.{Attempt, attempt}
-use Rattle.target_machine.specs.Plain.{Action, CallDone, Makes, Polls, Commands, acted, ap_access_of, call_done, contains, csw_actions, ended, forgives, given, has_large, in_order, is_fault, is_small, issued, large_after, needs_cfg as wants_cfg, result_of, select_of, transfer_actions, unit_actions}
+use Rattle.target_machine.specs.Plain.{Action, Makes, Polls, Commands, ap_access_of, call_done, contains, csw_actions, ended, forgives, given, has_large, in_order, is_fault, is_small, issued, large_after, needs_cfg as wants_cfg, result_of, select_of, transfer_actions, unit_actions}
 use Rattle.target_machine.specs.State.{TargetState}
 use Rattle.target_machine.specs.declared.access.RegAccess.{RegAccess}
 use Rattle.target_machine.specs.declared.unit.Call.TheVariants.{Access}

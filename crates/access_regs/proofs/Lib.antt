@@ -18,6 +18,7 @@ pub mod Wide
 pub mod Calls
 pub mod Lists
 pub mod Runs
+pub mod MemoryShape
 pub mod Forgiving
 pub mod AllCalls
 pub mod Keeps

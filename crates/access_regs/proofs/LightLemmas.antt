@@ -1,12 +1,12 @@
 -- How much calls weigh at most.
-use Rattle.std.proofs.Common.{◌≡◌, ◌∙◌, ℕ, zero, suc, ◌+◌, ◌*◌, ◌/◌, ◌%◌, ◌^◌, ◌≤◌, ◌⊎◌, inl, inr, Bool, true, false, cond, eqb, not, ◌&&◌, ◌||◌, bit_and, List, [], ◌∷◌, ◌++◌, length, Option, Some, None, refl, sym, ap, subst, arith, length-append}
+use Rattle.std.proofs.Common.{◌≡◌, ℕ, zero, suc, ◌+◌, ◌*◌, ◌/◌, ◌%◌, ◌^◌, ◌≤◌, Bool, true, false, cond, eqb, not, ◌&&◌, ◌||◌, bit_and, List, [], ◌∷◌, ◌++◌, length, Option, Some, None, refl, sym, ap, subst, arith, length-append}
 use Rattle.access_regs.specs.Journal.{Issue, Step, actions_of, after_settling, alone_at, before, by_cfg, by_cfg_read, by_csw, by_plan, done_alone, entries_at, finish, finish_of, gives, is_alone, is_early, issue, issue_of, issued_from, large_of, last_action, making, numbered, parts_of, planned, port_of, steps_at, steps_of}
 use Rattle.access_regs.specs.Kept.{Kept, csw_of, is_known, known, nothing_kept}
 use Rattle.access_regs.specs.Light.{JournalIsLight}
 use Rattle.access_regs.specs.Plan.{cfg_plan, csw_needed, first_plan, high_needed, planned_csw, tar_needed, leads, learned, learned_cfg, needs_cfg, needs_csw, needs_settle, port_writes, select_needed, settle, settled, settling, unless}
 use Rattle.access_regs.specs.declared.known.Unsettled.{Unsettled}
 use Rattle.access_regs.specs.declared.planner.Planner.{Planner}
-use Rattle.call_terms.specs.Asks.{AreAskable, IsAskable}
+use Rattle.call_terms.specs.Asks.{AreAskable}
 use Rattle.call_terms.specs.Journal.{Entry, target_after}
 use Rattle.call_terms.specs.Weights.{commands_for, weight, weight_in}
 use Rattle.call_terms.specs.declared.calls.Ask.{Ask}
@@ -17,7 +17,7 @@ use Rattle.call_terms.proofs.EntryLemmas.{delay_few, weight_append}
 use Rattle.dap_base.specs.Bits.{has_bit}
 use Rattle.target_machine.specs.Attempt.{attempt}
 use Rattle.target_machine.specs.Lists.{after}
-use Rattle.target_machine.specs.Plain.{Action, Makes, Polls, Commands, Polled, acted, is_fault, looked, polled, dp_read_of, issued as made_of, call_done, ended, forgives, cfg_actions, memory_actions, after_cfg, unit_actions, has_large, needs_cfg as wants_cfg, contains, may_forgive, in_order, drw_of, ap_access_of}
+use Rattle.target_machine.specs.Plain.{Action, Makes, Polls, Commands, Polled, acted, is_fault, looked, polled, dp_read_of, issued as made_of, call_done, ended, forgives, cfg_actions, memory_actions, after_cfg, unit_actions, has_large, needs_cfg as wants_cfg, contains, may_forgive, in_order, ap_access_of}
 use Rattle.target_machine.specs.Sound.{IsSoundCall}
 use Rattle.target_machine.specs.State.{TargetState}
 use Rattle.target_machine.specs.declared.access.Outcome.{Outcome}

@@ -1,29 +1,28 @@
 -- What the plain planner issues is what calls issue when each is made alone.
-use Rattle.std.proofs.Common.{◌≡◌, ◌≢◌, ◌∙◌, ℕ, ◌+◌, ◌<◌, ◌⊎◌, inl, inr, Bool, true, false, cond, eqb, not, ◌&&◌, ◌||◌, nat_lt, List, [], ◌∷◌, ◌++◌, length, Option, Some, None, refl, sym, ap, subst, arith, append-nil, is_some, replicate}
+use Rattle.std.proofs.Common.{◌≡◌, ◌≢◌, ◌∙◌, ℕ, ◌+◌, ◌<◌, ◌⊎◌, inl, inr, Bool, true, false, cond, eqb, not, ◌&&◌, nat_lt, List, [], ◌∷◌, ◌++◌, length, Option, None, refl, sym, ap, subst, arith, append-nil, is_some}
 use Rattle.std.proofs.lemmas.Bool.{cases_eq}
 use Rattle.std.proofs.lemmas.List.{length-replicate}
 use Rattle.access_regs.proofs.AllCalls.{known_nothing}
 use Rattle.access_regs.proofs.EntryLemmas.{settle_none}
-use Rattle.access_regs.proofs.Forgiving.{actions_parts, contains_one, csw_at, joined_other, joined_same, memory_done, memory_shape, port_done, shape}
+use Rattle.access_regs.proofs.Forgiving.{actions_parts, contains_one, joined_other, joined_same, memory_done, port_done}
+use Rattle.access_regs.proofs.MemoryShape.{csw_at, memory_shape, shape}
 use Rattle.access_regs.proofs.Lists.{actions_entries, actions_in_append}
 use Rattle.access_regs.proofs.PortFacts.{known_other, known_same, table_kept}
 use Rattle.access_regs.specs.Alone.{actions_alone, alone, alone_after}
-use Rattle.access_regs.specs.Journal.{Issue, Step, actions_of, after_settling, alone_at, before, by_cfg, by_plan, done_alone, entries_at, finish, finish_of, is_early, issue, issue_of, issued_from, kept_after, kept_at, large_of, last_action, making, planned, port_of, select_after, steps_at, steps_of, target_at}
-use Rattle.access_regs.specs.Journal as journal
+use Rattle.access_regs.specs.Journal.{Issue, Step, actions_of, after_settling, alone_at, before, by_cfg, done_alone, entries_at, finish, finish_of, is_early, issue, issue_of, issued_from, kept_at, large_of, last_action, making, planned, port_of, steps_at, steps_of, target_at}
 use Rattle.access_regs.specs.Kept.{Kept, forgotten, known, nothing_kept, selected, unknown, with_known}
 use Rattle.access_regs.specs.Laws.{PlainIsAlone}
-use Rattle.access_regs.specs.Plan.{made, must_follow_settling, needs_settle, settle, settled, settled_at, settling}
+use Rattle.access_regs.specs.Plan.{made, must_follow_settling, settled_at, settling}
 use Rattle.access_regs.specs.declared.known.Known.{Known}
 use Rattle.access_regs.specs.declared.known.Unsettled.{Unsettled}
 use Rattle.access_regs.specs.declared.planner.Planner.TheVariants.{Plain}
-use Rattle.call_terms.specs.Asks.{AreAskable, IsAskable, IsCallInRange, IsUnitInRange}
-use Rattle.call_terms.specs.Journal.{Entry, actions_in}
+use Rattle.call_terms.specs.Asks.{AreAskable, IsAskable, IsCallInRange}
+use Rattle.call_terms.specs.Journal.{actions_in}
 use Rattle.call_terms.specs.declared.calls.Ask.{Ask}
-use Rattle.call_terms.specs.declared.journal.Part.TheVariants.{Ends, Leads, Settles}
+use Rattle.call_terms.specs.declared.journal.Part.TheVariants.{Ends, Settles}
 use Rattle.target_machine.proofs.ActionLists.{after_append, after_issued}
-use Rattle.target_machine.specs.Attempt.{Attempt}
 use Rattle.target_machine.specs.Lists.{after}
-use Rattle.target_machine.specs.Plain.{Action, CallDone, Commands, Makes, Polls, acted, call_actions, call_done, commanded, contains, ended, forgives, given, has_large, in_order, is_fault, is_small, issued, large_after, may_forgive, needs_cfg as wants_cfg, result_of, unit_actions}
+use Rattle.target_machine.specs.Plain.{Action, CallDone, Commands, acted, call_actions, call_done, commanded, contains, ended, forgives, given, has_large, in_order, is_fault, issued, large_after, may_forgive, result_of, unit_actions}
 use Rattle.target_machine.specs.State.{TargetState}
 use Rattle.target_machine.specs.declared.unit.Call.{Call}
 use Rattle.target_machine.specs.declared.unit.Call.TheVariants.{Access, Probe}

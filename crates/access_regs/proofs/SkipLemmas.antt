@@ -1,5 +1,5 @@
 -- Which forgiving calls are skipped.
-use Rattle.std.proofs.Common.{◌≡◌, ◌≢◌, ◌∙◌, Bool, true, false, List, [], ◌∷◌, ◌++◌, refl, sym, ap, subst, append_assoc}
+use Rattle.std.proofs.Common.{◌≡◌, ◌≢◌, ◌∙◌, Bool, true, false, List, [], ◌∷◌, ◌++◌, refl, sym, ap, subst}
 use Rattle.access_regs.proofs.AllCalls.{call_course, journal_follows}
 use Rattle.access_regs.proofs.Course.{actions_append}
 use Rattle.access_regs.proofs.EntryLemmas.{askable_first, askable_here}
@@ -10,8 +10,7 @@ use Rattle.access_regs.specs.Entries.{kept_by, target_by}
 use Rattle.access_regs.specs.Follows.{Follows}
 use Rattle.access_regs.specs.Journal.{Issue, Step, actions_of, issue_of}
 use Rattle.access_regs.specs.Kept.{Kept}
-use Rattle.access_regs.specs.Skips.{FaultSkips, PassingIsMade, own_steps}
-use Rattle.access_regs.specs.declared.planner.Planner.{Planner}
+use Rattle.access_regs.specs.Skips.{FaultSkips, PassingIsMade}
 use Rattle.call_terms.specs.Asks.{is_forgiving}
 use Rattle.call_terms.specs.declared.calls.Ask.{Ask}
 use Rattle.call_terms.specs.declared.journal.Part.TheVariants.{Ends}

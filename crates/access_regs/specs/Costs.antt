@@ -1,5 +1,5 @@
 -- How many need points a call makes by itself, by what it issues after others.
-use Rattle.std.specs.Prelude.{◌≡◌, ℕ, ◌+◌, ◌/◌, ◌<◌, Bool, true, false, if◌then◌else◌, List, [], sum_by}
+use Rattle.std.specs.Prelude.{◌≡◌, ℕ, ◌+◌, ◌/◌, ◌<◌, Bool, false, if◌then◌else◌, List, [], sum_by}
 use Rattle.dap_base.specs.Bits.{has_bit}
 use Rattle.target_machine.specs.Lists.{after}
 use Rattle.target_machine.specs.Plain.{Action, Makes, Polls, Commands, has_large}

@@ -1,5 +1,5 @@
 -- How much calls weigh at most.
-use Rattle.std.specs.Prelude.{ℕ, ◌*◌, ◌≤◌, List, length}
+use Rattle.std.specs.Prelude.{◌*◌, ◌≤◌, List, length}
 use Rattle.target_machine.specs.State.{TargetState}
 use Rattle.call_terms.specs.Asks.{AreAskable}
 use Rattle.call_terms.specs.Weights.{weight_in}
