@@ -146,16 +146,16 @@ module _ (size m address : ℕ) (read : Bool) (value : ℕ) where
       by_needs false = record { from = k; is = refl; table = refl; large = refl }
 
   -- the first of the units
-  record First (n : ℕ) (k : Kept) (i : Issue) : Type 0 where
-    few : own_steps n false i.steps ≤ 5 + extra k
-    made : MadeFrom k i.kept
+  pub record First (n : ℕ) (k : Kept) (i : Issue) : Type 0 where
+    pub few : own_steps n false i.steps ≤ 5 + extra k
+    pub made : MadeFrom k i.kept
 
   cfg_first : (n : ℕ) (t : TargetState) (k : Kept) → m < length k.ports → plans.needs_cfg k asked ≡ false → First n k (by_cfg t k asked)
   cfg_first n t k lt narrow =
       subst (λ (b : Bool). First n k (cond b (before (steps_of Leads (plans.cfg_plan k m)) (by_cfg_read (after t (making (plans.cfg_plan k m))) k asked (gives t (plans.cfg_plan k m)))) (by_csw t k asked))) (sym narrow)
       (record { few = csw_own n t k lt; made = csw_made t k lt })
 
-  first_unit : (n : ℕ) (t : TargetState) (k : Kept) → m < length k.ports → plans.needs_cfg k asked ≡ false → First n k (planned t k asked)
+  pub first_unit : (n : ℕ) (t : TargetState) (k : Kept) → m < length k.ports → plans.needs_cfg k asked ≡ false → First n k (planned t k asked)
   first_unit n t k lt narrow = by_settle (needs_settle k asked)
     where
       v : TargetState
@@ -202,7 +202,7 @@ no_edge : (address size : ℕ) → 0 < size → address % 1024 + size < 1024 →
 no_edge address size some fits e = absurd (omega arith)
 
 module _ (size m address : ℕ) (read : Bool) (value : ℕ) where
-  abbrev unit_here : AccessUnit
+  abbrev pub unit_here : AccessUnit
   unit_here = unit.Memory size read m address value
 
   ready_settle : (k : Kept) → Ready size m address k → needs_settle k unit_here ≡ false
@@ -210,13 +210,13 @@ module _ (size m address : ℕ) (read : Bool) (value : ℕ) where
       ap (λ (b : Bool). is_some k.unsettled && (b || not (is_known k.select (select_value m 0)))) r.narrow
       ∙ ap (λ (b : Bool). is_some k.unsettled && not b) r.select ∙ and_false (is_some k.unsettled)
 
-  ready_plan : (t : TargetState) (k : Kept) → Ready size m address k → planned t k unit_here ≡ by_plan k unit_here
+  pub ready_plan : (t : TargetState) (k : Kept) → Ready size m address k → planned t k unit_here ≡ by_plan k unit_here
   ready_plan t k r =
       ap (λ (b : Bool). cond b (after_settling t k (λ u l. by_cfg u l unit_here)) (by_cfg t k unit_here)) (ready_settle k r)
       ∙ ap (λ (b : Bool). cond b (before (steps_of Leads (plans.cfg_plan k m)) (by_cfg_read (after t (making (plans.cfg_plan k m))) k unit_here (gives t (plans.cfg_plan k m)))) (by_csw t k unit_here)) r.narrow
       ∙ ap (λ (b : Bool). cond b (before (steps_of Leads (first_plan k m)) (by_plan (learned k m (gives t (first_plan k m))) unit_here)) (by_plan k unit_here)) r.some
 
-  ready_leads : (k : Kept) → Ready size m address k → leads k unit_here ≡ []
+  pub ready_leads : (k : Kept) → Ready size m address k → leads k unit_here ≡ []
   ready_leads k r =
       let a : Known = known k m in
       ap (λ (b : Bool). unless b (select_of m 0) ++ port_writes a size address) r.select
@@ -269,11 +269,11 @@ module _ (size m address : ℕ) (read : Bool) (value : ℕ) where
       let b = own_append (numbered n false (planned t k unit_here).steps) [] in
       omega (arith, a, b)
 
-next_where : (l : Bool) (address size n : ℕ) → (l ≡ true) ⊎ (address + size * suc (suc n) ≤ 2 ^ 32) → 0 < size → (l ≡ true) ⊎ (address + size < 2 ^ 32)
+pub next_where : (l : Bool) (address size n : ℕ) → (l ≡ true) ⊎ (address + size * suc (suc n) ≤ 2 ^ 32) → 0 < size → (l ≡ true) ⊎ (address + size < 2 ^ 32)
 next_where l address size n (inl e) some = inl e
 next_where l address size n (inr le) some = inr (let a = mul-suc size (suc n) in let b = mul-suc size n in omega (arith, a, b))
 
-rest_where : (l : Bool) (address size n : ℕ) → (l ≡ true) ⊎ (address + size * suc n ≤ 2 ^ 32) → (l ≡ true) ⊎ ((address + size) + size * n ≤ 2 ^ 32)
+pub rest_where : (l : Bool) (address size n : ℕ) → (l ≡ true) ⊎ (address + size * suc n ≤ 2 ^ 32) → (l ≡ true) ⊎ ((address + size) + size * n ≤ 2 ^ 32)
 rest_where l address size n (inl e) = inl e
 rest_where l address size n (inr le) = inr (let a = mul-suc size n in omega (arith, a))
 
@@ -307,11 +307,11 @@ some_size size (inl e) = omega arith
 some_size size (inr (inl e)) = omega arith
 some_size size (inr (inr e)) = omega arith
 
-start_narrow : (l : Bool) (address : ℕ) → (l ≡ true) ⊎ (address < 2 ^ 32) → (nat_lt 0xFFFF_FFFF address && not l) ≡ false
+pub start_narrow : (l : Bool) (address : ℕ) → (l ≡ true) ⊎ (address < 2 ^ 32) → (nat_lt 0xFFFF_FFFF address && not l) ≡ false
 start_narrow l address (inl e) = ap (λ (b : Bool). nat_lt 0xFFFF_FFFF address && not b) e ∙ and_false (nat_lt 0xFFFF_FFFF address)
 start_narrow l address (inr less) = ap (λ (b : Bool). b && not l) (le-ltb 0xFFFF_FFFF address (omega arith))
 
-start_where : (l : Bool) (address size n : ℕ) → (l ≡ true) ⊎ (address < 2 ^ 32) → address % 1024 + size * n ≤ 1024 → (l ≡ true) ⊎ (address + size * n ≤ 2 ^ 32)
+pub start_where : (l : Bool) (address size n : ℕ) → (l ≡ true) ⊎ (address < 2 ^ 32) → address % 1024 + size * n ≤ 1024 → (l ≡ true) ⊎ (address + size * n ≤ 2 ^ 32)
 start_where l address size n (inl e) fits = inl e
 start_where l address size n (inr less) fits = inr (omega arith)
 

@@ -42,3 +42,4 @@ pub mod SkipLemmas
 pub mod CostLemmas
 pub mod KeptLemmas
 pub mod PlainLemmas
+pub mod Bare

@@ -1,10 +1,12 @@
 -- Memory units of one size on one AP, at rising neighbouring addresses.
-use Rattle.std.specs.Prelude.{◌≡◌, ◌+◌, ◌*◌, ◌%◌, ◌^◌, ◌≤◌, ◌<◌, ◌⊎◌, ℕ, Bool, false, nat_lt, if◌then◌else◌, List, [], ◌∷◌, length}
+use Rattle.std.specs.Prelude.{◌≡◌, ◌+◌, ◌*◌, ◌%◌, ◌^◌, ◌≤◌, ◌<◌, ◌⊎◌, ℕ, Bool, true, false, nat_lt, if◌then◌else◌, List, [], ◌∷◌, ◌++◌, length}
 use Rattle.target_machine.specs.State.{TargetState}
-use Rattle.target_machine.specs.declared.unit.Call.TheVariants.{Access}
+use Rattle.target_machine.specs.Plain.{Action, Makes, drw_of}
+use Rattle.target_machine.specs.declared.unit.Call.{Call}
+use Rattle.target_machine.specs.declared.unit.Call.TheVariants.{Access, Probe}
 use Rattle.target_machine.specs.declared.unit.Unit.TheVariants as unit
-use Rattle.access_regs.specs.Journal.{issued_from}
-use Rattle.call_terms.specs.Journal.{Entry, settles}
+use Rattle.access_regs.specs.Journal.{entries_at, issued_from}
+use Rattle.call_terms.specs.Journal.{Entry, actions_in, settles}
 use Rattle.call_terms.specs.declared.calls.Ask.{Ask}
 use Rattle.access_regs.specs.Kept.{Kept, known}
 use Rattle.access_regs.specs.declared.planner.Planner.TheVariants.{Managed}
@@ -36,3 +38,23 @@ abbrev pub NeighboursAreFew : Type 0
 NeighboursAreFew = (units : ℕ) (k : Kept) (t : TargetState) (size ap address : ℕ) (calls : List Ask) →
     length k.ports ≡ 256 → ap < 256 → ((size ≡ 1) ⊎ ((size ≡ 2) ⊎ (size ≡ 4))) → address % size ≡ 0 → address % 1024 + size * length calls ≤ 1024 →
     AreNeighbours size ap address calls → own_entries (issued_from Managed units k t calls) ≤ length calls + more_than_one_each (known k ap).large address
+
+-- the access by DRW of a call, where that is a memory unit
+abbrev pub drw_in : Call → List Action
+drw_in (Access (unit.Memory size read ap address value)) = Makes (drw_of read address value) ∷ []
+drw_in (Access (unit.Ap read ap addr value)) = []
+drw_in (Access (unit.Dp read addr value)) = []
+drw_in (Access (unit.Poll mask value turns)) = []
+drw_in (Probe command) = []
+
+-- those of calls, in order
+abbrev pub drws_in : List Ask → List Action
+drws_in [] = []
+drws_in (c ∷ cs) = drw_in c.call ++ drws_in cs
+
+-- After the first of such units all the others issue nothing but their accesses by DRW.
+abbrev pub NeighboursAreBare : Type 0
+NeighboursAreBare = (units : ℕ) (k : Kept) (t : TargetState) (size ap address : ℕ) (first : Ask) (calls : List Ask) →
+    length k.ports ≡ 256 → ((size ≡ 1) ⊎ ((size ≡ 2) ⊎ (size ≡ 4))) → ap < 256 → address % 1024 + size * length (first ∷ calls) ≤ 1024 →
+    AreNeighbours size ap address (first ∷ calls) → ((known k ap).large ≡ true) ⊎ (address < 2 ^ 32) →
+    actions_in (issued_from Managed units k t (first ∷ calls)) ≡ actions_in (entries_at Managed units t k first) ++ drws_in calls

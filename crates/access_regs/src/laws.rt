@@ -6,7 +6,7 @@ ghost use Rattle.access_regs.specs.Laws.{AloneKept, CallGoes, CallLeaves, FreshF
 ghost use Rattle.access_regs.specs.Light.{JournalIsLight};
 ghost use Rattle.access_regs.specs.Skips.{FaultSkips, PassingIsMade};
 ghost use Rattle.access_regs.specs.Stops.{FaultStops, PassingStops, WaitStops};
-ghost use Rattle.access_regs.specs.Neighbours.{NeighboursAreFew};
+ghost use Rattle.access_regs.specs.Neighbours.{NeighboursAreBare, NeighboursAreFew};
 
 /// One call goes as it goes alone, and the next may follow it; the first may follow a fresh target.
 #[tactic(auto, using(crate::proofs::AllCalls::call_goes))]
@@ -29,7 +29,8 @@ pub fn journals_follow_calls()
 /// Neighbouring memory units issue little more than one access each.
 #[tactic(auto, using(crate::proofs::FewWide::neighbours_few))]
 pub fn neighbours_are_few()
-    ensures { NeighboursAreFew }
+    ensures few { NeighboursAreFew }
+    ensures bare { NeighboursAreBare }
 {}
 
 /// The journal of more calls begins with that of the first ones, and goes on from where these end.

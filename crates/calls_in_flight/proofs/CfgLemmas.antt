@@ -30,7 +30,6 @@ use Rattle.access_regs.proofs.Wide.{cfg_access}
 use Rattle.calls_in_flight.specs.Small.{SmallAlone, SmallByCfg}
 use Rattle.calls_in_flight.proofs.OpenLemmas.{after_alone, large_alone}
 use Rattle.calls_in_flight.proofs.SmallLemmas.{NeverStops, never_stops, not_small}
-use Rattle.access_regs.specs.declared.planner.Planner.{Planner}
 
 -- where nothing is unsettled, CFG is read the same from the planned target as from the plain one
 module _ (k : Kept) (large : List ℕ) (t u : TargetState) (f : Follows k large t u) (calm : k.unsettled ≡ None) (n : ℕ) (lt : n < 256) where

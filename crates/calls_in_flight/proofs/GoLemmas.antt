@@ -21,7 +21,6 @@ use Rattle.target_machine.specs.Plain.{Makes}
 use Rattle.target_machine.specs.State.{TargetState}
 use Rattle.target_machine.specs.declared.access.RegAccess.{RegAccess}
 use Rattle.call_terms.specs.declared.calls.Ask.{Ask}
-use Rattle.access_regs.specs.declared.planner.Planner.{Planner}
 
 pub flush_goes : FlushGoes
 flush_goes p a b kept accesses came flushed m0 m o part f flies good h =

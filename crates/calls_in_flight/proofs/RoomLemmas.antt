@@ -1,23 +1,23 @@
 -- There is room for more work.
-use Rattle.std.proofs.Common.{◌≡◌, ◌∙◌, ℕ, ◌+◌, ◌-◌, ◌*◌, ◌^◌, ◌≤◌, ◌<◌, min, List, [], ◌∷◌, ◌++◌, length, sym, ap, subst, arith, append-nil, append_assoc, length-append}
+use Rattle.std.proofs.Common.{◌≡◌, ◌∙◌, ℕ, ◌+◌, ◌*◌, ◌^◌, ◌≤◌, ◌<◌, List, [], ◌∷◌, ◌++◌, length, sym, ap, subst, arith, length-append}
 use Rattle.target_machine.specs.State.{TargetState}
-use Rattle.target_machine.specs.Plain.{Action, acted}
+use Rattle.target_machine.specs.Plain.{acted}
 use Rattle.target_machine.specs.declared.access.RegAccess.{RegAccess}
 use Rattle.dap_transfer.specs.State.{grown}
 use Rattle.probe_core.specs.Bench.{BenchState}
 use Rattle.probe_core.specs.Probe.{target_of, work_of}
-use Rattle.call_terms.specs.Journal.{Entry, actions_in, target_after}
+use Rattle.call_terms.specs.Journal.{Entry, target_after}
 use Rattle.call_terms.specs.Weights.{AreWeighty, weight_in}
 use Rattle.call_terms.specs.declared.calls.Ask.{Ask}
 use Rattle.call_terms.proofs.EntryLemmas.{weight_append, weight_some}
-use Rattle.access_regs.specs.Journal.{issued, making}
+use Rattle.access_regs.specs.Journal.{issued}
 use Rattle.access_regs.specs.declared.planner.Planner.{Planner}
 use Rattle.access_regs.proofs.EntryLemmas.{numbered_actions}
 use Rattle.access_regs.proofs.LightLemmas.{journal_light}
 use Rattle.call_terms.specs.Asks.{AreAskable, is_forgiving}
 use Rattle.calls_in_flight.specs.Room.{ActionRoom, CallRoom, ForgivenRoom, HasRoom, PushRoom}
 use Rattle.calls_in_flight.specs.UnderWay.{IsUnderWay}
-use Rattle.calls_in_flight.specs.Sending.{IsSending, entries_of_call}
+use Rattle.calls_in_flight.specs.Sending.{entries_of_call}
 use Rattle.calls_in_flight.proofs.FlightLemmas.{flight_length}
 use Rattle.calls_in_flight.proofs.SendLemmas.{call_sends}
 

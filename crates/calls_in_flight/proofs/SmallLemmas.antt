@@ -18,7 +18,6 @@ use Rattle.access_regs.specs.Stops.{world_at}
 use Rattle.access_regs.proofs.AllCalls.{journal_follows}
 use Rattle.calls_in_flight.specs.Small.{NotSmall}
 use Rattle.calls_in_flight.proofs.OpenLemmas.{after_alone, large_alone}
-use Rattle.access_regs.specs.declared.planner.Planner.{Planner}
 
 clash : (b : Bool) → b ≡ true → b ≡ false → ⊥
 clash true e f = cc
