@@ -13,3 +13,4 @@ pub mod ComeLemmas
 pub mod CfgLemmas
 pub mod ForgivingLemmas
 pub mod RoomLemmas
+pub mod BlockLemmas

@@ -1,8 +1,10 @@
 -- How few starting packets an access sends.
-use Rattle.std.specs.Prelude.{◌≡◌, ℕ, ◌+◌, ◌*◌, ◌/◌, ◌<◌, ◌≤◌, List, ◌++◌, length}
+use Rattle.std.specs.Prelude.{◌≡◌, ℕ, ◌+◌, ◌-◌, ◌*◌, ◌/◌, ◌<◌, ◌≤◌, Bool, true, false, not, ◌&&◌, ◌==◌, List, ◌++◌, length, sum_by}
+use Rattle.target_machine.specs.Plain.{Action, Makes, Polls, Commands}
+use Rattle.target_machine.specs.Registers.{drw_register}
 use Rattle.target_machine.specs.declared.access.RegAccess.{RegAccess}
 use Rattle.probe_core.specs.Bench.{BenchState}
-use Rattle.call_terms.specs.Journal.{Entry, actions_in}
+use Rattle.call_terms.specs.Journal.{Entry, actions_in, one_if}
 use Rattle.call_terms.specs.Weights.{registers_in}
 use Rattle.access_regs.specs.Journal.{making}
 use Rattle.access_calls.specs.Bounds.{starting_since}
@@ -25,3 +27,43 @@ abbrev pub FullFlight : Type 0
 FullFlight = (full capacity needs : ℕ) (made flying : List Entry) (accesses : List RegAccess) (b : Beginning) (m o : BenchState) →
     IsSparing full capacity needs made b m → actions_in flying ≡ making accesses → capacity ≤ length accesses →
     starting_since b o ≤ starting_since b m + 1 → IsSparing (full + 1) capacity needs (made ++ flying) b o
+
+-- ---- blocks of writes
+
+-- the action is a write of DRW
+abbrev pub is_drw_write : Action → Bool
+is_drw_write (Makes a) = a.ap && (not a.read && (a.addr == drw_register))
+is_drw_write (Polls mask value turns) = false
+is_drw_write (Commands c) = false
+
+-- how many of these entries are such writes
+abbrev pub drw_writes_in : List Entry → ℕ
+drw_writes_in entries = sum_by (λ (e : Entry). one_if (is_drw_write e.action)) entries
+
+-- Each starting packet is one of the three of the opening, one at a need point, or one of a flight that was sent because there was
+-- no room: the first of these has a write of DRW, where there was one; the settling may have split one; and each of so many others
+-- has a block of such writes.
+pub record IsBlockwise (full block needs : ℕ) (first split : Bool) (made : List Entry) (b : Beginning) (m : BenchState) : Type 0 where
+  pub some : 0 < block
+  pub few : starting_since b m ≤ 3 + needs + one_if first + one_if split + full
+  pub filled : full * block + one_if first ≤ drw_writes_in made
+
+-- So the starting packets keep their bound for writes, with at most two need points.
+abbrev pub FewBlocks : Type 0
+FewBlocks = (full block needs writes : ℕ) (first split : Bool) (made more : List Entry) (b : Beginning) (m : BenchState) → IsBlockwise full block needs first split made b m →
+    drw_writes_in (made ++ more) ≤ writes → 0 < writes → needs ≤ 2 → starting_since b m ≤ 6 + (writes + block - 1) / block
+
+-- One more flight was sent because there was no room, by one starting packet: the first, one that the settling splits, or one more.
+abbrev pub FirstBlock : Type 0
+FirstBlock = (full block needs : ℕ) (split : Bool) (made flying : List Entry) (b : Beginning) (m o : BenchState) → IsBlockwise full block needs false split made b m →
+    1 ≤ drw_writes_in flying → starting_since b o ≤ starting_since b m + 1 → IsBlockwise full block needs true split (made ++ flying) b o
+
+-- the settling splits it
+abbrev pub SplitBlock : Type 0
+SplitBlock = (full block needs : ℕ) (first : Bool) (made flying : List Entry) (b : Beginning) (m o : BenchState) → IsBlockwise full block needs first false made b m →
+    starting_since b o ≤ starting_since b m + 1 → IsBlockwise full block needs first true (made ++ flying) b o
+
+-- it has a block of writes
+abbrev pub NextBlock : Type 0
+NextBlock = (full block needs : ℕ) (first split : Bool) (made flying : List Entry) (b : Beginning) (m o : BenchState) → IsBlockwise full block needs first split made b m →
+    block ≤ drw_writes_in flying → starting_since b o ≤ starting_since b m + 1 → IsBlockwise (full + 1) block needs first split (made ++ flying) b o

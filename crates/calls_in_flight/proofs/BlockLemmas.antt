@@ -1,0 +1,51 @@
+-- Starting packets of writes.
+use Rattle.std.proofs.Common.{◌≡◌, ℕ, ◌+◌, ◌-◌, ◌*◌, ◌/◌, ◌<◌, ◌≤◌, Bool, true, false, List, ◌++◌, arith}
+use Rattle.std.proofs.lemmas.List.Sums.{sum_by-append}
+use Rattle.std.proofs.Math.Nat.{le-div_iff_mul-le}
+use Rattle.call_terms.specs.Journal.{Entry, one_if}
+use Rattle.calls_in_flight.specs.Packets.{FewBlocks, FirstBlock, NextBlock, SplitBlock, drw_writes_in, is_drw_write}
+
+writes_both : (xs ys : List Entry) → drw_writes_in (xs ++ ys) ≡ drw_writes_in xs + drw_writes_in ys
+writes_both xs ys = sum_by-append (λ (e : Entry). one_if (is_drw_write e.action)) xs ys
+
+at_most_one : (b : Bool) → one_if b ≤ 1
+at_most_one true = omega arith
+at_most_one false = omega arith
+
+-- so many blocks, the first flight with them, fit the writes
+blocks_fit : (full block writes : ℕ) (first : Bool) → 0 < block → 0 < writes → full * block + one_if first ≤ writes → full + one_if first ≤ (writes + block - 1) / block
+blocks_fit full block writes first some any filled = (le-div_iff_mul-le {k = block} {x = full + one_if first} {y = writes + block - 1} some).1 (by_first first filled)
+  where
+    by_first : (b : Bool) → full * block + one_if b ≤ writes → (full + one_if b) * block ≤ writes + block - 1
+    by_first true h = (let d : (full + 1) * block ≡ full * block + block = omega arith in omega (arith, h, d, some))
+    by_first false h = (let d : (full + 0) * block ≡ full * block = omega arith in omega (arith, h, d, some))
+
+pub few_blocks : FewBlocks
+few_blocks full block needs writes first split made more b m h most any two =
+    let w = writes_both made more in
+    let filled : full * block + one_if first ≤ writes = (let f = h.filled in omega (arith, f, w, most)) in
+    let fit = blocks_fit full block writes first h.some any filled in
+    let one = at_most_one split in
+    let f = h.few in
+    omega (arith, fit, one, f, two)
+
+pub first_block : FirstBlock
+first_block full block needs split made flying b m o h some one = record {
+  some = h.some;
+  few = (let f = h.few in omega (arith, f, one));
+  filled = (let f = h.filled in let w = writes_both made flying in omega (arith, f, w, some));
+}
+
+pub split_block : SplitBlock
+split_block full block needs first made flying b m o h one = record {
+  some = h.some;
+  few = (let f = h.few in omega (arith, f, one));
+  filled = (let f = h.filled in let w = writes_both made flying in omega (arith, f, w));
+}
+
+pub next_block : NextBlock
+next_block full block needs first split made flying b m o h many one = record {
+  some = h.some;
+  few = (let f = h.few in omega (arith, f, one));
+  filled = (let f = h.filled in let w = writes_both made flying in let d : (full + 1) * block ≡ full * block + block = omega arith in omega (arith, f, w, d, many));
+}

@@ -1,0 +1,14 @@
+use Rattle.calls_in_flight.proofs.BlockLemmas.{few_blocks, first_block, next_block, split_block}
+use Rattle.calls_in_flight.proofs.laws.starting_packets_of_writes.Goals as goal
+
+pub returns-clause-few : goal.returns-clause-few
+returns-clause-few c = few_blocks
+
+pub returns-clause-first : goal.returns-clause-first
+returns-clause-first c = first_block
+
+pub returns-clause-split : goal.returns-clause-split
+returns-clause-split c = split_block
+
+pub returns-clause-next : goal.returns-clause-next
+returns-clause-next c = next_block
