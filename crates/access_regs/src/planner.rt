@@ -7,6 +7,7 @@ pub enum Planner {
     /// SELECT, CSW and TAR are written only where the target does not have them already. A unit that forgives a fault is
     /// made alone.
     Managed,
-    /// Each unit is made alone: of one nothing is kept for the next, except which ports have large addresses.
+    /// Each unit is made alone: SELECT, CSW and TAR are written each time, whatever earlier units left. Only which ports
+    /// have large addresses counts from one unit to the next.
     Plain,
 }
