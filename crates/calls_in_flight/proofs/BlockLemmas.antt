@@ -1,9 +1,11 @@
 -- Starting packets of writes.
-use Rattle.std.proofs.Common.{◌≡◌, ℕ, ◌+◌, ◌-◌, ◌*◌, ◌/◌, ◌<◌, ◌≤◌, Bool, true, false, List, ◌++◌, arith}
+use Rattle.std.proofs.Common.{◌≡◌, ℕ, ◌+◌, ◌-◌, ◌*◌, ◌/◌, ◌^◌, ◌<◌, ◌≤◌, min, Bool, true, false, List, ◌++◌, arith}
 use Rattle.std.proofs.lemmas.List.Sums.{sum_by-append}
 use Rattle.std.proofs.Math.Nat.{le-div_iff_mul-le}
+use Rattle.call_terms.proofs.EntryLemmas.{registers_append}
 use Rattle.call_terms.specs.Journal.{Entry, one_if}
-use Rattle.calls_in_flight.specs.Packets.{FewBlocks, FirstBlock, NextBlock, SplitBlock, drw_writes_in, is_drw_write}
+use Rattle.access_calls.specs.Bounds.{starting_since}
+use Rattle.calls_in_flight.specs.Packets.{FewBlocks, FirstBlock, NeedBlock, NeedPoint, NextBlock, SplitBlock, drw_writes_in, is_drw_write}
 
 writes_both : (xs ys : List Entry) → drw_writes_in (xs ++ ys) ≡ drw_writes_in xs + drw_writes_in ys
 writes_both xs ys = sum_by-append (λ (e : Entry). one_if (is_drw_write e.action)) xs ys
@@ -48,4 +50,24 @@ next_block full block needs first split made flying b m o h many one = record {
   some = h.some;
   few = (let f = h.few in omega (arith, f, one));
   filled = (let f = h.filled in let w = writes_both made flying in let d : (full + 1) * block ≡ full * block + block = omega arith in omega (arith, f, w, d, many));
+}
+
+-- ---- need points
+
+-- a count that is capped covers what is capped too
+capped_covers : (starting since before needs more rest : ℕ) → since ≤ starting → starting < 2 ^ 64 → since ≤ before + more → before ≤ 3 + needs + rest → since ≤ 3 + min (needs + more) (2 ^ 64 - 1) + rest
+capped_covers starting since before needs more rest below room grown few = omega (arith, below, room, grown, few)
+
+pub need_point : NeedPoint
+need_point full capacity needs more made flying b m o h grown room = record {
+  some = h.some;
+  few = (let f = h.few in capped_covers o.starting (starting_since b o) (starting_since b m) needs more full (omega arith) room grown f);
+  filled = (let f = h.filled in let r = registers_append made flying in omega (arith, f, r));
+}
+
+pub need_block : NeedBlock
+need_block full block needs more first split made flying b m o h grown room = record {
+  some = h.some;
+  few = (let f = h.few in let c = capped_covers o.starting (starting_since b o) (starting_since b m) needs more (one_if first + one_if split + full) (omega arith) room grown (omega (arith, f)) in omega (arith, c));
+  filled = (let f = h.filled in let w = writes_both made flying in omega (arith, f, w));
 }

@@ -1,10 +1,11 @@
 -- How few starting packets an access sends.
-use Rattle.std.specs.Prelude.{◌≡◌, ℕ, ◌+◌, ◌-◌, ◌*◌, ◌/◌, ◌<◌, ◌≤◌, Bool, true, false, not, ◌&&◌, ◌==◌, List, ◌++◌, length, sum_by}
+use Rattle.std.specs.Prelude.{◌≡◌, ℕ, ◌+◌, ◌-◌, ◌*◌, ◌/◌, ◌^◌, ◌<◌, ◌≤◌, Bool, true, false, not, ◌&&◌, ◌==◌, List, ◌++◌, length, sum_by}
 use Rattle.target_machine.specs.Plain.{Action, Makes, Polls, Commands}
 use Rattle.target_machine.specs.Registers.{drw_register}
 use Rattle.target_machine.specs.declared.access.RegAccess.{RegAccess}
 use Rattle.probe_core.specs.Bench.{BenchState}
 use Rattle.call_terms.specs.Journal.{Entry, actions_in, one_if}
+use Rattle.call_terms.specs.NeedPoints.{capped_sum}
 use Rattle.call_terms.specs.Weights.{registers_in}
 use Rattle.access_regs.specs.Journal.{making}
 use Rattle.access_calls.specs.Bounds.{starting_since}
@@ -27,6 +28,11 @@ abbrev pub FullFlight : Type 0
 FullFlight = (full capacity needs : ℕ) (made flying : List Entry) (accesses : List RegAccess) (b : Beginning) (m o : BenchState) →
     IsSparing full capacity needs made b m → actions_in flying ≡ making accesses → capacity ≤ length accesses →
     starting_since b o ≤ starting_since b m + 1 → IsSparing (full + 1) capacity needs (made ++ flying) b o
+
+-- Need points came, and no more starting packets than these. Both counts stop at 2^64 - 1.
+abbrev pub NeedPoint : Type 0
+NeedPoint = (full capacity needs more : ℕ) (made flying : List Entry) (b : Beginning) (m o : BenchState) → IsSparing full capacity needs made b m →
+    starting_since b o ≤ starting_since b m + more → o.starting < 2 ^ 64 → IsSparing full capacity (capped_sum needs more) (made ++ flying) b o
 
 -- ---- blocks of writes
 
@@ -67,3 +73,8 @@ SplitBlock = (full block needs : ℕ) (first : Bool) (made flying : List Entry) 
 abbrev pub NextBlock : Type 0
 NextBlock = (full block needs : ℕ) (first split : Bool) (made flying : List Entry) (b : Beginning) (m o : BenchState) → IsBlockwise full block needs first split made b m →
     block ≤ drw_writes_in flying → starting_since b o ≤ starting_since b m + 1 → IsBlockwise (full + 1) block needs first split (made ++ flying) b o
+
+-- need points came
+abbrev pub NeedBlock : Type 0
+NeedBlock = (full block needs more : ℕ) (first split : Bool) (made flying : List Entry) (b : Beginning) (m o : BenchState) → IsBlockwise full block needs first split made b m →
+    starting_since b o ≤ starting_since b m + more → o.starting < 2 ^ 64 → IsBlockwise full block (capped_sum needs more) first split (made ++ flying) b o

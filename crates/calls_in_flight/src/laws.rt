@@ -6,7 +6,7 @@ ghost use Rattle.calls_in_flight.specs.Flights.{BenchFlies, FaultFlies, ValuesCa
 ghost use Rattle.calls_in_flight.specs.Flying.{CameStands, OpenStands};
 ghost use Rattle.calls_in_flight.specs.Forgiving.{AloneFlight};
 ghost use Rattle.calls_in_flight.specs.GoesOn.{FlushGoes, PushGoes};
-ghost use Rattle.calls_in_flight.specs.Packets.{FewBlocks, FewPackets, FirstBlock, FullFlight, NextBlock, SplitBlock};
+ghost use Rattle.calls_in_flight.specs.Packets.{FewBlocks, FewPackets, FirstBlock, FullFlight, NeedBlock, NeedPoint, NextBlock, SplitBlock};
 ghost use Rattle.calls_in_flight.specs.Pushing.{EntryPushed, JournalGrew, PlanGives, ValueGiven};
 ghost use Rattle.calls_in_flight.specs.Room.{ActionRoom, CallRoom, ForgivenRoom, PushRoom};
 ghost use Rattle.calls_in_flight.specs.Sending.{ActionSends, CallSends, FinishSends, FlyingSends, ForgivenSends, PushSends, WholeSends};
@@ -70,6 +70,7 @@ pub fn polls_and_commands()
 pub fn starting_packets()
     ensures few { FewPackets }
     ensures full { FullFlight }
+    ensures need { NeedPoint }
 {}
 
 /// For writes at neighbouring addresses they keep a bound by blocks.
@@ -78,6 +79,7 @@ pub fn starting_packets_of_writes()
     ensures first { FirstBlock }
     ensures split { SplitBlock }
     ensures next { NextBlock }
+    ensures need { NeedBlock }
 {}
 
 /// What an access keeps goes on over a flight that came whole, and over a call whose accesses are pushed.

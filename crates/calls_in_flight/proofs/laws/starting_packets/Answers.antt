@@ -1,3 +1,4 @@
+use Rattle.calls_in_flight.proofs.BlockLemmas.{need_point}
 use Rattle.calls_in_flight.proofs.ActionLemmas.{few_packets, full_flight}
 use Rattle.calls_in_flight.proofs.laws.starting_packets.Goals as goal
 
@@ -6,3 +7,6 @@ returns-clause-few c = few_packets
 
 pub returns-clause-full : goal.returns-clause-full
 returns-clause-full c = full_flight
+
+pub returns-clause-need : goal.returns-clause-need
+returns-clause-need c = need_point

@@ -1,4 +1,4 @@
-use Rattle.calls_in_flight.proofs.BlockLemmas.{few_blocks, first_block, next_block, split_block}
+use Rattle.calls_in_flight.proofs.BlockLemmas.{few_blocks, first_block, need_block, next_block, split_block}
 use Rattle.calls_in_flight.proofs.laws.starting_packets_of_writes.Goals as goal
 
 pub returns-clause-few : goal.returns-clause-few
@@ -12,3 +12,6 @@ returns-clause-split c = split_block
 
 pub returns-clause-next : goal.returns-clause-next
 returns-clause-next c = next_block
+
+pub returns-clause-need : goal.returns-clause-need
+returns-clause-need c = need_block
