@@ -14,3 +14,4 @@ pub mod CfgLemmas
 pub mod ForgivingLemmas
 pub mod RoomLemmas
 pub mod BlockLemmas
+pub mod WriteLemmas

@@ -7,7 +7,10 @@ use Rattle.probe_core.specs.Bench.{BenchState}
 use Rattle.call_terms.specs.Journal.{Entry, actions_in, one_if}
 use Rattle.call_terms.specs.NeedPoints.{capped_sum}
 use Rattle.call_terms.specs.Weights.{registers_in}
-use Rattle.access_regs.specs.Journal.{making}
+use Rattle.call_terms.specs.declared.calls.Ask.{Ask}
+use Rattle.target_machine.specs.State.{TargetState}
+use Rattle.access_regs.specs.Journal.{issued, making}
+use Rattle.access_regs.specs.declared.planner.Planner.{Planner}
 use Rattle.access_calls.specs.Bounds.{starting_since}
 use Rattle.access_calls.specs.Reported.{Beginning}
 
@@ -78,3 +81,7 @@ NextBlock = (full block needs : ℕ) (first split : Bool) (made flying : List En
 abbrev pub NeedBlock : Type 0
 NeedBlock = (full block needs more : ℕ) (first split : Bool) (made flying : List Entry) (b : Beginning) (m o : BenchState) → IsBlockwise full block needs first split made b m →
     starting_since b o ≤ starting_since b m + more → o.starting < 2 ^ 64 → IsBlockwise full block (capped_sum needs more) first split (made ++ flying) b o
+
+-- No call issues more than one write of DRW.
+abbrev pub WritesAreFew : Type 0
+WritesAreFew = (p : Planner) (t : TargetState) (asks : List Ask) → drw_writes_in (issued p t asks) ≤ length asks

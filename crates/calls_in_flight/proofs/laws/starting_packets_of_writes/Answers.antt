@@ -1,3 +1,4 @@
+use Rattle.calls_in_flight.proofs.WriteLemmas.{writes_are_few}
 use Rattle.calls_in_flight.proofs.BlockLemmas.{few_blocks, first_block, need_block, next_block, split_block}
 use Rattle.calls_in_flight.proofs.laws.starting_packets_of_writes.Goals as goal
 
@@ -15,3 +16,6 @@ returns-clause-next c = next_block
 
 pub returns-clause-need : goal.returns-clause-need
 returns-clause-need c = need_block
+
+pub returns-clause-writes : goal.returns-clause-writes
+returns-clause-writes c = writes_are_few
