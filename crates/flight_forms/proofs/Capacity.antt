@@ -52,14 +52,15 @@ full_part size part a least small e =
     let n = length-append part (a ∷ []) in
     no_fewer (fits_guarded size (part ++ a ∷ [])) (length part) (per_part size) (λ h. few_fit_guarded size (part ++ a ∷ []) small (omega arith)) e
 
--- all parts but the last are full
+-- all parts but the last are full, which has an access
 abbrev pub AreFull : ℕ → ℕ → List (List RegAccess) → Type 0
-AreFull size n parts = (1 ≤ length parts) × (per_part size * length parts ≤ n + per_part size)
+AreFull size n parts = (1 ≤ length parts) × (per_part size * length parts < n + per_part size)
 
-pub full_parts : (size : ℕ) (part rest : List RegAccess) → 21 ≤ size → size ≤ 1024 → AreFull size (length part + length rest) (filled size part rest)
-full_parts size part [] least small = (omega arith, (let a = mul-suc (per_part size) 0 in omega arith))
-full_parts size part (a ∷ rest) least small =
-    by_fit (fits_guarded size (part ++ a ∷ [])) refl (full_parts size (part ++ a ∷ []) rest least small) (full_parts size (a ∷ []) rest least small)
+pub full_parts : (size : ℕ) (part rest : List RegAccess) → 21 ≤ size → size ≤ 1024 → 1 ≤ length part → AreFull size (length part + length rest) (filled size part rest)
+full_parts size part [] least small some = (omega arith, (let a = mul-suc (per_part size) 0 in omega arith))
+full_parts size part (a ∷ rest) least small some =
+    let n = length-append part (a ∷ []) in
+    by_fit (fits_guarded size (part ++ a ∷ [])) refl (full_parts size (part ++ a ∷ []) rest least small (omega arith)) (full_parts size (a ∷ []) rest least small (omega arith))
   where
     m : ℕ
     m = per_part size
@@ -73,9 +74,9 @@ full_parts size part (a ∷ rest) least small =
         let more = mul-suc (per_part size) (length (filled size (a ∷ []) rest)) in
         (omega arith, (let h = shorter.1 in omega arith))
 
-parts_full : (size : ℕ) (accesses : List RegAccess) → 21 ≤ size → size ≤ 1024 → per_part size * length (parts_of size accesses) ≤ length accesses + per_part size
-parts_full size [] least small = (let a = mul-zero (per_part size) in omega arith)
-parts_full size (a ∷ rest) least small = (let h = full_parts size (a ∷ []) rest least small in let k = h.1 in omega arith)
+parts_full : (size : ℕ) (accesses : List RegAccess) → 21 ≤ size → size ≤ 1024 → 1 ≤ length accesses → per_part size * length (parts_of size accesses) < length accesses + per_part size
+parts_full size [] least small some = absurd (omega arith)
+parts_full size (a ∷ rest) least small some = (let h = full_parts size (a ∷ []) rest least small (omega arith) in let k = h.1 in omega arith)
 
 -- ---- where no form holds the accesses
 
@@ -90,15 +91,15 @@ none_fits size count accesses e =
     let three = some_or (fits_chain size count accesses) Chain None two.1 in
     (two.0, three.0)
 
-transfer_full : (size : ℕ) (accesses : List RegAccess) → 21 ≤ size → size ≤ 1024 → fits_transfer size accesses ≡ false → per_part size ≤ length accesses
+transfer_full : (size : ℕ) (accesses : List RegAccess) → 21 ≤ size → size ≤ 1024 → fits_transfer size accesses ≡ false → per_part size < length accesses
 transfer_full size accesses least small e =
-    no_fewer (fits_transfer size accesses) (length accesses) (per_part size) (λ h. few_fit_transfer size accesses small (omega arith)) e
+    let n = no_fewer (fits_transfer size accesses) (length accesses) (per_part size + 1) (λ h. few_fit_transfer size accesses small (omega arith)) e in omega arith
 
-pub refused_is_full : (size count : ℕ) (accesses : List RegAccess) → 21 ≤ size → size ≤ 1024 → form_of size count accesses ≡ None → capacity size count ≤ length accesses
+pub refused_is_full : (size count : ℕ) (accesses : List RegAccess) → 21 ≤ size → size ≤ 1024 → form_of size count accesses ≡ None → capacity size count < length accesses
 refused_is_full size count accesses least small e =
     let none = none_fits size count accesses e in
     let m : ℕ = per_part size in
-    let one : m ≤ length accesses = transfer_full size accesses least small none.0 in
+    let one : m < length accesses = transfer_full size accesses least small none.0 in
     elim (and_cases (leb 2 count) (leb (length (parts_of size accesses)) count) none.1) [
       | inl few ↦ (let h = leb-false 2 count few in let k = mul-le count m 1 m (omega arith) (omega arith) in omega arith)
       | inr many ↦
@@ -106,7 +107,7 @@ refused_is_full size count accesses least small e =
           let k : m * suc count ≤ m * length (parts_of size accesses) = mul-le m (suc count) m (length (parts_of size accesses)) (omega arith) h in
           let n = mul-suc m count in
           let turned = mul_comm m count in
-          let full = parts_full size accesses least small in
+          let full = parts_full size accesses least small (omega arith) in
           omega arith
     ]
 
@@ -115,6 +116,22 @@ refused_is_full size count accesses least small e =
 pub one_fits : (size count : ℕ) (a : RegAccess) → 64 ≤ size → size ≤ 1024 → form_of size count (a ∷ []) ≡ Some Transfer
 one_fits size count a least small =
     ap (λ b. cond b (Some Transfer) (cond (fits_chain size count (a ∷ [])) (Some Chain) None)) (few_fit_transfer size (a ∷ []) small (omega arith))
+
+-- writes of DRW that no form holds are more than a block of them
+pub refused_writes : (size count : ℕ) (accesses : List RegAccess) → 64 ≤ size → size ≤ 1024 → 1 ≤ length accesses → all_write_drw accesses ≡ true → form_of size count accesses ≡ None →
+    (size - 5) / 4 < length accesses
+refused_writes size count [] least small some write e = absurd (omega arith)
+refused_writes size count (a ∷ []) least small some write e = absurd (let x : ◌≡◌ {A = Option Form} None (Some Transfer) = sym e ∙ one_fits size count a least small in cc)
+refused_writes size count (a ∷ b ∷ rest) least small some write e =
+    let xs : List RegAccess = a ∷ b ∷ rest in
+    let one = some_or (fits_block size xs) Block (cond (fits_transfer size xs) (Some Transfer) (cond (fits_chain size count xs) (Some Chain) None)) e in
+    by_room (leb (5 + 4 * length xs) size) refl one.0
+  where
+    by_room : (room : Bool) → leb (5 + 4 * length (a ∷ b ∷ rest)) size ≡ room → fits_block size (a ∷ b ∷ rest) ≡ false → (size - 5) / 4 < length (a ∷ b ∷ rest)
+    by_room true h none =
+        let two : leb 2 (length (a ∷ b ∷ rest)) ≡ true = le-leb 2 (length (a ∷ b ∷ rest)) (omega arith) in
+        absurd (clash (three_from (leb 2 (length (a ∷ b ∷ rest))) (all_write_drw (a ∷ b ∷ rest)) (leb (5 + 4 * length (a ∷ b ∷ rest)) size) two write h) none)
+    by_room false h none = (let more = leb-false (5 + 4 * length (a ∷ b ∷ rest)) size h in omega arith)
 
 -- ---- no form holds more than 255 accesses a packet
 

@@ -1,5 +1,5 @@
 //! What the forms of a flight do, in terms of accesses made one at a time.
-ghost use Rattle.std.specs.Prelude.{◌*◌, ◌+◌, ◌-◌, ◌∷◌, ◌≡◌, ◌<◌, ◌≤◌, ◌^◌, List, None, Some, [], false, length, take, true, ℕ};
+ghost use Rattle.std.specs.Prelude.{◌*◌, ◌+◌, ◌-◌, ◌/◌, ◌∷◌, ◌≡◌, ◌<◌, ◌≤◌, ◌^◌, List, None, Some, [], false, length, take, true, ℕ};
 ghost use Rattle.std.specs.List.{AllByRecursion};
 ghost use Rattle.target_machine.specs.Attempt.{bank};
 ghost use Rattle.target_machine.specs.InRange.{IsInRange};
@@ -13,7 +13,7 @@ ghost use Rattle.dap_transfer.specs.State.{TransferState};
 ghost use Rattle.dap_transfer.specs.Transfer.{transferred};
 ghost use Rattle.flight_forms.specs.Chains.{AllTaken, DoesChain, IsGuardOpen, all_of, chain_replies, joined_as};
 ghost use Rattle.flight_forms.specs.Flights.{DoesBlock, DoesTransfer, IsPartOf, Part, part_of, words_of};
-ghost use Rattle.flight_forms.specs.Forms.{capacity, fits_block, fits_guarded, fits_transfer, form_of, parts_of};
+ghost use Rattle.flight_forms.specs.Forms.{all_write_drw, capacity, fits_block, fits_guarded, fits_transfer, form_of, parts_of};
 ghost use Rattle.flight_forms.specs.Packets.{AnswerChain, FitChain, FitsPacket, block_answer, block_command, guarded_command, transfer_answer, transfer_command};
 ghost use Rattle.flight_forms.specs.Packing.{AreTaken, AreWords, payload, requests_for};
 ghost use Rattle.flight_forms.specs.Polls.{IsPollPacket, PollsAtOnce, poll_packet};
@@ -69,11 +69,13 @@ pub fn what_a_reply_shows()
     ensures joined { (m n : ℕ) (a b : Part) → IsPartOf m a → IsPartOf n b → IsPartOf (m + n) (joined_as a.response a b) }
 {}
 
-/// How many accesses a form holds: each single one; where none holds a list, this list has as many
-/// as the capacity at least; and never more than 255 for each packet.
+/// How many accesses a form holds: each single one; where none holds a list, this list has more than
+/// the capacity, and where it is writes of DRW more than a block; and never more than 255 for each packet.
 pub fn how_many_fit()
     ensures single { (size count : ℕ) (a : RegAccess) → 64 ≤ size → size ≤ 1024 → form_of size count (a ∷ []) ≡ Some Form.Transfer }
-    ensures full { (size count : ℕ) (accesses : List RegAccess) → 21 ≤ size → size ≤ 1024 → form_of size count accesses ≡ None → capacity size count ≤ length accesses }
+    ensures full { (size count : ℕ) (accesses : List RegAccess) → 21 ≤ size → size ≤ 1024 → form_of size count accesses ≡ None → capacity size count < length accesses }
+    ensures writes { (size count : ℕ) (accesses : List RegAccess) → 64 ≤ size → size ≤ 1024 → 1 ≤ length accesses → all_write_drw accesses ≡ true
+        → form_of size count accesses ≡ None → (size - 5) / 4 < length accesses }
     ensures most { (size count : ℕ) (accesses : List RegAccess) (f : Form) → 64 ≤ size → size ≤ 1024 → 1 ≤ count → form_of size count accesses ≡ Some f → length accesses ≤ 255 * count }
 {}
 
