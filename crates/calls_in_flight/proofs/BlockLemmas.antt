@@ -1,11 +1,12 @@
 -- Starting packets of writes.
-use Rattle.std.proofs.Common.{◌≡◌, ℕ, ◌+◌, ◌-◌, ◌*◌, ◌/◌, ◌^◌, ◌<◌, ◌≤◌, min, Bool, true, false, List, ◌++◌, arith}
+use Rattle.std.proofs.Common.{◌≡◌, ℕ, ◌+◌, ◌-◌, ◌*◌, ◌/◌, ◌^◌, ◌<◌, ◌≤◌, min, Bool, true, false, List, [], ◌∷◌, ◌++◌, length-append, arith}
 use Rattle.std.proofs.lemmas.List.Sums.{sum_by-append}
 use Rattle.std.proofs.Math.Nat.{le-div_iff_mul-le}
 use Rattle.call_terms.proofs.EntryLemmas.{registers_append}
 use Rattle.call_terms.specs.Journal.{Entry, one_if}
 use Rattle.access_calls.specs.Bounds.{starting_since}
-use Rattle.calls_in_flight.specs.Packets.{FewBlocks, FirstBlock, NeedBlock, NeedPoint, NextBlock, SplitBlock, drw_writes_in, is_drw_write}
+use Rattle.flight_forms.proofs.Capacity.{refused_is_full, refused_writes}
+use Rattle.calls_in_flight.specs.Packets.{FewBlocks, FirstBlock, FullByForm, NeedBlock, NeedPoint, NextBlock, SplitBlock, drw_writes_in, is_drw_write}
 
 writes_both : (xs ys : List Entry) → drw_writes_in (xs ++ ys) ≡ drw_writes_in xs + drw_writes_in ys
 writes_both xs ys = sum_by-append (λ (e : Entry). one_if (is_drw_write e.action)) xs ys
@@ -71,3 +72,13 @@ need_block full block needs more first split made flying b m o h grown room = re
   few = (let f = h.few in let c = capped_covers o.starting (starting_since b o) (starting_since b m) needs more (one_if first + one_if split + full) (omega arith) room grown (omega (arith, f)) in omega (arith, c));
   filled = (let f = h.filled in let w = writes_both made flying in omega (arith, f, w));
 }
+
+-- ---- flights that are full
+
+pub full_by_form : FullByForm
+full_by_form limits accesses next range none =
+    let more = length-append accesses (next ∷ []) in
+    let least = range.size_low in
+    let most = range.size_high in
+    let full = refused_is_full limits.packet_size limits.packet_count (accesses ++ next ∷ []) (omega (arith, least)) most none in
+    ((omega (arith, full, more)), (λ write. (let w = refused_writes limits.packet_size limits.packet_count (accesses ++ next ∷ []) least most (omega (arith, more)) write none in omega (arith, w, more))))

@@ -1,5 +1,5 @@
 -- How few starting packets an access sends.
-use Rattle.std.specs.Prelude.{◌≡◌, ℕ, ◌+◌, ◌-◌, ◌*◌, ◌/◌, ◌^◌, ◌<◌, ◌≤◌, Bool, true, false, not, ◌&&◌, ◌==◌, List, ◌++◌, length, sum_by}
+use Rattle.std.specs.Prelude.{◌≡◌, ℕ, ◌+◌, ◌-◌, ◌*◌, ◌/◌, ◌^◌, ◌<◌, ◌≤◌, Bool, true, false, not, ◌&&◌, ◌==◌, List, [], ◌∷◌, ◌++◌, length, sum_by, None}
 use Rattle.target_machine.specs.Plain.{Action, Makes, Polls, Commands}
 use Rattle.target_machine.specs.Registers.{drw_register}
 use Rattle.target_machine.specs.declared.access.RegAccess.{RegAccess}
@@ -11,7 +11,11 @@ use Rattle.call_terms.specs.declared.calls.Ask.{Ask}
 use Rattle.target_machine.specs.State.{TargetState}
 use Rattle.access_regs.specs.Journal.{issued, making}
 use Rattle.access_regs.specs.declared.planner.Planner.{Planner}
+use Rattle.probe_core.specs.declared.job.Limits.{Limits}
+use Rattle.flight_forms.specs.Forms.{all_write_drw, form_of}
 use Rattle.access_calls.specs.Bounds.{starting_since}
+use Rattle.access_calls.specs.Bounds as bounds
+use Rattle.probe_core.specs.Ranges.{AreLimits}
 use Rattle.access_calls.specs.Reported.{Beginning}
 
 -- Each starting packet is one of the three of the opening, one at a need point, or one of so many flights that were sent
@@ -31,6 +35,12 @@ abbrev pub FullFlight : Type 0
 FullFlight = (full capacity needs : ℕ) (made flying : List Entry) (accesses : List RegAccess) (b : Beginning) (m o : BenchState) →
     IsSparing full capacity needs made b m → actions_in flying ≡ making accesses → capacity ≤ length accesses →
     starting_since b o ≤ starting_since b m + 1 → IsSparing (full + 1) capacity needs (made ++ flying) b o
+
+-- A flight for which there is no room for one access more has the capacity of accesses; and where it and that one are writes of DRW, a
+-- block of them.
+abbrev pub FullByForm : Type 0
+FullByForm = (limits : Limits) (accesses : List RegAccess) (next : RegAccess) → AreLimits limits → form_of limits.packet_size limits.packet_count (accesses ++ next ∷ []) ≡ None →
+    (bounds.capacity limits ≤ length accesses) × (all_write_drw (accesses ++ next ∷ []) ≡ true → bounds.block_words limits ≤ length accesses)
 
 -- Need points came, and no more starting packets than these. Both counts stop at 2^64 - 1.
 abbrev pub NeedPoint : Type 0

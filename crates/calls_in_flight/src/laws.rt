@@ -6,7 +6,7 @@ ghost use Rattle.calls_in_flight.specs.Flights.{BenchFlies, FaultFlies, ValuesCa
 ghost use Rattle.calls_in_flight.specs.Flying.{CameStands, OpenStands};
 ghost use Rattle.calls_in_flight.specs.Forgiving.{AloneFlight};
 ghost use Rattle.calls_in_flight.specs.GoesOn.{FlushGoes, PushGoes};
-ghost use Rattle.calls_in_flight.specs.Packets.{FewBlocks, FewPackets, FirstBlock, FullFlight, NeedBlock, NeedPoint, NextBlock, SplitBlock, WritesAreFew};
+ghost use Rattle.calls_in_flight.specs.Packets.{FewBlocks, FewPackets, FirstBlock, FullByForm, FullFlight, NeedBlock, NeedPoint, NextBlock, SplitBlock, WritesAreFew};
 ghost use Rattle.calls_in_flight.specs.Pushing.{EntryPushed, JournalGrew, PlanGives, ValueGiven};
 ghost use Rattle.calls_in_flight.specs.Room.{ActionRoom, CallRoom, ForgivenRoom, PushRoom};
 ghost use Rattle.calls_in_flight.specs.Sending.{ActionSends, CallSends, FinishSends, FlyingSends, ForgivenSends, PushSends, WholeSends};
@@ -70,6 +70,7 @@ pub fn polls_and_commands()
 pub fn starting_packets()
     ensures few { FewPackets }
     ensures full { FullFlight }
+    ensures form { FullByForm }
     ensures need { NeedPoint }
 {}
 

@@ -1,4 +1,4 @@
-use Rattle.calls_in_flight.proofs.BlockLemmas.{need_point}
+use Rattle.calls_in_flight.proofs.BlockLemmas.{full_by_form, need_point}
 use Rattle.calls_in_flight.proofs.ActionLemmas.{few_packets, full_flight}
 use Rattle.calls_in_flight.proofs.laws.starting_packets.Goals as goal
 
@@ -10,3 +10,6 @@ returns-clause-full c = full_flight
 
 pub returns-clause-need : goal.returns-clause-need
 returns-clause-need c = need_point
+
+pub returns-clause-form : goal.returns-clause-form
+returns-clause-form c = full_by_form
