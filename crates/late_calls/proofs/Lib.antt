@@ -1,0 +1,5 @@
+pub mod HeldLemmas
+pub mod Leaves
+pub mod LineLemmas
+pub mod UseLemmas
+pub mod KindLemmas

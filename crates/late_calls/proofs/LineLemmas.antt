@@ -1,0 +1,89 @@
+-- Lines that are written, and what is confirmed before.
+use Rattle.std.proofs.Common.{◌≡◌, ℕ, Bool, true, false, List, [], ◌++◌, take, drop, nat_lt, Option, None, Some, option_map, Ok, refl, sym, ap, ◌∙◌}
+use Rattle.std.specs.Io.KnownBytes.{Appends}
+use Rattle.std.proofs.lemmas.List.{append_assoc, append-nil, take-append-drop}
+use Rattle.dap_base.specs.Streams.{AppendsPrefix}
+use Rattle.call_terms.specs.declared.calls.Value.{Value}
+use Rattle.call_terms.specs.declared.calls.Value.TheVariants.{Number}
+use Rattle.call_terms.specs.NeedPoints.{Asks, Costs, needed}
+use Rattle.call_terms.specs.World.{World, stop}
+use Rattle.access_calls.specs.declared.stop.Stop.TheVariants.{OutOfMemory}
+use Rattle.sequence_terms.specs.Calls.{lined}
+use Rattle.sequence_terms.specs.Direct.{line_after}
+use Rattle.sequence_terms.specs.Machine.{State, end_state, with_rest, line_more}
+use Rattle.sequence_terms.specs.Late.{Late, late_of, late, line_unless, Later}
+use Rattle.sequence_terms.proofs.Goes as g
+use Rattle.sequence_terms.proofs.LateLemmas.{steady_late}
+use Rattle.late_calls.specs.declared.end.End.{End}
+use Rattle.late_calls.specs.Ends.{Left, Ends, IsStopAt}
+use Rattle.late_calls.specs.Held.{known_part, Knows}
+use Rattle.late_calls.proofs.Leaves.{After, left_on, stops_before}
+use Rattle.access_calls.proofs.KeepLemmas.{goes_same, goes_trans}
+
+abbrev S : Type 0
+S = State Value Late
+
+-- ---- what the sink holds
+
+pub known_more : (known : Bool) (old new : Option (List ℕ)) (text : List ℕ) → Appends old new text → Knows known old → known_part known new ≡ option_map (line_after text) (known_part known old)
+known_more false old new text h t = refl
+known_more true None new text h t = absurd cc
+known_more true (Some xs) None text h t = absurd h
+known_more true (Some xs) (Some ys) text h t = ap Some h
+
+pub knows_more : (known : Bool) (old new : Option (List ℕ)) (text : List ℕ) → Appends old new text → Knows known old → Knows known new
+knows_more false old new text h t = tt
+knows_more true None new text h t = absurd cc
+knows_more true (Some xs) None text h t = absurd h
+knows_more true (Some xs) (Some ys) text h t = refl
+
+pub knows_part : (known : Bool) (old new : Option (List ℕ)) (text : List ℕ) → AppendsPrefix old new text → Knows known old → Knows known new
+knows_part known old new text h t = knows_more known old new (take h.0 text) h.1 t
+
+-- ---- lines
+
+whole_line : (w : World) (s : Late) (line : List ℕ) → stop w s.asks.calls ≡ None → option_map (line_unless (stop w s.asks.calls) line) s.written ≡ option_map (line_after line) s.written
+whole_line w s line whole = ap (λ o. option_map (line_unless o line) s.written) whole ∙ same s.written
+  where
+    same : (o : Option (List ℕ)) → option_map (line_unless None line) o ≡ option_map (line_after line) o
+    same None = refl
+    same (Some xs) = refl
+
+-- the line is written
+pub line_on : (cost : Costs) (w : World) (line : List ℕ) (n : ℕ) (s : S) (b : Asks) (written : Option (List ℕ)) → nat_lt s.lines 100000 ≡ true → stop w s.rest.asks.calls ≡ None → b ≡ needed s.rest.asks
+    → written ≡ option_map (line_after line) s.rest.written → lined (late cost w) line n s ≡ Ok (Number n, line_more s (late_of b written))
+unfolding lined late
+line_on cost w line n s b written some whole is grown = rw some (rw (whole_line w s.rest line whole) (rw (is, grown) refl))
+
+line_rest : (cost : Costs) (w : World) (line : List ℕ) (n : ℕ) (s : S) → nat_lt s.lines 100000 ≡ true → stop w s.rest.asks.calls ≡ None
+    → (end_state (lined (late cost w) line n s)).rest ≡ late_of (needed s.rest.asks) (option_map (line_after line) s.rest.written)
+unfolding lined late
+line_rest cost w line n s some whole = rw some (ap (λ x. late_of (needed s.rest.asks) x) (whole_line w s.rest line whole))
+
+part_of : (k : ℕ) (line : List ℕ) (o : Option (List ℕ)) → option_map (line_after line) o ≡ option_map (line_after (drop k line)) (option_map (line_after (take k line)) o)
+part_of k line None = refl
+part_of k line (Some xs) = ap Some (ap (λ r. xs ++ r) (sym (take-append-drop k line)) ∙ sym (append_assoc xs (take k line) (drop k line)))
+
+-- the sink failed in the line
+pub line_fails : (cost : Costs) (w : World) (line : List ℕ) (n : ℕ) (s : S) (b : Asks) (written : Option (List ℕ)) (k : ℕ) → nat_lt s.lines 100000 ≡ true → stop w s.rest.asks.calls ≡ None → b.calls ≡ s.rest.asks.calls
+    → written ≡ option_map (line_after (take k line)) s.rest.written → Later w (late_of b written) (end_state (lined (late cost w) line n s)).rest
+line_fails cost w line n s b written k some whole calls grown = rw (line_rest cost w line n s some whole) (record {
+  more = [];
+  calls = sym calls ∙ sym (append-nil b.calls);
+  kept = λ i e. absurd (let z : Some i ≡ None = sym e ∙ ap (stop w) calls ∙ whole in cc);
+  grows = record { part = drop k line; same = part_of k line s.rest.written ∙ ap (option_map (line_after (drop k line))) (sym grown) };
+})
+
+later_lined : (cost : Costs) (w : World) (line : List ℕ) (n : ℕ) (s : S) → Later w s.rest (end_state (lined (late cost w) line n s)).rest
+later_lined cost w line n s = (g.goes_lined (late cost w) (Later w) (steady_late cost w) line n s).so
+
+-- the access stopped before the line
+pub line_stops : (cost : Costs) (w : World) (line : List ℕ) (n : ℕ) (s : S) (b : Asks) (lines : ℕ) (e : End) → b.calls ≡ s.rest.asks.calls → IsStopAt w s.rest.asks.calls lines e
+    → Ends w lines e (with_rest s (late_of b s.rest.written)) (lined (late cost w) line n s)
+line_stops cost w line n s b lines e calls stops = stops_before w lines e s b _ (record { so = later_lined cost w line n s }) calls stops
+
+-- memory was refused for the line
+pub line_refused : (cost : Costs) (w : World) (line : List ℕ) (n : ℕ) (s : S) (lines : ℕ) → Left w lines OutOfMemory s (lined (late cost w) line n s)
+line_refused cost w line n s lines = record { later = later_lined cost w line n s; first = tt }
+
+pub ruleset lines = (known_more, knows_more, knows_part, line_refused, goes_trans, goes_same, left_on)

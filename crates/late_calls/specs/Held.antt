@@ -1,0 +1,31 @@
+-- What a run holds, as a state of the meaning with results that come later.
+use Rattle.std.specs.Prelude.{ℕ, Bool, true, false, List, Option, None, IsSome, if◌then◌else◌}
+use Rattle.call_terms.specs.declared.calls.Value.{Value}
+use Rattle.call_terms.specs.NeedPoints.{Asks}
+use Rattle.sequence_terms.specs.declared.bindings.Binding.{Binding}
+use Rattle.sequence_terms.specs.Late.{Late, late_of}
+use Rattle.sequence_terms.specs.Machine.{State}
+use Rattle.sequence_terms.specs.Shared.{bindings_of}
+use Rattle.late_calls.specs.declared.held.Held.{Held}
+
+-- what was written, where it is asked for
+abbrev pub known_part : Bool → Option (List ℕ) → Option (List ℕ)
+known_part known written = if known then written else None
+
+-- where it is asked for, contracts know what was written
+abbrev pub Knows : Bool → Option (List ℕ) → Type 0
+Knows true written = IsSome written
+Knows false written = Unit {0}
+
+-- a state with these variables and counts, of which this was asked and written
+abbrev pub state_with : List (Binding Value) → List (Binding Value) → ℕ → ℕ → ℕ → Asks → Option (List ℕ) → State Value Late
+state_with globals locals units lines steps asks written =
+    record { globals = globals; locals = locals; units = units; lines = lines; steps = steps; rest = late_of asks written }
+
+-- the state of a run that holds this, of which this was asked and written
+abbrev pub state_of : Held → Asks → Option (List ℕ) → State Value Late
+state_of held asks written = state_with (bindings_of held.globals) held.locals.items held.units held.lines held.steps asks written
+
+-- the same, with what was written where it is asked for
+abbrev pub seen : Bool → Held → Asks → Option (List ℕ) → State Value Late
+seen known held asks written = state_of held asks (known_part known written)

@@ -1,0 +1,218 @@
+//! Calls that access memory.
+ghost use Rattle.std.specs.Prelude.{◌≡◌, ◌⊎◌, ◌+◌, ◌*◌, ◌%◌, ◌^◌, ℕ, List, Option, None, length};
+ghost use Rattle.probe_core.specs.Bench.{BenchState};
+ghost use Rattle.access_calls.specs.GoesOn.{GoesOn};
+ghost use Rattle.access_calls.specs.Left.{IsLeft};
+ghost use Rattle.access_calls.specs.Reported.{world_from};
+ghost use Rattle.target_machine.specs.Sound.{IsSound};
+ghost use Rattle.sequence_terms.specs.declared.bindings.Binding.{Binding};
+ghost use Rattle.sequence_terms.specs.Calls as c;
+ghost use Rattle.sequence_terms.specs.Late.{late};
+ghost use Rattle.sequence_terms.specs.Machine.{with_rest};
+ghost use Rattle.late_calls.specs.Ends.{Counted, EndIs, Gives, GivesBy, NoWriteFault, as_port};
+ghost use Rattle.late_calls.specs.Held.{state_of, state_with};
+
+use crate::asking::{Port, ask, asked};
+use crate::end::End;
+use crate::held::Held;
+use crate::ports::port_of;
+use crate::uses::{both, confirmed};
+use access_calls::Access;
+use call_terms::Value;
+use target_machine::{HaltCause, Unit};
+
+// A memory access of 1, 2 or 4 bytes; a value that is written is cut to its size.
+#[tactic(auto, unfolding(sequence_terms::specs::Calls::memory_unit))]
+fn memory_unit(size: u8, read: bool, ap: u8, address: u64, value: u64) -> Unit
+    requires { (size ≡ 1) ⊎ ((size ≡ 2) ⊎ (size ≡ 4)) }
+    ensures unit { result ≡ c.memory_unit size read ap address value }
+    ensures sound { address % size ≡ 0 → IsSound result }
+{
+    let kept = match size {
+        1 => value % 0x100,
+        2 => value % 0x1_0000,
+        _ => value % 0x1_0000_0000,
+    };
+    Unit::Memory {
+        size,
+        read,
+        ap,
+        address,
+        value: if read { 0 } else { kept as u32 },
+    }
+}
+
+// The number of two words, the lower one first.
+#[tactic(auto, using(crate::proofs::UseLemmas::joined_is))]
+fn joined(low: u64, high: u64) -> u64
+    ensures { result ≡ (low + high * 2 ^ 32) % 2 ^ 64 }
+{
+    low.wrapping_add(high.wrapping_mul(0x1_0000_0000))
+}
+
+// The value of `Read64`: both words are confirmed, and then used.
+#[tactic(auto, using(crate::proofs::Leaves::goes_on))]
+fn low_and_high<A: Access>(
+    low: Value,
+    high: Value,
+    held: &Held,
+    access: &mut A,
+) -> Result<Value, End>
+    requires open { (A.reported access.old).end ≡ None }
+    ensures gives { (m : BenchState) (answered : Option ℕ) (written : Option (List ℕ)) → A.begun access.old m → IsLeft (A.reported access.new) answered
+        → Gives (world_from m answered) (A.reported access.new).lines result (state_of held.now (A.reported access.new).asks written) (c.low_and_high (late A.cost (world_from m answered)) low high (state_of held.now (A.reported access.old).asks written)) }
+    ensures calls { (A.reported access.new).asks.calls ≡ (A.reported access.old).asks.calls }
+    ensures end { EndIs result (A.reported access.new).end }
+    ensures cause { NoWriteFault result }
+    ensures on { (m : BenchState) → A.begun access.old m → A.begun access.new m }
+    ensures left { (answered : Option ℕ) → IsLeft (A.reported access.new) answered → IsLeft (A.reported access.old) answered }
+    ensures identity { A.identity access.new ≡ A.identity access.old }
+    ensures goes { GoesOn (A.reported access.old) (A.reported access.new) }
+{
+    match confirmed(access) {
+        Ok(()) => {}
+        Err(end) => return Err(end),
+    }
+    match both(low, high, access) {
+        Ok((low, high)) => Ok(Value::Number(joined(low, high))),
+        Err(end) => Err(end),
+    }
+}
+
+// The second unit of a 64-bit call, at the higher address.
+#[tactic(auto, unfolding(sequence_terms::specs::Calls::second_half), using(crate::proofs::Leaves::goes_on))]
+fn second_half<A: Access>(
+    read: bool,
+    ap: u8,
+    forgive: bool,
+    address: u64,
+    value: u64,
+    low: Value,
+    held: &mut Held,
+    access: &mut A,
+) -> Result<Value, End>
+    requires aligned { address % 8 ≡ 0 }
+    requires open { (A.reported access.old).end ≡ None }
+    requires counted { held.old.units ≡ length (A.reported access.old).asks.calls }
+    ensures gives { (m : BenchState) (answered : Option ℕ) (written : Option (List ℕ)) → A.begun access.old m → IsLeft (A.reported access.new) answered
+        → Gives (world_from m answered) (A.reported access.new).lines result (state_of held.new (A.reported access.new).asks written) (c.second_half (late A.cost (world_from m answered)) read (record { ap = ap; forgive = forgive; dp = 0 }) address value low (state_of held.old (A.reported access.old).asks written)) }
+    ensures counted { Counted result held.new.units (A.reported access.new).asks.calls }
+    ensures end { EndIs result (A.reported access.new).end }
+    ensures cause { NoWriteFault result }
+    ensures on { (m : BenchState) → A.begun access.old m → A.begun access.new m }
+    ensures left { (answered : Option ℕ) → IsLeft (A.reported access.new) answered → IsLeft (A.reported access.old) answered }
+    ensures identity { A.identity access.new ≡ A.identity access.old }
+    ensures goes { GoesOn (A.reported access.old) (A.reported access.new) }
+{
+    let unit = memory_unit(4, read, ap, address + 4, value / 0x1_0000_0000);
+    match ask(unit, forgive, held, access) {
+        Ok(high) => {
+            if read {
+                low_and_high(low, high, held, access)
+            } else {
+                Ok(Value::Number(0))
+            }
+        }
+        Err(end) => Err(end),
+    }
+}
+
+// `Read64` and `Write64` are two units, the one at the lower address first.
+#[tactic(auto, unfolding(sequence_terms::specs::Calls::two_units), using(crate::proofs::Leaves::goes_on))]
+fn two_units<A: Access>(
+    read: bool,
+    ap: u8,
+    forgive: bool,
+    address: u64,
+    value: u64,
+    held: &mut Held,
+    access: &mut A,
+) -> Result<Value, End>
+    requires aligned { address % 8 ≡ 0 }
+    requires open { (A.reported access.old).end ≡ None }
+    requires counted { held.old.units ≡ length (A.reported access.old).asks.calls }
+    ensures gives { (m : BenchState) (answered : Option ℕ) (written : Option (List ℕ)) → A.begun access.old m → IsLeft (A.reported access.new) answered
+        → Gives (world_from m answered) (A.reported access.new).lines result (state_of held.new (A.reported access.new).asks written) (c.two_units (late A.cost (world_from m answered)) read (record { ap = ap; forgive = forgive; dp = 0 }) address value (state_of held.old (A.reported access.old).asks written)) }
+    ensures counted { Counted result held.new.units (A.reported access.new).asks.calls }
+    ensures end { EndIs result (A.reported access.new).end }
+    ensures cause { NoWriteFault result }
+    ensures on { (m : BenchState) → A.begun access.old m → A.begun access.new m }
+    ensures left { (answered : Option ℕ) → IsLeft (A.reported access.new) answered → IsLeft (A.reported access.old) answered }
+    ensures identity { A.identity access.new ≡ A.identity access.old }
+    ensures goes { GoesOn (A.reported access.old) (A.reported access.new) }
+{
+    let unit = memory_unit(4, read, ap, address, value);
+    match ask(unit, forgive, held, access) {
+        Ok(low) => second_half(read, ap, forgive, address, value, low, held, access),
+        Err(end) => Err(end),
+    }
+}
+
+// A memory call, with its halts in their order.
+#[tactic(auto, unfolding(sequence_terms::specs::Calls::memory_at, sequence_terms::specs::Calls::one_unit))]
+fn memory_at<A: Access>(
+    size: u8,
+    read: bool,
+    address: u64,
+    value: u64,
+    port: Port,
+    held: &mut Held,
+    access: &mut A,
+) -> Result<Value, End>
+    requires sized { (size ≡ 1) ⊎ ((size ≡ 2) ⊎ ((size ≡ 4) ⊎ (size ≡ 8))) }
+    requires open { (A.reported access.old).end ≡ None }
+    requires counted { held.old.units ≡ length (A.reported access.old).asks.calls }
+    ensures gives { (m : BenchState) (answered : Option ℕ) (written : Option (List ℕ)) → A.begun access.old m → IsLeft (A.reported access.new) answered
+        → Gives (world_from m answered) (A.reported access.new).lines result (state_of held.new (A.reported access.new).asks written) (c.memory_at (late A.cost (world_from m answered)) size read address value (as_port port) (state_of held.old (A.reported access.old).asks written)) }
+    ensures counted { Counted result held.new.units (A.reported access.new).asks.calls }
+    ensures end { EndIs result (A.reported access.new).end }
+    ensures cause { NoWriteFault result }
+    ensures on { (m : BenchState) → A.begun access.old m → A.begun access.new m }
+    ensures left { (answered : Option ℕ) → IsLeft (A.reported access.new) answered → IsLeft (A.reported access.old) answered }
+    ensures identity { A.identity access.new ≡ A.identity access.old }
+    ensures goes { GoesOn (A.reported access.old) (A.reported access.new) }
+{
+    if port.dp != 0 {
+        return Err(End::Halted(HaltCause::Unsupported));
+    }
+    let Ok(ap) = u8::try_from(port.ap) else {
+        return Err(End::Halted(HaltCause::AddressTooLarge));
+    };
+    if address % u64::from(size) != 0 {
+        return Err(End::Halted(HaltCause::Misaligned));
+    }
+    if size == 8 {
+        return two_units(read, ap, port.forgive, address, value, held, access);
+    }
+    let unit = memory_unit(size, read, ap, address, value);
+    asked(read, unit, port.forgive, held, access)
+}
+
+// A memory call of `size` bytes, 1, 2, 4 or 8.
+#[tactic(auto, unfolding(sequence_terms::specs::Calls::memory), using(crate::proofs::Leaves::goes_on))]
+pub(crate) fn memory<A: Access>(
+    size: u8,
+    read: bool,
+    address: u64,
+    value: u64,
+    held: &mut Held,
+    access: &mut A,
+) -> Result<Value, End>
+    requires sized { (size ≡ 1) ⊎ ((size ≡ 2) ⊎ ((size ≡ 4) ⊎ (size ≡ 8))) }
+    requires open { (A.reported access.old).end ≡ None }
+    requires counted { held.old.units ≡ length (A.reported access.old).asks.calls }
+    ensures gives { (m : BenchState) (answered : Option ℕ) (written : Option (List ℕ)) → A.begun access.old m → IsLeft (A.reported access.new) answered
+        → Gives (world_from m answered) (A.reported access.new).lines result (state_of held.new (A.reported access.new).asks written) (c.memory (late A.cost (world_from m answered)) size read address value (state_of held.old (A.reported access.old).asks written)) }
+    ensures counted { Counted result held.new.units (A.reported access.new).asks.calls }
+    ensures end { EndIs result (A.reported access.new).end }
+    ensures cause { NoWriteFault result }
+    ensures on { (m : BenchState) → A.begun access.old m → A.begun access.new m }
+    ensures left { (answered : Option ℕ) → IsLeft (A.reported access.new) answered → IsLeft (A.reported access.old) answered }
+    ensures identity { A.identity access.new ≡ A.identity access.old }
+    ensures goes { GoesOn (A.reported access.old) (A.reported access.new) }
+{
+    match port_of(held, access) {
+        Ok(port) => memory_at(size, read, address, value, port, held, access),
+        Err(end) => Err(end),
+    }
+}

@@ -1,0 +1,176 @@
+//! Calls that are commands of the probe.
+ghost use Rattle.std.specs.Prelude.{◌≡◌, ◌%◌, ◌^◌, ◌≤◌, ℕ, List, Option, None, length};
+ghost use Rattle.probe_core.specs.Bench.{BenchState};
+ghost use Rattle.access_calls.specs.GoesOn.{GoesOn};
+ghost use Rattle.access_calls.specs.Left.{IsLeft};
+ghost use Rattle.access_calls.specs.Reported.{world_from};
+ghost use Rattle.sequence_terms.specs.Calls as c;
+ghost use Rattle.sequence_terms.specs.Late.{late};
+ghost use Rattle.late_calls.specs.Ends.{Counted, EndIs, Gives, NoWriteFault};
+ghost use Rattle.late_calls.specs.Held.{state_of};
+
+use crate::asking::{command, commanded};
+use crate::end::End;
+use crate::held::Held;
+use crate::ports::debug_port;
+use access_calls::Access;
+use call_terms::Value;
+use target_machine::{HaltCause, ProbeCall};
+
+// `DAP_WriteABORT`, on debug port 0 alone.
+#[tactic(auto, unfolding(sequence_terms::specs::Calls::abort_at, sequence_terms::specs::Calls::zero_of))]
+fn abort_at<A: Access>(value: u64, dp: u64, held: &mut Held, access: &mut A) -> Result<Value, End>
+    requires open { (A.reported access.old).end ≡ None }
+    requires counted { held.old.units ≡ length (A.reported access.old).asks.calls }
+    ensures gives { (m : BenchState) (answered : Option ℕ) (written : Option (List ℕ)) → A.begun access.old m → IsLeft (A.reported access.new) answered
+        → Gives (world_from m answered) (A.reported access.new).lines result (state_of held.new (A.reported access.new).asks written) (c.zero_of (late A.cost (world_from m answered)) (c.abort_at (late A.cost (world_from m answered)) value dp (state_of held.old (A.reported access.old).asks written))) }
+    ensures counted { Counted result held.new.units (A.reported access.new).asks.calls }
+    ensures end { EndIs result (A.reported access.new).end }
+    ensures cause { NoWriteFault result }
+    ensures on { (m : BenchState) → A.begun access.old m → A.begun access.new m }
+    ensures left { (answered : Option ℕ) → IsLeft (A.reported access.new) answered → IsLeft (A.reported access.old) answered }
+    ensures identity { A.identity access.new ≡ A.identity access.old }
+    ensures goes { GoesOn (A.reported access.old) (A.reported access.new) }
+{
+    if dp != 0 {
+        return Err(End::Halted(HaltCause::Unsupported));
+    }
+    let call = ProbeCall::Abort((value % 0x1_0000_0000) as u32);
+    commanded(call, held, access)
+}
+
+// `DAP_WriteABORT`.
+#[tactic(auto, unfolding(sequence_terms::specs::Calls::abort, sequence_terms::specs::Calls::zero_of), using(crate::proofs::Leaves::goes_on))]
+pub(crate) fn abort<A: Access>(value: u64, held: &mut Held, access: &mut A) -> Result<Value, End>
+    requires open { (A.reported access.old).end ≡ None }
+    requires counted { held.old.units ≡ length (A.reported access.old).asks.calls }
+    ensures gives { (m : BenchState) (answered : Option ℕ) (written : Option (List ℕ)) → A.begun access.old m → IsLeft (A.reported access.new) answered
+        → Gives (world_from m answered) (A.reported access.new).lines result (state_of held.new (A.reported access.new).asks written) (c.zero_of (late A.cost (world_from m answered)) (c.abort (late A.cost (world_from m answered)) value (state_of held.old (A.reported access.old).asks written))) }
+    ensures counted { Counted result held.new.units (A.reported access.new).asks.calls }
+    ensures end { EndIs result (A.reported access.new).end }
+    ensures cause { NoWriteFault result }
+    ensures on { (m : BenchState) → A.begun access.old m → A.begun access.new m }
+    ensures left { (answered : Option ℕ) → IsLeft (A.reported access.new) answered → IsLeft (A.reported access.old) answered }
+    ensures identity { A.identity access.new ≡ A.identity access.old }
+    ensures goes { GoesOn (A.reported access.old) (A.reported access.new) }
+{
+    match debug_port(held, access) {
+        Ok(dp) => abort_at(value, dp, held, access),
+        Err(end) => Err(end),
+    }
+}
+
+// `DAP_Delay`, of at most 60,000,000 microseconds.
+#[tactic(auto, unfolding(sequence_terms::specs::Calls::delay, sequence_terms::specs::Calls::zero_of))]
+pub(crate) fn delay<A: Access>(micros: u64, held: &mut Held, access: &mut A) -> Result<Value, End>
+    requires open { (A.reported access.old).end ≡ None }
+    requires counted { held.old.units ≡ length (A.reported access.old).asks.calls }
+    ensures gives { (m : BenchState) (answered : Option ℕ) (written : Option (List ℕ)) → A.begun access.old m → IsLeft (A.reported access.new) answered
+        → Gives (world_from m answered) (A.reported access.new).lines result (state_of held.new (A.reported access.new).asks written) (c.zero_of (late A.cost (world_from m answered)) (c.delay (late A.cost (world_from m answered)) micros (state_of held.old (A.reported access.old).asks written))) }
+    ensures counted { Counted result held.new.units (A.reported access.new).asks.calls }
+    ensures end { EndIs result (A.reported access.new).end }
+    ensures cause { NoWriteFault result }
+    ensures on { (m : BenchState) → A.begun access.old m → A.begun access.new m }
+    ensures left { (answered : Option ℕ) → IsLeft (A.reported access.new) answered → IsLeft (A.reported access.old) answered }
+    ensures identity { A.identity access.new ≡ A.identity access.old }
+    ensures goes { GoesOn (A.reported access.old) (A.reported access.new) }
+{
+    if micros > 60_000_000 {
+        return Err(End::Halted(HaltCause::ArgumentOutOfRange));
+    }
+    commanded(ProbeCall::Delay(micros as u32), held, access)
+}
+
+// `DAP_SWJ_Clock`, of 1 to 2^32 - 1 hertz.
+#[tactic(auto, unfolding(sequence_terms::specs::Calls::clock, sequence_terms::specs::Calls::zero_of))]
+pub(crate) fn clock<A: Access>(hertz: u64, held: &mut Held, access: &mut A) -> Result<Value, End>
+    requires open { (A.reported access.old).end ≡ None }
+    requires counted { held.old.units ≡ length (A.reported access.old).asks.calls }
+    ensures gives { (m : BenchState) (answered : Option ℕ) (written : Option (List ℕ)) → A.begun access.old m → IsLeft (A.reported access.new) answered
+        → Gives (world_from m answered) (A.reported access.new).lines result (state_of held.new (A.reported access.new).asks written) (c.zero_of (late A.cost (world_from m answered)) (c.clock (late A.cost (world_from m answered)) hertz (state_of held.old (A.reported access.old).asks written))) }
+    ensures counted { Counted result held.new.units (A.reported access.new).asks.calls }
+    ensures end { EndIs result (A.reported access.new).end }
+    ensures cause { NoWriteFault result }
+    ensures on { (m : BenchState) → A.begun access.old m → A.begun access.new m }
+    ensures left { (answered : Option ℕ) → IsLeft (A.reported access.new) answered → IsLeft (A.reported access.old) answered }
+    ensures identity { A.identity access.new ≡ A.identity access.old }
+    ensures goes { GoesOn (A.reported access.old) (A.reported access.new) }
+{
+    if hertz == 0 || hertz > 0xFFFF_FFFF {
+        return Err(End::Halted(HaltCause::ArgumentOutOfRange));
+    }
+    commanded(ProbeCall::Clock(hertz as u32), held, access)
+}
+
+// `DAP_SWJ_Pins`, with a wait of 32 bits.
+#[tactic(auto, unfolding(sequence_terms::specs::Calls::pins))]
+pub(crate) fn pins<A: Access>(
+    output: u64,
+    select: u64,
+    wait: u64,
+    held: &mut Held,
+    access: &mut A,
+) -> Result<Value, End>
+    requires open { (A.reported access.old).end ≡ None }
+    requires counted { held.old.units ≡ length (A.reported access.old).asks.calls }
+    ensures gives { (m : BenchState) (answered : Option ℕ) (written : Option (List ℕ)) → A.begun access.old m → IsLeft (A.reported access.new) answered
+        → Gives (world_from m answered) (A.reported access.new).lines result (state_of held.new (A.reported access.new).asks written) (c.pins (late A.cost (world_from m answered)) output select wait (state_of held.old (A.reported access.old).asks written)) }
+    ensures counted { Counted result held.new.units (A.reported access.new).asks.calls }
+    ensures end { EndIs result (A.reported access.new).end }
+    ensures cause { NoWriteFault result }
+    ensures on { (m : BenchState) → A.begun access.old m → A.begun access.new m }
+    ensures left { (answered : Option ℕ) → IsLeft (A.reported access.new) answered → IsLeft (A.reported access.old) answered }
+    ensures identity { A.identity access.new ≡ A.identity access.old }
+    ensures goes { GoesOn (A.reported access.old) (A.reported access.new) }
+{
+    if wait > 0xFFFF_FFFF {
+        return Err(End::Halted(HaltCause::ArgumentOutOfRange));
+    }
+    let call = ProbeCall::Pins {
+        output: (output % 256) as u8,
+        select: (select % 256) as u8,
+        wait: wait as u32,
+    };
+    command(call, held, access)
+}
+
+// The lowest `count` bits.
+fn low_bits(count: u8, bits: u64) -> u64
+    requires some { 1 ≤ count }
+    requires most { count ≤ 64 }
+    ensures { result ≡ bits % 2 ^ count }
+{
+    if count == 64 {
+        bits
+    } else {
+        bits % (1u64 << count)
+    }
+}
+
+// `DAP_SWJ_Sequence`, of 1 to 64 bits.
+#[tactic(auto, unfolding(sequence_terms::specs::Calls::line_bits, sequence_terms::specs::Calls::zero_of))]
+pub(crate) fn line_bits<A: Access>(
+    count: u64,
+    bits: u64,
+    held: &mut Held,
+    access: &mut A,
+) -> Result<Value, End>
+    requires open { (A.reported access.old).end ≡ None }
+    requires counted { held.old.units ≡ length (A.reported access.old).asks.calls }
+    ensures gives { (m : BenchState) (answered : Option ℕ) (written : Option (List ℕ)) → A.begun access.old m → IsLeft (A.reported access.new) answered
+        → Gives (world_from m answered) (A.reported access.new).lines result (state_of held.new (A.reported access.new).asks written) (c.zero_of (late A.cost (world_from m answered)) (c.line_bits (late A.cost (world_from m answered)) count bits (state_of held.old (A.reported access.old).asks written))) }
+    ensures counted { Counted result held.new.units (A.reported access.new).asks.calls }
+    ensures end { EndIs result (A.reported access.new).end }
+    ensures cause { NoWriteFault result }
+    ensures on { (m : BenchState) → A.begun access.old m → A.begun access.new m }
+    ensures left { (answered : Option ℕ) → IsLeft (A.reported access.new) answered → IsLeft (A.reported access.old) answered }
+    ensures identity { A.identity access.new ≡ A.identity access.old }
+    ensures goes { GoesOn (A.reported access.old) (A.reported access.new) }
+{
+    if count == 0 || count > 64 {
+        return Err(End::Halted(HaltCause::ArgumentOutOfRange));
+    }
+    let count = count as u8;
+    let bits = low_bits(count, bits);
+    commanded(ProbeCall::Line { count, bits }, held, access)
+}

@@ -1,0 +1,162 @@
+//! Calls that access registers.
+ghost use Rattle.std.specs.Prelude.{◌≡◌, ℕ, List, Option, None, length};
+ghost use Rattle.probe_core.specs.Bench.{BenchState};
+ghost use Rattle.access_calls.specs.GoesOn.{GoesOn};
+ghost use Rattle.access_calls.specs.Left.{IsLeft};
+ghost use Rattle.access_calls.specs.Reported.{world_from};
+ghost use Rattle.sequence_terms.specs.Calls as c;
+ghost use Rattle.sequence_terms.specs.Late.{late};
+ghost use Rattle.late_calls.specs.Ends.{Counted, EndIs, Gives, NoWriteFault, as_port};
+ghost use Rattle.late_calls.specs.Held.{state_of};
+
+use crate::asking::{Port, asked};
+use crate::end::End;
+use crate::held::Held;
+use crate::ports::{debug_port, port_of};
+use access_calls::Access;
+use call_terms::Value;
+use target_machine::{HaltCause, Unit};
+
+// `ReadAP` and `WriteAP`, with their halts in their order.
+#[tactic(auto, unfolding(sequence_terms::specs::Calls::ap_at))]
+fn ap_at<A: Access>(
+    read: bool,
+    addr: u64,
+    value: u64,
+    port: Port,
+    held: &mut Held,
+    access: &mut A,
+) -> Result<Value, End>
+    requires open { (A.reported access.old).end ≡ None }
+    requires counted { held.old.units ≡ length (A.reported access.old).asks.calls }
+    ensures gives { (m : BenchState) (answered : Option ℕ) (written : Option (List ℕ)) → A.begun access.old m → IsLeft (A.reported access.new) answered
+        → Gives (world_from m answered) (A.reported access.new).lines result (state_of held.new (A.reported access.new).asks written) (c.ap_at (late A.cost (world_from m answered)) read addr value (as_port port) (state_of held.old (A.reported access.old).asks written)) }
+    ensures counted { Counted result held.new.units (A.reported access.new).asks.calls }
+    ensures end { EndIs result (A.reported access.new).end }
+    ensures cause { NoWriteFault result }
+    ensures on { (m : BenchState) → A.begun access.old m → A.begun access.new m }
+    ensures left { (answered : Option ℕ) → IsLeft (A.reported access.new) answered → IsLeft (A.reported access.old) answered }
+    ensures identity { A.identity access.new ≡ A.identity access.old }
+    ensures goes { GoesOn (A.reported access.old) (A.reported access.new) }
+{
+    if port.dp != 0 {
+        return Err(End::Halted(HaltCause::Unsupported));
+    }
+    let Ok(ap) = u8::try_from(port.ap) else {
+        return Err(End::Halted(HaltCause::AddressTooLarge));
+    };
+    if addr > 0xFC {
+        return Err(End::Halted(HaltCause::AddressTooLarge));
+    }
+    if addr % 4 != 0 {
+        return Err(End::Halted(HaltCause::Misaligned));
+    }
+    let unit = Unit::Ap {
+        read,
+        ap,
+        addr: addr as u8,
+        value: if read {
+            0
+        } else {
+            (value % 0x1_0000_0000) as u32
+        },
+    };
+    asked(read, unit, port.forgive, held, access)
+}
+
+// `ReadAP` and `WriteAP`.
+#[tactic(auto, unfolding(sequence_terms::specs::Calls::ap_register), using(crate::proofs::Leaves::goes_on))]
+pub(crate) fn ap_register<A: Access>(
+    read: bool,
+    addr: u64,
+    value: u64,
+    held: &mut Held,
+    access: &mut A,
+) -> Result<Value, End>
+    requires open { (A.reported access.old).end ≡ None }
+    requires counted { held.old.units ≡ length (A.reported access.old).asks.calls }
+    ensures gives { (m : BenchState) (answered : Option ℕ) (written : Option (List ℕ)) → A.begun access.old m → IsLeft (A.reported access.new) answered
+        → Gives (world_from m answered) (A.reported access.new).lines result (state_of held.new (A.reported access.new).asks written) (c.ap_register (late A.cost (world_from m answered)) read addr value (state_of held.old (A.reported access.old).asks written)) }
+    ensures counted { Counted result held.new.units (A.reported access.new).asks.calls }
+    ensures end { EndIs result (A.reported access.new).end }
+    ensures cause { NoWriteFault result }
+    ensures on { (m : BenchState) → A.begun access.old m → A.begun access.new m }
+    ensures left { (answered : Option ℕ) → IsLeft (A.reported access.new) answered → IsLeft (A.reported access.old) answered }
+    ensures identity { A.identity access.new ≡ A.identity access.old }
+    ensures goes { GoesOn (A.reported access.old) (A.reported access.new) }
+{
+    match port_of(held, access) {
+        Ok(port) => ap_at(read, addr, value, port, held, access),
+        Err(end) => Err(end),
+    }
+}
+
+// `ReadDP` and `WriteDP`, with their halts in their order.
+#[tactic(auto, unfolding(sequence_terms::specs::Calls::dp_at))]
+fn dp_at<A: Access>(
+    read: bool,
+    addr: u64,
+    value: u64,
+    dp: u64,
+    held: &mut Held,
+    access: &mut A,
+) -> Result<Value, End>
+    requires open { (A.reported access.old).end ≡ None }
+    requires counted { held.old.units ≡ length (A.reported access.old).asks.calls }
+    ensures gives { (m : BenchState) (answered : Option ℕ) (written : Option (List ℕ)) → A.begun access.old m → IsLeft (A.reported access.new) answered
+        → Gives (world_from m answered) (A.reported access.new).lines result (state_of held.new (A.reported access.new).asks written) (c.dp_at (late A.cost (world_from m answered)) read addr value dp (state_of held.old (A.reported access.old).asks written)) }
+    ensures counted { Counted result held.new.units (A.reported access.new).asks.calls }
+    ensures end { EndIs result (A.reported access.new).end }
+    ensures cause { NoWriteFault result }
+    ensures on { (m : BenchState) → A.begun access.old m → A.begun access.new m }
+    ensures left { (answered : Option ℕ) → IsLeft (A.reported access.new) answered → IsLeft (A.reported access.old) answered }
+    ensures identity { A.identity access.new ≡ A.identity access.old }
+    ensures goes { GoesOn (A.reported access.old) (A.reported access.new) }
+{
+    if dp != 0 || (read && addr == 8 || addr == 0xC) {
+        return Err(End::Halted(HaltCause::Unsupported));
+    }
+    if addr > 0xC {
+        return Err(End::Halted(HaltCause::AddressTooLarge));
+    }
+    if addr % 4 != 0 {
+        return Err(End::Halted(HaltCause::Misaligned));
+    }
+    let unit = Unit::Dp {
+        read,
+        addr: addr as u8,
+        value: if read {
+            0
+        } else {
+            (value % 0x1_0000_0000) as u32
+        },
+    };
+    asked(read, unit, false, held, access)
+}
+
+// `ReadDP` and `WriteDP`.
+#[tactic(auto, unfolding(sequence_terms::specs::Calls::dp_register), using(crate::proofs::Leaves::goes_on))]
+pub(crate) fn dp_register<A: Access>(
+    read: bool,
+    addr: u64,
+    value: u64,
+    held: &mut Held,
+    access: &mut A,
+) -> Result<Value, End>
+    requires open { (A.reported access.old).end ≡ None }
+    requires counted { held.old.units ≡ length (A.reported access.old).asks.calls }
+    ensures gives { (m : BenchState) (answered : Option ℕ) (written : Option (List ℕ)) → A.begun access.old m → IsLeft (A.reported access.new) answered
+        → Gives (world_from m answered) (A.reported access.new).lines result (state_of held.new (A.reported access.new).asks written) (c.dp_register (late A.cost (world_from m answered)) read addr value (state_of held.old (A.reported access.old).asks written)) }
+    ensures counted { Counted result held.new.units (A.reported access.new).asks.calls }
+    ensures end { EndIs result (A.reported access.new).end }
+    ensures cause { NoWriteFault result }
+    ensures on { (m : BenchState) → A.begun access.old m → A.begun access.new m }
+    ensures left { (answered : Option ℕ) → IsLeft (A.reported access.new) answered → IsLeft (A.reported access.old) answered }
+    ensures identity { A.identity access.new ≡ A.identity access.old }
+    ensures goes { GoesOn (A.reported access.old) (A.reported access.new) }
+{
+    match debug_port(held, access) {
+        Ok(dp) => dp_at(read, addr, value, dp, held, access),
+        Err(end) => Err(end),
+    }
+}
