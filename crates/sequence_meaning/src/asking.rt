@@ -7,11 +7,10 @@ ghost use Rattle.sequence_terms.specs.Machine.{State};
 ghost use Rattle.sequence_terms.specs.Shared.{bindings_of};
 ghost use Rattle.sequence_meaning.specs.Held.{Gives, state_of};
 
-use crate::at_once::{Made, make};
-use crate::commands::command_now;
 use crate::end::End;
 use crate::held::Held;
 use call_terms::Ask;
+use calls_at_once::{Made, call_at_once, command_at_once};
 use target_machine::{Call, HaltCause, ProbeCall, Target, Unit};
 
 // The predefined variables that calls use: the AP, whether a fault is forgiven, and the debug port.
@@ -64,7 +63,7 @@ pub(crate) fn ask(
     let Ok(()) = held.calls.push(call) else {
         return Err(End::OutOfMemory);
     };
-    let Ok(made) = make(target, unit, forgive, &mut held.large) else {
+    let Ok(made) = call_at_once(target, Call::Access(unit), forgive, &mut held.large) else {
         let _ = held.calls.pop();
         return Err(End::OutOfMemory);
     };
@@ -114,5 +113,5 @@ pub(crate) fn command(call: ProbeCall, held: &mut Held, target: &mut Target) -> 
         return Err(End::OutOfMemory);
     };
     held.units += 1;
-    Ok(u64::from(command_now(target, call)))
+    Ok(u64::from(command_at_once(target, call)))
 }
