@@ -13,3 +13,5 @@ pub mod NeverLost
 pub mod Sizes
 pub mod StartLemmas
 pub mod UnitLemmas
+pub mod StopLemmas
+pub mod PartLemmas
