@@ -4,7 +4,8 @@ use Rattle.std.proofs.lemmas.List.{drop_more}
 use Rattle.dap_base.specs.Outcome.{◌>>=◌}
 use Rattle.expr_grammar.specs.declared.code.Stmt as statement
 use Rattle.expr_grammar.specs.Tree as t
-use Rattle.expr_grammar.specs.Tree.{StmtTree, stmt_tree, code_trees}
+use Rattle.expr_grammar.specs.declared.code.Name.{Name}
+use Rattle.expr_grammar.specs.Tree.{Tree, StmtTree, stmt_tree, code_trees}
 use Rattle.sequence_code.specs.Trees.{CodeSteps, SetTrees, NoSteps, steps_named}
 use Rattle.sequence_terms.specs.Direct.{Now, direct}
 use Rattle.sequence_terms.specs.Machine.{State, Out}
@@ -12,8 +13,11 @@ use Rattle.sequence_terms.specs.Steps.{done, steps_at, sequence_at, debugged, ru
 use Rattle.sequence_terms.specs.Values.{value, stored}
 use Rattle.sequence_meaning.specs.declared.end.End.{End}
 use Rattle.sequence_meaning.specs.Held.{Ends, Gives}
-use Rattle.sequence_meaning.specs.Starting.{debugged_one}
-use Rattle.sequence_meaning.proofs.DirectLemmas.{ends_on}
+use Rattle.sequence_meaning.specs.Starting.{debugged_one, defined}
+use Rattle.sequence_terms.specs.Laws.{Adds}
+use Rattle.sequence_terms.proofs.Adding.{adds_direct}
+use Rattle.sequence_terms.proofs.Goes as g
+use Rattle.sequence_meaning.proofs.StopLemmas.{ends_on}
 use Rattle.sequence_meaning.proofs.Loops.{drop_end, steps_found}
 
 abbrev S : Type 0
@@ -55,7 +59,19 @@ module _ (turn_us : ℕ) (set : SetTrees) where
 
   pub debug_fail : (total : O (Unit {0})) (xs : List statement.Stmt) (i : ℕ) (d : statement.Stmt) (s r : S) (end : End) → total ≡ debugged (direct false) turn_us set (code_trees (drop i xs)) s → i < length xs
       → Ends end r (debugged_one turn_us set (stmt_tree (get_or xs i d)) s) → Ends end r total
-  debug_fail total xs i d s r end same h is = rw (same ∙ debug_more xs i d s h) (ends_on end r (debugged_one turn_us set (stmt_tree (get_or xs i d)) s) _ is)
+  debug_fail total xs i d s r end same h is = rw (same ∙ debug_more xs i d s h) (ends_on end r (debugged_one turn_us set (stmt_tree (get_or xs i d)) s) _ (λ x. g.goes_debugged (direct false) Adds (adds_direct false) turn_us set (code_trees (drop (i + 1) xs)) x.1) is)
+
+  -- the value of a debug variable is not come to
+  pub defines_on : (end : End) (s r : S) (name : Name) (e : Tree) → Ends end r (value (direct false) (λ n q. sequence_at (direct false) turn_us set 0 n q) e s) → Ends end r (defined turn_us set name e s)
+  defines_on end s r name e h =
+      ends_on end r _ _ (λ x. g.goes_bind (direct false) Adds (adds_direct false) x.1 _ _ (g.goes_stored (direct false) Adds (adds_direct false) name x.0 x.1) (λ y. g.goes_ok (direct false) Adds (adds_direct false) y.1 _)) h
+
+  -- the debug variables are not come to
+  pub run_first : (end : End) (start : List ℕ) (s r : S) → Ends end r (debugged (direct false) turn_us set set.debugvars s) → Ends end r (run_of (direct false) turn_us set start s)
+  unfolding run_of
+  run_first end start s r h =
+      ends_on end r _ _ (λ x. g.goes_bind (direct false) Adds (adds_direct false) x.1 _ _ (g.goes_steps_at (direct false) Adds (adds_direct false) turn_us set start x.1)
+      (λ y. g.goes_done (direct false) Adds (adds_direct false) (λ n q. sequence_at (direct false) turn_us set 31 n q) (λ n q. g.goes_sequence (direct false) Adds (adds_direct false) turn_us set 31 n q) turn_us y.0 y.1)) h
 
   pub debug_over : (total : O (Unit {0})) (xs : List statement.Stmt) (i : ℕ) (s : S) → total ≡ debugged (direct false) turn_us set (code_trees (drop i xs)) s → length xs ≤ i → total ≡ Ok (tt, s)
   unfolding debugged

@@ -1,8 +1,6 @@
 -- What the parts of the meaning are where each call is made at once.
 use Rattle.std.proofs.Common.{◌≡◌, ℕ, ◌%◌, Bool, true, false, List, [], ◌∷◌, Option, None, Some, unwrap_or, option_map, take, ◌++◌, Ok, Err, nat_eq, codes, refl, sym, ap, ◌∙◌}
 use Rattle.sequence_terms.specs.declared.bindings.Binding.{Binding}
-use Rattle.sequence_meaning.specs.declared.end.End.{End}
-use Rattle.sequence_meaning.specs.declared.end.End.TheVariants as end
 use Rattle.sequence_terms.specs.Direct.{Now, direct}
 use Rattle.sequence_terms.specs.Machine.{State, Out}
 use Rattle.sequence_terms.specs.Variables.{value_in}
@@ -10,15 +8,8 @@ use Rattle.dap_base.specs.Outcome.{◌>>=◌}
 use Rattle.sequence_terms.specs.Calls.{use_now, missing, given, global, port_with, port_from, port}
 use Rattle.std.specs.Io.KnownBytes.{Appends}
 use Rattle.dap_base.specs.Streams.{AppendsPrefix}
-use Rattle.sequence_meaning.specs.Held.{Ends, known_part, Knows}
+use Rattle.sequence_meaning.specs.Held.{known_part, Knows}
 use Rattle.sequence_terms.specs.Values.{all_used, numbers_of}
-
--- an end goes on outwards
-pub ends_on : {A B : Type 0} (e : End) (now : State ℕ Now) (out : Out ℕ Now A) (f : A × State ℕ Now → Out ℕ Now B) → Ends e now out → Ends e now (out >>= f)
-ends_on (end.Halted cause) now out f h = ap (λ o. o >>= f) h
-ends_on (end.Faulted u) now out f h = ap (λ o. o >>= f) h
-ends_on end.WriteFault now out f h = tt
-ends_on end.OutOfMemory now out f h = tt
 
 given_is : (o : Option ℕ) (s : State ℕ Now) → (given (direct false) 0 o s >>= λ v. use_now (direct false) v.0 v.1) ≡ Ok (unwrap_or o 0, s)
 unfolding given missing use_now direct

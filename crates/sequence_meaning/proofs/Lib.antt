@@ -1,5 +1,3 @@
-pub mod ActionLemmas
-pub mod AtOnceLemmas
 pub mod CallLemmas
 pub mod DebugLemmas
 pub mod DirectLemmas
@@ -14,3 +12,6 @@ pub mod Loops
 pub mod NeverLost
 pub mod Sizes
 pub mod StartLemmas
+pub mod UnitLemmas
+pub mod StopLemmas
+pub mod PartLemmas

@@ -16,8 +16,13 @@ use Rattle.dap_base.specs.Outcome.{◌>>=◌}
 use Rattle.sequence_terms.specs.Values.{argument, arguments, chained}
 use Rattle.sequence_terms.specs.Steps.{in_order, counted, after_counted, declared, inside, statement, block, step, done, turn, turns, given_back, entered, steps_at, sequence_at}
 use Rattle.sequence_terms.specs.Calls.{given, missing}
-use Rattle.sequence_meaning.specs.Held.{Ends, Gives}
-use Rattle.sequence_meaning.proofs.DirectLemmas.{ends_on}
+use Rattle.sequence_terms.specs.Laws.{Adds}
+use Rattle.sequence_terms.specs.Steady.{Goes}
+use Rattle.sequence_terms.proofs.Adding.{adds_direct}
+use Rattle.sequence_terms.proofs.Goes as g
+use Rattle.sequence_meaning.specs.declared.runner.Runner.{Runner}
+use Rattle.sequence_meaning.specs.Held.{Ends, Gives, calls_of}
+use Rattle.sequence_meaning.proofs.StopLemmas.{nothing_added, adds_ok, adds_cond, adds_sequence, adds_done, ends_on}
 
 abbrev S : Type 0
 S = State ℕ Now
@@ -31,62 +36,62 @@ drop_end [] (suc i) h = refl
 drop_end (x ∷ xs) zero h = absurd (omega arith)
 drop_end (x ∷ xs) (suc i) h = drop_end xs i (omega arith)
 
-module _ (seq : List ℕ → S → O (Unit {0})) where
+module _ (runner : Runner) (depth : ℕ) where
   args_more : (xs : List Arg) (i : ℕ) (d : Arg) (got : List ℕ) (s : S) → i < length xs
-      → arguments (direct false) seq (arg_trees (drop i xs)) got s ≡ chained (direct false) (argument (direct false) seq (arg_tree (get_or xs i d)) got s) (λ g r. arguments (direct false) seq (arg_trees (drop (i + 1) xs)) g r)
+      → arguments (direct false) (calls_of runner depth) (arg_trees (drop i xs)) got s ≡ chained (direct false) (argument (direct false) (calls_of runner depth) (arg_tree (get_or xs i d)) got s) (λ g r. arguments (direct false) (calls_of runner depth) (arg_trees (drop (i + 1) xs)) g r)
   unfolding arguments
   args_more xs i d got s h = rw (drop_more xs i d h) refl
 
-  pub args_on : (total : O (List ℕ)) (xs : List Arg) (i : ℕ) (d : Arg) (got now : List ℕ) (s r : S) → total ≡ arguments (direct false) seq (arg_trees (drop i xs)) got s → i < length xs
-      → argument (direct false) seq (arg_tree (get_or xs i d)) got s ≡ Ok (now, r) → total ≡ arguments (direct false) seq (arg_trees (drop (i + 1) xs)) now r
+  pub args_on : (total : O (List ℕ)) (xs : List Arg) (i : ℕ) (d : Arg) (got now : List ℕ) (s r : S) → total ≡ arguments (direct false) (calls_of runner depth) (arg_trees (drop i xs)) got s → i < length xs
+      → argument (direct false) (calls_of runner depth) (arg_tree (get_or xs i d)) got s ≡ Ok (now, r) → total ≡ arguments (direct false) (calls_of runner depth) (arg_trees (drop (i + 1) xs)) now r
   unfolding chained
   args_on total xs i d got now s r same h is = same ∙ args_more xs i d got s h ∙ rw is refl
 
-  pub args_fail : (total : O (List ℕ)) (xs : List Arg) (i : ℕ) (d : Arg) (got : List ℕ) (s r : S) (end : End) → total ≡ arguments (direct false) seq (arg_trees (drop i xs)) got s → i < length xs
-      → Ends end r (argument (direct false) seq (arg_tree (get_or xs i d)) got s) → Ends end r total
+  pub args_fail : (total : O (List ℕ)) (xs : List Arg) (i : ℕ) (d : Arg) (got : List ℕ) (s r : S) (end : End) → total ≡ arguments (direct false) (calls_of runner depth) (arg_trees (drop i xs)) got s → i < length xs
+      → Ends end r (argument (direct false) (calls_of runner depth) (arg_tree (get_or xs i d)) got s) → Ends end r total
   unfolding chained
-  args_fail total xs i d got s r end same h is = rw (same ∙ args_more xs i d got s h) (ends_on end r (argument (direct false) seq (arg_tree (get_or xs i d)) got s) _ is)
+  args_fail total xs i d got s r end same h is = rw (same ∙ args_more xs i d got s h) (ends_on end r (argument (direct false) (calls_of runner depth) (arg_tree (get_or xs i d)) got s) _ (λ x. g.goes_arguments (direct false) Adds (adds_direct false) (calls_of runner depth) (adds_sequence runner depth) (arg_trees (drop (i + 1) xs)) x.0 x.1) is)
 
-  pub args_over : (total : O (List ℕ)) (xs : List Arg) (i : ℕ) (got : List ℕ) (s : S) → total ≡ arguments (direct false) seq (arg_trees (drop i xs)) got s → length xs ≤ i → total ≡ Ok (got, s)
+  pub args_over : (total : O (List ℕ)) (xs : List Arg) (i : ℕ) (got : List ℕ) (s : S) → total ≡ arguments (direct false) (calls_of runner depth) (arg_trees (drop i xs)) got s → length xs ≤ i → total ≡ Ok (got, s)
   unfolding arguments
   args_over total xs i got s same h = same ∙ rw (drop_end xs i h) refl
 
-module _ (turn_us : ℕ) (seq : List ℕ → S → O (Unit {0})) where
+module _ (runner : Runner) (depth : ℕ) where
   block_more : (xs : List statement.Stmt) (i : ℕ) (d : statement.Stmt) (s : S) → i < length xs
-      → block (direct false) turn_us seq (code_trees (drop i xs)) s ≡ in_order (direct false) (statement (direct false) turn_us seq (stmt_tree (get_or xs i d)) s) (λ r. block (direct false) turn_us seq (code_trees (drop (i + 1) xs)) r)
+      → block (direct false) runner.turn_us (calls_of runner depth) (code_trees (drop i xs)) s ≡ in_order (direct false) (statement (direct false) runner.turn_us (calls_of runner depth) (stmt_tree (get_or xs i d)) s) (λ r. block (direct false) runner.turn_us (calls_of runner depth) (code_trees (drop (i + 1) xs)) r)
   unfolding block
   block_more xs i d s h = rw (drop_more xs i d h) refl
 
-  pub block_on : (total : O (Unit {0})) (xs : List statement.Stmt) (i : ℕ) (d : statement.Stmt) (s r : S) → total ≡ block (direct false) turn_us seq (code_trees (drop i xs)) s → i < length xs
-      → statement (direct false) turn_us seq (stmt_tree (get_or xs i d)) s ≡ Ok (tt, r) → total ≡ block (direct false) turn_us seq (code_trees (drop (i + 1) xs)) r
+  pub block_on : (total : O (Unit {0})) (xs : List statement.Stmt) (i : ℕ) (d : statement.Stmt) (s r : S) → total ≡ block (direct false) runner.turn_us (calls_of runner depth) (code_trees (drop i xs)) s → i < length xs
+      → statement (direct false) runner.turn_us (calls_of runner depth) (stmt_tree (get_or xs i d)) s ≡ Ok (tt, r) → total ≡ block (direct false) runner.turn_us (calls_of runner depth) (code_trees (drop (i + 1) xs)) r
   unfolding in_order
   block_on total xs i d s r same h is = same ∙ block_more xs i d s h ∙ rw is refl
 
-  pub block_fail : (total : O (Unit {0})) (xs : List statement.Stmt) (i : ℕ) (d : statement.Stmt) (s r : S) (end : End) → total ≡ block (direct false) turn_us seq (code_trees (drop i xs)) s → i < length xs
-      → Ends end r (statement (direct false) turn_us seq (stmt_tree (get_or xs i d)) s) → Ends end r total
+  pub block_fail : (total : O (Unit {0})) (xs : List statement.Stmt) (i : ℕ) (d : statement.Stmt) (s r : S) (end : End) → total ≡ block (direct false) runner.turn_us (calls_of runner depth) (code_trees (drop i xs)) s → i < length xs
+      → Ends end r (statement (direct false) runner.turn_us (calls_of runner depth) (stmt_tree (get_or xs i d)) s) → Ends end r total
   unfolding in_order
-  block_fail total xs i d s r end same h is = rw (same ∙ block_more xs i d s h) (ends_on end r (statement (direct false) turn_us seq (stmt_tree (get_or xs i d)) s) _ is)
+  block_fail total xs i d s r end same h is = rw (same ∙ block_more xs i d s h) (ends_on end r (statement (direct false) runner.turn_us (calls_of runner depth) (stmt_tree (get_or xs i d)) s) _ (λ x. g.goes_block (direct false) Adds (adds_direct false) (calls_of runner depth) (adds_sequence runner depth) runner.turn_us (code_trees (drop (i + 1) xs)) x.1) is)
 
-  pub block_over : (total : O (Unit {0})) (xs : List statement.Stmt) (i : ℕ) (s : S) → total ≡ block (direct false) turn_us seq (code_trees (drop i xs)) s → length xs ≤ i → total ≡ Ok (tt, s)
+  pub block_over : (total : O (Unit {0})) (xs : List statement.Stmt) (i : ℕ) (s : S) → total ≡ block (direct false) runner.turn_us (calls_of runner depth) (code_trees (drop i xs)) s → length xs ≤ i → total ≡ Ok (tt, s)
   unfolding block
   block_over total xs i s same h = same ∙ rw (drop_end xs i h) refl
 
   done_more : (xs : List CheckedStep) (i : ℕ) (d : CheckedStep) (s : S) → i < length xs
-      → done (direct false) turn_us seq (steps_tree (drop i xs)) s ≡ in_order (direct false) (step (direct false) turn_us seq (step_tree (get_or xs i d)) s) (λ r. done (direct false) turn_us seq (steps_tree (drop (i + 1) xs)) r)
+      → done (direct false) runner.turn_us (calls_of runner depth) (steps_tree (drop i xs)) s ≡ in_order (direct false) (step (direct false) runner.turn_us (calls_of runner depth) (step_tree (get_or xs i d)) s) (λ r. done (direct false) runner.turn_us (calls_of runner depth) (steps_tree (drop (i + 1) xs)) r)
   unfolding done
   done_more xs i d s h = rw (drop_more xs i d h) refl
 
-  pub done_on : (total : O (Unit {0})) (xs : List CheckedStep) (i : ℕ) (d : CheckedStep) (s r : S) → total ≡ done (direct false) turn_us seq (steps_tree (drop i xs)) s → i < length xs
-      → step (direct false) turn_us seq (step_tree (get_or xs i d)) s ≡ Ok (tt, r) → total ≡ done (direct false) turn_us seq (steps_tree (drop (i + 1) xs)) r
+  pub done_on : (total : O (Unit {0})) (xs : List CheckedStep) (i : ℕ) (d : CheckedStep) (s r : S) → total ≡ done (direct false) runner.turn_us (calls_of runner depth) (steps_tree (drop i xs)) s → i < length xs
+      → step (direct false) runner.turn_us (calls_of runner depth) (step_tree (get_or xs i d)) s ≡ Ok (tt, r) → total ≡ done (direct false) runner.turn_us (calls_of runner depth) (steps_tree (drop (i + 1) xs)) r
   unfolding in_order
   done_on total xs i d s r same h is = same ∙ done_more xs i d s h ∙ rw is refl
 
-  pub done_fail : (total : O (Unit {0})) (xs : List CheckedStep) (i : ℕ) (d : CheckedStep) (s r : S) (end : End) → total ≡ done (direct false) turn_us seq (steps_tree (drop i xs)) s → i < length xs
-      → Ends end r (step (direct false) turn_us seq (step_tree (get_or xs i d)) s) → Ends end r total
+  pub done_fail : (total : O (Unit {0})) (xs : List CheckedStep) (i : ℕ) (d : CheckedStep) (s r : S) (end : End) → total ≡ done (direct false) runner.turn_us (calls_of runner depth) (steps_tree (drop i xs)) s → i < length xs
+      → Ends end r (step (direct false) runner.turn_us (calls_of runner depth) (step_tree (get_or xs i d)) s) → Ends end r total
   unfolding in_order
-  done_fail total xs i d s r end same h is = rw (same ∙ done_more xs i d s h) (ends_on end r (step (direct false) turn_us seq (step_tree (get_or xs i d)) s) _ is)
+  done_fail total xs i d s r end same h is = rw (same ∙ done_more xs i d s h) (ends_on end r (step (direct false) runner.turn_us (calls_of runner depth) (step_tree (get_or xs i d)) s) _ (λ x. adds_done runner depth (steps_tree (drop (i + 1) xs)) x.1) is)
 
-  pub done_over : (total : O (Unit {0})) (xs : List CheckedStep) (i : ℕ) (s : S) → total ≡ done (direct false) turn_us seq (steps_tree (drop i xs)) s → length xs ≤ i → total ≡ Ok (tt, s)
+  pub done_over : (total : O (Unit {0})) (xs : List CheckedStep) (i : ℕ) (s : S) → total ≡ done (direct false) runner.turn_us (calls_of runner depth) (steps_tree (drop i xs)) s → length xs ≤ i → total ≡ Ok (tt, s)
   unfolding done
   done_over total xs i s same h = same ∙ rw (drop_end xs i h) refl
 
@@ -106,10 +111,11 @@ module _ (test : S → O ℕ) (body : S → O (Unit {0})) where
   turns_over total (suc k) s now same pos is = same ∙ rw is refl
 
   pub turns_fail : (total : O (Unit {0})) (left : ℕ) (s now : S) (end : End) → total ≡ turns (direct false) test body left s → 0 < left
-      → Ends end now (turn (direct false) test body s) → Ends end now total
+      → ((r : S) → Goes Adds r (test r)) → ((r : S) → Goes Adds r (body r)) → Ends end now (turn (direct false) test body s) → Ends end now total
   unfolding turns
-  turns_fail total zero s now end same pos h = absurd (omega arith)
-  turns_fail total (suc k) s now end same pos h = rw same (ends_on end now (turn (direct false) test body s) _ h)
+  turns_fail total zero s now end same pos t b h = absurd (omega arith)
+  turns_fail total (suc k) s now end same pos t b h =
+      rw same (ends_on end now (turn (direct false) test body s) _ (λ x. adds_cond x.1 x.0 _ _ (g.goes_turns (direct false) Adds (adds_direct false) test body k x.1 t b) (adds_ok x.1 _)) h)
 
   pub turns_none : (total : O (Unit {0})) (left : ℕ) (s : S) → total ≡ turns (direct false) test body left s → (0 < left → ⊥) → total ≡ Ok (tt, s)
   unfolding turns
@@ -168,7 +174,7 @@ module _ (body : S → O (Unit {0})) where
 
   pub entered_fail : (s r q : S) (end : End) → r ≡ with_locals s [] → Ends end q (body r) → Ends end q (entered (direct false) body s)
   unfolding entered
-  entered_fail s r q end none h = ends_on end q (body (with_locals s [])) _ (subst (λ x. Ends end q (body x)) none h)
+  entered_fail s r q end none h = ends_on end q (body (with_locals s [])) _ (λ x. record { so = nothing_added x.1.rest }) (subst (λ x. Ends end q (body x)) none h)
 
 pub ruleset entering = (entered_on, entered_fail)
 

@@ -1,5 +1,8 @@
 -- What the direct runner answers.
-use Rattle.std.specs.Prelude.{◌≡◌, ℕ, List, [], Option, Result, Ok, Err}
+use Rattle.std.specs.Prelude.{◌≡◌, ℕ, List, [], ◌++◌, Option, None, Result, Ok, Err}
+use Rattle.call_terms.specs.World.{start_world, world_after}
+use Rattle.dap_base.specs.Causes.{Rose}
+use Rattle.sequence_terms.specs.Late.{Grows}
 use Rattle.call_terms.specs.declared.calls.Ask.{Ask}
 use Rattle.dap_base.specs.declared.text.OutOfMemory.{OutOfMemory}
 use Rattle.target_machine.specs.State.{TargetState}
@@ -17,17 +20,51 @@ abbrev pub IsOutcome : Outcome → Ending → List (Binding ℕ) → List Ask �
 IsOutcome o ending variables calls skipped target written =
     o ≡ record { ending = ending; variables = variables; calls = calls; skipped = skipped; written = written; target = target }
 
--- A recorded run ends as the outcome says. Nothing is said here where the sink failed.
+-- A recorded run ends as the outcome says. What it leaves where the sink failed is said by `Leaves`.
 abbrev pub Records : Outcome → Direct → List Ask → ℕ → TargetState → Option (List ℕ) → Type 0
 Records o (d.Done variables) calls skipped target written = IsOutcome o ending.Done (variables_of variables) calls skipped target written
 Records o (d.Halted cause variables) calls skipped target written = IsOutcome o (ending.Halted cause) (variables_of variables) calls skipped target written
 Records o (d.Faulted unit what) calls skipped target written = IsOutcome o (ending.Faulted (Access what)) [] calls skipped target written × (unit ≡ units_of o)
 Records o d.WriteFault calls skipped target written = Unit {0}
 
--- What is answered, the target and what was written are those of the outcome. Nothing is said here where memory was refused.
+-- What is answered, the target and what was written are those of the outcome. Where memory was refused, see `Leaves`.
 abbrev pub Answers : Outcome → Result Recorded OutOfMemory → TargetState → Option (List ℕ) → Type 0
 Answers o (Ok r) target written = Records o r.ending r.calls.items r.skipped target written
 Answers o (Err e) target written = Unit {0}
+
+-- So much of a run on a target was done: these calls come first among those of the outcome, the target is the one that they leave, and
+-- what was written comes first in what the outcome has written.
+pub record IsFirstPart (start : TargetState) (o : Outcome) (made : List Ask) (left : TargetState) (written : Option (List ℕ)) : Type 0 where
+  pub more : List Ask
+  pub calls : o.calls ≡ made ++ more
+  pub target : left ≡ (world_after (start_world start None) made).target
+  pub lines : Grows written o.written
+
+-- a first part of a run was done
+abbrev pub LeavesSome : TargetState → Outcome → TargetState → Option (List ℕ) → Type 0
+LeavesSome start o target written = (calls : List Ask) × IsFirstPart start o calls target written
+
+-- the same, with the calls of the answer where it has them
+abbrev pub Leaves : TargetState → Outcome → Result Recorded OutOfMemory → TargetState → Option (List ℕ) → Type 0
+Leaves start o (Ok r) target written = IsFirstPart start o r.calls.items target written
+Leaves start o (Err e) target written = LeavesSome start o target written
+
+-- by a count of the sink's faults: the sink failed only where it rose, or stands at its last value, and any other ending leaves it
+abbrev pub IsEndingCaused : Direct → ℕ → ℕ → Type 0
+IsEndingCaused (d.Done variables) before now = now ≡ before
+IsEndingCaused (d.Halted cause variables) before now = now ≡ before
+IsEndingCaused (d.Faulted unit what) before now = now ≡ before
+IsEndingCaused d.WriteFault before now = Rose before now
+
+-- the same of an answer
+abbrev pub IsDirectCaused : Result Direct OutOfMemory → ℕ → ℕ → Type 0
+IsDirectCaused (Ok ended) before now = IsEndingCaused ended before now
+IsDirectCaused (Err e) before now = now ≡ before
+
+-- the same of a recorded run
+abbrev pub IsRecordedCaused : Result Recorded OutOfMemory → ℕ → ℕ → Type 0
+IsRecordedCaused (Ok r) before now = IsEndingCaused r.ending before now
+IsRecordedCaused (Err e) before now = now ≡ before
 
 -- a run ends as the outcome says
 abbrev pub EndsAs : Outcome → Direct → TargetState → Option (List ℕ) → Type 0

@@ -1,11 +1,15 @@
 -- What the direct runner holds, as a state of the meaning; and how what it answers is that of the meaning.
-use Rattle.std.specs.Prelude.{◌≡◌, ℕ, Bool, true, false, List, Option, None, Result, Ok, Err, IsSome, if◌then◌else◌}
+use Rattle.std.specs.Prelude.{◌≡◌, ℕ, Bool, true, false, List, [], ◌∷◌, Option, None, Result, Ok, Err, IsSome, if◌then◌else◌}
+use Rattle.call_terms.specs.World.{World, next_world}
+use Rattle.call_terms.specs.declared.calls.Ask.{Ask}
+use Rattle.dap_base.specs.Causes.{Rose}
 use Rattle.seq_check.specs.Answers.{checked_trees}
 use Rattle.target_machine.specs.State.{TargetState}
 use Rattle.target_machine.specs.declared.unit.Call.TheVariants.{Access}
 use Rattle.sequence_terms.specs.Direct.{Now, direct}
 use Rattle.sequence_terms.specs.Machine as machine
-use Rattle.sequence_terms.specs.Machine.{State, Out}
+use Rattle.sequence_terms.specs.Laws.{Adds}
+use Rattle.sequence_terms.specs.Machine.{State, Out, end_state}
 use Rattle.sequence_terms.specs.Steps.{sequence_at}
 use Rattle.sequence_terms.specs.Shared.{bindings_of}
 use Rattle.sequence_meaning.specs.declared.end.End.{End}
@@ -42,12 +46,13 @@ state_of held target written = record {
 abbrev pub seen : Bool → Held → TargetState → Option (List ℕ) → State ℕ Now
 seen known held target written = state_of held target (known_part known written)
 
--- why the code ends is why the meaning ends, in this state; nothing is said where the sink failed or memory was refused
+-- Why the code ends is why the meaning ends, in this state. Where the sink failed or memory was refused, the meaning goes on from
+-- there: it has made these calls first, and written this first.
 abbrev pub Ends : {A : Type 0} → End → State ℕ Now → Out ℕ Now A → Type 0
 Ends (end.Halted cause) now out = out ≡ Err (machine.Halted cause, now)
 Ends (end.Faulted u) now out = out ≡ Err (machine.Faulted (Access u), now)
-Ends end.WriteFault now out = Unit {0}
-Ends end.OutOfMemory now out = Unit {0}
+Ends end.WriteFault now out = Adds now.rest (end_state out).rest
+Ends end.OutOfMemory now out = Adds now.rest (end_state out).rest
 
 -- what the code answers and the state that it leaves are those of the meaning; x is what an answer stands for
 abbrev pub GivesAs : {A B : Type 0} → B → Result A End → State ℕ Now → Out ℕ Now B → Type 0
@@ -58,6 +63,32 @@ GivesAs x (Err e) now out = Ends e now out
 abbrev pub Gives : {A : Type 0} → Result A End → State ℕ Now → Out ℕ Now A → Type 0
 Gives (Ok x) now out = out ≡ Ok (x, now)
 Gives (Err e) now out = Ends e now out
+
+-- why the code ends, by a count of the sink's faults: the sink failed only where it rose, or stands at its last value, and any other end
+-- leaves it
+abbrev pub IsEndCaused : End → ℕ → ℕ → Type 0
+IsEndCaused (end.Halted cause) before now = now ≡ before
+IsEndCaused (end.Faulted u) before now = now ≡ before
+IsEndCaused end.WriteFault before now = Rose before now
+IsEndCaused end.OutOfMemory before now = now ≡ before
+
+-- the same of an answer
+abbrev pub IsCaused : {A : Type 0} → Result A End → ℕ → ℕ → Type 0
+IsCaused (Ok x) before now = now ≡ before
+IsCaused (Err e) before now = IsEndCaused e before now
+
+-- the world after calls, each made in the world that the one before left
+abbrev pub made_all : World → List Ask → World
+made_all w [] = w
+made_all w (ask ∷ asks) = made_all (next_world w ask) asks
+
+-- this world, in which all calls are answered
+abbrev pub world_at : TargetState → List ℕ → World
+world_at target large = record { target = target; large = large; answered = None }
+
+-- the target, and the access ports that are known to have large addresses, are as the calls so far leave them
+pub record IsMade (w : World) (held : Held) (target : TargetState) : Type 0 where
+  pub world : made_all w held.calls.items ≡ world_at target held.large.items
 
 -- the sequences of the runner's set, from which calls lead at most so deep
 abbrev pub calls_of : Runner → ℕ → List ℕ → State ℕ Now → Out ℕ Now (Unit {0})

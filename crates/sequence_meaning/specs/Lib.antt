@@ -1,4 +1,3 @@
-pub mod Made
 pub mod Held
 pub mod Starting
 pub mod Answers

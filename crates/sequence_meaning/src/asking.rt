@@ -1,17 +1,17 @@
 //! Units, asked one at a time, and the predefined variables that they use.
 ghost use Rattle.std.specs.Prelude.{◌≡◌, ℕ, ◌<◌, ◌^◌, List, Option, IfOk, Ok, codes, false};
 ghost use Rattle.target_machine.specs.Sound.{IsSound, IsSoundProbe};
+ghost use Rattle.call_terms.specs.World.{World};
 ghost use Rattle.sequence_terms.specs.Calls as c;
 ghost use Rattle.sequence_terms.specs.Direct.{Now, direct};
 ghost use Rattle.sequence_terms.specs.Machine.{State};
 ghost use Rattle.sequence_terms.specs.Shared.{bindings_of};
-ghost use Rattle.sequence_meaning.specs.Held.{Gives, state_of};
+ghost use Rattle.sequence_meaning.specs.Held.{IsCaused, IsMade, Gives, state_of};
 
-use crate::at_once::{Made, make};
-use crate::commands::command_now;
 use crate::end::End;
 use crate::held::Held;
 use call_terms::Ask;
+use calls_at_once::{Made, call_at_once, command_at_once};
 use target_machine::{Call, HaltCause, ProbeCall, Target, Unit};
 
 // The predefined variables that calls use: the AP, whether a fault is forgiven, and the debug port.
@@ -51,6 +51,8 @@ pub(crate) fn ask(
 ) -> Result<u64, End>
     requires { IsSound unit }
     ensures gives { (written : Option (List ℕ)) → Gives result (state_of held.new target.new written) (c.ask (direct false) unit forgive (state_of held.old target.old written)) }
+    ensures made { (w : World) → IsMade w held.old target.old → IsMade w held.new target.new }
+    ensures cause { (faults : ℕ) → IsCaused result faults faults }
     ensures word { IfOk result (λ value. value < 2 ^ 32) }
 {
     if held.units >= 1_000_000 {
@@ -61,11 +63,13 @@ pub(crate) fn ask(
         forgive,
         settled: false,
     };
+    // The call is listed first, so that it was not made where memory is refused.
+    let before = held.calls.len();
     let Ok(()) = held.calls.push(call) else {
         return Err(End::OutOfMemory);
     };
-    let Ok(made) = make(target, unit, forgive, &mut held.large) else {
-        let _ = held.calls.pop();
+    let Ok(made) = call_at_once(target, Call::Access(unit), forgive, &mut held.large) else {
+        held.calls.truncate(before);
         return Err(End::OutOfMemory);
     };
     held.units += 1;
@@ -81,7 +85,7 @@ pub(crate) fn ask(
 }
 
 // A read has its value, and a write 0.
-#[tactic(auto, unfolding(sequence_terms::specs::Calls::if_read, sequence_terms::specs::Calls::zero_of, sequence_terms::specs::Direct::direct), using(crate::proofs::DirectLemmas::ends_on))]
+#[tactic(auto, unfolding(sequence_terms::specs::Calls::if_read, sequence_terms::specs::Calls::zero_of, sequence_terms::specs::Direct::direct), using(crate::proofs::StopLemmas::ends_if_read))]
 pub(crate) fn asked(
     read: bool,
     unit: Unit,
@@ -90,7 +94,9 @@ pub(crate) fn asked(
     target: &mut Target,
 ) -> Result<u64, End>
     requires { IsSound unit }
-    ensures { (written : Option (List ℕ)) → Gives result (state_of held.new target.new written) (c.if_read (direct false) read (c.ask (direct false) unit forgive (state_of held.old target.old written))) }
+    ensures gives { (written : Option (List ℕ)) → Gives result (state_of held.new target.new written) (c.if_read (direct false) read (c.ask (direct false) unit forgive (state_of held.old target.old written))) }
+    ensures made { (w : World) → IsMade w held.old target.old → IsMade w held.new target.new }
+    ensures cause { (faults : ℕ) → IsCaused result faults faults }
 {
     let value = ask(unit, forgive, held, target)?;
     Ok(if read { value } else { 0 })
@@ -100,7 +106,9 @@ pub(crate) fn asked(
 #[tactic(auto, unfolding(sequence_terms::specs::Calls::command, sequence_terms::specs::Calls::numbered, sequence_terms::specs::Direct::direct, sequence_terms::specs::Direct::made))]
 pub(crate) fn command(call: ProbeCall, held: &mut Held, target: &mut Target) -> Result<u64, End>
     requires { IsSoundProbe call }
-    ensures { (written : Option (List ℕ)) → Gives result (state_of held.new target.new written) (c.command (direct false) call (state_of held.old target.old written)) }
+    ensures gives { (written : Option (List ℕ)) → Gives result (state_of held.new target.new written) (c.command (direct false) call (state_of held.old target.old written)) }
+    ensures made { (w : World) → IsMade w held.old target.old → IsMade w held.new target.new }
+    ensures cause { (faults : ℕ) → IsCaused result faults faults }
 {
     if held.units >= 1_000_000 {
         return Err(End::Halted(HaltCause::AccessLimit));
@@ -114,5 +122,5 @@ pub(crate) fn command(call: ProbeCall, held: &mut Held, target: &mut Target) -> 
         return Err(End::OutOfMemory);
     };
     held.units += 1;
-    Ok(u64::from(command_now(target, call)))
+    Ok(u64::from(command_at_once(target, call)))
 }

@@ -2,12 +2,13 @@
 ghost use Rattle.std.specs.Prelude.{◌≡◌, [], ◌∷◌, ◌++◌, Bool, false, unwrap_or, option_map, List, Option, ℕ, ◌<◌, ◌≤◌};
 ghost use Rattle.expr_grammar.specs.Tree.{tree, arg_tree, arg_trees, stmt_tree, code_trees};
 ghost use Rattle.seq_check.specs.Answers.{checked_trees};
+ghost use Rattle.call_terms.specs.World.{World};
 ghost use Rattle.sequence_code.specs.Trees.{NoSteps, steps_named, steps_tree};
 ghost use Rattle.function_table.specs.declared.function.Function.{Function};
 ghost use Rattle.sequence_terms.specs.Direct.{direct};
 ghost use Rattle.sequence_terms.specs.Steps as m;
 ghost use Rattle.sequence_terms.specs.Values as v;
-ghost use Rattle.sequence_meaning.specs.Held.{Gives, GivesAs, Knows, calls_of, seen, state_of};
+ghost use Rattle.sequence_meaning.specs.Held.{IsCaused, IsMade, Gives, GivesAs, Knows, calls_of, seen, state_of};
 
 use crate::end::End;
 use crate::functions::performed;
@@ -23,7 +24,7 @@ use target_machine::Target;
 impl Runner<'_> {
     // An argument is evaluated; a text is none.
     #[cycle(eval)]
-    #[tactic(auto, unfolding(sequence_terms::specs::Values::argument), using(crate::proofs::DirectLemmas::ends_on))]
+    #[tactic(auto, unfolding(sequence_terms::specs::Values::argument))]
     fn argument<K: Sink>(
         &self,
         arg: &Arg,
@@ -35,6 +36,8 @@ impl Runner<'_> {
     ) -> Result<(), End>
         ensures gives { (known : Bool) → Knows known (K.written sink.old) → GivesAs numbers.new.items result (seen known held.new target.new (K.written sink.new)) (v.argument (direct false) (calls_of self.now depth) (arg_tree arg.now) numbers.old.items (seen known held.old target.old (K.written sink.old))) }
         ensures knows { (known : Bool) → Knows known (K.written sink.old) → Knows known (K.written sink.new) }
+        ensures made { (w : World) → IsMade w held.old target.old → IsMade w held.new target.new }
+        ensures cause { IsCaused result (K.faults sink.old) (K.faults sink.new) }
     {
         match arg {
             Arg::Number(_, expr) => self.push_value(expr, numbers, depth, held, target, sink),
@@ -44,7 +47,7 @@ impl Runner<'_> {
 
     // A value after others.
     #[cycle(eval)]
-    #[tactic(auto, unfolding(sequence_terms::specs::Values::appended), using(crate::proofs::DirectLemmas::ends_on))]
+    #[tactic(auto, unfolding(sequence_terms::specs::Values::appended), using(crate::proofs::StopLemmas::ends_appended, crate::proofs::StopLemmas::append_refused, crate::proofs::StopLemmas::cause_on))]
     fn push_value<K: Sink>(
         &self,
         expr: &Expr,
@@ -56,6 +59,8 @@ impl Runner<'_> {
     ) -> Result<(), End>
         ensures gives { (known : Bool) → Knows known (K.written sink.old) → GivesAs numbers.new.items result (seen known held.new target.new (K.written sink.new)) (v.appended (direct false) numbers.old.items (v.value (direct false) (calls_of self.now depth) (tree expr.now) (seen known held.old target.old (K.written sink.old)))) }
         ensures knows { (known : Bool) → Knows known (K.written sink.old) → Knows known (K.written sink.new) }
+        ensures made { (w : World) → IsMade w held.old target.old → IsMade w held.new target.new }
+        ensures cause { IsCaused result (K.faults sink.old) (K.faults sink.new) }
     {
         let number = self.value(expr, depth, held, target, sink)?;
         match numbers.push(number) {
@@ -66,7 +71,7 @@ impl Runner<'_> {
 
     // The arguments of a call, in order.
     #[cycle(eval)]
-    #[tactic(auto, unfolding(sequence_terms::specs::Values::arguments), using(crate::proofs::DirectLemmas::ends_on, crate::proofs::Loops::loops))]
+    #[tactic(auto, unfolding(sequence_terms::specs::Values::arguments), using(crate::proofs::Loops::loops, crate::proofs::StopLemmas::cause_on))]
     fn arguments<K: Sink>(
         &self,
         args: &[Arg],
@@ -78,6 +83,8 @@ impl Runner<'_> {
     ) -> Result<(), End>
         ensures gives { (known : Bool) → Knows known (K.written sink.old) → GivesAs numbers.new.items result (seen known held.new target.new (K.written sink.new)) (v.arguments (direct false) (calls_of self.now depth) (arg_trees args.now) numbers.old.items (seen known held.old target.old (K.written sink.old))) }
         ensures knows { (known : Bool) → Knows known (K.written sink.old) → Knows known (K.written sink.new) }
+        ensures made { (w : World) → IsMade w held.old target.old → IsMade w held.new target.new }
+        ensures cause { IsCaused result (K.faults sink.old) (K.faults sink.new) }
     {
         for arg in args {
             match self.argument(arg, numbers, depth, held, target, sink) {
@@ -90,7 +97,7 @@ impl Runner<'_> {
 
     // A call: its arguments, and then the function.
     #[cycle(eval)]
-    #[tactic(auto, unfolding(sequence_terms::specs::Values::call_of, sequence_terms::specs::Calls::guarded, sequence_terms::specs::Values::numbers_of, sequence_terms::specs::Direct::direct), using(crate::proofs::DirectLemmas::ends_on, crate::proofs::DirectLemmas::numbers_used))]
+    #[tactic(auto, unfolding(sequence_terms::specs::Values::call_of, sequence_terms::specs::Calls::guarded, sequence_terms::specs::Values::numbers_of, sequence_terms::specs::Direct::direct), using(crate::proofs::StopLemmas::ends_call, crate::proofs::DirectLemmas::numbers_used, crate::proofs::StopLemmas::cause_on))]
     pub(crate) fn call<K: Sink>(
         &self,
         name: &Name,
@@ -102,6 +109,8 @@ impl Runner<'_> {
     ) -> Result<u64, End>
         ensures gives { (known : Bool) → Knows known (K.written sink.old) → Gives result (seen known held.new target.new (K.written sink.new)) (v.call_of (direct false) (calls_of self.now depth) name.now (arg_trees args.now) (v.arguments (direct false) (calls_of self.now depth) (arg_trees args.now) [] (seen known held.old target.old (K.written sink.old)))) }
         ensures knows { (known : Bool) → Knows known (K.written sink.old) → Knows known (K.written sink.new) }
+        ensures made { (w : World) → IsMade w held.old target.old → IsMade w held.new target.new }
+        ensures cause { IsCaused result (K.faults sink.old) (K.faults sink.new) }
     {
         let mut numbers = Vec::new(self.alloc);
         self.arguments(args, &mut numbers, depth, held, target, sink)?;
@@ -118,7 +127,7 @@ impl Runner<'_> {
 
     // The function of a call.
     #[cycle(eval)]
-    #[tactic(auto, unfolding(sequence_terms::specs::Values::called, sequence_terms::specs::Calls::missing, sequence_terms::specs::Direct::direct), using(crate::proofs::DirectLemmas::ends_on))]
+    #[tactic(auto, unfolding(sequence_terms::specs::Values::called, sequence_terms::specs::Calls::missing, sequence_terms::specs::Direct::direct))]
     fn called<K: Sink>(
         &self,
         function: Option<Function>,
@@ -131,6 +140,8 @@ impl Runner<'_> {
     ) -> Result<u64, End>
         ensures gives { (known : Bool) → Knows known (K.written sink.old) → Gives result (seen known held.new target.new (K.written sink.new)) (v.called (direct false) (calls_of self.now depth) function text.now numbers.now (seen known held.old target.old (K.written sink.old))) }
         ensures knows { (known : Bool) → Knows known (K.written sink.old) → Knows known (K.written sink.new) }
+        ensures made { (w : World) → IsMade w held.old target.old → IsMade w held.new target.new }
+        ensures cause { IsCaused result (K.faults sink.old) (K.faults sink.new) }
     {
         match function {
             None => Ok(0),
@@ -141,7 +152,7 @@ impl Runner<'_> {
 
     // A call of a sequence.
     #[cycle(eval)]
-    #[tactic(auto, unfolding(sequence_terms::specs::Values::called, sequence_terms::specs::Direct::direct), using(crate::proofs::DirectLemmas::ends_on))]
+    #[tactic(auto, unfolding(sequence_terms::specs::Values::called, sequence_terms::specs::Direct::direct), using(crate::proofs::StopLemmas::ends_sequence, crate::proofs::StopLemmas::cause_on))]
     fn sequence_call<K: Sink>(
         &self,
         name: &str,
@@ -152,6 +163,8 @@ impl Runner<'_> {
     ) -> Result<u64, End>
         ensures gives { (known : Bool) → Knows known (K.written sink.old) → Gives result (seen known held.new target.new (K.written sink.new)) (v.called (direct false) (calls_of self.now depth) (Some Function.Sequence) name.now [] (seen known held.old target.old (K.written sink.old))) }
         ensures knows { (known : Bool) → Knows known (K.written sink.old) → Knows known (K.written sink.new) }
+        ensures made { (w : World) → IsMade w held.old target.old → IsMade w held.new target.new }
+        ensures cause { IsCaused result (K.faults sink.old) (K.faults sink.new) }
     {
         self.sequence(name, depth, held, target, sink)?;
         Ok(0)
@@ -159,7 +172,7 @@ impl Runner<'_> {
 
     // The sequence of the name.
     #[cycle(eval)]
-    #[tactic(auto, unfolding(sequence_terms::specs::Steps::sequence_at, sequence_terms::specs::Calls::missing, sequence_terms::specs::Direct::direct), using(crate::proofs::DirectLemmas::ends_on, crate::proofs::Loops::sequence_on))]
+    #[tactic(auto, unfolding(sequence_terms::specs::Steps::sequence_at, sequence_terms::specs::Calls::missing, sequence_terms::specs::Direct::direct), using(crate::proofs::Loops::sequence_on))]
     pub(crate) fn sequence<K: Sink>(
         &self,
         name: &str,
@@ -170,6 +183,8 @@ impl Runner<'_> {
     ) -> Result<(), End>
         ensures gives { (known : Bool) → Knows known (K.written sink.old) → Gives result (seen known held.new target.new (K.written sink.new)) ((calls_of self.now depth) name.now (seen known held.old target.old (K.written sink.old))) }
         ensures knows { (known : Bool) → Knows known (K.written sink.old) → Knows known (K.written sink.new) }
+        ensures made { (w : World) → IsMade w held.old target.old → IsMade w held.new target.new }
+        ensures cause { IsCaused result (K.faults sink.old) (K.faults sink.new) }
     {
         if depth == 0 {
             return Ok(());
@@ -189,7 +204,7 @@ impl Runner<'_> {
 
     // The steps of a called sequence. After them the caller has its variables again, and its `__dp`, `__ap` and `__errorcontrol`.
     #[cycle(eval)]
-    #[tactic(auto, unfolding(sequence_terms::specs::Steps::entered), using(crate::proofs::DirectLemmas::ends_on, crate::proofs::Loops::entering))]
+    #[tactic(auto, unfolding(sequence_terms::specs::Steps::entered), using(crate::proofs::Loops::entering, crate::proofs::StopLemmas::cause_on))]
     fn entered<K: Sink>(
         &self,
         steps: &[CheckedStep],
@@ -200,6 +215,8 @@ impl Runner<'_> {
     ) -> Result<(), End>
         ensures gives { (known : Bool) → Knows known (K.written sink.old) → Gives result (seen known held.new target.new (K.written sink.new)) (m.entered (direct false) (m.done (direct false) self.now.turn_us (calls_of self.now depth) (steps_tree steps.now)) (seen known held.old target.old (K.written sink.old))) }
         ensures knows { (known : Bool) → Knows known (K.written sink.old) → Knows known (K.written sink.new) }
+        ensures made { (w : World) → IsMade w held.old target.old → IsMade w held.new target.new }
+        ensures cause { IsCaused result (K.faults sink.old) (K.faults sink.new) }
     {
         let dp = held.global("__dp");
         let ap = held.global("__ap");

@@ -1,12 +1,13 @@
 //! Controls, their turns, and polls.
 ghost use Rattle.std.specs.Prelude.{◌≡◌, [], ◌∷◌, ◌++◌, Bool, false, unwrap_or, option_map, List, Option, ℕ, ◌<◌, ◌≤◌};
 ghost use Rattle.expr_grammar.specs.Tree.{tree, arg_tree, arg_trees, stmt_tree, code_trees};
+ghost use Rattle.call_terms.specs.World.{World};
 ghost use Rattle.sequence_code.specs.Trees.{step_tree, steps_tree};
 ghost use Rattle.sequence_terms.specs.Direct.{direct};
 ghost use Rattle.sequence_terms.specs.Polls as p;
 ghost use Rattle.sequence_terms.specs.Steps as m;
 ghost use Rattle.sequence_terms.specs.Values as v;
-ghost use Rattle.sequence_meaning.specs.Held.{Gives, GivesAs, Knows, calls_of, seen, state_of};
+ghost use Rattle.sequence_meaning.specs.Held.{IsCaused, IsMade, Gives, GivesAs, Knows, calls_of, seen, state_of};
 
 use crate::asking::{ask, debug_port};
 use crate::end::End;
@@ -22,7 +23,7 @@ use target_machine::{HaltCause, Target, Unit};
 impl Runner<'_> {
     // A control.
     #[cycle(eval)]
-    #[tactic(auto, unfolding(sequence_terms::specs::Steps::controlled), using(crate::proofs::DirectLemmas::ends_on))]
+    #[tactic(auto, unfolding(sequence_terms::specs::Steps::controlled), using(crate::proofs::StopLemmas::ends_control, crate::proofs::StopLemmas::cause_on))]
     pub(crate) fn control<K: Sink>(
         &self,
         cond: &Option<Expr>,
@@ -36,6 +37,8 @@ impl Runner<'_> {
     ) -> Result<(), End>
         ensures gives { (known : Bool) → Knows known (K.written sink.old) → Gives result (seen known held.new target.new (K.written sink.new)) (m.controlled (direct false) self.now.turn_us (calls_of self.now depth) (option_map tree cond.now) (option_map tree repeat.now) timeout (steps_tree steps.now) (m.done (direct false) self.now.turn_us (calls_of self.now depth) (steps_tree steps.now)) (seen known held.old target.old (K.written sink.old))) }
         ensures knows { (known : Bool) → Knows known (K.written sink.old) → Knows known (K.written sink.new) }
+        ensures made { (w : World) → IsMade w held.old target.old → IsMade w held.new target.new }
+        ensures cause { IsCaused result (K.faults sink.old) (K.faults sink.new) }
     {
         if self.condition(cond, depth, held, target, sink)? {
             self.repeated(repeat, timeout, steps, depth, held, target, sink)
@@ -46,7 +49,7 @@ impl Runner<'_> {
 
     // A condition that is there.
     #[cycle(eval)]
-    #[tactic(auto, unfolding(sequence_terms::specs::Steps::condition), using(crate::proofs::DirectLemmas::ends_on))]
+    #[tactic(auto, unfolding(sequence_terms::specs::Steps::condition))]
     fn condition<K: Sink>(
         &self,
         cond: &Option<Expr>,
@@ -57,6 +60,8 @@ impl Runner<'_> {
     ) -> Result<bool, End>
         ensures gives { (known : Bool) → Knows known (K.written sink.old) → Gives result (seen known held.new target.new (K.written sink.new)) (m.condition (direct false) self.now.turn_us (calls_of self.now depth) (option_map tree cond.now) (seen known held.old target.old (K.written sink.old))) }
         ensures knows { (known : Bool) → Knows known (K.written sink.old) → Knows known (K.written sink.new) }
+        ensures made { (w : World) → IsMade w held.old target.old → IsMade w held.new target.new }
+        ensures cause { IsCaused result (K.faults sink.old) (K.faults sink.new) }
     {
         match cond {
             None => Ok(true),
@@ -66,7 +71,7 @@ impl Runner<'_> {
 
     // Whether an expression is not 0.
     #[cycle(eval)]
-    #[tactic(auto, unfolding(sequence_terms::specs::Steps::condition, sequence_terms::specs::Values::used_now, sequence_terms::specs::Calls::use_now, sequence_terms::specs::Direct::direct), using(crate::proofs::DirectLemmas::ends_on))]
+    #[tactic(auto, unfolding(sequence_terms::specs::Steps::condition, sequence_terms::specs::Values::used_now, sequence_terms::specs::Calls::use_now, sequence_terms::specs::Direct::direct), using(crate::proofs::StopLemmas::ends_condition, crate::proofs::StopLemmas::cause_on))]
     fn is_true<K: Sink>(
         &self,
         expr: &Expr,
@@ -77,6 +82,8 @@ impl Runner<'_> {
     ) -> Result<bool, End>
         ensures gives { (known : Bool) → Knows known (K.written sink.old) → Gives result (seen known held.new target.new (K.written sink.new)) (m.condition (direct false) self.now.turn_us (calls_of self.now depth) (Some (tree expr.now)) (seen known held.old target.old (K.written sink.old))) }
         ensures knows { (known : Bool) → Knows known (K.written sink.old) → Knows known (K.written sink.new) }
+        ensures made { (w : World) → IsMade w held.old target.old → IsMade w held.new target.new }
+        ensures cause { IsCaused result (K.faults sink.old) (K.faults sink.new) }
     {
         let number = self.value(expr, depth, held, target, sink)?;
         Ok(number != 0)
@@ -84,7 +91,7 @@ impl Runner<'_> {
 
     // The steps of a control, once or in turns.
     #[cycle(eval)]
-    #[tactic(auto, unfolding(sequence_terms::specs::Steps::repeated, sequence_terms::specs::Calls::given, sequence_terms::specs::Calls::missing, sequence_terms::specs::Direct::direct), using(crate::proofs::DirectLemmas::ends_on))]
+    #[tactic(auto, unfolding(sequence_terms::specs::Steps::repeated, sequence_terms::specs::Calls::given, sequence_terms::specs::Calls::missing, sequence_terms::specs::Direct::direct))]
     fn repeated<K: Sink>(
         &self,
         repeat: &Option<Expr>,
@@ -97,6 +104,8 @@ impl Runner<'_> {
     ) -> Result<(), End>
         ensures gives { (known : Bool) → Knows known (K.written sink.old) → Gives result (seen known held.new target.new (K.written sink.new)) (m.repeated (direct false) self.now.turn_us (calls_of self.now depth) (option_map tree repeat.now) timeout (steps_tree steps.now) (m.done (direct false) self.now.turn_us (calls_of self.now depth) (steps_tree steps.now)) (seen known held.old target.old (K.written sink.old))) }
         ensures knows { (known : Bool) → Knows known (K.written sink.old) → Knows known (K.written sink.new) }
+        ensures made { (w : World) → IsMade w held.old target.old → IsMade w held.new target.new }
+        ensures cause { IsCaused result (K.faults sink.old) (K.faults sink.new) }
     {
         match repeat {
             None => self.inside(steps, depth, held, target, sink),
@@ -114,7 +123,7 @@ impl Runner<'_> {
 
     // A poll, or turns.
     #[cycle(eval)]
-    #[tactic(auto, unfolding(sequence_terms::specs::Steps::looped), using(crate::proofs::DirectLemmas::ends_on))]
+    #[tactic(auto, unfolding(sequence_terms::specs::Steps::looped))]
     fn looped<K: Sink>(
         &self,
         expr: &Expr,
@@ -129,6 +138,8 @@ impl Runner<'_> {
         requires most { count ≤ 60000000 }
         ensures gives { (known : Bool) → Knows known (K.written sink.old) → Gives result (seen known held.new target.new (K.written sink.new)) (m.looped (direct false) self.now.turn_us (calls_of self.now depth) (p.poll_of (tree expr.now) (steps_tree steps.now)) (tree expr.now) count (m.done (direct false) self.now.turn_us (calls_of self.now depth) (steps_tree steps.now)) (seen known held.old target.old (K.written sink.old))) }
         ensures knows { (known : Bool) → Knows known (K.written sink.old) → Knows known (K.written sink.new) }
+        ensures made { (w : World) → IsMade w held.old target.old → IsMade w held.new target.new }
+        ensures cause { IsCaused result (K.faults sink.old) (K.faults sink.new) }
     {
         match poll_of(expr, steps) {
             Some((mask, requested)) => polled(mask, requested, count, held, target),
@@ -138,7 +149,7 @@ impl Runner<'_> {
 
     // At most so many turns.
     #[cycle(eval)]
-    #[tactic(auto, unfolding(sequence_terms::specs::Steps::turns), using(crate::proofs::DirectLemmas::ends_on, crate::proofs::Loops::turning))]
+    #[tactic(auto, unfolding(sequence_terms::specs::Steps::turns), using(crate::proofs::Loops::turning, crate::proofs::StopLemmas::cause_on))]
     fn turns<K: Sink>(
         &self,
         expr: &Expr,
@@ -151,6 +162,8 @@ impl Runner<'_> {
     ) -> Result<(), End>
         ensures gives { (known : Bool) → Knows known (K.written sink.old) → Gives result (seen known held.new target.new (K.written sink.new)) (m.turns (direct false) (v.value (direct false) (calls_of self.now depth) (tree expr.now)) (λ r. m.inside (direct false) (m.done (direct false) self.now.turn_us (calls_of self.now depth) (steps_tree steps.now)) r) count (seen known held.old target.old (K.written sink.old))) }
         ensures knows { (known : Bool) → Knows known (K.written sink.old) → Knows known (K.written sink.new) }
+        ensures made { (w : World) → IsMade w held.old target.old → IsMade w held.new target.new }
+        ensures cause { IsCaused result (K.faults sink.old) (K.faults sink.new) }
     {
         let mut left = count;
         while left > 0 {
@@ -165,7 +178,7 @@ impl Runner<'_> {
 
     // One turn: whether another may follow.
     #[cycle(eval)]
-    #[tactic(auto, unfolding(sequence_terms::specs::Steps::turn, sequence_terms::specs::Values::used_now, sequence_terms::specs::Calls::use_now, sequence_terms::specs::Direct::direct), using(crate::proofs::DirectLemmas::ends_on))]
+    #[tactic(auto, unfolding(sequence_terms::specs::Steps::turn, sequence_terms::specs::Values::used_now, sequence_terms::specs::Calls::use_now, sequence_terms::specs::Direct::direct), using(crate::proofs::StopLemmas::ends_turn, crate::proofs::StopLemmas::ends_test, crate::proofs::StopLemmas::ends_body, crate::proofs::StopLemmas::cause_on))]
     fn turn<K: Sink>(
         &self,
         expr: &Expr,
@@ -177,9 +190,18 @@ impl Runner<'_> {
     ) -> Result<bool, End>
         ensures gives { (known : Bool) → Knows known (K.written sink.old) → Gives result (seen known held.new target.new (K.written sink.new)) (m.turn (direct false) (v.value (direct false) (calls_of self.now depth) (tree expr.now)) (λ r. m.inside (direct false) (m.done (direct false) self.now.turn_us (calls_of self.now depth) (steps_tree steps.now)) r) (seen known held.old target.old (K.written sink.old))) }
         ensures knows { (known : Bool) → Knows known (K.written sink.old) → Knows known (K.written sink.new) }
+        ensures made { (w : World) → IsMade w held.old target.old → IsMade w held.new target.new }
+        ensures cause { IsCaused result (K.faults sink.old) (K.faults sink.new) }
     {
-        counted(held)?;
-        if self.value(expr, depth, held, target, sink)? == 0 {
+        match counted(held) {
+            Ok(()) => {}
+            Err(end) => return Err(end),
+        }
+        let number = match self.value(expr, depth, held, target, sink) {
+            Ok(number) => number,
+            Err(end) => return Err(end),
+        };
+        if number == 0 {
             return Ok(false);
         }
         self.inside(steps, depth, held, target, sink)?;
@@ -188,7 +210,7 @@ impl Runner<'_> {
 
     // Steps whose declarations are not visible after them.
     #[cycle(eval)]
-    #[tactic(auto, unfolding(sequence_terms::specs::Steps::inside), using(crate::proofs::DirectLemmas::ends_on, crate::proofs::Loops::inside_on))]
+    #[tactic(auto, unfolding(sequence_terms::specs::Steps::inside), using(crate::proofs::StopLemmas::ends_inside, crate::proofs::Loops::inside_on, crate::proofs::StopLemmas::cause_on))]
     pub(crate) fn inside<K: Sink>(
         &self,
         steps: &[CheckedStep],
@@ -199,6 +221,8 @@ impl Runner<'_> {
     ) -> Result<(), End>
         ensures gives { (known : Bool) → Knows known (K.written sink.old) → Gives result (seen known held.new target.new (K.written sink.new)) (m.inside (direct false) (m.done (direct false) self.now.turn_us (calls_of self.now depth) (steps_tree steps.now)) (seen known held.old target.old (K.written sink.old))) }
         ensures knows { (known : Bool) → Knows known (K.written sink.old) → Knows known (K.written sink.new) }
+        ensures made { (w : World) → IsMade w held.old target.old → IsMade w held.new target.new }
+        ensures cause { IsCaused result (K.faults sink.old) (K.faults sink.new) }
     {
         let count = held.local_count();
         self.done(steps, depth, held, target, sink)?;
@@ -208,7 +232,7 @@ impl Runner<'_> {
 }
 
 // A poll of CTRL/STAT.
-#[tactic(auto, unfolding(sequence_terms::specs::Steps::polled, sequence_terms::specs::Steps::polled_at, sequence_terms::specs::Steps::dropped), using(crate::proofs::DirectLemmas::ends_on))]
+#[tactic(auto, unfolding(sequence_terms::specs::Steps::polled, sequence_terms::specs::Steps::polled_at, sequence_terms::specs::Steps::dropped), using(crate::proofs::StopLemmas::poll_first, crate::proofs::StopLemmas::poll_ask))]
 fn polled(
     mask: u32,
     requested: u32,
@@ -218,7 +242,9 @@ fn polled(
 ) -> Result<(), End>
     requires least { 1 ≤ count }
     requires most { count ≤ 60000000 }
-    ensures { (written : Option (List ℕ)) → Gives result (state_of held.new target.new written) (m.polled (direct false) (mask, requested) count (state_of held.old target.old written)) }
+    ensures gives { (written : Option (List ℕ)) → Gives result (state_of held.new target.new written) (m.polled (direct false) (mask, requested) count (state_of held.old target.old written)) }
+    ensures made { (w : World) → IsMade w held.old target.old → IsMade w held.new target.new }
+    ensures cause { (faults : ℕ) → IsCaused result faults faults }
 {
     counted(held)?;
     if debug_port(held) != 0 {

@@ -1,14 +1,15 @@
 //! The direct runner.
-ghost use Rattle.std.specs.Prelude.{◌≡◌, ◌<◌, ℕ, Bool, List, Option, map};
+ghost use Rattle.std.specs.Prelude.{◌≡◌, ◌<◌, ℕ, Bool, IfOk, List, None, Option, map};
+ghost use Rattle.call_terms.specs.World.{start_world};
 ghost use Rattle.function_table.specs.Variables.{predefined};
 ghost use Rattle.target_machine.specs.State.{TargetState};
 ghost use Rattle.sequence_terms.specs.Direct.{Now};
+ghost use Rattle.sequence_terms.specs.Laws.{IsMadeIn};
 ghost use Rattle.sequence_terms.specs.Machine.{Out, end_state};
 ghost use Rattle.sequence_terms.specs.Runs.{outcome, outcome_of, units_of};
-ghost use Rattle.sequence_terms.specs.Shared.{bindings_of};
-ghost use Rattle.sequence_meaning.specs.Answers.{Answers, AnswersDirect};
-ghost use Rattle.sequence_meaning.specs.Held.{Gives, Knows, known_part, state_of};
-ghost use Rattle.sequence_meaning.specs.Starting.{program_of, variables_of};
+ghost use Rattle.sequence_meaning.specs.Answers.{Answers, AnswersDirect, IsDirectCaused, IsRecordedCaused, Leaves, LeavesSome, Records};
+ghost use Rattle.sequence_meaning.specs.Held.{Gives, IsCaused, IsMade, Knows, known_part, state_of};
+ghost use Rattle.sequence_meaning.specs.Starting.{program_of};
 
 use crate::end::End;
 use crate::ended::{Direct, Recorded};
@@ -18,27 +19,39 @@ use crate::start::{add_declared, answered, starting};
 use dap_base::{OutOfMemory, Sink};
 use seq_check::Checked;
 use std::alloc::Global;
-use target_machine::{Settings, Target, Variables};
+use target_machine::{Settings, Target};
 
-// What is answered at the end of a run, with the variables of that moment.
-fn recorded(
-    ended: Result<(), End>,
-    variables: Variables,
-    held: Held,
-) -> Result<Recorded, OutOfMemory>
-    requires { variables_of variables ≡ bindings_of held.globals }
-    ensures { (target : TargetState) (written : Option (List ℕ)) (out : Out ℕ Now (Unit {0})) → Gives ended (state_of held target written) out
-        → (end_state out).units ≡ units_of (outcome_of out) → Answers (outcome_of out) result target written }
+// How a run ended, with the variables of that moment where it is done or halted.
+fn ending_of(alloc: Global, ended: Result<(), End>, held: &Held) -> Result<Direct, OutOfMemory>
+    ensures answer { (target : TargetState) (written : Option (List ℕ)) (out : Out ℕ Now (Unit {0})) → Gives ended (state_of held.now target written) out
+        → (end_state out).units ≡ units_of (outcome_of out) → AnswersDirect (outcome_of out) result target written }
+    ensures records { (target : TargetState) (written : Option (List ℕ)) (out : Out ℕ Now (Unit {0})) → Gives ended (state_of held.now target written) out
+        → (end_state out).units ≡ units_of (outcome_of out) → IfOk result (λ ending. Records (outcome_of out) ending held.now.calls.items held.now.skipped target written) }
+    ensures cause { (before now : ℕ) → IsCaused ended before now → IsDirectCaused result before now }
 {
-    let ending = match ended {
-        Ok(()) => Direct::Done(variables),
-        Err(End::Halted(cause)) => Direct::Halted(cause, variables),
-        Err(End::Faulted(what)) => Direct::Faulted {
+    match ended {
+        Ok(()) => Ok(Direct::Done(answered(alloc, &held.globals)?)),
+        Err(End::Halted(cause)) => Ok(Direct::Halted(cause, answered(alloc, &held.globals)?)),
+        Err(End::Faulted(what)) => Ok(Direct::Faulted {
             unit: held.units,
             what,
-        },
-        Err(End::WriteFault) => Direct::WriteFault,
-        Err(End::OutOfMemory) => return Err(OutOfMemory),
+        }),
+        Err(End::WriteFault) => Ok(Direct::WriteFault),
+        Err(End::OutOfMemory) => Err(OutOfMemory),
+    }
+}
+
+// What is answered at the end of a run.
+fn recorded(alloc: Global, ended: Result<(), End>, held: Held) -> Result<Recorded, OutOfMemory>
+    ensures answer { (target : TargetState) (written : Option (List ℕ)) (out : Out ℕ Now (Unit {0})) → Gives ended (state_of held target written) out
+        → (end_state out).units ≡ units_of (outcome_of out) → Answers (outcome_of out) result target written }
+    ensures cause { (before now : ℕ) → IsCaused ended before now → IsRecordedCaused result before now }
+    ensures part { (start target : TargetState) (written : Option (List ℕ)) (out : Out ℕ Now (Unit {0})) → Gives ended (state_of held target written) out
+        → IsMadeIn (start_world start None) (outcome_of out) → IsMade (start_world start None) held target → Leaves start (outcome_of out) result target written }
+{
+    let ending = match ending_of(alloc, ended, &held) {
+        Ok(ending) => ending,
+        Err(refused) => return Err(refused),
     };
     Ok(Recorded {
         ending,
@@ -51,8 +64,8 @@ fn recorded(
 /// and slow runner, for tests. It starts with the starting values of the settings and with the debug variables; where the set
 /// does not have the sequence, there are no steps.
 ///
-/// `WriteFault` comes only where the sink failed. `OutOfMemory` where memory is refused. After both, no further call was made
-/// and no further line written; after `WriteFault` a part of the line from the front may be written.
+/// `WriteFault` comes only where the sink failed, and `OutOfMemory` where memory is refused. With both, the calls so far and what was
+/// written come first in those of the run, and the target is as these calls leave it; with `WriteFault` the last line may be a part.
 pub fn run_recorded<K: Sink>(
     alloc: Global,
     checked: &Checked,
@@ -66,9 +79,20 @@ pub fn run_recorded<K: Sink>(
     // What is answered, the target and the lines are those of the outcome: Done, Halted or Faulted, the variables, the calls and the skips.
     ensures answer { (known : Bool) → Knows known (K.written sink.old)
         → Answers (outcome (program_of checked.now start.now settings.now) target.old (known_part known (K.written sink.old))) result target.new (known_part known (K.written sink.new)) }
+    // `WriteFault` comes only where the sink's count of faults rose, or stands at its last value, and any other answer leaves the count.
+    ensures cause { IsRecordedCaused result (K.faults sink.old) (K.faults sink.new) }
+    // However it ends, a first part of the run was made and written, and the target is as these calls leave it.
+    ensures part { (known : Bool) → Knows known (K.written sink.old)
+        → Leaves target.old (outcome (program_of checked.now start.now settings.now) target.old (known_part known (K.written sink.old))) result target.new (known_part known (K.written sink.new)) }
 {
-    let mut globals = starting(alloc, settings.start.as_slice())?;
-    add_declared(&mut globals, alloc, checked.debugvars().as_slice())?;
+    let mut globals = match starting(alloc, settings.start.as_slice()) {
+        Ok(globals) => globals,
+        Err(refused) => return Err(refused),
+    };
+    match add_declared(&mut globals, alloc, checked.debugvars().as_slice()) {
+        Ok(()) => {}
+        Err(refused) => return Err(refused),
+    }
     let mut held = Held::new(alloc, globals);
     let runner = Runner {
         alloc,
@@ -76,8 +100,7 @@ pub fn run_recorded<K: Sink>(
         turn_us: settings.turn_us,
     };
     let ended = runner.run(start, &mut held, target, sink);
-    let variables = answered(alloc, &held.globals)?;
-    recorded(ended, variables, held)
+    recorded(alloc, ended, held)
 }
 
 /// Runs the sequence `start` of a checked set over a target, as [`run_recorded`] does, and answers how the run ended.
@@ -94,6 +117,11 @@ pub fn run_direct<K: Sink>(
     // How it ended, the target and the lines are those of the outcome.
     ensures answer { (known : Bool) → Knows known (K.written sink.old)
         → AnswersDirect (outcome (program_of checked.now start.now settings.now) target.old (known_part known (K.written sink.old))) result target.new (known_part known (K.written sink.new)) }
+    // `WriteFault` comes only where the sink's count of faults rose, or stands at its last value, and any other answer leaves the count.
+    ensures cause { IsDirectCaused result (K.faults sink.old) (K.faults sink.new) }
+    // However it ends, a first part of the run was made and written, and the target is as its calls leave it.
+    ensures part { (known : Bool) → Knows known (K.written sink.old)
+        → LeavesSome target.old (outcome (program_of checked.now start.now settings.now) target.old (known_part known (K.written sink.old))) target.new (known_part known (K.written sink.new)) }
 {
     match run_recorded(alloc, checked, start, settings, target, sink) {
         Ok(run) => Ok(run.ending),

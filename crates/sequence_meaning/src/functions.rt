@@ -1,10 +1,11 @@
 //! What calls of functions do, once their arguments are numbers.
 ghost use Rattle.std.specs.Prelude.{◌≡◌, ℕ, Bool, List, IfOk, drop, slice_index, false};
 ghost use Rattle.target_machine.specs.State.{TargetState};
+ghost use Rattle.call_terms.specs.World.{World};
 ghost use Rattle.sequence_terms.specs.Calls as c;
 ghost use Rattle.sequence_terms.specs.Lines.{message_line};
 ghost use Rattle.sequence_terms.specs.Direct.{direct};
-ghost use Rattle.sequence_meaning.specs.Held.{Gives, Knows, seen};
+ghost use Rattle.sequence_meaning.specs.Held.{IsCaused, IsMade, Gives, Knows, seen};
 
 use crate::end::End;
 use crate::held::Held;
@@ -16,7 +17,7 @@ use function_table::Function;
 use sequence_terms::{load_line, message_line, query_line, value_line};
 use std::alloc::Global;
 use target_machine::{HaltCause, Target};
-use text_lines::{Line, put_text};
+use text_lines::{Line, TextError, put_text};
 
 // Writes a line, and then this is the value, unless it would be line 100,001.
 #[tactic(auto, unfolding(sequence_terms::specs::Calls::lined, sequence_terms::specs::Direct::direct), using(crate::proofs::DirectLemmas::known_more, crate::proofs::DirectLemmas::knows_more, crate::proofs::DirectLemmas::knows_part))]
@@ -29,6 +30,8 @@ fn lined<K: Sink>(
     ensures gives { (known : Bool) (target : TargetState) (text : List ℕ) → IfOk line (λ l. l ≡ text) → Knows known (K.written sink.old)
         → Gives result (seen known held.new target (K.written sink.new)) (c.lined (direct false) text value (seen known held.old target (K.written sink.old))) }
     ensures knows { (known : Bool) → Knows known (K.written sink.old) → Knows known (K.written sink.new) }
+    ensures made { (w : World) (target : TargetState) → IsMade w held.old target → IsMade w held.new target }
+    ensures cause { IsCaused result (K.faults sink.old) (K.faults sink.new) }
 {
     if held.lines >= 100_000 {
         return Err(End::Halted(HaltCause::MessageLimit));
@@ -41,7 +44,8 @@ fn lined<K: Sink>(
             held.lines += 1;
             Ok(value)
         }
-        Err(_) => Err(End::WriteFault),
+        Err(TextError::Failed) => Err(End::WriteFault),
+        Err(TextError::OutOfMemory) => Err(End::OutOfMemory),
     }
 }
 
@@ -66,6 +70,8 @@ fn message<K: Sink>(
     ensures gives { (known : Bool) (target : TargetState) → Knows known (K.written sink.old)
         → Gives result (seen known held.new target (K.written sink.new)) (c.lined (direct false) (message_line (slice_index numbers.now 0) text.now (drop 1 numbers.now)) 0 (seen known held.old target (K.written sink.old))) }
     ensures knows { (known : Bool) → Knows known (K.written sink.old) → Knows known (K.written sink.new) }
+    ensures made { (w : World) (target : TargetState) → IsMade w held.old target → IsMade w held.new target }
+    ensures cause { IsCaused result (K.faults sink.old) (K.faults sink.new) }
 {
     let more = if numbers.is_empty() {
         numbers
@@ -94,6 +100,8 @@ pub(crate) fn performed<K: Sink>(
     ensures gives { (known : Bool) → Knows known (K.written sink.old)
         → Gives result (seen known held.new target.new (K.written sink.new)) (c.performed (direct false) function text.now numbers.now (seen known held.old target.old (K.written sink.old))) }
     ensures knows { (known : Bool) → Knows known (K.written sink.old) → Knows known (K.written sink.new) }
+    ensures made { (w : World) → IsMade w held.old target.old → IsMade w held.new target.new }
+    ensures cause { IsCaused result (K.faults sink.old) (K.faults sink.new) }
 {
     match function {
         Function::Read8 => memory(1, true, number_at(numbers, 0), 0, held, target),

@@ -1,12 +1,12 @@
 //! What the direct runner holds.
-ghost use Rattle.std.specs.Prelude.{◌≡◌, ◌++◌, [], ◌∷◌, ℕ, List, Option, None, OnOk, length, take, unwrap_or, codes};
+ghost use Rattle.std.specs.Prelude.{◌≡◌, ◌++◌, [], ◌∷◌, ℕ, List, Option, None, OnErr, OnOk, length, take, unwrap_or, codes};
 ghost use Rattle.target_machine.specs.State.{TargetState};
-ghost use Rattle.call_terms.specs.World.{start_world};
+ghost use Rattle.call_terms.specs.World.{World, start_world};
 ghost use Rattle.sequence_terms.specs.Direct.{Now, now_at};
 ghost use Rattle.sequence_terms.specs.Machine.{State, with_locals, with_variables};
 ghost use Rattle.sequence_terms.specs.Variables.{bound, set_in, set_visible, value_in, visible};
 ghost use Rattle.sequence_terms.specs.Shared.{bindings_of};
-ghost use Rattle.sequence_meaning.specs.Held.{state_of};
+ghost use Rattle.sequence_meaning.specs.Held.{IsMade, state_of};
 
 use call_terms::Ask;
 use dap_base::{NameText, OutOfMemory};
@@ -68,8 +68,9 @@ impl Held {
 
     /// Gives a visible variable a value.
     pub fn store(&mut self, name: &str, value: u64)
-        ensures { (target : TargetState) (written : Option (List ℕ))
+        ensures state { (target : TargetState) (written : Option (List ℕ))
             → state_of self.new target written ≡ set_visible name.now value (state_of self.old target written) }
+        ensures made { (w : World) (target : TargetState) → IsMade w self.old target → IsMade w self.new target }
     {
         if has_in(&self.locals, name) {
             set_newest(&mut self.locals, name, value);
@@ -80,8 +81,10 @@ impl Held {
 
     /// Declares a variable of the running sequence.
     pub fn declare(&mut self, alloc: Global, name: &NameText, value: u64) -> Result<(), OutOfMemory>
-        ensures { (target : TargetState) (written : Option (List ℕ))
+        ensures state { (target : TargetState) (written : Option (List ℕ))
             → OnOk result (state_of self.new target written ≡ with_locals (state_of self.old target written) (self.old.locals.items ++ bound name.now value ∷ [])) }
+        ensures made { (w : World) (target : TargetState) → IsMade w self.old target → IsMade w self.new target }
+        ensures same { (target : TargetState) (written : Option (List ℕ)) → OnErr result (state_of self.new target written ≡ state_of self.old target written) }
     {
         let name = NameText::new(alloc, name.as_str())?;
         match self.locals.push(Binding { name, value }) {
@@ -102,38 +105,43 @@ impl Held {
         ensures taken { result.items ≡ self.old.locals.items }
         ensures none { (target : TargetState) (written : Option (List ℕ))
             → state_of self.new target written ≡ with_locals (state_of self.old target written) [] }
+        ensures made { (w : World) (target : TargetState) → IsMade w self.old target → IsMade w self.new target }
     {
         mem::replace(&mut self.locals, Vec::new(alloc))
     }
 
     /// Drops the variables of the running sequence after the first `len`.
     pub fn cut_back(&mut self, len: usize)
-        ensures { (target : TargetState) (written : Option (List ℕ))
+        ensures state { (target : TargetState) (written : Option (List ℕ))
             → state_of self.new target written ≡ with_locals (state_of self.old target written) (take len self.old.locals.items) }
+        ensures made { (w : World) (target : TargetState) → IsMade w self.old target → IsMade w self.new target }
     {
         self.locals.truncate(len);
     }
 
     // Gives a variable that all sequences share a value.
     fn set_global(&mut self, name: &str, value: u64)
-        ensures { (target : TargetState) (written : Option (List ℕ)) → state_of self.new target written
+        ensures state { (target : TargetState) (written : Option (List ℕ)) → state_of self.new target written
             ≡ with_variables (state_of self.old target written) (set_in (bindings_of self.old.globals) name.now value) self.old.locals.items }
+        ensures made { (w : World) (target : TargetState) → IsMade w self.old target → IsMade w self.new target }
     {
         self.globals.set(name, value);
     }
 
     fn set_locals(&mut self, locals: Vec<Binding<u64>>)
-        ensures { (target : TargetState) (written : Option (List ℕ))
+        ensures state { (target : TargetState) (written : Option (List ℕ))
             → state_of self.new target written ≡ with_locals (state_of self.old target written) locals.items }
+        ensures made { (w : World) (target : TargetState) → IsMade w self.old target → IsMade w self.new target }
     {
         self.locals = locals;
     }
 
     /// Returns from a called sequence: gives the caller its `__dp`, `__ap` and `__errorcontrol`, and its own variables.
     pub fn give_back(&mut self, dp: u64, ap: u64, control: u64, locals: Vec<Binding<u64>>)
-        ensures { (target : TargetState) (written : Option (List ℕ)) → state_of self.new target written
+        ensures state { (target : TargetState) (written : Option (List ℕ)) → state_of self.new target written
             ≡ with_variables (state_of self.old target written)
             (set_in (set_in (set_in (bindings_of self.old.globals) (codes "__dp") dp) (codes "__ap") ap) (codes "__errorcontrol") control) locals.items }
+        ensures made { (w : World) (target : TargetState) → IsMade w self.old target → IsMade w self.new target }
     {
         self.set_global("__dp", dp);
         self.set_global("__ap", ap);

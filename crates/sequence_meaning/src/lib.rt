@@ -1,11 +1,8 @@
 //! The direct runner: runs a checked set of sequences over a target, each access alone and at once.
 #![tactic(auto)]
 
-mod accesses;
 mod asking;
-mod at_once;
 mod calling;
-mod commands;
 mod controls;
 mod direct;
 mod end;

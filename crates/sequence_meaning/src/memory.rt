@@ -1,10 +1,11 @@
 //! Calls that access memory.
 ghost use Rattle.std.specs.Prelude.{◌≡◌, ◌⊎◌, ℕ, ◌<◌, ◌^◌, ◌%◌, ◌≤◌, List, Option, false};
 ghost use Rattle.target_machine.specs.Sound.{IsSound};
+ghost use Rattle.call_terms.specs.World.{World};
 ghost use Rattle.sequence_terms.specs.Calls as c;
 ghost use Rattle.sequence_terms.specs.Direct.{Now, direct};
 ghost use Rattle.sequence_terms.specs.Machine.{State};
-ghost use Rattle.sequence_meaning.specs.Held.{Gives, state_of};
+ghost use Rattle.sequence_meaning.specs.Held.{IsCaused, IsMade, Gives, state_of};
 
 use crate::asking::{Port, ask, asked, port_of};
 use crate::end::End;
@@ -37,13 +38,14 @@ fn memory_unit(size: u8, read: bool, ap: u8, address: u64, value: u64) -> Unit
 fn low_and_high(low: u64, high: u64) -> Result<u64, End>
     requires low { low < 2 ^ 32 }
     requires high { high < 2 ^ 32 }
-    ensures { (s : State ℕ Now) → Gives result s (c.low_and_high (direct false) low high s) }
+    ensures gives { (s : State ℕ Now) → Gives result s (c.low_and_high (direct false) low high s) }
+    ensures cause { (faults : ℕ) → IsCaused result faults faults }
 {
     Ok(low + high * 0x1_0000_0000)
 }
 
 // The second unit of a 64-bit call, at the higher address.
-#[tactic(auto, unfolding(sequence_terms::specs::Calls::second_half, sequence_terms::specs::Direct::direct), using(crate::proofs::DirectLemmas::ends_on))]
+#[tactic(auto, unfolding(sequence_terms::specs::Calls::second_half, sequence_terms::specs::Direct::direct), using(crate::proofs::StopLemmas::ends_second_half))]
 fn second_half(
     read: bool,
     ap: u8,
@@ -56,19 +58,20 @@ fn second_half(
 ) -> Result<u64, End>
     requires aligned { address % 8 ≡ 0 }
     requires low { low < 2 ^ 32 }
-    ensures { (written : Option (List ℕ)) → Gives result (state_of held.new target.new written) (c.second_half (direct false) read (record { ap = ap; forgive = forgive; dp = 0 }) address value low (state_of held.old target.old written)) }
+    ensures gives { (written : Option (List ℕ)) → Gives result (state_of held.new target.new written) (c.second_half (direct false) read (record { ap = ap; forgive = forgive; dp = 0 }) address value low (state_of held.old target.old written)) }
+    ensures made { (w : World) → IsMade w held.old target.old → IsMade w held.new target.new }
+    ensures cause { (faults : ℕ) → IsCaused result faults faults }
 {
-    let high = ask(
-        memory_unit(4, read, ap, address + 4, value / 0x1_0000_0000),
-        forgive,
-        held,
-        target,
-    )?;
+    let unit = memory_unit(4, read, ap, address + 4, value / 0x1_0000_0000);
+    let high = match ask(unit, forgive, held, target) {
+        Ok(high) => high,
+        Err(end) => return Err(end),
+    };
     if read { low_and_high(low, high) } else { Ok(0) }
 }
 
 // `Read64` and `Write64` are two units, the one at the lower address first.
-#[tactic(auto, unfolding(sequence_terms::specs::Calls::two_units), using(crate::proofs::DirectLemmas::ends_on))]
+#[tactic(auto, unfolding(sequence_terms::specs::Calls::two_units), using(crate::proofs::StopLemmas::ends_two_units))]
 fn two_units(
     read: bool,
     ap: u8,
@@ -79,14 +82,15 @@ fn two_units(
     target: &mut Target,
 ) -> Result<u64, End>
     requires aligned { address % 8 ≡ 0 }
-    ensures { (written : Option (List ℕ)) → Gives result (state_of held.new target.new written) (c.two_units (direct false) read (record { ap = ap; forgive = forgive; dp = 0 }) address value (state_of held.old target.old written)) }
+    ensures gives { (written : Option (List ℕ)) → Gives result (state_of held.new target.new written) (c.two_units (direct false) read (record { ap = ap; forgive = forgive; dp = 0 }) address value (state_of held.old target.old written)) }
+    ensures made { (w : World) → IsMade w held.old target.old → IsMade w held.new target.new }
+    ensures cause { (faults : ℕ) → IsCaused result faults faults }
 {
-    let low = ask(
-        memory_unit(4, read, ap, address, value),
-        forgive,
-        held,
-        target,
-    )?;
+    let unit = memory_unit(4, read, ap, address, value);
+    let low = match ask(unit, forgive, held, target) {
+        Ok(low) => low,
+        Err(end) => return Err(end),
+    };
     second_half(read, ap, forgive, address, value, low, held, target)
 }
 
@@ -102,7 +106,9 @@ fn memory_at(
     target: &mut Target,
 ) -> Result<u64, End>
     requires { (size ≡ 1) ⊎ ((size ≡ 2) ⊎ ((size ≡ 4) ⊎ (size ≡ 8))) }
-    ensures { (written : Option (List ℕ)) → Gives result (state_of held.new target.new written) (c.memory_at (direct false) size read address value (record { ap = port.ap; forgive = port.forgive; dp = port.dp }) (state_of held.old target.old written)) }
+    ensures gives { (written : Option (List ℕ)) → Gives result (state_of held.new target.new written) (c.memory_at (direct false) size read address value (record { ap = port.ap; forgive = port.forgive; dp = port.dp }) (state_of held.old target.old written)) }
+    ensures made { (w : World) → IsMade w held.old target.old → IsMade w held.new target.new }
+    ensures cause { (faults : ℕ) → IsCaused result faults faults }
 {
     if port.dp != 0 {
         return Err(End::Halted(HaltCause::Unsupported));
@@ -137,7 +143,9 @@ pub(crate) fn memory(
     target: &mut Target,
 ) -> Result<u64, End>
     requires { (size ≡ 1) ⊎ ((size ≡ 2) ⊎ ((size ≡ 4) ⊎ (size ≡ 8))) }
-    ensures { (written : Option (List ℕ)) → Gives result (state_of held.new target.new written) (c.memory (direct false) size read address value (state_of held.old target.old written)) }
+    ensures gives { (written : Option (List ℕ)) → Gives result (state_of held.new target.new written) (c.memory (direct false) size read address value (state_of held.old target.old written)) }
+    ensures made { (w : World) → IsMade w held.old target.old → IsMade w held.new target.new }
+    ensures cause { (faults : ℕ) → IsCaused result faults faults }
 {
     memory_at(size, read, address, value, port_of(held), held, target)
 }

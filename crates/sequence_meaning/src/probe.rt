@@ -1,10 +1,11 @@
 //! Calls that are commands of the probe.
 ghost use Rattle.std.specs.Prelude.{◌≡◌, ℕ, ◌%◌, ◌^◌, ◌≤◌, List, Option, false};
 ghost use Rattle.target_machine.specs.Sound.{IsSoundProbe};
+ghost use Rattle.call_terms.specs.World.{World};
 ghost use Rattle.sequence_terms.specs.Calls as c;
 ghost use Rattle.sequence_terms.specs.Direct.{Now, direct};
 ghost use Rattle.sequence_terms.specs.Machine.{State};
-ghost use Rattle.sequence_meaning.specs.Held.{Gives, state_of};
+ghost use Rattle.sequence_meaning.specs.Held.{IsCaused, IsMade, Gives, state_of};
 
 use crate::asking::{command, debug_port};
 use crate::end::End;
@@ -12,10 +13,12 @@ use crate::held::Held;
 use target_machine::{HaltCause, ProbeCall, Target};
 
 // A command whose result is dropped.
-#[tactic(auto, unfolding(sequence_terms::specs::Calls::zero_of, sequence_terms::specs::Direct::direct), using(crate::proofs::DirectLemmas::ends_on))]
+#[tactic(auto, unfolding(sequence_terms::specs::Calls::zero_of, sequence_terms::specs::Direct::direct), using(crate::proofs::StopLemmas::ends_zero))]
 fn commanded(call: ProbeCall, held: &mut Held, target: &mut Target) -> Result<u64, End>
     requires { IsSoundProbe call }
-    ensures { (written : Option (List ℕ)) → Gives result (state_of held.new target.new written) (c.zero_of (direct false) (c.command (direct false) call (state_of held.old target.old written))) }
+    ensures gives { (written : Option (List ℕ)) → Gives result (state_of held.new target.new written) (c.zero_of (direct false) (c.command (direct false) call (state_of held.old target.old written))) }
+    ensures made { (w : World) → IsMade w held.old target.old → IsMade w held.new target.new }
+    ensures cause { (faults : ℕ) → IsCaused result faults faults }
 {
     command(call, held, target)?;
     Ok(0)
@@ -24,7 +27,9 @@ fn commanded(call: ProbeCall, held: &mut Held, target: &mut Target) -> Result<u6
 // `DAP_WriteABORT`, on debug port 0 alone.
 #[tactic(auto, unfolding(sequence_terms::specs::Calls::abort, sequence_terms::specs::Calls::abort_at, sequence_terms::specs::Calls::zero_of))]
 pub(crate) fn abort(value: u64, held: &mut Held, target: &mut Target) -> Result<u64, End>
-    ensures { (written : Option (List ℕ)) → Gives result (state_of held.new target.new written) (c.zero_of (direct false) (c.abort (direct false) value (state_of held.old target.old written))) }
+    ensures gives { (written : Option (List ℕ)) → Gives result (state_of held.new target.new written) (c.zero_of (direct false) (c.abort (direct false) value (state_of held.old target.old written))) }
+    ensures made { (w : World) → IsMade w held.old target.old → IsMade w held.new target.new }
+    ensures cause { (faults : ℕ) → IsCaused result faults faults }
 {
     if debug_port(held) == 0 {
         commanded(
@@ -40,7 +45,9 @@ pub(crate) fn abort(value: u64, held: &mut Held, target: &mut Target) -> Result<
 // `DAP_Delay`, of at most 60,000,000 microseconds.
 #[tactic(auto, unfolding(sequence_terms::specs::Calls::delay, sequence_terms::specs::Calls::zero_of))]
 pub(crate) fn delay(micros: u64, held: &mut Held, target: &mut Target) -> Result<u64, End>
-    ensures { (written : Option (List ℕ)) → Gives result (state_of held.new target.new written) (c.zero_of (direct false) (c.delay (direct false) micros (state_of held.old target.old written))) }
+    ensures gives { (written : Option (List ℕ)) → Gives result (state_of held.new target.new written) (c.zero_of (direct false) (c.delay (direct false) micros (state_of held.old target.old written))) }
+    ensures made { (w : World) → IsMade w held.old target.old → IsMade w held.new target.new }
+    ensures cause { (faults : ℕ) → IsCaused result faults faults }
 {
     if micros > 60_000_000 {
         return Err(End::Halted(HaltCause::ArgumentOutOfRange));
@@ -51,7 +58,9 @@ pub(crate) fn delay(micros: u64, held: &mut Held, target: &mut Target) -> Result
 // `DAP_SWJ_Clock`, of 1 to 2^32 - 1 hertz.
 #[tactic(auto, unfolding(sequence_terms::specs::Calls::clock, sequence_terms::specs::Calls::zero_of))]
 pub(crate) fn clock(hertz: u64, held: &mut Held, target: &mut Target) -> Result<u64, End>
-    ensures { (written : Option (List ℕ)) → Gives result (state_of held.new target.new written) (c.zero_of (direct false) (c.clock (direct false) hertz (state_of held.old target.old written))) }
+    ensures gives { (written : Option (List ℕ)) → Gives result (state_of held.new target.new written) (c.zero_of (direct false) (c.clock (direct false) hertz (state_of held.old target.old written))) }
+    ensures made { (w : World) → IsMade w held.old target.old → IsMade w held.new target.new }
+    ensures cause { (faults : ℕ) → IsCaused result faults faults }
 {
     if hertz == 0 || hertz > 0xFFFF_FFFF {
         return Err(End::Halted(HaltCause::ArgumentOutOfRange));
@@ -68,7 +77,9 @@ pub(crate) fn pins(
     held: &mut Held,
     target: &mut Target,
 ) -> Result<u64, End>
-    ensures { (written : Option (List ℕ)) → Gives result (state_of held.new target.new written) (c.pins (direct false) output select wait (state_of held.old target.old written)) }
+    ensures gives { (written : Option (List ℕ)) → Gives result (state_of held.new target.new written) (c.pins (direct false) output select wait (state_of held.old target.old written)) }
+    ensures made { (w : World) → IsMade w held.old target.old → IsMade w held.new target.new }
+    ensures cause { (faults : ℕ) → IsCaused result faults faults }
 {
     if wait > 0xFFFF_FFFF {
         return Err(End::Halted(HaltCause::ArgumentOutOfRange));
@@ -102,7 +113,9 @@ pub(crate) fn line_bits(
     held: &mut Held,
     target: &mut Target,
 ) -> Result<u64, End>
-    ensures { (written : Option (List ℕ)) → Gives result (state_of held.new target.new written) (c.zero_of (direct false) (c.line_bits (direct false) count bits (state_of held.old target.old written))) }
+    ensures gives { (written : Option (List ℕ)) → Gives result (state_of held.new target.new written) (c.zero_of (direct false) (c.line_bits (direct false) count bits (state_of held.old target.old written))) }
+    ensures made { (w : World) → IsMade w held.old target.old → IsMade w held.new target.new }
+    ensures cause { (faults : ℕ) → IsCaused result faults faults }
 {
     if count == 0 || count > 64 {
         return Err(End::Halted(HaltCause::ArgumentOutOfRange));

@@ -1,9 +1,10 @@
 //! Calls that access registers.
 ghost use Rattle.std.specs.Prelude.{◌≡◌, ℕ, List, Option, false};
+ghost use Rattle.call_terms.specs.World.{World};
 ghost use Rattle.sequence_terms.specs.Calls as c;
 ghost use Rattle.sequence_terms.specs.Direct.{Now, direct};
 ghost use Rattle.sequence_terms.specs.Machine.{State};
-ghost use Rattle.sequence_meaning.specs.Held.{Gives, state_of};
+ghost use Rattle.sequence_meaning.specs.Held.{IsCaused, IsMade, Gives, state_of};
 
 use crate::asking::{Port, asked, debug_port, port_of};
 use crate::end::End;
@@ -20,7 +21,9 @@ fn ap_at(
     held: &mut Held,
     target: &mut Target,
 ) -> Result<u64, End>
-    ensures { (written : Option (List ℕ)) → Gives result (state_of held.new target.new written) (c.ap_at (direct false) read addr value (record { ap = port.ap; forgive = port.forgive; dp = port.dp }) (state_of held.old target.old written)) }
+    ensures gives { (written : Option (List ℕ)) → Gives result (state_of held.new target.new written) (c.ap_at (direct false) read addr value (record { ap = port.ap; forgive = port.forgive; dp = port.dp }) (state_of held.old target.old written)) }
+    ensures made { (w : World) → IsMade w held.old target.old → IsMade w held.new target.new }
+    ensures cause { (faults : ℕ) → IsCaused result faults faults }
 {
     if port.dp != 0 {
         return Err(End::Halted(HaltCause::Unsupported));
@@ -56,7 +59,9 @@ pub(crate) fn ap_register(
     held: &mut Held,
     target: &mut Target,
 ) -> Result<u64, End>
-    ensures { (written : Option (List ℕ)) → Gives result (state_of held.new target.new written) (c.ap_register (direct false) read addr value (state_of held.old target.old written)) }
+    ensures gives { (written : Option (List ℕ)) → Gives result (state_of held.new target.new written) (c.ap_register (direct false) read addr value (state_of held.old target.old written)) }
+    ensures made { (w : World) → IsMade w held.old target.old → IsMade w held.new target.new }
+    ensures cause { (faults : ℕ) → IsCaused result faults faults }
 {
     ap_at(read, addr, value, port_of(held), held, target)
 }
@@ -71,7 +76,9 @@ fn dp_at(
     held: &mut Held,
     target: &mut Target,
 ) -> Result<u64, End>
-    ensures { (written : Option (List ℕ)) → Gives result (state_of held.new target.new written) (c.dp_at (direct false) read addr value dp (state_of held.old target.old written)) }
+    ensures gives { (written : Option (List ℕ)) → Gives result (state_of held.new target.new written) (c.dp_at (direct false) read addr value dp (state_of held.old target.old written)) }
+    ensures made { (w : World) → IsMade w held.old target.old → IsMade w held.new target.new }
+    ensures cause { (faults : ℕ) → IsCaused result faults faults }
 {
     if dp != 0 || (read && addr == 8 || addr == 0xC) {
         return Err(End::Halted(HaltCause::Unsupported));
@@ -103,7 +110,9 @@ pub(crate) fn dp_register(
     held: &mut Held,
     target: &mut Target,
 ) -> Result<u64, End>
-    ensures { (written : Option (List ℕ)) → Gives result (state_of held.new target.new written) (c.dp_register (direct false) read addr value (state_of held.old target.old written)) }
+    ensures gives { (written : Option (List ℕ)) → Gives result (state_of held.new target.new written) (c.dp_register (direct false) read addr value (state_of held.old target.old written)) }
+    ensures made { (w : World) → IsMade w held.old target.old → IsMade w held.new target.new }
+    ensures cause { (faults : ℕ) → IsCaused result faults faults }
 {
     dp_at(read, addr, value, debug_port(held), held, target)
 }

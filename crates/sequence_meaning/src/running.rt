@@ -2,9 +2,10 @@
 ghost use Rattle.std.specs.Prelude.{◌≡◌, ℕ, Bool, List, false};
 ghost use Rattle.expr_grammar.specs.Tree.{code_trees, stmt_tree, tree};
 ghost use Rattle.seq_check.specs.Answers.{checked_trees};
+ghost use Rattle.call_terms.specs.World.{World};
 ghost use Rattle.sequence_terms.specs.Direct.{direct};
 ghost use Rattle.sequence_terms.specs.Steps as m;
-ghost use Rattle.sequence_meaning.specs.Held.{Gives, Knows, seen};
+ghost use Rattle.sequence_meaning.specs.Held.{IsCaused, IsMade, Gives, Knows, seen};
 ghost use Rattle.sequence_meaning.specs.Starting.{debugged_one, defined};
 
 use crate::end::End;
@@ -16,7 +17,7 @@ use target_machine::Target;
 
 impl Runner<'_> {
     // A debug variable gets its value.
-    #[tactic(auto, unfolding(sequence_terms::specs::Values::stored, sequence_terms::specs::Calls::guarded, sequence_terms::specs::Direct::direct), using(crate::proofs::DirectLemmas::ends_on))]
+    #[tactic(auto, unfolding(sequence_terms::specs::Values::stored, sequence_terms::specs::Calls::guarded, sequence_terms::specs::Direct::direct), using(crate::proofs::DebugLemmas::defines_on, crate::proofs::StopLemmas::cause_on))]
     fn define<K: Sink>(
         &self,
         name: &Name,
@@ -27,6 +28,8 @@ impl Runner<'_> {
     ) -> Result<(), End>
         ensures gives { (known : Bool) → Knows known (K.written sink.old) → Gives result (seen known held.new target.new (K.written sink.new)) (defined self.now.turn_us (checked_trees self.now.set.now) name.now (tree expr.now) (seen known held.old target.old (K.written sink.old))) }
         ensures knows { (known : Bool) → Knows known (K.written sink.old) → Knows known (K.written sink.new) }
+        ensures made { (w : World) → IsMade w held.old target.old → IsMade w held.new target.new }
+        ensures cause { IsCaused result (K.faults sink.old) (K.faults sink.new) }
     {
         let number = self.value(expr, 0, held, target, sink)?;
         held.store(name.text.as_str(), number);
@@ -43,6 +46,8 @@ impl Runner<'_> {
     ) -> Result<(), End>
         ensures gives { (known : Bool) → Knows known (K.written sink.old) → Gives result (seen known held.new target.new (K.written sink.new)) (debugged_one self.now.turn_us (checked_trees self.now.set.now) (stmt_tree one.now) (seen known held.old target.old (K.written sink.old))) }
         ensures knows { (known : Bool) → Knows known (K.written sink.old) → Knows known (K.written sink.new) }
+        ensures made { (w : World) → IsMade w held.old target.old → IsMade w held.new target.new }
+        ensures cause { IsCaused result (K.faults sink.old) (K.faults sink.new) }
     {
         match one {
             Stmt::Declare(name, expr) => self.define(name, expr, held, target, sink),
@@ -51,7 +56,7 @@ impl Runner<'_> {
     }
 
     // The debug variables get their values, in order.
-    #[tactic(auto, using(crate::proofs::DebugLemmas::debugging))]
+    #[tactic(auto, using(crate::proofs::DebugLemmas::debugging, crate::proofs::StopLemmas::cause_on))]
     fn debug<K: Sink>(
         &self,
         code: &[Stmt],
@@ -61,6 +66,8 @@ impl Runner<'_> {
     ) -> Result<(), End>
         ensures gives { (known : Bool) → Knows known (K.written sink.old) → Gives result (seen known held.new target.new (K.written sink.new)) (m.debugged (direct false) self.now.turn_us (checked_trees self.now.set.now) (code_trees code.now) (seen known held.old target.old (K.written sink.old))) }
         ensures knows { (known : Bool) → Knows known (K.written sink.old) → Knows known (K.written sink.new) }
+        ensures made { (w : World) → IsMade w held.old target.old → IsMade w held.new target.new }
+        ensures cause { IsCaused result (K.faults sink.old) (K.faults sink.new) }
     {
         for one in code {
             match self.debug_one(one, held, target, sink) {
@@ -72,7 +79,7 @@ impl Runner<'_> {
     }
 
     // A run: the debug variables, and then the sequence of the name, in a chain of at most 32 sequences.
-    #[tactic(auto, unfolding(sequence_terms::specs::Steps::run_of), using(crate::proofs::DirectLemmas::ends_on, crate::proofs::DebugLemmas::run_on))]
+    #[tactic(auto, unfolding(sequence_terms::specs::Steps::run_of), using(crate::proofs::DebugLemmas::run_first, crate::proofs::DebugLemmas::run_on, crate::proofs::StopLemmas::cause_on))]
     pub(crate) fn run<K: Sink>(
         &self,
         start: &str,
@@ -82,6 +89,8 @@ impl Runner<'_> {
     ) -> Result<(), End>
         ensures gives { (known : Bool) → Knows known (K.written sink.old) → Gives result (seen known held.new target.new (K.written sink.new)) (m.run_of (direct false) self.now.turn_us (checked_trees self.now.set.now) start.now (seen known held.old target.old (K.written sink.old))) }
         ensures knows { (known : Bool) → Knows known (K.written sink.old) → Knows known (K.written sink.new) }
+        ensures made { (w : World) → IsMade w held.old target.old → IsMade w held.new target.new }
+        ensures cause { IsCaused result (K.faults sink.old) (K.faults sink.new) }
     {
         match self.debug(self.set.debugvars().as_slice(), held, target, sink) {
             Ok(()) => {}

@@ -1,12 +1,13 @@
 //! Steps and statements.
 ghost use Rattle.std.specs.Prelude.{◌≡◌, [], ◌∷◌, ◌++◌, Bool, false, unwrap_or, option_map, List, Option, ℕ, ◌<◌, ◌≤◌};
 ghost use Rattle.expr_grammar.specs.Tree.{tree, arg_tree, arg_trees, stmt_tree, code_trees};
+ghost use Rattle.call_terms.specs.World.{World};
 ghost use Rattle.sequence_code.specs.Trees.{step_tree, steps_tree};
 ghost use Rattle.sequence_terms.specs.Direct.{direct};
 ghost use Rattle.target_machine.specs.State.{TargetState};
 ghost use Rattle.sequence_terms.specs.Steps as m;
 ghost use Rattle.sequence_terms.specs.Values as v;
-ghost use Rattle.sequence_meaning.specs.Held.{Gives, GivesAs, Knows, calls_of, seen, state_of};
+ghost use Rattle.sequence_meaning.specs.Held.{IsCaused, IsMade, Gives, GivesAs, Knows, calls_of, seen, state_of};
 
 use crate::end::End;
 use crate::held::Held;
@@ -19,7 +20,7 @@ use target_machine::{HaltCause, Target};
 impl Runner<'_> {
     // Steps, in order.
     #[cycle(eval)]
-    #[tactic(auto, unfolding(sequence_terms::specs::Steps::done), using(crate::proofs::DirectLemmas::ends_on, crate::proofs::Loops::loops))]
+    #[tactic(auto, unfolding(sequence_terms::specs::Steps::done), using(crate::proofs::Loops::loops, crate::proofs::StopLemmas::cause_on))]
     pub(crate) fn done<K: Sink>(
         &self,
         steps: &[CheckedStep],
@@ -30,6 +31,8 @@ impl Runner<'_> {
     ) -> Result<(), End>
         ensures gives { (known : Bool) → Knows known (K.written sink.old) → Gives result (seen known held.new target.new (K.written sink.new)) (m.done (direct false) self.now.turn_us (calls_of self.now depth) (steps_tree steps.now) (seen known held.old target.old (K.written sink.old))) }
         ensures knows { (known : Bool) → Knows known (K.written sink.old) → Knows known (K.written sink.new) }
+        ensures made { (w : World) → IsMade w held.old target.old → IsMade w held.new target.new }
+        ensures cause { IsCaused result (K.faults sink.old) (K.faults sink.new) }
     {
         for one in steps {
             match self.step(one, depth, held, target, sink) {
@@ -42,7 +45,7 @@ impl Runner<'_> {
 
     // A step.
     #[cycle(eval)]
-    #[tactic(auto, unfolding(sequence_terms::specs::Steps::step), using(crate::proofs::DirectLemmas::ends_on))]
+    #[tactic(auto, unfolding(sequence_terms::specs::Steps::step))]
     fn step<K: Sink>(
         &self,
         one: &CheckedStep,
@@ -53,6 +56,8 @@ impl Runner<'_> {
     ) -> Result<(), End>
         ensures gives { (known : Bool) → Knows known (K.written sink.old) → Gives result (seen known held.new target.new (K.written sink.new)) (m.step (direct false) self.now.turn_us (calls_of self.now depth) (step_tree one.now) (seen known held.old target.old (K.written sink.old))) }
         ensures knows { (known : Bool) → Knows known (K.written sink.old) → Knows known (K.written sink.new) }
+        ensures made { (w : World) → IsMade w held.old target.old → IsMade w held.new target.new }
+        ensures cause { IsCaused result (K.faults sink.old) (K.faults sink.new) }
     {
         match one {
             CheckedStep::Block(code) => self.block(code.as_slice(), depth, held, target, sink),
@@ -76,7 +81,7 @@ impl Runner<'_> {
 
     // The statements of a block, in order.
     #[cycle(eval)]
-    #[tactic(auto, unfolding(sequence_terms::specs::Steps::block), using(crate::proofs::DirectLemmas::ends_on, crate::proofs::Loops::loops))]
+    #[tactic(auto, unfolding(sequence_terms::specs::Steps::block), using(crate::proofs::Loops::loops, crate::proofs::StopLemmas::cause_on))]
     fn block<K: Sink>(
         &self,
         code: &[Stmt],
@@ -87,6 +92,8 @@ impl Runner<'_> {
     ) -> Result<(), End>
         ensures gives { (known : Bool) → Knows known (K.written sink.old) → Gives result (seen known held.new target.new (K.written sink.new)) (m.block (direct false) self.now.turn_us (calls_of self.now depth) (code_trees code.now) (seen known held.old target.old (K.written sink.old))) }
         ensures knows { (known : Bool) → Knows known (K.written sink.old) → Knows known (K.written sink.new) }
+        ensures made { (w : World) → IsMade w held.old target.old → IsMade w held.new target.new }
+        ensures cause { IsCaused result (K.faults sink.old) (K.faults sink.new) }
     {
         for one in code {
             match self.statement(one, depth, held, target, sink) {
@@ -99,7 +106,7 @@ impl Runner<'_> {
 
     // A statement.
     #[cycle(eval)]
-    #[tactic(auto, unfolding(sequence_terms::specs::Steps::statement), using(crate::proofs::DirectLemmas::ends_on))]
+    #[tactic(auto, unfolding(sequence_terms::specs::Steps::statement))]
     fn statement<K: Sink>(
         &self,
         one: &Stmt,
@@ -110,6 +117,8 @@ impl Runner<'_> {
     ) -> Result<(), End>
         ensures gives { (known : Bool) → Knows known (K.written sink.old) → Gives result (seen known held.new target.new (K.written sink.new)) (m.statement (direct false) self.now.turn_us (calls_of self.now depth) (stmt_tree one.now) (seen known held.old target.old (K.written sink.old))) }
         ensures knows { (known : Bool) → Knows known (K.written sink.old) → Knows known (K.written sink.new) }
+        ensures made { (w : World) → IsMade w held.old target.old → IsMade w held.new target.new }
+        ensures cause { IsCaused result (K.faults sink.old) (K.faults sink.new) }
     {
         match one {
             Stmt::Empty(_) => counted(held),
@@ -120,7 +129,7 @@ impl Runner<'_> {
 
     // A declaration.
     #[cycle(eval)]
-    #[tactic(auto, unfolding(sequence_terms::specs::Steps::after_counted, sequence_terms::specs::Steps::declared), using(crate::proofs::DirectLemmas::ends_on, crate::proofs::Loops::declared_on))]
+    #[tactic(auto, unfolding(sequence_terms::specs::Steps::after_counted, sequence_terms::specs::Steps::declared), using(crate::proofs::StopLemmas::declare_first, crate::proofs::StopLemmas::declare_value, crate::proofs::StopLemmas::declare_refused, crate::proofs::Loops::declared_on, crate::proofs::StopLemmas::cause_on))]
     fn declare<K: Sink>(
         &self,
         name: &Name,
@@ -132,9 +141,17 @@ impl Runner<'_> {
     ) -> Result<(), End>
         ensures gives { (known : Bool) → Knows known (K.written sink.old) → Gives result (seen known held.new target.new (K.written sink.new)) (m.after_counted (direct false) (λ r. m.declared (direct false) name.now (v.value (direct false) (calls_of self.now depth) (tree expr.now) r)) (seen known held.old target.old (K.written sink.old))) }
         ensures knows { (known : Bool) → Knows known (K.written sink.old) → Knows known (K.written sink.new) }
+        ensures made { (w : World) → IsMade w held.old target.old → IsMade w held.new target.new }
+        ensures cause { IsCaused result (K.faults sink.old) (K.faults sink.new) }
     {
-        counted(held)?;
-        let number = self.value(expr, depth, held, target, sink)?;
+        match counted(held) {
+            Ok(()) => {}
+            Err(end) => return Err(end),
+        }
+        let number = match self.value(expr, depth, held, target, sink) {
+            Ok(number) => number,
+            Err(end) => return Err(end),
+        };
         match held.declare(self.alloc, &name.text, number) {
             Ok(()) => Ok(()),
             Err(_) => Err(End::OutOfMemory),
@@ -143,7 +160,7 @@ impl Runner<'_> {
 
     // An expression whose value is dropped.
     #[cycle(eval)]
-    #[tactic(auto, unfolding(sequence_terms::specs::Steps::after_counted, sequence_terms::specs::Steps::dropped), using(crate::proofs::DirectLemmas::ends_on))]
+    #[tactic(auto, unfolding(sequence_terms::specs::Steps::after_counted, sequence_terms::specs::Steps::dropped), using(crate::proofs::StopLemmas::plain_first, crate::proofs::StopLemmas::plain_value, crate::proofs::StopLemmas::cause_on))]
     fn plain<K: Sink>(
         &self,
         expr: &Expr,
@@ -154,10 +171,17 @@ impl Runner<'_> {
     ) -> Result<(), End>
         ensures gives { (known : Bool) → Knows known (K.written sink.old) → Gives result (seen known held.new target.new (K.written sink.new)) (m.after_counted (direct false) (λ r. m.dropped (direct false) (v.value (direct false) (calls_of self.now depth) (tree expr.now) r)) (seen known held.old target.old (K.written sink.old))) }
         ensures knows { (known : Bool) → Knows known (K.written sink.old) → Knows known (K.written sink.new) }
+        ensures made { (w : World) → IsMade w held.old target.old → IsMade w held.new target.new }
+        ensures cause { IsCaused result (K.faults sink.old) (K.faults sink.new) }
     {
-        counted(held)?;
-        self.value(expr, depth, held, target, sink)?;
-        Ok(())
+        match counted(held) {
+            Ok(()) => {}
+            Err(end) => return Err(end),
+        }
+        match self.value(expr, depth, held, target, sink) {
+            Ok(_) => Ok(()),
+            Err(end) => Err(end),
+        }
     }
 }
 
@@ -165,6 +189,8 @@ impl Runner<'_> {
 #[tactic(auto, unfolding(sequence_terms::specs::Steps::counted))]
 pub(crate) fn counted(held: &mut Held) -> Result<(), End>
     ensures gives { (target : TargetState) (written : Option (List ℕ)) → Gives result (state_of held.new target written) (m.counted (direct false) (state_of held.old target written)) }
+    ensures made { (w : World) (target : TargetState) → IsMade w held.old target → IsMade w held.new target }
+    ensures cause { (faults : ℕ) → IsCaused result faults faults }
 {
     if held.steps >= 100_000_000 {
         return Err(End::Halted(HaltCause::StepLimit));

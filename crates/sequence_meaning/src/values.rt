@@ -2,11 +2,12 @@
 ghost use Rattle.std.specs.Prelude.{◌≡◌, [], ◌∷◌, ◌++◌, Bool, false, unwrap_or, option_map, List, Option, ℕ, ◌<◌, ◌≤◌};
 ghost use Rattle.expr_grammar.specs.Arithmetic.{truth};
 ghost use Rattle.expr_grammar.specs.Tree.{tree, arg_tree, arg_trees, stmt_tree, code_trees};
+ghost use Rattle.call_terms.specs.World.{World};
 ghost use Rattle.sequence_code.specs.Trees.{step_tree, steps_tree};
 ghost use Rattle.sequence_terms.specs.Direct.{direct};
 ghost use Rattle.sequence_terms.specs.Steps as m;
 ghost use Rattle.sequence_terms.specs.Values as v;
-ghost use Rattle.sequence_meaning.specs.Held.{Gives, GivesAs, Knows, calls_of, seen, state_of};
+ghost use Rattle.sequence_meaning.specs.Held.{IsCaused, IsMade, Gives, GivesAs, Knows, calls_of, seen, state_of};
 
 use crate::end::End;
 use crate::held::Held;
@@ -18,7 +19,7 @@ use target_machine::{HaltCause, Target};
 impl Runner<'_> {
     // The value of an expression.
     #[cycle(eval)]
-    #[tactic(auto, unfolding(sequence_terms::specs::Values::value, sequence_terms::specs::Values::named, sequence_terms::specs::Calls::given, sequence_terms::specs::Calls::missing, sequence_terms::specs::Direct::direct), using(crate::proofs::DirectLemmas::ends_on))]
+    #[tactic(auto, unfolding(sequence_terms::specs::Values::value, sequence_terms::specs::Values::named, sequence_terms::specs::Calls::given, sequence_terms::specs::Calls::missing, sequence_terms::specs::Direct::direct))]
     pub(crate) fn value<K: Sink>(
         &self,
         expr: &Expr,
@@ -29,6 +30,8 @@ impl Runner<'_> {
     ) -> Result<u64, End>
         ensures gives { (known : Bool) → Knows known (K.written sink.old) → Gives result (seen known held.new target.new (K.written sink.new)) (v.value (direct false) (calls_of self.now depth) (tree expr.now) (seen known held.old target.old (K.written sink.old))) }
         ensures knows { (known : Bool) → Knows known (K.written sink.old) → Knows known (K.written sink.new) }
+        ensures made { (w : World) → IsMade w held.old target.old → IsMade w held.new target.new }
+        ensures cause { IsCaused result (K.faults sink.old) (K.faults sink.new) }
     {
         match expr {
             Expr::Number(number) => Ok(*number),
@@ -48,7 +51,7 @@ impl Runner<'_> {
 
     // An operator before its operand.
     #[cycle(eval)]
-    #[tactic(auto, unfolding(sequence_terms::specs::Values::of_unary, sequence_terms::specs::Values::used_now, sequence_terms::specs::Calls::use_now, sequence_terms::specs::Direct::direct), using(crate::proofs::DirectLemmas::ends_on))]
+    #[tactic(auto, unfolding(sequence_terms::specs::Values::of_unary, sequence_terms::specs::Values::used_now, sequence_terms::specs::Calls::use_now, sequence_terms::specs::Direct::direct), using(crate::proofs::StopLemmas::ends_unary, crate::proofs::StopLemmas::cause_on))]
     fn unary_of<K: Sink>(
         &self,
         op: UnaryOp,
@@ -60,6 +63,8 @@ impl Runner<'_> {
     ) -> Result<u64, End>
         ensures gives { (known : Bool) → Knows known (K.written sink.old) → Gives result (seen known held.new target.new (K.written sink.new)) (v.of_unary (direct false) op (v.value (direct false) (calls_of self.now depth) (tree operand.now) (seen known held.old target.old (K.written sink.old)))) }
         ensures knows { (known : Bool) → Knows known (K.written sink.old) → Knows known (K.written sink.new) }
+        ensures made { (w : World) → IsMade w held.old target.old → IsMade w held.new target.new }
+        ensures cause { IsCaused result (K.faults sink.old) (K.faults sink.new) }
     {
         let number = self.value(operand, depth, held, target, sink)?;
         Ok(unary_value(op, number))
@@ -67,7 +72,7 @@ impl Runner<'_> {
 
     // An operator of two operands that are both evaluated.
     #[cycle(eval)]
-    #[tactic(auto, unfolding(sequence_terms::specs::Values::strict_binary, sequence_terms::specs::Values::operands, sequence_terms::specs::Values::both, sequence_terms::specs::Values::result_of, sequence_terms::specs::Calls::use_now, sequence_terms::specs::Direct::direct), using(crate::proofs::DirectLemmas::ends_on))]
+    #[tactic(auto, unfolding(sequence_terms::specs::Values::strict_binary, sequence_terms::specs::Values::operands, sequence_terms::specs::Values::both, sequence_terms::specs::Values::result_of, sequence_terms::specs::Calls::use_now, sequence_terms::specs::Direct::direct), using(crate::proofs::StopLemmas::ends_left, crate::proofs::StopLemmas::ends_right, crate::proofs::StopLemmas::cause_on))]
     fn strict_binary<K: Sink>(
         &self,
         op: BinaryOp,
@@ -80,6 +85,8 @@ impl Runner<'_> {
     ) -> Result<u64, End>
         ensures gives { (known : Bool) → Knows known (K.written sink.old) → Gives result (seen known held.new target.new (K.written sink.new)) (v.strict_binary (direct false) op (v.value (direct false) (calls_of self.now depth) (tree left.now) (seen known held.old target.old (K.written sink.old))) (v.value (direct false) (calls_of self.now depth) (tree right.now))) }
         ensures knows { (known : Bool) → Knows known (K.written sink.old) → Knows known (K.written sink.new) }
+        ensures made { (w : World) → IsMade w held.old target.old → IsMade w held.new target.new }
+        ensures cause { IsCaused result (K.faults sink.old) (K.faults sink.new) }
     {
         let left = self.value(left, depth, held, target, sink)?;
         let right = self.value(right, depth, held, target, sink)?;
@@ -91,7 +98,7 @@ impl Runner<'_> {
 
     // The right side counts only where the left one is not 0.
     #[cycle(eval)]
-    #[tactic(auto, unfolding(sequence_terms::specs::Values::conjunction, sequence_terms::specs::Values::used_now, sequence_terms::specs::Values::truth_of, sequence_terms::specs::Calls::use_now, sequence_terms::specs::Direct::direct), using(crate::proofs::DirectLemmas::ends_on))]
+    #[tactic(auto, unfolding(sequence_terms::specs::Values::conjunction, sequence_terms::specs::Values::used_now, sequence_terms::specs::Values::truth_of, sequence_terms::specs::Calls::use_now, sequence_terms::specs::Direct::direct), using(crate::proofs::StopLemmas::ends_and, crate::proofs::StopLemmas::ends_and_right, crate::proofs::StopLemmas::cause_on))]
     fn conjunction<K: Sink>(
         &self,
         left: &Expr,
@@ -103,6 +110,8 @@ impl Runner<'_> {
     ) -> Result<u64, End>
         ensures gives { (known : Bool) → Knows known (K.written sink.old) → Gives result (seen known held.new target.new (K.written sink.new)) (v.conjunction (direct false) (v.value (direct false) (calls_of self.now depth) (tree left.now) (seen known held.old target.old (K.written sink.old))) (v.value (direct false) (calls_of self.now depth) (tree right.now))) }
         ensures knows { (known : Bool) → Knows known (K.written sink.old) → Knows known (K.written sink.new) }
+        ensures made { (w : World) → IsMade w held.old target.old → IsMade w held.new target.new }
+        ensures cause { IsCaused result (K.faults sink.old) (K.faults sink.new) }
     {
         if self.value(left, depth, held, target, sink)? == 0 {
             return Ok(0);
@@ -113,7 +122,7 @@ impl Runner<'_> {
 
     // The right side counts only where the left one is 0.
     #[cycle(eval)]
-    #[tactic(auto, unfolding(sequence_terms::specs::Values::disjunction, sequence_terms::specs::Values::used_now, sequence_terms::specs::Values::truth_of, sequence_terms::specs::Calls::use_now, sequence_terms::specs::Direct::direct), using(crate::proofs::DirectLemmas::ends_on))]
+    #[tactic(auto, unfolding(sequence_terms::specs::Values::disjunction, sequence_terms::specs::Values::used_now, sequence_terms::specs::Values::truth_of, sequence_terms::specs::Calls::use_now, sequence_terms::specs::Direct::direct), using(crate::proofs::StopLemmas::ends_or, crate::proofs::StopLemmas::ends_or_right, crate::proofs::StopLemmas::cause_on))]
     fn disjunction<K: Sink>(
         &self,
         left: &Expr,
@@ -125,6 +134,8 @@ impl Runner<'_> {
     ) -> Result<u64, End>
         ensures gives { (known : Bool) → Knows known (K.written sink.old) → Gives result (seen known held.new target.new (K.written sink.new)) (v.disjunction (direct false) (v.value (direct false) (calls_of self.now depth) (tree left.now) (seen known held.old target.old (K.written sink.old))) (v.value (direct false) (calls_of self.now depth) (tree right.now))) }
         ensures knows { (known : Bool) → Knows known (K.written sink.old) → Knows known (K.written sink.new) }
+        ensures made { (w : World) → IsMade w held.old target.old → IsMade w held.new target.new }
+        ensures cause { IsCaused result (K.faults sink.old) (K.faults sink.new) }
     {
         if self.value(left, depth, held, target, sink)? != 0 {
             return Ok(1);
@@ -135,7 +146,7 @@ impl Runner<'_> {
 
     // An operator between its operands.
     #[cycle(eval)]
-    #[tactic(auto, unfolding(sequence_terms::specs::Values::of_binary), using(crate::proofs::DirectLemmas::ends_on))]
+    #[tactic(auto, unfolding(sequence_terms::specs::Values::of_binary))]
     fn binary_of<K: Sink>(
         &self,
         op: BinaryOp,
@@ -148,6 +159,8 @@ impl Runner<'_> {
     ) -> Result<u64, End>
         ensures gives { (known : Bool) → Knows known (K.written sink.old) → Gives result (seen known held.new target.new (K.written sink.new)) (v.of_binary (direct false) op (v.value (direct false) (calls_of self.now depth) (tree left.now) (seen known held.old target.old (K.written sink.old))) (v.value (direct false) (calls_of self.now depth) (tree right.now))) }
         ensures knows { (known : Bool) → Knows known (K.written sink.old) → Knows known (K.written sink.new) }
+        ensures made { (w : World) → IsMade w held.old target.old → IsMade w held.new target.new }
+        ensures cause { IsCaused result (K.faults sink.old) (K.faults sink.new) }
     {
         match op {
             BinaryOp::And => self.conjunction(left, right, depth, held, target, sink),
@@ -158,7 +171,7 @@ impl Runner<'_> {
 
     // One of two, by a condition.
     #[cycle(eval)]
-    #[tactic(auto, unfolding(sequence_terms::specs::Values::choice, sequence_terms::specs::Values::used_now, sequence_terms::specs::Calls::use_now, sequence_terms::specs::Direct::direct), using(crate::proofs::DirectLemmas::ends_on))]
+    #[tactic(auto, unfolding(sequence_terms::specs::Values::choice, sequence_terms::specs::Values::used_now, sequence_terms::specs::Calls::use_now, sequence_terms::specs::Direct::direct), using(crate::proofs::StopLemmas::ends_choice, crate::proofs::StopLemmas::cause_on))]
     fn choice<K: Sink>(
         &self,
         test: &Expr,
@@ -171,6 +184,8 @@ impl Runner<'_> {
     ) -> Result<u64, End>
         ensures gives { (known : Bool) → Knows known (K.written sink.old) → Gives result (seen known held.new target.new (K.written sink.new)) (v.choice (direct false) (v.value (direct false) (calls_of self.now depth) (tree test.now) (seen known held.old target.old (K.written sink.old))) (v.value (direct false) (calls_of self.now depth) (tree first.now)) (v.value (direct false) (calls_of self.now depth) (tree second.now))) }
         ensures knows { (known : Bool) → Knows known (K.written sink.old) → Knows known (K.written sink.new) }
+        ensures made { (w : World) → IsMade w held.old target.old → IsMade w held.new target.new }
+        ensures cause { IsCaused result (K.faults sink.old) (K.faults sink.new) }
     {
         if self.value(test, depth, held, target, sink)? == 0 {
             self.value(second, depth, held, target, sink)
@@ -181,7 +196,7 @@ impl Runner<'_> {
 
     // An assignment.
     #[cycle(eval)]
-    #[tactic(auto, unfolding(sequence_terms::specs::Values::assigned, sequence_terms::specs::Values::stored, sequence_terms::specs::Calls::guarded, sequence_terms::specs::Direct::direct), using(crate::proofs::DirectLemmas::ends_on))]
+    #[tactic(auto, unfolding(sequence_terms::specs::Values::assigned, sequence_terms::specs::Values::stored, sequence_terms::specs::Calls::guarded, sequence_terms::specs::Direct::direct), using(crate::proofs::StopLemmas::ends_assigned, crate::proofs::StopLemmas::cause_on))]
     fn assign<K: Sink>(
         &self,
         name: &Name,
@@ -193,6 +208,8 @@ impl Runner<'_> {
     ) -> Result<u64, End>
         ensures gives { (known : Bool) → Knows known (K.written sink.old) → Gives result (seen known held.new target.new (K.written sink.new)) (v.assigned (direct false) name.now (v.value (direct false) (calls_of self.now depth) (tree right.now) (seen known held.old target.old (K.written sink.old)))) }
         ensures knows { (known : Bool) → Knows known (K.written sink.old) → Knows known (K.written sink.new) }
+        ensures made { (w : World) → IsMade w held.old target.old → IsMade w held.new target.new }
+        ensures cause { IsCaused result (K.faults sink.old) (K.faults sink.new) }
     {
         let number = self.value(right, depth, held, target, sink)?;
         held.store(name.text.as_str(), number);

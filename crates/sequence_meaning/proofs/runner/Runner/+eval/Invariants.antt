@@ -3,7 +3,8 @@ use Rattle.expr_grammar.specs.Tree.{tree, arg_tree, arg_trees, stmt_tree, code_t
 use Rattle.seq_check.specs.Answers.{checked_trees}
 use Rattle.sequence_code.specs.Trees.{step_tree, steps_tree}
 use Rattle.sequence_terms.specs.Direct.{direct}
-use Rattle.sequence_meaning.specs.Held.{seen, Knows, calls_of}
+use Rattle.call_terms.specs.World.{World}
+use Rattle.sequence_meaning.specs.Held.{IsMade, seen, Knows, calls_of}
 use Rattle.sequence_terms.specs.Steps as m
 use Rattle.sequence_terms.specs.Values as v
 use Rattle.sequence_meaning.proofs.Sizes.{size, arg_size, args_size, stmt_size, block_size, cond_size, step_size, steps_size, all_size, budget}
@@ -103,24 +104,32 @@ abbrev pub invariant-arguments-loop-arg : goal.invariant-arguments-loop-arg
 invariant-arguments-loop-arg g l = record {
   same : (known : Bool) → Knows known (g.K.Sink.written l.fn.sink) → v.arguments (direct false) (calls_of l.self l.depth) (arg_trees l.args) l.fn.numbers.items (seen known l.fn.held l.fn.target (g.K.Sink.written l.fn.sink)) ≡ v.arguments (direct false) (calls_of l.self l.depth) (arg_trees (drop l.arg-index l.args)) l.numbers.items (seen known l.held l.target (g.K.Sink.written l.sink));
   knows : (known : Bool) → Knows known (g.K.Sink.written l.fn.sink) → Knows known (g.K.Sink.written l.sink);
+  made : (w : World) → IsMade w l.fn.held l.fn.target → IsMade w l.held l.target;
+  faults : g.K.Sink.faults l.sink ≡ g.K.Sink.faults l.fn.sink;
 }
 
 abbrev pub invariant-block-loop-one : goal.invariant-block-loop-one
 invariant-block-loop-one g l = record {
   same : (known : Bool) → Knows known (g.K.Sink.written l.fn.sink) → m.block (direct false) l.self.turn_us (calls_of l.self l.depth) (code_trees l.code) (seen known l.fn.held l.fn.target (g.K.Sink.written l.fn.sink)) ≡ m.block (direct false) l.self.turn_us (calls_of l.self l.depth) (code_trees (drop l.one-index l.code)) (seen known l.held l.target (g.K.Sink.written l.sink));
   knows : (known : Bool) → Knows known (g.K.Sink.written l.fn.sink) → Knows known (g.K.Sink.written l.sink);
+  made : (w : World) → IsMade w l.fn.held l.fn.target → IsMade w l.held l.target;
+  faults : g.K.Sink.faults l.sink ≡ g.K.Sink.faults l.fn.sink;
 }
 
 abbrev pub invariant-done-loop-one : goal.invariant-done-loop-one
 invariant-done-loop-one g l = record {
   same : (known : Bool) → Knows known (g.K.Sink.written l.fn.sink) → m.done (direct false) l.self.turn_us (calls_of l.self l.depth) (steps_tree l.steps) (seen known l.fn.held l.fn.target (g.K.Sink.written l.fn.sink)) ≡ m.done (direct false) l.self.turn_us (calls_of l.self l.depth) (steps_tree (drop l.one-index l.steps)) (seen known l.held l.target (g.K.Sink.written l.sink));
   knows : (known : Bool) → Knows known (g.K.Sink.written l.fn.sink) → Knows known (g.K.Sink.written l.sink);
+  made : (w : World) → IsMade w l.fn.held l.fn.target → IsMade w l.held l.target;
+  faults : g.K.Sink.faults l.sink ≡ g.K.Sink.faults l.fn.sink;
 }
 
 abbrev pub invariant-turns-loop-left : goal.invariant-turns-loop-left
 invariant-turns-loop-left g l = record {
   same : (known : Bool) → Knows known (g.K.Sink.written l.fn.sink) → m.turns (direct false) (λ r. v.value (direct false) (calls_of l.self l.depth) (tree l.expr) r) (λ r. m.inside (direct false) (λ q. m.done (direct false) l.self.turn_us (calls_of l.self l.depth) (steps_tree l.steps) q) r) l.count (seen known l.fn.held l.fn.target (g.K.Sink.written l.fn.sink)) ≡ m.turns (direct false) (λ r. v.value (direct false) (calls_of l.self l.depth) (tree l.expr) r) (λ r. m.inside (direct false) (λ q. m.done (direct false) l.self.turn_us (calls_of l.self l.depth) (steps_tree l.steps) q) r) l.left (seen known l.held l.target (g.K.Sink.written l.sink));
   knows : (known : Bool) → Knows known (g.K.Sink.written l.fn.sink) → Knows known (g.K.Sink.written l.sink);
+  made : (w : World) → IsMade w l.fn.held l.fn.target → IsMade w l.held l.target;
+  faults : g.K.Sink.faults l.sink ≡ g.K.Sink.faults l.fn.sink;
 }
 
 abbrev pub decreases-turns-loop-left : goal.decreases-turns-loop-left

@@ -3,11 +3,14 @@ use Rattle.expr_grammar.specs.Tree.{code_trees}
 use Rattle.seq_check.specs.Answers.{checked_trees}
 use Rattle.sequence_terms.specs.Direct.{direct}
 use Rattle.sequence_terms.specs.Steps as m
-use Rattle.sequence_meaning.specs.Held.{seen, Knows}
+use Rattle.call_terms.specs.World.{World}
+use Rattle.sequence_meaning.specs.Held.{IsMade, seen, Knows}
 use Rattle.sequence_meaning.proofs.runner.Runner.debug.Given as goal
 
 abbrev pub invariant-loop-one : goal.invariant-loop-one
 invariant-loop-one g l = record {
   same : (known : Bool) → Knows known (g.K.Sink.written l.fn.sink) → m.debugged (direct false) l.self.turn_us (checked_trees l.self.set.now) (code_trees l.code) (seen known l.fn.held l.fn.target (g.K.Sink.written l.fn.sink)) ≡ m.debugged (direct false) l.self.turn_us (checked_trees l.self.set.now) (code_trees (drop l.one-index l.code)) (seen known l.held l.target (g.K.Sink.written l.sink));
   knows : (known : Bool) → Knows known (g.K.Sink.written l.fn.sink) → Knows known (g.K.Sink.written l.sink);
+  made : (w : World) → IsMade w l.fn.held l.fn.target → IsMade w l.held l.target;
+  faults : g.K.Sink.faults l.sink ≡ g.K.Sink.faults l.fn.sink;
 }

@@ -1,0 +1,13 @@
+use Rattle.sequence_meaning.proofs.controls.polled.Goals as goal
+
+pub returns-in_err-counted-clause-made : goal.returns-in_err-counted-clause-made
+returns-in_err-counted-clause-made c = λ w made. c.counted.ensures.made w _ made
+
+pub returns-then-debug_port-ne0-clause-made : goal.returns-then-debug_port-ne0-clause-made
+returns-then-debug_port-ne0-clause-made c = λ w made. c.counted.ensures.made w _ made
+
+pub returns-in_err-ask-clause-made : goal.returns-in_err-ask-clause-made
+returns-in_err-ask-clause-made c = λ w made. c.ask.ensures.made w (c.counted.ensures.made w _ made)
+
+pub returns-clause-made : goal.returns-clause-made
+returns-clause-made c = λ w made. c.ask.ensures.made w (c.counted.ensures.made w _ made)
