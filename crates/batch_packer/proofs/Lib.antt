@@ -14,3 +14,7 @@ pub mod ChainBench
 pub mod FormLemmas
 pub mod FlightLemmas
 pub mod NextFlight
+pub mod SingleLemmas
+pub mod ActionLemmas
+pub mod PollLemmas
+pub mod GoingOn

@@ -9,13 +9,14 @@ use Rattle.dap_messages.specs.Commands.{bytes_of_kind}
 use Rattle.dap_messages.specs.Requests.{mask_request, match_request}
 use Rattle.dap_transfer.specs.Laws.{AreNormal}
 use Rattle.flight_forms.proofs.AskedRequests.{payload_normal}
+use Rattle.dap_transfer.specs.State.{is_good}
 use Rattle.flight_forms.specs.Flights.{Part}
 use Rattle.flight_forms.specs.Forms.{filled, parts_of}
 use Rattle.flight_forms.specs.Packets.{FitChain, FitsPacket, chain_kind, chain_packets, guarded_command}
 use Rattle.flight_forms.specs.Packing.{guarded_requests, payload}
 use Rattle.batch_packer.proofs.PartLemmas.{some_filled}
 use Rattle.batch_packer.proofs.PacketLemmas.{fits_packet}
-use Rattle.batch_packer.specs.ChainReadings.{guarded_in, guarded_reading, inner_reply, is_of_one, readings_after, then_reading}
+use Rattle.batch_packer.specs.ChainReadings.{ended_at, guarded_in, guarded_reading, inner_reply, is_of_one, noted_at, readings_after, then_reading}
 use Rattle.batch_packer.specs.Queues.{IsPartPacket}
 use Rattle.batch_packer.specs.Readings.{IsPacketOf, IsSeen, IsShown, part_with, reading}
 use Rattle.batch_packer.specs.declared.part.Progress.{Progress}
@@ -149,6 +150,28 @@ stops_at i replies reply part parts left sofar new all at split whole seen =
     subst (λ (x : Option Part). IsSeen x None new)
     (reads_on i replies reply part parts left sofar sofar None all at split whole (seen_none (then_reading sofar (guarded_reading part reply)) new seen)) tt
 
+-- ---- the reply at which it ended
+
+ends_on : (i at : ℕ) (replies : List (List ℕ)) (reply : List ℕ) (part : List RegAccess) (parts left : List (List RegAccess)) (sofar : Part) (found : Option Part) (all : ℕ) → slice_get replies i ≡ Some reply →
+    parts ≡ part ∷ left → ended_at (Some sofar) i at parts (drop i replies) ≡ all → then_reading sofar (guarded_reading part reply) ≡ found →
+    ended_at found (i + 1) (noted_at i at (is_good sofar.response) found) left (drop (i + 1) replies) ≡ all
+ends_on i at replies reply part parts left sofar found all here split whole is =
+    ap (λ x. ended_at x (i + 1) (noted_at i at (is_good sofar.response) x) left (drop (i + 1) replies)) (sym is)
+    ∙ (λ j. ended_at (Some sofar) i at (sym split j) (sym (drop_at i replies reply here) j))
+    ∙ whole
+
+pub end_goes_on : (i at noted : ℕ) (replies : List (List ℕ)) (reply : List ℕ) (part : List RegAccess) (parts left : List (List RegAccess)) (sofar : Part) (progress : Progress) (new : List (Option ℕ)) (all : ℕ) →
+    slice_get replies i ≡ Some reply → parts ≡ part ∷ left → ended_at (Some sofar) i at parts (drop i replies) ≡ all → noted ≡ cond (is_good sofar.response) i at →
+    IsSeen (then_reading sofar (guarded_reading part reply)) (Some progress) new → ended_at (Some (part_with progress new)) (i + 1) noted left (drop (i + 1) replies) ≡ all
+end_goes_on i at noted replies reply part parts left sofar progress new all here split whole note seen =
+    ap (λ n. ended_at (Some (part_with progress new)) (i + 1) n left (drop (i + 1) replies)) note
+    ∙ ends_on i at replies reply part parts left sofar (Some (part_with progress new)) all here split whole (seen_some (then_reading sofar (guarded_reading part reply)) progress new seen)
+
+pub end_stops_at : (i at : ℕ) (replies : List (List ℕ)) (reply : List ℕ) (part : List RegAccess) (parts left : List (List RegAccess)) (sofar : Part) (new : List (Option ℕ)) (all : ℕ) → slice_get replies i ≡ Some reply →
+    parts ≡ part ∷ left → ended_at (Some sofar) i at parts (drop i replies) ≡ all → IsSeen (then_reading sofar (guarded_reading part reply)) None new → i ≡ all
+end_stops_at i at replies reply part parts left sofar new all here split whole seen =
+    ends_on i at replies reply part parts left sofar None all here split whole (seen_none (then_reading sofar (guarded_reading part reply)) new seen)
+
 none_left : (parts : List (List RegAccess)) → [] ≡ chain_packets parts → parts ≡ []
 none_left [] e = refl
 none_left (part ∷ parts) e = absurd (let f = ap length e in omega arith)
@@ -165,6 +188,12 @@ ends_there i packets replies parts progress new all count past is whole =
     let none : parts ≡ [] = none_left parts (sym (drop_all i packets (omega arith)) ∙ is) in
     let seen : Some (part_with progress new) ≡ all = (λ j. readings_after (Some (part_with progress new)) (sym none j) (sym (drop_all i replies past) j)) ∙ whole in
     subst (λ (x : Option Part). IsSeen x (Some progress) new) seen refl
+
+pub end_is_there : (i at : ℕ) (packets replies : List (List ℕ)) (parts : List (List RegAccess)) (sofar : Part) (all : ℕ) → length replies ≡ length packets → length replies ≤ i → drop i packets ≡ chain_packets parts →
+    ended_at (Some sofar) i at parts (drop i replies) ≡ all → at ≡ all
+end_is_there i at packets replies parts sofar all count past is whole =
+    let none : parts ≡ [] = none_left parts (sym (drop_all i packets (omega arith)) ∙ is) in
+    ap (λ xs. ended_at (Some sofar) i at xs (drop i replies)) (sym none) ∙ whole
 
 -- after the last packet no access is left
 pub ends_past : (i : ℕ) (packets : List (List ℕ)) (size : ℕ) (rest : List RegAccess) → length packets ≤ i → drop i packets ≡ chain_packets (parts_of size rest) → length rest ≡ 0

@@ -1,5 +1,5 @@
 -- What the replies to the packets of a chain show.
-use Rattle.std.specs.Prelude.{ℕ, Bool, true, false, ◌&&◌, ◌||◌, ◌==◌, if◌then◌else◌, List, [], ◌∷◌, ◌++◌, Option, Some, None}
+use Rattle.std.specs.Prelude.{ℕ, ◌+◌, Bool, true, false, ◌&&◌, ◌||◌, ◌==◌, if◌then◌else◌, List, [], ◌∷◌, ◌++◌, Option, Some, None}
 use Rattle.target_machine.specs.declared.access.RegAccess.{RegAccess}
 use Rattle.dap_messages.specs.declared.request.Response.{Response}
 use Rattle.dap_messages.specs.declared.request.Response.TheVariants.{Good, Mismatch}
@@ -51,6 +51,21 @@ readings_after None parts replies = None
 readings_after (Some sofar) [] [] = Some sofar
 readings_after (Some sofar) (accesses ∷ parts) (reply ∷ replies) = readings_after (then_reading sofar (guarded_reading accesses reply)) parts replies
 readings_after (Some sofar) _ _ = None
+
+-- the number of the reply at which a chain ended, by this reply of this number: this one where it breaks the rules, and where all before it
+-- were OK
+abbrev pub noted_at : ℕ → ℕ → Bool → Option Part → ℕ
+noted_at i at good None = i
+noted_at i at good (Some part) = if good then i else at
+
+-- The number of the reply at which a chain ended: that of the first that breaks the rules, or else of the first that is not OK, or
+-- else of the last. The replies are numbered from i on, and what those before them showed, and their number so far, come first.
+abbrev pub ended_at : Option Part → ℕ → ℕ → List (List RegAccess) → List (List ℕ) → ℕ
+ended_at None i at parts replies = at
+ended_at (Some sofar) i at (accesses ∷ parts) (reply ∷ replies) =
+    let next : Option Part = then_reading sofar (guarded_reading accesses reply) in
+    ended_at next (i + 1) (noted_at i at (is_good sofar.response) next) parts replies
+ended_at (Some sofar) i at _ _ = at
 
 -- the values after a reply: where a value match was not met, none is added
 abbrev pub values_kept : Bool → List (Option ℕ) → List (Option ℕ) → List (Option ℕ)

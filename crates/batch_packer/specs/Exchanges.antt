@@ -8,6 +8,16 @@ pub record IsOpen (reported : Reported) : Type 0 where
   pub held : reported.held ≡ 0
   pub waiting : reported.waiting ≡ 0
 
+-- the limits of a bench and the count of its exchanges stay
+pub record StaysAt (old new : Reported) : Type 0 where
+  pub limits : new.limits ≡ old.limits
+  pub exchanges : new.exchanges ≡ old.exchanges
+
+-- the limits of a bench stay, and at most one exchange more is counted
+pub record GoesOn (old new : Reported) : Type 0 where
+  pub limits : new.limits ≡ old.limits
+  pub exchanges : (new.exchanges ≡ old.exchanges) ⊎ (new.exchanges ≡ counted old.exchanges)
+
 -- the state of a bench that holds no packet and in which no reply waits
 pub record IsIdle (m : BenchState) : Type 0 where
   pub held : m.probe.held ≡ []

@@ -25,6 +25,12 @@ pub record CanFly (m : BenchState) : Type 0 where
   pub guard : IsGuardOpen (transfers_of m)
   pub in_range : IsInRange (target_of m.probe)
 
+-- an idle bench with these limits, whose target has numbers in their ranges
+pub record HasLimits (given : Limits) (m : BenchState) : Type 0 where
+  pub idle : IsIdle m
+  pub limits : m.probe.executor.limits ≡ given
+  pub in_range : IsInRange (target_of m.probe)
+
 -- the same of an idle bench with these limits
 pub record IsReady (given : Limits) (m : BenchState) : Type 0 where
   pub idle : IsIdle m

@@ -8,3 +8,7 @@ pub mod ChainReadings
 pub mod FlightEnds
 pub mod AccessLists
 pub mod FlightStates
+pub mod Commands
+pub mod Actions
+pub mod Polling
+pub mod Kept

@@ -1,6 +1,7 @@
 //! A flight in one packet over a bench: a block of writes, or one Transfer.
-ghost use Rattle.std.specs.Prelude.{◌≡◌, ◌≤◌, [], true, length, IfOk, IfSome, OnOk, OnErr};
+ghost use Rattle.std.specs.Prelude.{◌≡◌, ◌≤◌, [], ◌∷◌, true, length, IfOk, IfSome, OnOk, OnErr};
 ghost use Rattle.dap_base.specs.Causes.{HasCause};
+ghost use Rattle.dap_messages.specs.Commands.{command_bytes};
 ghost use Rattle.probe_core.specs.Bench.{StepsTo, counted};
 ghost use Rattle.probe_core.specs.Ranges.{AreLimits};
 ghost use Rattle.probe_core.specs.Runs.{KeepsRuns};
@@ -8,7 +9,7 @@ ghost use Rattle.flight_forms.specs.Flights.{IsPartOf};
 ghost use Rattle.flight_forms.specs.Packets.{FitsPacket};
 ghost use Rattle.flight_forms.specs.Packing.{AreTaken, AreWords};
 ghost use Rattle.batch_packer.specs.Alone.{IsBlock, one_command, one_form, one_reading};
-ghost use Rattle.batch_packer.specs.Exchanges.{IsOpen};
+ghost use Rattle.batch_packer.specs.Exchanges.{GoesOn, IsOpen};
 ghost use Rattle.batch_packer.specs.FlightEnds.{IsSmall};
 ghost use Rattle.batch_packer.specs.Flying.{HasFlownBy, IsReady, MayHaveFlown};
 ghost use Rattle.batch_packer.specs.Queues.{IsFresh};
@@ -53,12 +54,14 @@ pub fn fly_alone<B: Bench>(
     ensures read { IfOk result (λ progress. IsSeen (one_reading is_block accesses.now replies.new.items) progress slots.new.values) }
     ensures short { IfOk result (λ progress. IfSome progress (λ p. IsPartOf (length accesses.now) (part_with p slots.new.values))) }
     ensures few { IfOk result (λ progress. IfSome progress IsSmall) }
+    ensures packets { OnOk result (packets.new.items ≡ command_bytes (one_command is_block accesses.now) ∷ []) }
     ensures last { OnOk result ((B.reported bench.new).last ≡ record { packets = packets.new.items; replies = replies.new.items }) }
     ensures exchanges { OnOk result ((B.reported bench.new).exchanges ≡ counted (B.reported bench.old).exchanges) }
     ensures open { OnOk result (IsOpen (B.reported bench.new)) }
     ensures packets_room { packets.new.room ≡ packets.old.room }
     ensures replies_room { replies.new.room ≡ replies.old.room }
     ensures slots_room { slots.new.room ≡ slots.old.room }
+    ensures keeps { GoesOn (B.reported bench.old) (B.reported bench.new) }
     ensures runs { KeepsRuns (B.state bench.old) (B.state bench.new) }
     ensures identity { B.identity bench.new ≡ B.identity bench.old }
     ensures cause { HasCause (B.reported bench.old).faults (B.reported bench.new).faults result }

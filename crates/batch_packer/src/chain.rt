@@ -11,8 +11,8 @@ ghost use Rattle.flight_forms.specs.Forms.{parts_of};
 ghost use Rattle.flight_forms.specs.Packets.{FitChain, chain_packets};
 ghost use Rattle.flight_forms.specs.Packing.{AreTaken, AreWords};
 ghost use Rattle.flight_forms.specs.declared.form.Form.TheVariants.{Chain};
-ghost use Rattle.batch_packer.specs.ChainReadings.{guarded_reading, is_mismatch, is_of_one, joined_if, readings_after, then_reading, values_kept};
-ghost use Rattle.batch_packer.specs.Exchanges.{IsOpen};
+ghost use Rattle.batch_packer.specs.ChainReadings.{ended_at, guarded_reading, is_mismatch, is_of_one, joined_if, readings_after, then_reading, values_kept};
+ghost use Rattle.batch_packer.specs.Exchanges.{GoesOn, IsOpen};
 ghost use Rattle.batch_packer.specs.FlightEnds.{IsSmall};
 ghost use Rattle.batch_packer.specs.Flying.{HasFlownBy, IsReady, MayHaveFlown};
 ghost use Rattle.batch_packer.specs.Queues.{IsChain, IsFresh, IsPartPacket};
@@ -181,6 +181,8 @@ fn read_packets(
     requires many { length packets.now.items ≤ 255 }
     requires slots { slots.old.values ≡ [] }
     requires room { 255 * length packets.now.items ≤ slots.old.room }
+    requires at { at.old ≡ 0 }
+    ensures at { at.new ≡ ended_at (Some nothing_yet) 0 0 (parts_of packet_size accesses.now) replies.now.items }
     ensures seen { IsSeen (readings_after (Some nothing_yet) (parts_of packet_size accesses.now) replies.now.items) result slots.new.values }
     ensures short { IfSome result (λ p. IsPartOf (length accesses.now) (part_with p slots.new.values)) }
     ensures few { IfSome result IsSmall }
@@ -231,18 +233,22 @@ pub fn fly_chain<B: Bench>(
     requires replies { IsFresh replies.old (length (parts_of packet_size accesses.now)) }
     requires slots { slots.old.values ≡ [] }
     requires room { 255 * length (parts_of packet_size accesses.now) ≤ slots.old.room }
+    requires at { at.old ≡ 0 }
     ensures flown { IfOk result (λ progress. StepsTo (λ m n. IsReady (B.reported bench.old).limits m
         → HasFlownBy Chain accesses.now progress slots.new.values m n) (B.state bench.old) (B.state bench.new)) }
     ensures failed { OnErr result (StepsTo (λ m n. IsReady (B.reported bench.old).limits m → MayHaveFlown accesses.now m n) (B.state bench.old) (B.state bench.new)) }
     ensures read { IfOk result (λ progress. IsSeen (readings_after (Some nothing_yet) (parts_of packet_size accesses.now) replies.new.items) progress slots.new.values) }
     ensures short { IfOk result (λ progress. IfSome progress (λ p. IsPartOf (length accesses.now) (part_with p slots.new.values))) }
     ensures few { IfOk result (λ progress. IfSome progress IsSmall) }
+    ensures packets { OnOk result (packets.new.items ≡ chain_packets (parts_of packet_size accesses.now)) }
+    ensures at { OnOk result (at.new ≡ ended_at (Some nothing_yet) 0 0 (parts_of packet_size accesses.now) replies.new.items) }
     ensures last { OnOk result ((B.reported bench.new).last ≡ record { packets = packets.new.items; replies = replies.new.items }) }
     ensures exchanges { OnOk result ((B.reported bench.new).exchanges ≡ counted (B.reported bench.old).exchanges) }
     ensures open { OnOk result (IsOpen (B.reported bench.new)) }
     ensures packets_room { packets.new.room ≡ packets.old.room }
     ensures replies_room { replies.new.room ≡ replies.old.room }
     ensures slots_room { slots.new.room ≡ slots.old.room }
+    ensures keeps { GoesOn (B.reported bench.old) (B.reported bench.new) }
     ensures runs { KeepsRuns (B.state bench.old) (B.state bench.new) }
     ensures identity { B.identity bench.new ≡ B.identity bench.old }
     ensures cause { HasCause (B.reported bench.old).faults (B.reported bench.new).faults result }

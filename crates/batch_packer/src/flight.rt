@@ -4,10 +4,11 @@ ghost use Rattle.probe_core.specs.Bench.{StepsTo};
 ghost use Rattle.probe_core.specs.Ranges.{AreLimits};
 ghost use Rattle.probe_core.specs.Runs.{KeepsRuns};
 ghost use Rattle.flight_forms.specs.Packing.{IsTaken};
-ghost use Rattle.batch_packer.specs.Exchanges.{IsOpen};
+ghost use Rattle.batch_packer.specs.Exchanges.{GoesOn, IsOpen};
 ghost use Rattle.batch_packer.specs.FlightEnds.{HasEndCause, IsShort, got_replies};
 ghost use Rattle.batch_packer.specs.FlightStates.{ReadBy, SentBy, can_resume, can_resume_by, has_room, item_at, items_kept, new_flight, sent_form};
 ghost use Rattle.batch_packer.specs.Flying.{CanFly, IsWithin};
+ghost use Rattle.batch_packer.specs.Kept.{AreCounted, AreSent, EndedAt};
 ghost use Rattle.batch_packer.specs.SlotList.{slot_room};
 
 use crate::accesses::AccessList;
@@ -20,6 +21,8 @@ use probe_core::{Bench, Limits, PacketList};
 use std::alloc::Global;
 use std::marker::Model;
 use target_machine::RegAccess;
+
+mod actions;
 
 // Forgets the packets and the replies unless the flight was cut or a reply was bad.
 fn forget(end: Option<FlightEnd>, packets: &mut PacketList, replies: &mut PacketList)
@@ -135,6 +138,24 @@ impl Flight {
         self.accesses.len() as u32
     }
 
+    // Forgets the packets and replies that were kept.
+    fn begin(&mut self)
+        ensures { self.new ≡ record self.old { packets = []; replies = []; at = 0 } }
+    {
+        self.packets.clear();
+        self.replies.clear();
+        self.at = 0;
+    }
+
+    // Notes how a flight ended, and keeps the packets and the replies of a cut or a bad reply.
+    fn note_end(&mut self, end: Option<FlightEnd>)
+        ensures { self.new ≡ record self.old { end = end; resumable = false; packets = items_kept end self.old.packets; replies = items_kept end self.old.replies } }
+    {
+        forget(end, &mut self.packets, &mut self.replies);
+        self.end = end;
+        self.resumable = false;
+    }
+
     // The form that holds the flight; `None` where there is no access.
     fn form(&self) -> Option<Form>
         ensures { result ≡ sent_form self.now.limits self.now.accesses }
@@ -160,19 +181,23 @@ impl Flight {
         ensures empty { self.new.accesses ≡ [] }
         ensures limits { self.new.limits ≡ self.old.limits }
         ensures resumable { self.new.resumable ≡ can_resume_by (sent_form self.old.limits self.old.accesses) result }
+        ensures sent { got_replies result ≡ true → AreSent (sent_form self.old.limits self.old.accesses) self.old.limits.packet_size self.old.accesses (B.reported bench.new).last.packets }
+        ensures packets { self.new.packets ≡ items_kept result (B.reported bench.new).last.packets }
+        ensures replies { self.new.replies ≡ items_kept result (B.reported bench.new).last.replies }
+        ensures at { got_replies result ≡ true → EndedAt (sent_form self.old.limits self.old.accesses) self.old.limits.packet_size self.old.accesses (B.reported bench.new).last.replies self.new.at }
+        ensures exchanges { got_replies result ≡ true → AreCounted (sent_form self.old.limits self.old.accesses) (B.reported bench.old).exchanges (B.reported bench.new).exchanges }
         ensures slots_room { slots.new.room ≡ slots.old.room }
+        ensures keeps { GoesOn (B.reported bench.old) (B.reported bench.new) }
         ensures runs { KeepsRuns (B.state bench.old) (B.state bench.new) }
         ensures identity { B.identity bench.new ≡ B.identity bench.old }
         ensures cause { HasEndCause (B.reported bench.old).faults (B.reported bench.new).faults result }
     {
         slots.clear();
+        self.begin();
         let Some(form) = self.form() else {
             self.resumable = false;
             return None;
         };
-        self.packets.clear();
-        self.replies.clear();
-        self.at = 0;
         let end = fly(
             form,
             self.limits,
@@ -184,11 +209,10 @@ impl Flight {
             slots,
             bench,
         );
-        forget(end, &mut self.packets, &mut self.replies);
+        self.note_end(end);
         self.accesses.clear();
         self.size = FlightSize::new(self.limits.packet_size, self.limits.packet_count);
         self.resumable = can_resume(form, end);
-        self.end = end;
         end
     }
 
@@ -228,7 +252,18 @@ impl Flight {
         ensures empty { self.old.end ≡ None → self.new.accesses ≡ [] }
         ensures limits { self.new.limits ≡ self.old.limits }
         ensures resumable { self.old.end ≡ None → self.new.resumable ≡ can_resume_by (sent_form self.old.limits self.old.accesses) self.new.end }
+        // Its packets are those of its form.
+        ensures sent { self.old.end ≡ None → got_replies self.new.end ≡ true
+            → AreSent (sent_form self.old.limits self.old.accesses) self.old.limits.packet_size self.old.accesses (B.reported bench.new).last.packets }
+        // At a cut or a bad reply the packets and the replies are kept, and which of them is shown.
+        ensures packets { self.old.end ≡ None → self.new.packets ≡ items_kept self.new.end (B.reported bench.new).last.packets }
+        ensures replies { self.old.end ≡ None → self.new.replies ≡ items_kept self.new.end (B.reported bench.new).last.replies }
+        ensures at { self.old.end ≡ None → got_replies self.new.end ≡ true → EndedAt (sent_form self.old.limits self.old.accesses) self.old.limits.packet_size self.old.accesses
+            (B.reported bench.new).last.replies self.new.at }
+        ensures exchanges { self.old.end ≡ None → got_replies self.new.end ≡ true
+            → AreCounted (sent_form self.old.limits self.old.accesses) (B.reported bench.old).exchanges (B.reported bench.new).exchanges }
         ensures slots_room { slots.new.room ≡ slots.old.room }
+        ensures keeps { GoesOn (B.reported bench.old) (B.reported bench.new) }
         ensures runs { KeepsRuns (B.state bench.old) (B.state bench.new) }
         ensures identity { B.identity bench.new ≡ B.identity bench.old }
         // A fault of the bench comes only where its count rose.

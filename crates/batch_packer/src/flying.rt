@@ -7,9 +7,10 @@ ghost use Rattle.probe_core.specs.Runs.{KeepsRuns};
 ghost use Rattle.flight_forms.specs.Flights.{IsPartOf};
 ghost use Rattle.flight_forms.specs.Forms.{form_of};
 ghost use Rattle.flight_forms.specs.Packing.{AreTaken, AreWords};
-ghost use Rattle.batch_packer.specs.Exchanges.{IsOpen};
+ghost use Rattle.batch_packer.specs.Exchanges.{GoesOn, IsOpen};
 ghost use Rattle.batch_packer.specs.FlightEnds.{EndsBy, Flew, HasEndCause, IsShort, IsSmall, end_at, end_of, flight_reading, form_reading, got_replies};
 ghost use Rattle.batch_packer.specs.Flying.{HasFlownBy, IsReady, IsWithin, MayHaveFlown};
+ghost use Rattle.batch_packer.specs.Kept.{form_ended_at, form_packets};
 ghost use Rattle.batch_packer.specs.Queues.{IsFresh};
 ghost use Rattle.batch_packer.specs.Readings.{IsSeen, part_with};
 
@@ -50,18 +51,22 @@ fn fly_in<B: Bench>(
     requires replies { IsFresh replies.old limits.packet_count }
     requires slots { slots.old.values ≡ [] }
     requires room { 255 * limits.packet_count ≤ slots.old.room }
+    requires at { at.old ≡ 0 }
     ensures flown { IfOk result (λ progress. StepsTo (λ m n. IsReady (B.reported bench.old).limits m
         → HasFlownBy form accesses.now progress slots.new.values m n) (B.state bench.old) (B.state bench.new)) }
     ensures failed { OnErr result (StepsTo (λ m n. IsReady (B.reported bench.old).limits m → MayHaveFlown accesses.now m n) (B.state bench.old) (B.state bench.new)) }
     ensures read { IfOk result (λ progress. IsSeen (form_reading form limits.packet_size accesses.now replies.new.items) progress slots.new.values) }
     ensures short { IfOk result (λ progress. IfSome progress (λ p. IsPartOf (length accesses.now) (part_with p slots.new.values))) }
     ensures few { IfOk result (λ progress. IfSome progress IsSmall) }
+    ensures packets { OnOk result (packets.new.items ≡ form_packets form limits.packet_size accesses.now) }
+    ensures at { OnOk result (at.new ≡ form_ended_at form limits.packet_size accesses.now replies.new.items) }
     ensures last { OnOk result ((B.reported bench.new).last ≡ record { packets = packets.new.items; replies = replies.new.items }) }
     ensures exchanges { OnOk result ((B.reported bench.new).exchanges ≡ counted (B.reported bench.old).exchanges) }
     ensures open { OnOk result (IsOpen (B.reported bench.new)) }
     ensures packets_room { packets.new.room ≡ packets.old.room }
     ensures replies_room { replies.new.room ≡ replies.old.room }
     ensures slots_room { slots.new.room ≡ slots.old.room }
+    ensures keeps { GoesOn (B.reported bench.old) (B.reported bench.new) }
     ensures runs { KeepsRuns (B.state bench.old) (B.state bench.new) }
     ensures identity { B.identity bench.new ≡ B.identity bench.old }
     ensures cause { HasCause (B.reported bench.old).faults (B.reported bench.new).faults result }
@@ -136,15 +141,19 @@ pub fn fly<B: Bench>(
     requires replies { IsFresh replies.old limits.packet_count }
     requires slots { slots.old.values ≡ [] }
     requires room { 255 * limits.packet_count ≤ slots.old.room }
+    requires at { at.old ≡ 0 }
     ensures flown { StepsTo (λ m n. IsReady (B.reported bench.old).limits m → Flew form accesses.now result slots.new.values m n) (B.state bench.old) (B.state bench.new) }
     ensures read { EndsBy (flight_reading form limits.packet_size accesses.now (B.reported bench.new).last.replies) result slots.new.values }
     ensures short { IsShort (length accesses.now) result }
+    ensures packets { got_replies result ≡ true → (B.reported bench.new).last.packets ≡ form_packets form limits.packet_size accesses.now }
+    ensures at { got_replies result ≡ true → at.new ≡ form_ended_at form limits.packet_size accesses.now (B.reported bench.new).last.replies }
     ensures last { got_replies result ≡ true → (B.reported bench.new).last ≡ record { packets = packets.new.items; replies = replies.new.items } }
     ensures exchanges { got_replies result ≡ true → (B.reported bench.new).exchanges ≡ counted (B.reported bench.old).exchanges }
     ensures open { got_replies result ≡ true → IsOpen (B.reported bench.new) }
     ensures packets_room { packets.new.room ≡ packets.old.room }
     ensures replies_room { replies.new.room ≡ replies.old.room }
     ensures slots_room { slots.new.room ≡ slots.old.room }
+    ensures keeps { GoesOn (B.reported bench.old) (B.reported bench.new) }
     ensures runs { KeepsRuns (B.state bench.old) (B.state bench.new) }
     ensures identity { B.identity bench.new ≡ B.identity bench.old }
     ensures cause { HasEndCause (B.reported bench.old).faults (B.reported bench.new).faults result }

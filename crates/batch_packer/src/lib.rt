@@ -11,10 +11,13 @@ mod flying;
 pub mod laws;
 mod packing;
 mod part;
+mod poll;
 mod queue;
 mod reply;
+mod single;
 mod slots;
 
 pub use ends::{Cut, FlightEnd};
 pub use flight::Flight;
+pub use poll::{Config, PollAsk};
 pub use slots::Slots;

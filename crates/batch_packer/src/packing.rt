@@ -1,7 +1,7 @@
 //! The words, the packets and the parts of a flight's accesses.
 ghost use Rattle.std.specs.Prelude.{◌≡◌, ◌≤◌, ◌<◌, ◌+◌, ◌++◌, ◌∷◌, [], true, false, length, take};
 ghost use Rattle.dap_messages.specs.declared.command_value.CommandValue.TheVariants.{Transfer};
-ghost use Rattle.dap_messages.specs.Commands.{IsCommand, bytes_of_kind, command_bytes};
+ghost use Rattle.dap_messages.specs.Commands.{IsCommand, bytes_of_kind, command_bytes, command_value};
 ghost use Rattle.flight_forms.specs.Flights.{words_of};
 ghost use Rattle.flight_forms.specs.Forms.{parts_of};
 ghost use Rattle.flight_forms.specs.Packets.{FitChain, FitsPacket, chain_packets, guarded_command};
@@ -56,10 +56,7 @@ fn write_block(accesses: &[RegAccess], bytes: &mut [u8]) -> usize
         request: WRITE_DRW,
         words: &words[..count],
     };
-    match write_command(&command, bytes) {
-        Some(size) => size,
-        None => 0,
-    }
+    write_single(&command, bytes)
 }
 
 // Writes a Transfer of these requests into the front of a buffer, and answers how many bytes it has.
@@ -69,10 +66,7 @@ fn write_transfer(requests: &[Request], bytes: &mut [u8]) -> usize
     ensures within { result ≤ length bytes.new }
     ensures front { take result bytes.new ≡ command_bytes (Transfer requests.now) }
 {
-    match write_command(&Command::Transfer(requests), bytes) {
-        Some(size) => size,
-        None => 0,
-    }
+    write_single(&Command::Transfer(requests), bytes)
 }
 
 /// Writes the command of a flight in one packet into the front of a buffer, and answers how many
@@ -94,6 +88,19 @@ pub fn write_one(
         write_block(accesses, bytes)
     } else {
         write_transfer(requests, bytes)
+    }
+}
+
+/// Writes a command of few bytes into the front of a buffer, and answers how many it has.
+pub fn write_single(command: &Command<'_>, bytes: &mut [u8]) -> usize
+    requires command { IsCommand (command_value command.now) }
+    requires fits { length (command_bytes (command_value command.now)) ≤ length bytes.old }
+    ensures within { result ≤ length bytes.new }
+    ensures front { take result bytes.new ≡ command_bytes (command_value command.now) }
+{
+    match write_command(command, bytes) {
+        Some(size) => size,
+        None => 0,
     }
 }
 

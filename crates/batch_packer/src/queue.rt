@@ -3,7 +3,7 @@ ghost use Rattle.std.specs.Prelude.{◌≡◌, ◌≤◌, [], fold, length, OnOk
 ghost use Rattle.dap_base.specs.Causes.{HasCause};
 ghost use Rattle.probe_core.specs.Bench.{StepsTo, received, sent, served};
 ghost use Rattle.probe_core.specs.Runs.{KeepsRuns};
-ghost use Rattle.batch_packer.specs.Exchanges.{IsOpen};
+ghost use Rattle.batch_packer.specs.Exchanges.{GoesOn, IsOpen, StaysAt};
 ghost use Rattle.batch_packer.specs.Queues.{HandedSome, IsQueue, ServedSome};
 
 use dap_base::Failed;
@@ -18,6 +18,7 @@ pub fn send_all<B: Bench>(packets: &PacketList, bench: &mut B) -> Result<(), Fai
     ensures reported { OnOk result (B.reported bench.new ≡ fold sent (B.reported bench.old) packets.now.items) }
     ensures state { OnOk result (StepsTo (λ m n. n ≡ fold served m packets.now.items) (B.state bench.old) (B.state bench.new)) }
     ensures failed { OnErr result (StepsTo (ServedSome packets.now.items) (B.state bench.old) (B.state bench.new)) }
+    ensures keeps { GoesOn (B.reported bench.old) (B.reported bench.new) }
     ensures runs { KeepsRuns (B.state bench.old) (B.state bench.new) }
     ensures identity { B.identity bench.new ≡ B.identity bench.old }
     ensures cause { HasCause (B.reported bench.old).faults (B.reported bench.new).faults result }
@@ -48,6 +49,7 @@ pub fn receive_all<B: Bench>(
     ensures room { replies.new.room ≡ replies.old.room }
     ensures reported { OnOk result (B.reported bench.new ≡ fold received (B.reported bench.old) replies.new.items) }
     ensures state { StepsTo (HandedSome replies.new.items) (B.state bench.old) (B.state bench.new) }
+    ensures keeps { StaysAt (B.reported bench.old) (B.reported bench.new) }
     ensures runs { KeepsRuns (B.state bench.old) (B.state bench.new) }
     ensures identity { B.identity bench.new ≡ B.identity bench.old }
     ensures cause { HasCause (B.reported bench.old).faults (B.reported bench.new).faults result }

@@ -1,5 +1,5 @@
 //! What the reply to a packet says of the accesses of its command.
-ghost use Rattle.std.specs.Prelude.{◌≡◌, ◌+◌, ◌≤◌, List, [], ◌∷◌, length, slice_get, IfSome};
+ghost use Rattle.std.specs.Prelude.{◌≡◌, ◌+◌, ◌≤◌, List, [], ◌∷◌, length, slice_get, IfSome, Some};
 ghost use Rattle.dap_messages.specs.declared.command.PacketKind.{PacketKind};
 ghost use Rattle.dap_messages.specs.declared.command_value.CommandValue.{CommandValue};
 ghost use Rattle.dap_messages.specs.ReplyReading.{reply_read};
@@ -13,7 +13,7 @@ use crate::slots::Slots;
 use dap_messages::{CommandView, ReplyView, Request, Response, packet_view, reply_view};
 
 // The command of a packet at this index.
-pub fn command_in<'a>(packet: &'a [u8], index: u8) -> Option<CommandView<'a>>
+fn command_in<'a>(packet: &'a [u8], index: u8) -> Option<CommandView<'a>>
     ensures { (kind : PacketKind) (commands : List CommandValue) → IsPacketOf kind commands packet.now → result ≡ slice_get commands index }
 {
     match packet_view(packet) {
@@ -23,13 +23,25 @@ pub fn command_in<'a>(packet: &'a [u8], index: u8) -> Option<CommandView<'a>>
 }
 
 // What a reply shows, where it is one that the command may get.
-pub fn view_in<'a>(command: &CommandView<'_>, reply: &'a [u8]) -> Option<ReplyView<'a>>
+fn view_in<'a>(command: &CommandView<'_>, reply: &'a [u8]) -> Option<ReplyView<'a>>
     ensures read { result ≡ shown_in (reply_read command.now reply.now) }
     ensures answers { IfSome result (IsReplyTo command.now reply.now) }
 {
     match reply_view(command, reply) {
         Ok(view) => Some(view),
         Err(_) => None,
+    }
+}
+
+/// What a reply to the command of a packet at this index shows, where it is one that the command may
+/// get.
+pub fn view_at<'a>(packet: &[u8], index: u8, reply: &'a [u8]) -> Option<ReplyView<'a>>
+    ensures { (kind : PacketKind) (commands : List CommandValue) (command : CommandValue) → IsPacketOf kind commands packet.now → slice_get commands index ≡ Some command
+        → result ≡ shown_in (reply_read command reply.now) }
+{
+    match command_in(packet, index) {
+        None => None,
+        Some(command) => view_in(&command, reply),
     }
 }
 

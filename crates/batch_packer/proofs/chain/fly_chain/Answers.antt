@@ -4,6 +4,7 @@ use Rattle.flight_forms.proofs.PartLists.{all_parts, parts_have, parts_taken}
 use Rattle.target_machine.specs.InRange.{IsWord}
 use Rattle.flight_forms.specs.Forms.{parts_of}
 use Rattle.batch_packer.proofs.ChainBench.{chain_done, chain_fits_more, chain_is_queue, chain_waits, flew_chain, packet_count, receive_failed, send_failed}
+use Rattle.batch_packer.proofs.GoingOn.{goes_stays}
 use Rattle.batch_packer.proofs.PartLemmas.{parts_some}
 use Rattle.batch_packer.proofs.chain.fly_chain.Goals as goal
 
@@ -106,3 +107,11 @@ returns-in-Ok-receive_all-clause-open g c =
 
 pub read_packets-requires-clause-taken : goal.read_packets-requires-clause-taken
 read_packets-requires-clause-taken g c = parts_taken c.args.packet_size c.args.accesses.now c.requires.taken
+
+pub returns-in-Err-receive_all-clause-keeps : goal.returns-in-Err-receive_all-clause-keeps
+returns-in-Err-receive_all-clause-keeps g c =
+    goes_stays (g.B.Bench.reported c.args.bench.now) (g.B.Bench.reported c.send_all.new.bench) (g.B.Bench.reported c.receive_all.new.bench) c.send_all.ensures.keeps c.receive_all.ensures.keeps
+
+pub returns-in-Ok-receive_all-clause-keeps : goal.returns-in-Ok-receive_all-clause-keeps
+returns-in-Ok-receive_all-clause-keeps g c =
+    goes_stays (g.B.Bench.reported c.args.bench.now) (g.B.Bench.reported c.send_all.new.bench) (g.B.Bench.reported c.receive_all.new.bench) c.send_all.ensures.keeps c.receive_all.ensures.keeps

@@ -3,11 +3,11 @@ use Rattle.target_machine.specs.declared.access.RegAccess.{RegAccess}
 use Rattle.flight_forms.specs.Chains.{nothing_yet}
 use Rattle.flight_forms.specs.Forms.{parts_of}
 use Rattle.batch_packer.proofs.PartLemmas.{fits_left, part_made, slice_rest}
-use Rattle.batch_packer.proofs.ReadLemmas.{ends_past, ends_there, goes_on, next_packet, rest_some, stops_at}
+use Rattle.batch_packer.proofs.ReadLemmas.{end_goes_on, end_is_there, end_stops_at, ends_past, ends_there, goes_on, next_packet, rest_some, stops_at}
 use Rattle.batch_packer.proofs.ShortLemmas.{all_short, next_short, length_taken, some_taken, taken_left}
 use Rattle.flight_forms.specs.Flights.{IsPartOf}
 use Rattle.flight_forms.specs.Packing.{AreTaken}
-use Rattle.batch_packer.specs.ChainReadings.{guarded_reading, readings_after, then_reading}
+use Rattle.batch_packer.specs.ChainReadings.{ended_at, guarded_reading, readings_after, then_reading}
 use Rattle.batch_packer.specs.Queues.{IsPartPacket}
 use Rattle.batch_packer.specs.Readings.{IsSeen, part_with}
 use Rattle.batch_packer.proofs.chain.read_packets.Goals as goal
@@ -49,6 +49,19 @@ returns-in-None-clause-seen c =
     stops_at c.loop-i.i c.args.replies.now.items c.get-in-loop-i.result.now (take len rest) (parts_of size rest) (parts_of size (drop len rest)) (part_with c.loop-i.so_far c.loop-i.slots.values) c.read_next.new.slots.values
     (readings_after (Some nothing_yet) (parts_of size c.args.accesses.now) c.args.replies.now.items) c.get-in-loop-i.ensures part c.loop-i.invariant.whole seen
 
+pub returns-in-None-clause-at : goal.returns-in-None-clause-at
+returns-in-None-clause-at c =
+    let rest : List RegAccess = drop c.loop-i.start c.args.accesses.now in
+    let len : ℕ = c.first_part-len.result in
+    let size : ℕ = c.args.packet_size in
+    let same : take (length c.args.accesses.now - c.loop-i.start) rest ≡ rest = slice_rest c.loop-i.start c.args.accesses.now c.loop-i.invariant.within in
+    let part : parts_of size rest ≡ take len rest ∷ parts_of size (drop len rest) =
+    subst (λ (ys : List RegAccess). parts_of size ys ≡ take len ys ∷ parts_of size (drop len ys)) same c.first_part-len.ensures.part in
+    let seen : IsSeen (then_reading (part_with c.loop-i.so_far c.loop-i.slots.values) (guarded_reading (take len rest) c.get-in-loop-i.result.now)) None c.read_next.new.slots.values =
+    subst (λ (ys : List RegAccess). IsSeen (then_reading (part_with c.loop-i.so_far c.loop-i.slots.values) (guarded_reading (take len ys) c.get-in-loop-i.result.now)) None c.read_next.new.slots.values) same c.in-None.ensures.seen in
+    end_stops_at c.loop-i.i c.loop-i.at c.args.replies.now.items c.get-in-loop-i.result.now (take len rest) (parts_of size rest) (parts_of size (drop len rest)) (part_with c.loop-i.so_far c.loop-i.slots.values) c.read_next.new.slots.values
+    (ended_at (Some nothing_yet) 0 0 (parts_of size c.args.accesses.now) c.args.replies.now.items) c.get-in-loop-i.ensures part c.loop-i.invariant.at_is seen
+
 pub loop-i-preserved : goal.loop-i-preserved
 loop-i-preserved c =
     let xs : List RegAccess = c.args.accesses.now in
@@ -74,6 +87,8 @@ loop-i-preserved c =
     record {
       whole = goes_on c.loop-i.i c.args.replies.now.items c.get-in-loop-i.result.now (take len rest) (parts_of size rest) left (part_with c.loop-i.so_far c.loop-i.slots.values) c.in-Some.progress c.read_next.new.slots.values
           (readings_after (Some nothing_yet) (parts_of size xs) c.args.replies.now.items) c.get-in-loop-i.ensures made.parts inv.whole seen;
+      at_is = end_goes_on c.loop-i.i c.loop-i.at c.mark.new.at c.args.replies.now.items c.get-in-loop-i.result.now (take len rest) (parts_of size rest) left (part_with c.loop-i.so_far c.loop-i.slots.values) c.in-Some.progress
+          c.read_next.new.slots.values (ended_at (Some nothing_yet) 0 0 (parts_of size xs) c.args.replies.now.items) c.get-in-loop-i.ensures made.parts inv.at_is c.mark.ensures seen;
       packets = next.rest;
       within = made.within;
       fits = fits.1;
@@ -92,6 +107,13 @@ returns-clause-seen c =
     ends_there c.loop-i.i c.args.packets.now.items c.args.replies.now.items (parts_of c.args.packet_size (drop c.loop-i.start c.args.accesses.now)) c.loop-i.so_far c.loop-i.slots.values
     (readings_after (Some nothing_yet) (parts_of c.args.packet_size c.args.accesses.now) c.args.replies.now.items) c.requires.replies (let a = c.loop-i-test.false in let b = c.len-i-end.ensures in omega arith)
     inv.packets inv.whole
+
+pub returns-clause-at : goal.returns-clause-at
+returns-clause-at c =
+    let inv = c.loop-i.invariant in
+    end_is_there c.loop-i.i c.loop-i.at c.args.packets.now.items c.args.replies.now.items (parts_of c.args.packet_size (drop c.loop-i.start c.args.accesses.now)) (part_with c.loop-i.so_far c.loop-i.slots.values)
+    (ended_at (Some nothing_yet) 0 0 (parts_of c.args.packet_size c.args.accesses.now) c.args.replies.now.items) c.requires.replies (let a = c.loop-i-test.false in let b = c.len-i-end.ensures in omega arith)
+    inv.packets inv.at_is
 
 pub read_next-requires-clause-some : goal.read_next-requires-clause-some
 read_next-requires-clause-some c =

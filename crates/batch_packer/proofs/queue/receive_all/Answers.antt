@@ -1,9 +1,16 @@
 use Rattle.std.proofs.Common.{◌≡◌, ◌<◌, ◌++◌, ◌∷◌, [], List, ℕ, take, ap, ◌∙◌, arith}
 use Rattle.probe_core.specs.Bench.{Reported}
 use Rattle.probe_core.specs.Packets.{Packets}
+use Rattle.batch_packer.proofs.GoingOn.{stays_failed, stays_received, stays_then}
 use Rattle.batch_packer.proofs.StateSteps.{runs_then}
 use Rattle.batch_packer.proofs.QueueLemmas.{handed_next, one_fewer, one_longer, received_next}
 use Rattle.batch_packer.proofs.queue.receive_all.Goals as goal
+
+pub returns-in-Err-clause-keeps : goal.returns-in-Err-clause-keeps
+returns-in-Err-clause-keeps g c =
+    let inv = c.loop.invariant in
+    stays_then (g.B.Bench.reported c.args.bench.now) (g.B.Bench.reported c.loop.bench) (g.B.Bench.reported c.receive.new.self) inv.stays
+    (stays_failed (g.B.Bench.reported c.loop.bench) (g.B.Bench.reported c.receive.new.self) (g.B.Bench.state c.loop.bench) (g.B.Bench.state c.receive.new.self) c.in-Err.ensures.failed)
 
 pub loop-preserved : goal.loop-preserved
 loop-preserved g c =
@@ -24,6 +31,7 @@ loop-preserved g c =
       identity = c.in-Ok.ensures.identity ∙ inv.identity;
       faults = ap (λ (x : Reported). x.faults) reported ∙ inv.faults;
       limits = ap (λ (x : Reported). x.limits) reported ∙ inv.limits;
+      stays = stays_then t u v inv.stays (stays_received reply u v reported);
       waiting = one_fewer t u v reply c.loop.counter t.waiting reported inv.waiting below;
       count = one_longer old new reply c.loop.counter is inv.count;
       room = ap (λ (p : Packets). p.room) c.push.ensures ∙ inv.room;

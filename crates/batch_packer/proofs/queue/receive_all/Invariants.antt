@@ -1,6 +1,7 @@
 use Rattle.std.proofs.Common.{◌≡◌, ◌+◌, length, fold}
 use Rattle.probe_core.specs.Bench.{StepsTo, received}
 use Rattle.probe_core.specs.Runs.{KeepsRuns}
+use Rattle.batch_packer.specs.Exchanges.{StaysAt}
 use Rattle.batch_packer.specs.Queues.{HandedSome}
 use Rattle.batch_packer.proofs.queue.receive_all.Given as goal
 
@@ -12,6 +13,7 @@ invariant-loop g l = record {
   identity : g.B.Bench.identity l.bench ≡ g.B.Bench.identity l.fn.bench;
   faults : (g.B.Bench.reported l.bench).faults ≡ (g.B.Bench.reported l.fn.bench).faults;
   limits : (g.B.Bench.reported l.bench).limits ≡ (g.B.Bench.reported l.fn.bench).limits;
+  stays : StaysAt (g.B.Bench.reported l.fn.bench) (g.B.Bench.reported l.bench);
   waiting : (g.B.Bench.reported l.bench).waiting + l.counter ≡ (g.B.Bench.reported l.fn.bench).waiting;
   count : length l.replies.items ≡ l.counter;
   room : l.replies.room ≡ l.fn.replies.room;

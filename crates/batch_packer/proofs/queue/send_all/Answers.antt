@@ -1,6 +1,7 @@
 use Rattle.std.proofs.Common.{◌≡◌, ◌+◌, ◌<◌, length, ap, ◌∙◌, true, cond, arith}
 use Rattle.probe_core.specs.Bench.{Reported}
 use Rattle.probe_core.specs.Probe.{is_queued}
+use Rattle.batch_packer.proofs.GoingOn.{goes_broken, goes_counted, sent_count}
 use Rattle.batch_packer.proofs.StateSteps.{runs_then}
 use Rattle.batch_packer.proofs.QueueLemmas.{sent_next, served_next, served_some}
 use Rattle.batch_packer.proofs.queue.send_all.Goals as goal
@@ -9,6 +10,16 @@ pub returns-in-Err-clause-failed : goal.returns-in-Err-clause-failed
 returns-in-Err-clause-failed g c =
     served_some c.loop-i.i c.args.packets.now.items c.get.result.now (g.B.Bench.state c.args.bench.now) (g.B.Bench.reported c.loop-i.bench) (g.B.Bench.reported c.send.new.self)
     (g.B.Bench.state c.loop-i.bench) (g.B.Bench.state c.send.new.self) c.get.ensures c.loop-i.invariant.state c.in-Err.ensures.failed
+
+pub returns-in-Err-clause-keeps : goal.returns-in-Err-clause-keeps
+returns-in-Err-clause-keeps g c =
+    let inv = c.loop-i.invariant in
+    let within : c.loop-i.i < length c.args.packets.now.items = omega (arith, c.loop-i-test.true, c.len-i-end.ensures) in
+    goes_broken c.loop-i.i c.get.result.now (g.B.Bench.reported c.args.bench.now) (g.B.Bench.reported c.loop-i.bench) (g.B.Bench.reported c.send.new.self) (g.B.Bench.state c.loop-i.bench) (g.B.Bench.state c.send.new.self)
+    inv.limits (inv.held within) inv.exchanges c.in-Err.ensures.failed
+
+pub returns-clause-keeps : goal.returns-clause-keeps
+returns-clause-keeps g c = let inv = c.loop-i.invariant in goes_counted c.loop-i.i (g.B.Bench.reported c.args.bench.now) (g.B.Bench.reported c.loop-i.bench) inv.limits inv.exchanges
 
 pub loop-i-preserved : goal.loop-i-preserved
 loop-i-preserved g c =
@@ -23,6 +34,7 @@ loop-i-preserved g c =
       identity = c.in-Ok.ensures.identity ∙ inv.identity;
       faults = ap (λ (t : Reported). t.faults) reported ∙ inv.faults;
       limits = ap (λ (t : Reported). t.limits) reported ∙ inv.limits;
+      exchanges = sent_count c.loop-i.i (g.B.Bench.reported c.args.bench.now).exchanges packet (g.B.Bench.reported c.loop-i.bench) (g.B.Bench.reported c.send.new.self) reported (inv.held within) inv.exchanges;
       held = λ h. (let q : is_queued packet ≡ true = c.requires.chain.held c.loop-i.i packet c.get.ensures h in
           ap (λ (t : Reported). t.held) reported ∙ ap (λ b. cond b ((g.B.Bench.reported c.loop-i.bench).held + 1) 0) q ∙ ap (λ n. n + 1) (inv.held within));
       waiting = λ h. (let q : is_queued packet ≡ true = c.requires.chain.held c.loop-i.i packet c.get.ensures h in

@@ -1,6 +1,7 @@
 use Rattle.std.proofs.Common.{◌≡◌, ◌<◌, length, take, fold}
 use Rattle.probe_core.specs.Bench.{StepsTo, sent, served}
 use Rattle.probe_core.specs.Runs.{KeepsRuns}
+use Rattle.batch_packer.proofs.GoingOn.{count_after}
 use Rattle.batch_packer.proofs.queue.send_all.Given as goal
 
 abbrev pub invariant-loop-i : goal.invariant-loop-i
@@ -11,6 +12,7 @@ invariant-loop-i g l = record {
   identity : g.B.Bench.identity l.bench ≡ g.B.Bench.identity l.fn.bench;
   faults : (g.B.Bench.reported l.bench).faults ≡ (g.B.Bench.reported l.fn.bench).faults;
   limits : (g.B.Bench.reported l.bench).limits ≡ (g.B.Bench.reported l.fn.bench).limits;
+  exchanges : (g.B.Bench.reported l.bench).exchanges ≡ count_after l.i (g.B.Bench.reported l.fn.bench).exchanges;
   held : l.i < length l.packets.items → (g.B.Bench.reported l.bench).held ≡ l.i;
   waiting : l.i < length l.packets.items → (g.B.Bench.reported l.bench).waiting ≡ 0;
 }

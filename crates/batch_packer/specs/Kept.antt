@@ -1,0 +1,38 @@
+-- The packets of a flight, which of them it ended at, and what is kept of them.
+use Rattle.std.specs.Prelude.{◌≡◌, ℕ, List, [], ◌∷◌, Option, Some, None}
+use Rattle.target_machine.specs.declared.access.RegAccess.{RegAccess}
+use Rattle.dap_messages.specs.Commands.{command_bytes}
+use Rattle.probe_core.specs.Bench.{counted}
+use Rattle.flight_forms.specs.Chains.{nothing_yet}
+use Rattle.flight_forms.specs.Forms.{parts_of}
+use Rattle.flight_forms.specs.Packets.{block_command, chain_packets, transfer_command}
+use Rattle.flight_forms.specs.declared.form.Form.{Form}
+use Rattle.flight_forms.specs.declared.form.Form.TheVariants.{Block, Transfer, Chain}
+use Rattle.batch_packer.specs.ChainReadings.{ended_at}
+
+-- the packets of a flight in this form, of this size at most
+abbrev pub form_packets : Form → ℕ → List RegAccess → List (List ℕ)
+form_packets Block size accesses = command_bytes (block_command accesses) ∷ []
+form_packets Transfer size accesses = command_bytes (transfer_command accesses) ∷ []
+form_packets Chain size accesses = chain_packets (parts_of size accesses)
+
+-- the number of the reply, and of its packet, at which it ended
+abbrev pub form_ended_at : Form → ℕ → List RegAccess → List (List ℕ) → ℕ
+form_ended_at Block size accesses replies = 0
+form_ended_at Transfer size accesses replies = 0
+form_ended_at Chain size accesses replies = ended_at (Some nothing_yet) 0 0 (parts_of size accesses) replies
+
+-- these packets were sent, where something was
+abbrev pub AreSent : Option Form → ℕ → List RegAccess → List (List ℕ) → Type 0
+AreSent None size accesses packets = Unit {0}
+AreSent (Some form) size accesses packets = packets ≡ form_packets form size accesses
+
+-- the flight ended at the packet and reply of this number
+abbrev pub EndedAt : Option Form → ℕ → List RegAccess → List (List ℕ) → ℕ → Type 0
+EndedAt None size accesses replies at = at ≡ 0
+EndedAt (Some form) size accesses replies at = at ≡ form_ended_at form size accesses replies
+
+-- the exchanges are counted: one for a flight that sends something
+abbrev pub AreCounted : Option Form → ℕ → ℕ → Type 0
+AreCounted None old new = new ≡ old
+AreCounted (Some form) old new = new ≡ counted old
