@@ -1,9 +1,6 @@
 //! Each ending of a run.
-use super::jobs::{BASE, ended, job};
-use crate::report_text;
+use super::jobs::{BASE, ended, fresh};
 use access_calls::{Ending, Report, StopCause};
-use dap_base::MemorySink;
-use probe_core::{Bench, MemoryBench};
 use std::alloc::Global;
 use std::process::Abort;
 use std::test::Fail;
@@ -15,28 +12,18 @@ ap 0 csw 0x00000040 tar 0x00000000\n\
 lines pins 0xa0 bits 0 last 0x0000000000000000 clock 0 delay 0\n\
 mem 0x20000000 0x00000000\n";
 
+const TRACE: &str = "trace kept 0 of 0\n";
+
 // How a run ended, and how many units were skipped; the lines, and whether those of the target follow.
 type Row = (Ending, u32, &'static str, bool);
 
 fn shows(rt: &impl Abort, alloc: Global, row: &Row) -> Result<(), Fail> {
     let (ending, skipped, head, shows_target) = *row;
-    let job = job(alloc, BASE)?;
-    let mut bench = MemoryBench::new(alloc);
-    assert!(rt; bench.load(alloc, &job.bench).is_ok());
-    let mut sink = MemorySink::new(alloc, &[])?;
     let ended = ended(alloc, ending, skipped)?;
-    let result = report_text(
-        alloc,
-        &ended,
-        &[0x05, 0x00],
-        &[0xff],
-        &job,
-        &mut bench,
-        &mut sink,
-    );
-    assert_eq!(rt; result, Ok(()));
+    let (end, sink) = fresh(alloc, BASE, &ended, 99, 99)?;
+    assert_eq!(rt; end, Ok(()));
     let target = if shows_target { TARGET } else { "" };
-    let text = format!(in alloc; "{head}{target}")?;
+    let text = format!(in alloc; "{head}{target}{TRACE}")?;
     assert_eq!(rt; sink.bytes(), text.as_bytes());
     Ok(())
 }
@@ -132,15 +119,11 @@ fn stops_at(
     words: (&str, &str),
 ) -> Result<(), Fail> {
     let (first, more) = words;
-    let job = job(alloc, BASE)?;
-    let mut bench = MemoryBench::new(alloc);
-    assert!(rt; bench.load(alloc, &job.bench).is_ok());
-    let mut sink = MemorySink::new(alloc, &[])?;
     let ended = ended(alloc, ending, skipped)?;
-    let result = report_text(alloc, &ended, &[], &[], &job, &mut bench, &mut sink);
-    assert_eq!(rt; result, Ok(()));
+    let (end, sink) = fresh(alloc, BASE, &ended, 99, 99)?;
+    assert_eq!(rt; end, Ok(()));
     let text = format!(in alloc;
-        "end {first}\nattempted 1 accesses 7 confirmed 6\n{more}{TARGET}"
+        "end {first}\nattempted 1 accesses 7 confirmed 6\n{more}{TARGET}{TRACE}"
     )?;
     assert_eq!(rt; sink.bytes(), text.as_bytes());
     Ok(())

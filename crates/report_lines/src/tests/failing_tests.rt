@@ -1,9 +1,7 @@
 //! Sinks and benches of which a call fails.
-use super::jobs::{BASE, ended, job};
-use crate::{TextEnd, report_text, trace_text};
+use super::jobs::{BASE, ended, fresh};
+use crate::TextEnd;
 use access_calls::Ending;
-use dap_base::MemorySink;
-use probe_core::{Bench, FaultyBench};
 use std::alloc::Global;
 use std::process::Abort;
 use std::test::Fail;
@@ -30,15 +28,8 @@ fn check(
     lines: usize,
     end: Result<(), TextEnd>,
 ) -> Result<(), Fail> {
-    let job = job(alloc, BASE)?;
-    let mut bench = FaultyBench::new(alloc, &[call])?;
-    assert!(rt; bench.load(alloc, &job.bench).is_ok());
-    let mut sink = MemorySink::new(alloc, &[put])?;
     let ended = ended(alloc, Ending::Done, 0)?;
-    let result = match report_text(alloc, &ended, &[], &[], &job, &mut bench, &mut sink) {
-        Ok(()) => trace_text(alloc, &mut bench, &mut sink),
-        Err(end) => Err(end),
-    };
+    let (result, sink) = fresh(alloc, BASE, &ended, put, call)?;
     assert_eq!(rt; result, end);
     let mut text = Vec::new(alloc);
     for line in LINES.iter().take(lines) {

@@ -3,9 +3,11 @@ ghost use Rattle.std.specs.Prelude.{IfOk};
 ghost use Rattle.job_text.specs.Ranges.{AreWatched};
 ghost use Rattle.probe_core.specs.Ranges.{IsBenchJob};
 
+use crate::{TextEnd, report_text, trace_text};
 use access_calls::{Ended, Ending};
-use dap_base::{NameText, OutOfMemory};
+use dap_base::{MemorySink, NameText, OutOfMemory};
 use job_text::{Job, job_of};
+use probe_core::{Bench, FaultyBench};
 use std::alloc::{AllocError, Global};
 use target_machine::{Variable, Variables};
 
@@ -36,10 +38,56 @@ fn variables(alloc: Global) -> Result<Variables, OutOfMemory> {
 
 // A run of three units that ended so.
 pub fn ended(alloc: Global, ending: Ending, skipped: u32) -> Result<Ended, OutOfMemory> {
+    let variables = variables(alloc)?;
     Ok(Ended {
         ending,
         units: 3,
         skipped,
-        variables: variables(alloc)?,
+        variables,
     })
+}
+
+// How the texts end.
+pub type Written = (Result<(), TextEnd>, MemorySink);
+
+// The report of a run and the trace after it, of which the put of this number fails. The packet and
+// the reply that ended it are 0500 and ff.
+pub fn written<B: Bench>(
+    alloc: Global,
+    job: &Job,
+    ended: &Ended,
+    put: u32,
+    bench: &mut B,
+) -> Result<Written, OutOfMemory>
+    requires bench { IsBenchJob job.now.bench }
+    requires watch { AreWatched job.now.bench.target.memory job.now.watch }
+{
+    let mut sink = MemorySink::new(alloc, &[put])?;
+    let mut end = report_text(alloc, ended, &[0x05, 0x00], &[0xff], job, bench, &mut sink);
+    if end.is_ok() {
+        end = trace_text(alloc, bench, &mut sink);
+    }
+    Ok((end, sink))
+}
+
+// The same of a fresh target, where the call of the bench of this number fails; the first call is the
+// load.
+pub fn fresh(
+    alloc: Global,
+    text: &str,
+    ended: &Ended,
+    put: u32,
+    call: u32,
+) -> Result<Written, AllocError> {
+    let job = job(alloc, text)?;
+    let Ok(mut bench) = FaultyBench::new(alloc, &[call]) else {
+        return Err(AllocError);
+    };
+    if bench.load(alloc, &job.bench).is_err() {
+        return Err(AllocError);
+    }
+    match written(alloc, &job, ended, put, &mut bench) {
+        Ok(written) => Ok(written),
+        Err(_) => Err(AllocError),
+    }
 }

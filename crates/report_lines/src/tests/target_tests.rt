@@ -1,12 +1,14 @@
 //! What a target shows, and the trace of its packets.
 ghost use Rattle.std.specs.Prelude.{◌≡◌, ◌<◌, ◌≤◌, false, OnOk, length};
 ghost use Rattle.probe_core.specs.Probe.{is_queued};
+ghost use Rattle.probe_core.specs.Ranges.{IsBenchJob};
 
-use super::jobs::{BASE, ended, job};
-use crate::{report_text, trace_text};
+use super::jobs::{BASE, ended, fresh, job, written};
 use access_calls::Ending;
-use dap_base::{Failed, MemorySink};
+use dap_base::Failed;
+use job_text::Job;
 use probe_core::{Bench, MemoryBench};
+use std::alloc::Global;
 use std::process::Abort;
 use std::test::Fail;
 
@@ -27,14 +29,9 @@ trace kept 0 of 0\n";
 
 #[test]
 fn ports_stand_in_rising_order(rt: HostRuntime) -> Result<(), Fail> {
-    let job = job(rt.alloc(), PORTS)?;
-    let mut bench = MemoryBench::new(rt.alloc());
-    assert!(rt; bench.load(rt.alloc(), &job.bench).is_ok());
-    let mut sink = MemorySink::new(rt.alloc(), &[])?;
     let ended = ended(rt.alloc(), Ending::Done, 0)?;
-    let result = report_text(rt.alloc(), &ended, &[], &[], &job, &mut bench, &mut sink);
-    assert_eq!(rt; result, Ok(()));
-    assert_eq!(rt; trace_text(rt.alloc(), &mut bench, &mut sink), Ok(()));
+    let (end, sink) = fresh(rt.alloc(), PORTS, &ended, 99, 99)?;
+    assert_eq!(rt; end, Ok(()));
     assert_eq!(rt; sink.bytes(), PORTS_TEXT.as_bytes());
     Ok(())
 }
@@ -67,29 +64,48 @@ mem 0x20000000 0x0000002a\n\
 > 050005015200000005000000200d2a00000001420000000500000020\n< 050501\n\
 trace kept 10 of 10\n";
 
-// A write of 0x2A to 0x20000000, by its packets.
-#[test]
-fn a_write_is_shown_and_traced(rt: HostRuntime) -> Result<(), Fail> {
-    let mut job = job(rt.alloc(), BASE)?;
-    job.bench.limits.packet_size = 64;
-    let mut bench = MemoryBench::new(rt.alloc());
-    bench.load(rt.alloc(), &job.bench)?;
-    exchange(&mut bench, &[0x00, 0xff])?;
-    exchange(&mut bench, &[0x00, 0xfe])?;
-    exchange(&mut bench, &[0x04, 0x00, 0x64, 0x00, 0x00, 0x00])?;
-    exchange(&mut bench, &[0x05, 0x00, 0x02, 0x08, 0, 0, 0, 0, 0x03])?;
+// A write of 0x2A to 0x20000000, after the packets of an opening.
+fn write_word<B: Bench>(bench: &mut B) -> Result<(), Failed>
+    requires held { (B.reported bench.old).held ≡ 0 }
+    requires waiting { (B.reported bench.old).waiting ≡ 0 }
+    requires size { (B.reported bench.old).limits.packet_size ≡ 64 }
+{
+    exchange(bench, &[0x00, 0xff])?;
+    exchange(bench, &[0x00, 0xfe])?;
+    exchange(bench, &[0x04, 0x00, 0x64, 0x00, 0x00, 0x00])?;
+    exchange(bench, &[0x05, 0x00, 0x02, 0x08, 0, 0, 0, 0, 0x03])?;
     exchange(
-        &mut bench,
+        bench,
         &[
             0x05, 0x00, 0x05, 0x01, 0x52, 0, 0, 0, 0x05, 0, 0, 0, 0x20, 0x0d, 0x2a, 0, 0, 0, 0x01,
             0x42, 0, 0, 0, 0x05, 0, 0, 0, 0x20,
         ],
-    )?;
-    let mut sink = MemorySink::new(rt.alloc(), &[])?;
+    )
+}
+
+// The same on a bench with the target of a job.
+fn word_written(alloc: Global, job: &mut Job) -> Result<MemoryBench, Failed>
+    requires { IsBenchJob job.old.bench }
+    ensures watch { job.new.watch ≡ job.old.watch }
+    ensures memory { job.new.bench.target ≡ job.old.bench.target }
+    ensures bench { IsBenchJob job.new.bench }
+{
+    job.bench.limits.packet_size = 64;
+    let mut bench = MemoryBench::new(alloc);
+    if bench.load(alloc, &job.bench).is_err() {
+        return Err(Failed);
+    }
+    write_word(&mut bench)?;
+    Ok(bench)
+}
+
+#[test]
+fn a_write_is_shown_and_traced(rt: HostRuntime) -> Result<(), Fail> {
+    let mut job = job(rt.alloc(), BASE)?;
+    let mut bench = word_written(rt.alloc(), &mut job)?;
     let ended = ended(rt.alloc(), Ending::Done, 0)?;
-    let result = report_text(rt.alloc(), &ended, &[], &[], &job, &mut bench, &mut sink);
-    assert_eq!(rt; result, Ok(()));
-    assert_eq!(rt; trace_text(rt.alloc(), &mut bench, &mut sink), Ok(()));
+    let (end, sink) = written(rt.alloc(), &job, &ended, 99, &mut bench)?;
+    assert_eq!(rt; end, Ok(()));
     assert_eq!(rt; sink.bytes(), WRITTEN.as_bytes());
     Ok(())
 }
