@@ -2,6 +2,7 @@
 #![tactic(auto)]
 
 mod access;
+mod ended;
 mod issued;
 pub mod laws;
 mod marks;
@@ -10,6 +11,7 @@ mod stop;
 pub mod users;
 
 pub use access::Access;
+pub use ended::{Ended, Ending};
 pub use issued::{Issued, StopReport, stop_report};
 pub use marks::mark_last;
 pub use not_begun::NotBegun;

@@ -1,0 +1,120 @@
+-- Lines that are put in a row, each of what a bench shows.
+use Rattle.std.proofs.Common.{◌≡◌, ◌∙◌, ◌+◌, ◌-◌, ◌<◌, ℕ, zero, suc, List, [], ◌∷◌, ◌++◌, Option, None, Some, Result, Err, IfSome, length, take, drop, slice_get, get_or, subst, ap, refl, sym, arith, append_assoc, append-nil}
+use Rattle.std.proofs.lemmas.Grind.{flat_map-append}
+use Rattle.std.proofs.lemmas.List.{take-append-drop}
+use Rattle.std.proofs.KnownBytes.{Appends-trans}
+use Rattle.std.specs.Io.KnownBytes.{Appends}
+use Rattle.std.specs.List.{flat_map}
+use Rattle.dap_base.specs.Streams.{AppendsPrefix, PutAppends}
+use Rattle.target_machine.specs.State.{TargetState}
+use Rattle.probe_core.specs.Bench.{BenchState, IsAsBefore, Seen}
+use Rattle.probe_core.specs.Probe.{target_of}
+use Rattle.report_lines.specs.Target.{lines_below}
+use Rattle.text_lines.proofs.PutLemmas.{prefix_first, put_after}
+
+-- a bench that is twice as it was before
+pub before-trans : (a b c : Seen) → IsAsBefore a b → IsAsBefore b c → IsAsBefore a c
+before-trans a b c first second = record { reported = grind (arith, first.reported, second.reported); state = second.state ∙ first.state }
+
+-- a text of a target, and a part of it, where the bench is observable
+abbrev pub Wrote : Option BenchState → (TargetState → List ℕ) → Option (List ℕ) → Option (List ℕ) → Type 0
+Wrote state text old new = IfSome state (λ m. Appends old new (text (target_of m.probe)))
+
+abbrev pub Began : Option BenchState → (TargetState → List ℕ) → Option (List ℕ) → Option (List ℕ) → Type 0
+Began state text old new = IfSome state (λ m. AppendsPrefix old new (text (target_of m.probe)))
+
+-- what is known of a state is known of one that is the same
+pub wrote_same : (s t : Option BenchState) (text : TargetState → List ℕ) (a b : Option (List ℕ)) → s ≡ t → Wrote s text a b → Wrote t text a b
+wrote_same s t text a b same wrote = subst (λ u. Wrote u text a b) same wrote
+
+pub began_same : (s t : Option BenchState) (text : TargetState → List ℕ) (a b : Option (List ℕ)) → s ≡ t → Began s text a b → Began t text a b
+began_same s t text a b same began = subst (λ u. Began u text a b) same began
+
+pub put_same : {E : Type 0} (s t : Option BenchState) (a b : Option (List ℕ)) (r : Result (Unit {0}) E) (text : TargetState → List ℕ) → s ≡ t → IfSome s (λ m. PutAppends a b r (text (target_of m.probe))) → IfSome t (λ m. PutAppends a b r (text (target_of m.probe)))
+put_same s t a b r text same put = subst (λ u. IfSome u (λ m. PutAppends a b r (text (target_of m.probe)))) same put
+
+-- ---- the lines of numbers
+
+below-suc : (line : ℕ → List ℕ) (n : ℕ) → lines_below line (n + 1) ≡ lines_below line n ++ line n
+below-suc line n = let more : n + 1 ≡ suc n = omega arith in rw more refl
+
+-- those of more numbers begin with those of fewer
+below_front : (line : ℕ → List ℕ) (n k : ℕ) (a b : Option (List ℕ)) → AppendsPrefix a b (lines_below line n) → AppendsPrefix a b (lines_below line (k + n))
+below_front line n zero a b part = let none : 0 + n ≡ n = omega arith in rw none part
+below_front line n (suc k) a b part =
+    let more : suc k + n ≡ suc (k + n) = omega arith in
+    rw more (prefix_first a b (lines_below line (k + n)) (line (k + n)) (below_front line n k a b part))
+
+-- one number more
+pub below_more : (s : Option BenchState) (a b c : Option (List ℕ)) (line : TargetState → ℕ → List ℕ) (n : ℕ) → Wrote s (λ t. lines_below (line t) n) a b → Wrote s (λ t. line t n) b c → Wrote s (λ t. lines_below (line t) (n + 1)) a c
+below_more None a b c line n first second = tt
+below_more (Some m) a b c line n first second =
+    rw (below-suc (line (target_of m.probe)) n) (Appends-trans a b c (lines_below (line (target_of m.probe)) n) (line (target_of m.probe) n) first second)
+
+-- the numbers before one, and a part of its line
+pub below_cut : (s : Option BenchState) (a b c : Option (List ℕ)) (line : TargetState → ℕ → List ℕ) (i n : ℕ) → i < n → Wrote s (λ t. lines_below (line t) i) a b → Began s (λ t. line t i) b c → Began s (λ t. lines_below (line t) n) a c
+below_cut None a b c line i n below first second = tt
+below_cut (Some m) a b c line i n below first second =
+    let g : ℕ → List ℕ = line (target_of m.probe) in
+    let so_far : AppendsPrefix a c (lines_below g (i + 1)) = rw (below-suc g i) (put_after {E = Unit {0}} a b c (Err tt) (lines_below g i) (g i) first second) in
+    let all : n - (i + 1) + (i + 1) ≡ n = omega arith in
+    subst (λ k. AppendsPrefix a c (lines_below g k)) all (below_front g (i + 1) (n - (i + 1)) a c so_far)
+
+-- ---- the lines of a list
+
+-- the first items and the one after them
+take-at : {X : Type 0} (xs : List X) (i : ℕ) (x : X) → slice_get xs i ≡ Some x → take (i + 1) xs ≡ take i xs ++ x ∷ []
+take-at [] zero x at = cc
+take-at [] (suc i) x at = cc
+take-at (y ∷ ys) zero x at = let same : y ≡ x = cc in rw same refl
+take-at (y ∷ ys) (suc i) x at =
+    let more : suc i + 1 ≡ suc (i + 1) = omega arith in
+    rw more (ap (λ zs. y ∷ zs) (take-at ys i x at))
+
+-- the item at a place within
+pub slice_get-in : {X : Type 0} (xs : List X) (i : ℕ) (d : X) → i < length xs → slice_get xs i ≡ Some (get_or xs i d)
+slice_get-in [] i d inside = let no : ⊥ = omega arith in absurd no
+slice_get-in (x ∷ xs) zero d inside = refl
+slice_get-in (x ∷ xs) (suc i) d inside = slice_get-in xs i d (omega arith)
+
+pub item_at : {X : Type 0} (xs : List X) (i : ℕ) (x : X) → i < length xs → x ≡ get_or xs i x → slice_get xs i ≡ Some x
+item_at xs i x inside at = slice_get-in xs i x inside ∙ ap (λ y. Some y) (sym at)
+
+-- one item more
+pub row_more : {X : Type 0} (a b c : Option (List ℕ)) (g : X → List ℕ) (xs : List X) (i : ℕ) (x : X) → slice_get xs i ≡ Some x → Appends a b (flat_map g (take i xs)) → Appends b c (g x) → Appends a c (flat_map g (take (i + 1) xs))
+row_more a b c g xs i x at first second =
+    rw (take-at xs i x at, flat_map-append g (take i xs) (x ∷ []), append-nil (g x)) (Appends-trans a b c (flat_map g (take i xs)) (g x) first second)
+
+-- the items before one, and a part of its lines
+pub row_cut : {X : Type 0} (a b c : Option (List ℕ)) (g : X → List ℕ) (xs : List X) (i : ℕ) (x : X) → slice_get xs i ≡ Some x → Appends a b (flat_map g (take i xs)) → AppendsPrefix b c (g x) → AppendsPrefix a c (flat_map g xs)
+row_cut a b c g xs i x at first second =
+    let so_far : AppendsPrefix a c (flat_map g (take (i + 1) xs)) =
+    rw (take-at xs i x at, flat_map-append g (take i xs) (x ∷ []), append-nil (g x)) (put_after {E = Unit {0}} a b c (Err tt) (flat_map g (take i xs)) (g x) first second) in
+    subst (λ ys. AppendsPrefix a c (flat_map g ys)) (take-append-drop (i + 1) xs)
+    (rw (flat_map-append g (take (i + 1) xs) (drop (i + 1) xs)) (prefix_first a c (flat_map g (take (i + 1) xs)) (flat_map g (drop (i + 1) xs)) so_far))
+
+pub rows_more : {X : Type 0} (s : Option BenchState) (a b c : Option (List ℕ)) (g : TargetState → X → List ℕ) (xs : List X) (i : ℕ) (x : X) → slice_get xs i ≡ Some x → Wrote s (λ t. flat_map (g t) (take i xs)) a b → Wrote s (λ t. g t x) b c → Wrote s (λ t. flat_map (g t) (take (i + 1) xs)) a c
+rows_more None a b c g xs i x at first second = tt
+rows_more (Some m) a b c g xs i x at first second = row_more a b c (g (target_of m.probe)) xs i x at first second
+
+pub rows_cut : {X : Type 0} (s : Option BenchState) (a b c : Option (List ℕ)) (g : TargetState → X → List ℕ) (xs : List X) (i : ℕ) (x : X) → slice_get xs i ≡ Some x → Wrote s (λ t. flat_map (g t) (take i xs)) a b → Began s (λ t. g t x) b c → Began s (λ t. flat_map (g t) xs) a c
+rows_cut None a b c g xs i x at first second = tt
+rows_cut (Some m) a b c g xs i x at first second = row_cut a b c (g (target_of m.probe)) xs i x at first second
+
+-- ---- two texts in a row
+
+pub parts_after : {E : Type 0} (s : Option BenchState) (a b c : Option (List ℕ)) (r : Result (Unit {0}) E) (f g : TargetState → List ℕ) → Wrote s f a b → IfSome s (λ m. PutAppends b c r (g (target_of m.probe))) → IfSome s (λ m. PutAppends a c r (f (target_of m.probe) ++ g (target_of m.probe)))
+parts_after None a b c r f g first second = tt
+parts_after (Some m) a b c r f g first second = put_after a b c r (f (target_of m.probe)) (g (target_of m.probe)) first second
+
+pub part_first : (s : Option BenchState) (a b : Option (List ℕ)) (f g : TargetState → List ℕ) → Began s f a b → Began s (λ t. f t ++ g t) a b
+part_first None a b f g first = tt
+part_first (Some m) a b f g first = prefix_first a b (f (target_of m.probe)) (g (target_of m.probe)) first
+
+pub piece_after : {E : Type 0} (s : Option BenchState) (a b c : Option (List ℕ)) (r : Result (Unit {0}) E) (piece : List ℕ) (g : TargetState → List ℕ) → Appends a b piece → IfSome s (λ m. PutAppends b c r (g (target_of m.probe))) → IfSome s (λ m. PutAppends a c r (piece ++ g (target_of m.probe)))
+piece_after None a b c r piece g first second = tt
+piece_after (Some m) a b c r piece g first second = put_after a b c r piece (g (target_of m.probe)) first second
+
+pub piece_first : (s : Option BenchState) (a b : Option (List ℕ)) (piece : List ℕ) (g : TargetState → List ℕ) → AppendsPrefix a b piece → Began s (λ t. piece ++ g t) a b
+piece_first None a b piece g first = tt
+piece_first (Some m) a b piece g first = prefix_first a b piece (g (target_of m.probe)) first

@@ -1,0 +1,9 @@
+use Rattle.report_lines.specs.Endings.{count_lines, done_line}
+use Rattle.text_lines.proofs.PutLemmas.{prefix_first, put_after}
+use Rattle.report_lines.proofs.head.write_done.Goals as goal
+
+pub returns-in-Ok-clause-text : goal.returns-in-Ok-clause-text
+returns-in-Ok-clause-text g c = put_after _ _ _ _ (done_line) (count_lines c.args.ended.now) c.in-Ok.ensures.text c.write_counts.ensures.text
+
+pub returns-in-Err-clause-text : goal.returns-in-Err-clause-text
+returns-in-Err-clause-text g c = prefix_first _ _ (done_line) (count_lines c.args.ended.now) c.in-Err.ensures.text

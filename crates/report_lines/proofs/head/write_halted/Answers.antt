@@ -1,0 +1,9 @@
+use Rattle.report_lines.specs.Endings.{count_lines, halted_line}
+use Rattle.text_lines.proofs.PutLemmas.{prefix_first, put_after}
+use Rattle.report_lines.proofs.head.write_halted.Goals as goal
+
+pub returns-in-Ok-clause-text : goal.returns-in-Ok-clause-text
+returns-in-Ok-clause-text g c = put_after _ _ _ _ (halted_line c.args.cause) (count_lines c.args.ended.now) (c.in-Ok.ensures.text _ c.halted_text-line.ensures) c.write_counts.ensures.text
+
+pub returns-in-Err-clause-text : goal.returns-in-Err-clause-text
+returns-in-Err-clause-text g c = prefix_first _ _ (halted_line c.args.cause) (count_lines c.args.ended.now) (c.in-Err.ensures.text _ c.halted_text-line.ensures)

@@ -1,0 +1,176 @@
+//! The lines of a report before those of the target.
+ghost use Rattle.std.specs.Prelude.{◌≢◌, ◌++◌, IfErr};
+ghost use Rattle.dap_base.specs.Streams.{PutAppends};
+ghost use Rattle.text_lines.specs.Causes.{NamesFault};
+ghost use Rattle.report_lines.specs.Lines.{variable_line};
+ghost use Rattle.report_lines.specs.Endings.{attempted_part, count_lines, done_line, ending_lines, halted_line, skipped_part, stop_line, values_part, variable_lines};
+
+use crate::endings::{
+    attempted_text, bench_fault_text, halted_text, reply_bad_text, skipped_text, stop_line_text,
+};
+use crate::lines::{units_text, variable_text};
+use crate::put::{TextEnd, put, put_line};
+use access_calls::{Ended, Ending, Report};
+use dap_base::Sink;
+use std::alloc::Global;
+use target_machine::{HaltCause, Variable};
+
+// Puts how many units were skipped, where there are any.
+#[tactic(auto, using(text_lines::proofs::PutLemmas::nothing))]
+fn write_skipped<K: Sink>(alloc: Global, skipped: u32, sink: &mut K) -> Result<(), TextEnd>
+    ensures text { PutAppends (K.written sink.old) (K.written sink.new) result (skipped_part skipped) }
+    ensures bench { IfErr result (λ e. e ≢ TextEnd.BenchFault) }
+    ensures sink { NamesFault TextEnd.WriteFault (K.faults sink.old) (K.faults sink.new) result }
+{
+    if skipped == 0 {
+        return Ok(());
+    }
+    put_line(skipped_text(alloc, skipped), sink)
+}
+
+// Puts the line of a variable.
+fn write_variable<K: Sink>(alloc: Global, variable: &Variable, sink: &mut K) -> Result<(), TextEnd>
+    ensures text { PutAppends (K.written sink.old) (K.written sink.new) result (variable_line variable.now.name variable.now.value) }
+    ensures bench { IfErr result (λ e. e ≢ TextEnd.BenchFault) }
+    ensures sink { NamesFault TextEnd.WriteFault (K.faults sink.old) (K.faults sink.new) result }
+{
+    put_line(
+        variable_text(alloc, variable.name.as_str(), variable.value),
+        sink,
+    )
+}
+
+// Puts the lines of the variables.
+fn write_variables<K: Sink>(
+    alloc: Global,
+    variables: &[Variable],
+    sink: &mut K,
+) -> Result<(), TextEnd>
+    ensures text { PutAppends (K.written sink.old) (K.written sink.new) result (variable_lines variables.now) }
+    ensures bench { IfErr result (λ e. e ≢ TextEnd.BenchFault) }
+    ensures sink { NamesFault TextEnd.WriteFault (K.faults sink.old) (K.faults sink.new) result }
+{
+    for variable in variables {
+        match write_variable(alloc, variable, sink) {
+            Ok(()) => {}
+            Err(end) => return Err(end),
+        }
+    }
+    Ok(())
+}
+
+// Puts those units that were skipped, and the variables.
+fn write_values<K: Sink>(alloc: Global, ended: &Ended, sink: &mut K) -> Result<(), TextEnd>
+    ensures text { PutAppends (K.written sink.old) (K.written sink.new) result (values_part ended.now) }
+    ensures bench { IfErr result (λ e. e ≢ TextEnd.BenchFault) }
+    ensures sink { NamesFault TextEnd.WriteFault (K.faults sink.old) (K.faults sink.new) result }
+{
+    match write_skipped(alloc, ended.skipped, sink) {
+        Ok(()) => write_variables(alloc, ended.variables.as_slice(), sink),
+        Err(end) => Err(end),
+    }
+}
+
+// Puts the units, those that were skipped, and the variables.
+fn write_counts<K: Sink>(alloc: Global, ended: &Ended, sink: &mut K) -> Result<(), TextEnd>
+    ensures text { PutAppends (K.written sink.old) (K.written sink.new) result (count_lines ended.now) }
+    ensures bench { IfErr result (λ e. e ≢ TextEnd.BenchFault) }
+    ensures sink { NamesFault TextEnd.WriteFault (K.faults sink.old) (K.faults sink.new) result }
+{
+    let line = units_text(alloc, ended.units as u64);
+    match put_line(line, sink) {
+        Ok(()) => write_values(alloc, ended, sink),
+        Err(end) => Err(end),
+    }
+}
+
+// Puts the lines of a run that came to its end.
+fn write_done<K: Sink>(alloc: Global, ended: &Ended, sink: &mut K) -> Result<(), TextEnd>
+    ensures text { PutAppends (K.written sink.old) (K.written sink.new) result (done_line ++ count_lines ended.now) }
+    ensures bench { IfErr result (λ e. e ≢ TextEnd.BenchFault) }
+    ensures sink { NamesFault TextEnd.WriteFault (K.faults sink.old) (K.faults sink.new) result }
+{
+    match put(b"end done\n", sink) {
+        Ok(()) => write_counts(alloc, ended, sink),
+        Err(end) => Err(end),
+    }
+}
+
+// Puts the lines of a run that was halted.
+fn write_halted<K: Sink>(
+    alloc: Global,
+    cause: HaltCause,
+    ended: &Ended,
+    sink: &mut K,
+) -> Result<(), TextEnd>
+    ensures text { PutAppends (K.written sink.old) (K.written sink.new) result (halted_line cause ++ count_lines ended.now) }
+    ensures bench { IfErr result (λ e. e ≢ TextEnd.BenchFault) }
+    ensures sink { NamesFault TextEnd.WriteFault (K.faults sink.old) (K.faults sink.new) result }
+{
+    let line = halted_text(alloc, cause);
+    match put_line(line, sink) {
+        Ok(()) => write_counts(alloc, ended, sink),
+        Err(end) => Err(end),
+    }
+}
+
+// Puts how far a run came that was stopped.
+fn write_attempted<K: Sink>(
+    alloc: Global,
+    report: &Report,
+    skipped: u32,
+    sink: &mut K,
+) -> Result<(), TextEnd>
+    ensures text { PutAppends (K.written sink.old) (K.written sink.new) result (attempted_part report.now skipped) }
+    ensures bench { IfErr result (λ e. e ≢ TextEnd.BenchFault) }
+    ensures sink { NamesFault TextEnd.WriteFault (K.faults sink.old) (K.faults sink.new) result }
+{
+    let line = attempted_text(alloc, report);
+    match put_line(line, sink) {
+        Ok(()) => write_skipped(alloc, skipped, sink),
+        Err(end) => Err(end),
+    }
+}
+
+// Puts the lines of a run that the target or the probe stopped.
+fn write_cut<K: Sink>(
+    alloc: Global,
+    report: &Report,
+    skipped: u32,
+    sink: &mut K,
+) -> Result<(), TextEnd>
+    ensures text { PutAppends (K.written sink.old) (K.written sink.new) result (stop_line report.now ++ attempted_part report.now skipped) }
+    ensures bench { IfErr result (λ e. e ≢ TextEnd.BenchFault) }
+    ensures sink { NamesFault TextEnd.WriteFault (K.faults sink.old) (K.faults sink.new) result }
+{
+    let line = stop_line_text(alloc, report);
+    match put_line(line, sink) {
+        Ok(()) => write_attempted(alloc, report, skipped, sink),
+        Err(end) => Err(end),
+    }
+}
+
+/// Puts the lines of a report before those of the target.
+#[tactic(auto, using(text_lines::proofs::PutLemmas::nothing))]
+pub fn write_ending<K: Sink>(
+    alloc: Global,
+    ended: &Ended,
+    sent: &[u8],
+    got: &[u8],
+    sink: &mut K,
+) -> Result<(), TextEnd>
+    ensures text { PutAppends (K.written sink.old) (K.written sink.new) result (ending_lines ended.now.ending ended.now sent.now got.now) }
+    ensures bench { IfErr result (λ e. e ≢ TextEnd.BenchFault) }
+    ensures sink { NamesFault TextEnd.WriteFault (K.faults sink.old) (K.faults sink.new) result }
+{
+    match ended.ending {
+        Ending::Done => write_done(alloc, ended, sink),
+        Ending::Halted(cause) => write_halted(alloc, cause, ended, sink),
+        Ending::Cut(report) => write_cut(alloc, &report, ended.skipped, sink),
+        Ending::BenchFault { issued, confirmed } => {
+            put_line(bench_fault_text(alloc, issued, confirmed), sink)
+        }
+        Ending::ReplyBad => put_line(reply_bad_text(alloc, sent, got), sink),
+        Ending::WriteFault | Ending::OutOfMemory => Ok(()),
+    }
+}

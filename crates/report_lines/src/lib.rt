@@ -1,0 +1,19 @@
+//! The report of a run and the trace of its packets, put into a sink line by line.
+#![tactic(auto)]
+
+mod calls;
+mod endings;
+mod head;
+mod lines;
+mod put;
+mod report;
+mod target;
+mod trace;
+mod words;
+
+pub use put::TextEnd;
+pub use report::report_text;
+pub use trace::trace_text;
+
+#[cfg(test)]
+mod tests;

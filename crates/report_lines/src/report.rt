@@ -1,0 +1,94 @@
+//! The report of a run.
+ghost use Rattle.std.specs.Prelude.{◌≡◌, Ok, false, IfSome};
+ghost use Rattle.std.specs.List.{All};
+ghost use Rattle.dap_base.specs.Streams.{PutAppends};
+ghost use Rattle.probe_core.specs.Bench.{IsAsBefore, seen};
+ghost use Rattle.probe_core.specs.Probe.{target_of};
+ghost use Rattle.probe_core.specs.Ranges.{IsBenchJob};
+ghost use Rattle.job_text.specs.Ranges.{AreWatched};
+ghost use Rattle.text_lines.specs.Causes.{NamesFault};
+ghost use Rattle.report_lines.specs.Endings.{ending_lines, shows_target};
+ghost use Rattle.report_lines.specs.Report.{report, target_part};
+ghost use Rattle.report_lines.specs.Target.{IsLow};
+
+use crate::head::write_ending;
+use crate::put::TextEnd;
+use crate::target::write_target;
+use access_calls::{Ended, Ending};
+use dap_base::Sink;
+use job_text::Job;
+use probe_core::Bench;
+use std::alloc::Global;
+
+// Whether the target is shown after a run that ended so.
+fn shows_target(ending: Ending) -> bool
+    ensures { result ≡ shows_target ending }
+{
+    matches!(ending, Ending::Done | Ending::Halted(_) | Ending::Cut(_))
+}
+
+// Puts the lines of the target, where it is shown.
+#[tactic(auto, using(text_lines::proofs::PutLemmas::nothing))]
+fn write_shown<K: Sink, B: Bench>(
+    alloc: Global,
+    shows: bool,
+    job: &Job,
+    bench: &mut B,
+    sink: &mut K,
+) -> Result<(), TextEnd>
+    requires { All IsLow job.now.watch }
+    ensures text { IfSome (B.state bench.old) (λ m. PutAppends (K.written sink.old) (K.written sink.new) result (target_part shows job.now (target_of m.probe))) }
+    ensures unseen { shows ≡ false → (result ≡ Ok tt) × (K.written sink.new ≡ K.written sink.old) }
+    ensures same { IsAsBefore (seen B.reported B.state bench.old) (seen B.reported B.state bench.new) }
+    ensures identity { B.identity bench.new ≡ B.identity bench.old }
+    ensures bench { NamesFault TextEnd.BenchFault (B.reported bench.old).faults (B.reported bench.new).faults result }
+    ensures sink { NamesFault TextEnd.WriteFault (K.faults sink.old) (K.faults sink.new) result }
+{
+    if shows {
+        let target = &job.bench.target;
+        write_target(
+            alloc,
+            target.aps.as_slice(),
+            job.watch.as_slice(),
+            bench,
+            sink,
+        )
+    } else {
+        Ok(())
+    }
+}
+
+/// Puts the report of a run of a job, each line by one `put`: how it ended, and, where it came to its
+/// end, was halted, or was stopped by the target or the probe, what the bench shows of its target.
+/// `sent` and `got` are the packet and the reply that ended it, and count after `ReplyBad` alone.
+/// Each part of the target is requested directly before its line: the debug port, the access ports of
+/// the job in rising order, the lines of the probe, and the watched words in their order, whose
+/// addresses are below 2^64. A part that the bench does not show has no line. After `WriteFault` and
+/// `OutOfMemory` nothing is put.
+///
+/// `WriteFault` where the sink failed, `BenchFault` where the bench failed, `OutOfMemory` where memory
+/// is refused: a prefix of the report was then appended. The bench stays as it was, except its count
+/// of faults at `BenchFault`.
+pub fn report_text<K: Sink, B: Bench>(
+    alloc: Global,
+    ended: &Ended,
+    sent: &[u8],
+    got: &[u8],
+    job: &Job,
+    bench: &mut B,
+    sink: &mut K,
+) -> Result<(), TextEnd>
+    requires bench { IsBenchJob job.now.bench }
+    requires watch { AreWatched job.now.bench.target.memory job.now.watch }
+    ensures text { IfSome (B.state bench.old) (λ m. PutAppends (K.written sink.old) (K.written sink.new) result (report ended.now sent.now got.now job.now (target_of m.probe))) }
+    ensures alone { shows_target ended.now.ending ≡ false → PutAppends (K.written sink.old) (K.written sink.new) result (ending_lines ended.now.ending ended.now sent.now got.now) }
+    ensures same { IsAsBefore (seen B.reported B.state bench.old) (seen B.reported B.state bench.new) }
+    ensures identity { B.identity bench.new ≡ B.identity bench.old }
+    ensures bench { NamesFault TextEnd.BenchFault (B.reported bench.old).faults (B.reported bench.new).faults result }
+    ensures sink { NamesFault TextEnd.WriteFault (K.faults sink.old) (K.faults sink.new) result }
+{
+    match write_ending(alloc, ended, sent, got, sink) {
+        Ok(()) => write_shown(alloc, shows_target(ended.ending), job, bench, sink),
+        Err(end) => Err(end),
+    }
+}

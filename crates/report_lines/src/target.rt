@@ -1,0 +1,217 @@
+//! The lines of a target: each part is shown by the bench directly before its line is put.
+ghost use Rattle.std.specs.Prelude.{◌≡◌, ◌+◌, ◌*◌, ◌^◌, ◌≤◌, ◌==◌, [], unwrap_or, IfOk, IfSome};
+ghost use Rattle.std.specs.List.{All, list_any};
+ghost use Rattle.dap_base.specs.Streams.{PutAppends};
+ghost use Rattle.probe_core.specs.Bench.{IsAsBefore, seen};
+ghost use Rattle.probe_core.specs.Probe.{target_of};
+ghost use Rattle.text_lines.specs.Causes.{NamesFault};
+ghost use Rattle.report_lines.specs.Target.{IsLow, outside_lines, part_line, part_of, port_lines, port_of, ports_on, target_lines, watch_lines, word_lines};
+
+use crate::lines::{ap_text, dp_text, lines_text, word_text};
+use crate::put::{TextEnd, put};
+use dap_base::{OutOfMemory, Sink};
+use job_text::WatchItem;
+use probe_core::Bench;
+use std::alloc::Global;
+use target_machine::{ApJob, ImageAsk, ImagePart};
+use text_lines::Line;
+
+// The line of a part of the target, if it has one.
+fn part_text(alloc: Global, ask: ImageAsk, part: &ImagePart) -> Result<Option<Line>, OutOfMemory>
+    ensures { IfOk result (λ line. unwrap_or line [] ≡ part_line ask part.now) }
+{
+    match (ask, part) {
+        (ImageAsk::Dp, ImagePart::Dp(image)) => Ok(Some(dp_text(alloc, image)?)),
+        (ImageAsk::Ap(ap), ImagePart::Ap(image)) => Ok(Some(ap_text(alloc, ap, image)?)),
+        (ImageAsk::Lines, ImagePart::Lines(image)) => Ok(Some(lines_text(alloc, image)?)),
+        (ImageAsk::Word(address), ImagePart::Word(image)) => {
+            Ok(Some(word_text(alloc, address, image)?))
+        }
+        _ => Ok(None),
+    }
+}
+
+// Puts the line of a part of the target.
+#[tactic(auto, unfolding(crate::specs::Target::part_of), using(text_lines::proofs::PutLemmas::no_part, text_lines::proofs::PutLemmas::nothing))]
+fn write_part<K: Sink, B: Bench>(
+    alloc: Global,
+    ask: ImageAsk,
+    bench: &mut B,
+    sink: &mut K,
+) -> Result<(), TextEnd>
+    ensures text { IfSome (B.state bench.old) (λ m. PutAppends (K.written sink.old) (K.written sink.new) result (part_of (target_of m.probe) ask)) }
+    ensures same { IsAsBefore (seen B.reported B.state bench.old) (seen B.reported B.state bench.new) }
+    ensures identity { B.identity bench.new ≡ B.identity bench.old }
+    ensures bench { NamesFault TextEnd.BenchFault (B.reported bench.old).faults (B.reported bench.new).faults result }
+    ensures sink { NamesFault TextEnd.WriteFault (K.faults sink.old) (K.faults sink.new) result }
+{
+    let Ok(part) = bench.image(ask) else {
+        return Err(TextEnd::BenchFault);
+    };
+    match part_text(alloc, ask, &part) {
+        Ok(Some(line)) => put(line.as_bytes(), sink),
+        Ok(None) => Ok(()),
+        Err(_) => Err(TextEnd::OutOfMemory),
+    }
+}
+
+// Whether the job lists an access port.
+fn is_listed(aps: &[ApJob], number: u8) -> bool
+    ensures { result ≡ list_any (λ port. port.ap == number) aps.now }
+{
+    aps.iter().any(|port| port.ap == number)
+}
+
+// Puts the line of an access port, where the job lists it.
+#[tactic(auto, using(text_lines::proofs::PutLemmas::nothing))]
+fn write_port<K: Sink, B: Bench>(
+    alloc: Global,
+    aps: &[ApJob],
+    number: u8,
+    bench: &mut B,
+    sink: &mut K,
+) -> Result<(), TextEnd>
+    ensures text { IfSome (B.state bench.old) (λ m. PutAppends (K.written sink.old) (K.written sink.new) result (port_of (target_of m.probe) aps.now number)) }
+    ensures same { IsAsBefore (seen B.reported B.state bench.old) (seen B.reported B.state bench.new) }
+    ensures identity { B.identity bench.new ≡ B.identity bench.old }
+    ensures bench { NamesFault TextEnd.BenchFault (B.reported bench.old).faults (B.reported bench.new).faults result }
+    ensures sink { NamesFault TextEnd.WriteFault (K.faults sink.old) (K.faults sink.new) result }
+{
+    if is_listed(aps, number) {
+        write_part(alloc, ImageAsk::Ap(number), bench, sink)
+    } else {
+        Ok(())
+    }
+}
+
+// Puts the lines of the access ports that the job lists, in rising order.
+fn write_ports<K: Sink, B: Bench>(
+    alloc: Global,
+    aps: &[ApJob],
+    bench: &mut B,
+    sink: &mut K,
+) -> Result<(), TextEnd>
+    ensures text { IfSome (B.state bench.old) (λ m. PutAppends (K.written sink.old) (K.written sink.new) result (port_lines (target_of m.probe) aps.now)) }
+    ensures same { IsAsBefore (seen B.reported B.state bench.old) (seen B.reported B.state bench.new) }
+    ensures identity { B.identity bench.new ≡ B.identity bench.old }
+    ensures bench { NamesFault TextEnd.BenchFault (B.reported bench.old).faults (B.reported bench.new).faults result }
+    ensures sink { NamesFault TextEnd.WriteFault (K.faults sink.old) (K.faults sink.new) result }
+{
+    for number in 0..256u32 {
+        match write_port(alloc, aps, number as u8, bench, sink) {
+            Ok(()) => {}
+            Err(end) => return Err(end),
+        }
+    }
+    Ok(())
+}
+
+// Puts the lines of words in a row.
+fn write_words<K: Sink, B: Bench>(
+    alloc: Global,
+    item: WatchItem,
+    bench: &mut B,
+    sink: &mut K,
+) -> Result<(), TextEnd>
+    requires { IsLow item }
+    ensures text { IfSome (B.state bench.old) (λ m. PutAppends (K.written sink.old) (K.written sink.new) result (word_lines (target_of m.probe) item.address item.words)) }
+    ensures same { IsAsBefore (seen B.reported B.state bench.old) (seen B.reported B.state bench.new) }
+    ensures identity { B.identity bench.new ≡ B.identity bench.old }
+    ensures bench { NamesFault TextEnd.BenchFault (B.reported bench.old).faults (B.reported bench.new).faults result }
+    ensures sink { NamesFault TextEnd.WriteFault (K.faults sink.old) (K.faults sink.new) result }
+{
+    for number in 0..item.words {
+        let ask = ImageAsk::Word(item.address + 4 * number as u64);
+        match write_part(alloc, ask, bench, sink) {
+            Ok(()) => {}
+            Err(end) => return Err(end),
+        }
+    }
+    Ok(())
+}
+
+// Puts the lines of the words that are watched.
+fn write_watch<K: Sink, B: Bench>(
+    alloc: Global,
+    watch: &[WatchItem],
+    bench: &mut B,
+    sink: &mut K,
+) -> Result<(), TextEnd>
+    requires { All IsLow watch.now }
+    ensures text { IfSome (B.state bench.old) (λ m. PutAppends (K.written sink.old) (K.written sink.new) result (watch_lines (target_of m.probe) watch.now)) }
+    ensures same { IsAsBefore (seen B.reported B.state bench.old) (seen B.reported B.state bench.new) }
+    ensures identity { B.identity bench.new ≡ B.identity bench.old }
+    ensures bench { NamesFault TextEnd.BenchFault (B.reported bench.old).faults (B.reported bench.new).faults result }
+    ensures sink { NamesFault TextEnd.WriteFault (K.faults sink.old) (K.faults sink.new) result }
+{
+    for item in watch {
+        match write_words(alloc, *item, bench, sink) {
+            Ok(()) => {}
+            Err(end) => return Err(end),
+        }
+    }
+    Ok(())
+}
+
+// Puts the lines of the probe, and those of the words that are watched.
+fn write_outside<K: Sink, B: Bench>(
+    alloc: Global,
+    watch: &[WatchItem],
+    bench: &mut B,
+    sink: &mut K,
+) -> Result<(), TextEnd>
+    requires { All IsLow watch.now }
+    ensures text { IfSome (B.state bench.old) (λ m. PutAppends (K.written sink.old) (K.written sink.new) result (outside_lines (target_of m.probe) watch.now)) }
+    ensures same { IsAsBefore (seen B.reported B.state bench.old) (seen B.reported B.state bench.new) }
+    ensures identity { B.identity bench.new ≡ B.identity bench.old }
+    ensures bench { NamesFault TextEnd.BenchFault (B.reported bench.old).faults (B.reported bench.new).faults result }
+    ensures sink { NamesFault TextEnd.WriteFault (K.faults sink.old) (K.faults sink.new) result }
+{
+    match write_part(alloc, ImageAsk::Lines, bench, sink) {
+        Ok(()) => write_watch(alloc, watch, bench, sink),
+        Err(end) => Err(end),
+    }
+}
+
+// Puts the lines of the access ports and what follows them.
+fn write_ports_on<K: Sink, B: Bench>(
+    alloc: Global,
+    aps: &[ApJob],
+    watch: &[WatchItem],
+    bench: &mut B,
+    sink: &mut K,
+) -> Result<(), TextEnd>
+    requires { All IsLow watch.now }
+    ensures text { IfSome (B.state bench.old) (λ m. PutAppends (K.written sink.old) (K.written sink.new) result (ports_on (target_of m.probe) aps.now watch.now)) }
+    ensures same { IsAsBefore (seen B.reported B.state bench.old) (seen B.reported B.state bench.new) }
+    ensures identity { B.identity bench.new ≡ B.identity bench.old }
+    ensures bench { NamesFault TextEnd.BenchFault (B.reported bench.old).faults (B.reported bench.new).faults result }
+    ensures sink { NamesFault TextEnd.WriteFault (K.faults sink.old) (K.faults sink.new) result }
+{
+    match write_ports(alloc, aps, bench, sink) {
+        Ok(()) => write_outside(alloc, watch, bench, sink),
+        Err(end) => Err(end),
+    }
+}
+
+/// Puts the lines of a target: the debug port, the access ports of the job in rising order, the lines
+/// of the probe, and the words that are watched.
+pub fn write_target<K: Sink, B: Bench>(
+    alloc: Global,
+    aps: &[ApJob],
+    watch: &[WatchItem],
+    bench: &mut B,
+    sink: &mut K,
+) -> Result<(), TextEnd>
+    requires { All IsLow watch.now }
+    ensures text { IfSome (B.state bench.old) (λ m. PutAppends (K.written sink.old) (K.written sink.new) result (target_lines (target_of m.probe) aps.now watch.now)) }
+    ensures same { IsAsBefore (seen B.reported B.state bench.old) (seen B.reported B.state bench.new) }
+    ensures identity { B.identity bench.new ≡ B.identity bench.old }
+    ensures bench { NamesFault TextEnd.BenchFault (B.reported bench.old).faults (B.reported bench.new).faults result }
+    ensures sink { NamesFault TextEnd.WriteFault (K.faults sink.old) (K.faults sink.new) result }
+{
+    match write_part(alloc, ImageAsk::Dp, bench, sink) {
+        Ok(()) => write_ports_on(alloc, aps, watch, bench, sink),
+        Err(end) => Err(end),
+    }
+}

@@ -1,0 +1,163 @@
+//! The trace of a run.
+ghost use Rattle.std.specs.Prelude.{◌≡◌, ◌≢◌, ◌+◌, ◌<◌, ◌≤◌, IfErr, IfOk, IfSome};
+ghost use Rattle.dap_base.specs.Streams.{PutAppends};
+ghost use Rattle.probe_core.specs.Bench.{IsAsBefore, seen};
+ghost use Rattle.text_lines.specs.Causes.{NamesFault};
+ghost use Rattle.report_lines.specs.Trace.{EntriesPut, EntryPut, IsCounted, LinePut, StepPut, entry_line, entry_mark, kept_line, trace};
+
+use crate::endings::with_digits;
+use crate::put::{TextEnd, put_line};
+use dap_base::{OutOfMemory, Sink};
+use probe_core::{Bench, Shown};
+use std::alloc::Global;
+use text_lines::Line;
+
+// Whether a line shows a reply or a packet.
+fn mark_text(is_reply: bool) -> &'static str
+    ensures { result.now ≡ entry_mark is_reply }
+{
+    if is_reply { "< " } else { "> " }
+}
+
+// A packet that was received, or a reply that was handed out.
+fn entry_text(alloc: Global, is_reply: bool, bytes: &[u8]) -> Result<Line, OutOfMemory>
+    ensures { IfOk result (λ line. line ≡ entry_line (record { is_reply = is_reply; bytes = bytes.now })) }
+{
+    let line = Line::begin(alloc, mark_text(is_reply))?;
+    with_digits(alloc, line, bytes)?.text("\n")
+}
+
+// How many packets and replies are shown, and how many there were.
+fn kept_text(alloc: Global, kept: u32, count: u32) -> Result<Line, OutOfMemory>
+    ensures { IfOk result (λ line. line ≡ kept_line kept count) }
+{
+    let line = Line::begin(alloc, "trace kept ")?.decimal(u64::from(kept))?;
+    line.labelled(" of ", u64::from(count))?.text("\n")
+}
+
+/// What a bench shows for a number.
+pub enum Seen {
+    /// A packet or a reply that was kept.
+    Kept,
+    /// One that was not.
+    NotKept,
+    /// There is none of this number.
+    Past,
+}
+
+// Puts the line of a packet or a reply.
+#[tactic(auto, using(text_lines::proofs::PutLemmas::no_part))]
+fn write_line<K: Sink>(
+    alloc: Global,
+    is_reply: bool,
+    bytes: &[u8],
+    sink: &mut K,
+) -> Result<Seen, TextEnd>
+    ensures text { LinePut (record { is_reply = is_reply; bytes = bytes.now }) result (K.written sink.old) (K.written sink.new) }
+    ensures bench { IfErr result (λ e. e ≢ TextEnd.BenchFault) }
+    ensures sink { NamesFault TextEnd.WriteFault (K.faults sink.old) (K.faults sink.new) result }
+{
+    let line = entry_text(alloc, is_reply, bytes);
+    match put_line(line, sink) {
+        Ok(()) => Ok(Seen::Kept),
+        Err(end) => Err(end),
+    }
+}
+
+// Puts the line of the packet or reply of a number, where it is kept.
+fn write_entry<K: Sink, B: Bench>(
+    alloc: Global,
+    index: u32,
+    bench: &mut B,
+    sink: &mut K,
+) -> Result<Seen, TextEnd>
+    ensures text { IfSome (B.state bench.old) (λ m. EntryPut m.log index result (K.written sink.old) (K.written sink.new)) }
+    ensures same { IsAsBefore (seen B.reported B.state bench.old) (seen B.reported B.state bench.new) }
+    ensures identity { B.identity bench.new ≡ B.identity bench.old }
+    ensures bench { NamesFault TextEnd.BenchFault (B.reported bench.old).faults (B.reported bench.new).faults result }
+    ensures sink { NamesFault TextEnd.WriteFault (K.faults sink.old) (K.faults sink.new) result }
+{
+    let mut out = [0u8; 1024];
+    match bench.show(index, &mut out) {
+        Ok(Shown::Sent(length)) => write_line(alloc, false, &out[..length], sink),
+        Ok(Shown::Replied(length)) => write_line(alloc, true, &out[..length], sink),
+        Ok(Shown::NotKept) => Ok(Seen::NotKept),
+        Ok(Shown::Past) => Ok(Seen::Past),
+        Err(_) => Err(TextEnd::BenchFault),
+    }
+}
+
+// Puts the line of the packet or reply of a number, where it is kept, and answers how many are kept
+// with it, or that there is none of the number.
+#[tactic(auto, unfolding(crate::specs::Trace::StepPut))]
+fn write_next<K: Sink, B: Bench>(
+    alloc: Global,
+    index: u32,
+    kept: u32,
+    bench: &mut B,
+    sink: &mut K,
+) -> Result<Option<u32>, TextEnd>
+    requires { kept < 4294967295 }
+    ensures text { IfSome (B.state bench.old) (λ m. StepPut m.log index kept result (K.written sink.old) (K.written sink.new)) }
+    ensures few { IfOk result (λ next. IfSome next (λ n. n ≤ kept + 1)) }
+    ensures same { IsAsBefore (seen B.reported B.state bench.old) (seen B.reported B.state bench.new) }
+    ensures identity { B.identity bench.new ≡ B.identity bench.old }
+    ensures bench { NamesFault TextEnd.BenchFault (B.reported bench.old).faults (B.reported bench.new).faults result }
+    ensures sink { NamesFault TextEnd.WriteFault (K.faults sink.old) (K.faults sink.new) result }
+{
+    match write_entry(alloc, index, bench, sink) {
+        Ok(Seen::Kept) => Ok(Some(kept + 1)),
+        Ok(Seen::NotKept) => Ok(Some(kept)),
+        Ok(Seen::Past) => Ok(None),
+        Err(end) => Err(end),
+    }
+}
+
+// Puts the lines of the kept packets and replies, and answers how many they are, and how many there
+// were.
+fn write_entries<K: Sink, B: Bench>(
+    alloc: Global,
+    bench: &mut B,
+    sink: &mut K,
+) -> Result<(u32, u32), TextEnd>
+    ensures text { IfSome (B.state bench.old) (λ m. IsCounted m.log → EntriesPut m.log result (K.written sink.old) (K.written sink.new)) }
+    ensures same { IsAsBefore (seen B.reported B.state bench.old) (seen B.reported B.state bench.new) }
+    ensures identity { B.identity bench.new ≡ B.identity bench.old }
+    ensures bench { NamesFault TextEnd.BenchFault (B.reported bench.old).faults (B.reported bench.new).faults result }
+    ensures sink { NamesFault TextEnd.WriteFault (K.faults sink.old) (K.faults sink.new) result }
+{
+    let mut kept = 0;
+    for index in 0..u32::MAX {
+        match write_next(alloc, index, kept, bench, sink) {
+            Ok(Some(next)) => kept = next,
+            Ok(None) => return Ok((kept, index)),
+            Err(end) => return Err(end),
+        }
+    }
+    Ok((kept, u32::MAX))
+}
+
+/// Puts the trace of a run, each line by one `put`: the packets that the bench received and the
+/// replies that it handed out, in order, as far as they were kept, and how many of how many they are.
+/// Each is requested by its number, from 0 on, directly before its line, until there is none of the
+/// number, or until 4,294,967,295 were requested.
+///
+/// `WriteFault` where the sink failed, `BenchFault` where the bench failed, `OutOfMemory` where memory
+/// is refused: a prefix of the trace was then appended. The bench stays as it was, except its count of
+/// faults at `BenchFault`.
+pub fn trace_text<K: Sink, B: Bench>(
+    alloc: Global,
+    bench: &mut B,
+    sink: &mut K,
+) -> Result<(), TextEnd>
+    ensures text { IfSome (B.state bench.old) (λ m. IsCounted m.log → PutAppends (K.written sink.old) (K.written sink.new) result (trace m.log)) }
+    ensures same { IsAsBefore (seen B.reported B.state bench.old) (seen B.reported B.state bench.new) }
+    ensures identity { B.identity bench.new ≡ B.identity bench.old }
+    ensures bench { NamesFault TextEnd.BenchFault (B.reported bench.old).faults (B.reported bench.new).faults result }
+    ensures sink { NamesFault TextEnd.WriteFault (K.faults sink.old) (K.faults sink.new) result }
+{
+    match write_entries(alloc, bench, sink) {
+        Ok((kept, count)) => put_line(kept_text(alloc, kept, count), sink),
+        Err(end) => Err(end),
+    }
+}
