@@ -32,15 +32,15 @@ reads (Polls mask value turns) = false
 reads (Commands c) = false
 
 -- the step leads to the access that the unit is for, and reads a register: CSW or CFG
-abbrev pub is_question : Part → Action → Bool
-is_question Leads action = reads action
-is_question Settles action = false
-is_question Ends action = false
-is_question (Skips attempted) action = false
+abbrev pub is_leading_read : Part → Action → Bool
+is_leading_read Leads action = reads action
+is_leading_read Settles action = false
+is_leading_read Ends action = false
+is_leading_read (Skips attempted) action = false
 
 -- how many of these steps are such reads
-abbrev pub questions : List Step → ℕ
-questions steps = sum_by (λ (s : Step). one_if (is_question s.part s.action)) steps
+abbrev pub leading_reads : List Step → ℕ
+leading_reads steps = sum_by (λ (s : Step). one_if (is_leading_read s.part s.action)) steps
 
 -- how many portions of at most 65,536 turns a poll by value match takes
 abbrev pub portions : ℕ → ℕ
@@ -69,7 +69,7 @@ call_cost k t (Probe command) = command_cost command
 -- A call that is asked after others: its reads of CSW and CFG come before it counts as asked. A forgiving one makes five more.
 abbrev pub planned_cost : TargetState → List Ask → Ask → Cost
 planned_cost t asks ask = record {
-  before = questions (issue_of Managed (target_by Managed t asks) (kept_by Managed t asks) ask).steps;
+  before = leading_reads (issue_of Managed (target_by Managed t asks) (kept_by Managed t asks) ask).steps;
   after = if is_forgiving ask then 5 else call_cost (kept_by Managed t asks) (target_by Managed t asks) ask.call;
 }
 
@@ -80,20 +80,20 @@ cost_by Plain t asks ask = record { before = 0; after = 0 }
 
 -- Reads of CSW and CFG of a unit that is not made alone: CFG where it is needed, and CSW where it is not known, except after a CFG
 -- that shows no large addresses.
-abbrev pub PlannedAsks : Type 0
-PlannedAsks = (t : TargetState) (k : Kept) (asked : AccessUnit) →
+abbrev pub PlannedReads : Type 0
+PlannedReads = (t : TargetState) (k : Kept) (asked : AccessUnit) →
     let l : Kept = if needs_settle k asked then settled k else k in
     let u : TargetState = after t (making (if needs_settle k asked then settle k else [])) in
     let cfg : ℕ = gives u (cfg_plan l (port_of asked)) in
-    questions (planned t k asked).steps
+    leading_reads (planned t k asked).steps
     ≡ (if needs_cfg l asked then 1 + (if has_bit cfg cfg_la then one_if (needs_csw (learned_cfg l (port_of asked) cfg) asked) else 0) else one_if (needs_csw l asked))
 
 -- Reads of CSW and CFG of a unit that is made alone: CFG where it is needed, and CSW, except after a CFG that shows no large addresses.
 -- A read that faults counts too.
-abbrev pub AloneAsks : Type 0
-AloneAsks = (t : TargetState) (k : Kept) (forgive : Bool) (size : ℕ) (read : Bool) (ap address value : ℕ) → t.sticky ≡ false → ap < 256 →
-    questions (alone_at forgive (unit.Memory size read ap address value) t k).steps ≡ (if needs_cfg k (unit.Memory size read ap address value) then 1 + one_if (has_large t ap) else 1)
+abbrev pub AloneReads : Type 0
+AloneReads = (t : TargetState) (k : Kept) (forgive : Bool) (size : ℕ) (read : Bool) (ap address value : ℕ) → t.sticky ≡ false → ap < 256 →
+    leading_reads (alone_at forgive (unit.Memory size read ap address value) t k).steps ≡ (if needs_cfg k (unit.Memory size read ap address value) then 1 + one_if (has_large t ap) else 1)
 
 -- An AP unit that is made alone has none.
-abbrev pub PortAsks : Type 0
-PortAsks = (t : TargetState) (k : Kept) (forgive read : Bool) (ap addr value : ℕ) → questions (alone_at forgive (unit.Ap read ap addr value) t k).steps ≡ 0
+abbrev pub PortReads : Type 0
+PortReads = (t : TargetState) (k : Kept) (forgive read : Bool) (ap addr value : ℕ) → leading_reads (alone_at forgive (unit.Ap read ap addr value) t k).steps ≡ 0

@@ -1,6 +1,6 @@
 //! What follows from the definitions: each law is the contract of a function that does nothing.
 ghost use Rattle.access_regs.specs.Closed.{MemoryFollowsCalls};
-ghost use Rattle.access_regs.specs.Costs.{AloneAsks, PlannedAsks, PortAsks};
+ghost use Rattle.access_regs.specs.Costs.{AloneReads, PlannedReads, PortReads};
 ghost use Rattle.access_regs.specs.Entries.{CallAnswers, JournalGrows, JournalMarks, JournalWeighs, LeadsAreGood, SelectIsGood, UnitsInRange};
 ghost use Rattle.access_regs.specs.Laws.{AloneKept, CallGoes, CallLeaves, FreshFollows, JournalAgrees, JournalAnswers, JournalFollows, JournalJoins, JournalPasses, JournalStops, KeptAfterCfg, KeptByCfg, KeptBySelect, KeptJoins, PlainIsAlone, PortKept, SettlingEnds, UnitKeepsMemory};
 ghost use Rattle.access_regs.specs.Light.{JournalIsLight};
@@ -97,11 +97,11 @@ pub fn calls_are_light()
 {}
 
 /// How many reads of CSW and CFG lead to the access that a unit is for.
-#[tactic(auto, using(crate::proofs::CostLemmas::planned_asks, crate::proofs::CostLemmas::alone_asks, crate::proofs::CostLemmas::port_asks))]
+#[tactic(auto, using(crate::proofs::CostLemmas::planned_reads, crate::proofs::CostLemmas::alone_reads, crate::proofs::CostLemmas::port_reads))]
 pub fn reads_that_lead()
-    ensures planned { PlannedAsks }
-    ensures alone { AloneAsks }
-    ensures port { PortAsks }
+    ensures planned { PlannedReads }
+    ensures alone { AloneReads }
+    ensures port { PortReads }
 {}
 
 /// What is known after a unit that is made alone, whether it faults or not.

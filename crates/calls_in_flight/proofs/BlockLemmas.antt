@@ -1,12 +1,16 @@
 -- Starting packets of writes.
-use Rattle.std.proofs.Common.{◌≡◌, ℕ, ◌+◌, ◌-◌, ◌*◌, ◌/◌, ◌^◌, ◌<◌, ◌≤◌, min, Bool, true, false, List, [], ◌∷◌, ◌++◌, length-append, arith}
+use Rattle.std.proofs.Common.{◌≡◌, ℕ, ◌+◌, ◌-◌, ◌*◌, ◌/◌, ◌^◌, ◌<◌, ◌≤◌, min, Bool, true, false, List, [], ◌∷◌, ◌++◌, length, length-append, subst, sym, arith}
 use Rattle.std.proofs.lemmas.List.Sums.{sum_by-append}
 use Rattle.std.proofs.Math.Nat.{le-div_iff_mul-le}
 use Rattle.call_terms.proofs.EntryLemmas.{registers_append}
 use Rattle.call_terms.specs.Journal.{Entry, one_if}
 use Rattle.access_calls.specs.Bounds.{starting_since}
+use Rattle.access_calls.specs.Bounds as bounds
+use Rattle.call_terms.specs.Weights.{registers_in}
+use Rattle.calls_in_flight.proofs.ActionLemmas.{few_packets}
+use Rattle.calls_in_flight.proofs.WriteLemmas.{writes_are_few}
 use Rattle.flight_forms.proofs.Capacity.{refused_is_full, refused_writes}
-use Rattle.calls_in_flight.specs.Packets.{FewBlocks, FirstBlock, FullByForm, NeedBlock, NeedPoint, NextBlock, SplitBlock, drw_writes_in, is_drw_write}
+use Rattle.calls_in_flight.specs.Packets.{FewBlocks, FirstBlock, FullByForm, NeedBlock, NeedPoint, NextBlock, SplitBlock, SparingKeeps, drw_writes_in, is_drw_write}
 
 writes_both : (xs ys : List Entry) → drw_writes_in (xs ++ ys) ≡ drw_writes_in xs + drw_writes_in ys
 writes_both xs ys = sum_by-append (λ (e : Entry). one_if (is_drw_write e.action)) xs ys
@@ -82,3 +86,14 @@ full_by_form limits accesses next range none =
     let most = range.size_high in
     let full = refused_is_full limits.packet_size limits.packet_count (accesses ++ next ∷ []) (omega (arith, least)) most none in
     ((omega (arith, full, more)), (λ write. (let w = refused_writes limits.packet_size limits.packet_count (accesses ++ next ∷ []) least most (omega (arith, more)) write none in omega (arith, w, more))))
+
+-- ---- the bounds of an access
+
+pub sparing_keeps : SparingKeeps
+sparing_keeps p t a made more b m is h = record {
+  few = subst (λ (l : List Entry). starting_since b m ≤ 3 + a.asks.needs + registers_in l / bounds.capacity a.bench.limits) (sym is)
+      (few_packets h.sparing.full (bounds.capacity a.bench.limits) a.asks.needs made more b m h.sparing.so);
+  blocks = λ size ap_ address some next low needs. (let s = h.blocks size ap_ address next low needs in
+      few_blocks s.full (bounds.block_words a.bench.limits) a.asks.needs (length a.asks.calls) s.first s.split made more b m s.so
+      (subst (λ (l : List Entry). drw_writes_in l ≤ length a.asks.calls) is (writes_are_few p t a.asks.calls)) some needs);
+}

@@ -13,5 +13,5 @@ pub mod ComeLemmas
 pub mod CfgLemmas
 pub mod ForgivingLemmas
 pub mod RoomLemmas
-pub mod BlockLemmas
 pub mod WriteLemmas
+pub mod BlockLemmas

@@ -16,7 +16,7 @@ use Rattle.flight_forms.specs.Forms.{all_write_drw, form_of}
 use Rattle.access_calls.specs.Bounds.{starting_since}
 use Rattle.access_calls.specs.Bounds as bounds
 use Rattle.probe_core.specs.Ranges.{AreLimits}
-use Rattle.access_calls.specs.Reported.{Beginning}
+use Rattle.access_calls.specs.Reported.{Beginning, Reported}
 
 -- Each starting packet is one of the three of the opening, one at a need point, or one of so many flights that were sent
 -- because there was no room; these had at least the capacity of accesses each.
@@ -95,3 +95,27 @@ NeedBlock = (full block needs more : ℕ) (first split : Bool) (made flying : Li
 -- No call issues more than one write of DRW.
 abbrev pub WritesAreFew : Type 0
 WritesAreFew = (p : Planner) (t : TargetState) (asks : List Ask) → drw_writes_in (issued p t asks) ≤ length asks
+
+-- ---- the bounds of an access
+
+-- flights of some numbers, by which the starting packets are few
+pub record SomeSparing (capacity needs : ℕ) (made : List Entry) (b : Beginning) (m : BenchState) : Type 0 where
+  pub full : ℕ
+  pub so : IsSparing full capacity needs made b m
+
+-- flights of some numbers, by which they are few for writes
+pub record SomeBlockwise (block needs : ℕ) (made : List Entry) (b : Beginning) (m : BenchState) : Type 0 where
+  pub full : ℕ
+  pub first : Bool
+  pub split : Bool
+  pub so : IsBlockwise full block needs first split made b m
+
+-- The starting packets of an access are few by its flights; and so they are for writes, where all its calls are such writes.
+pub record IsSparingAccess (a : Reported) (made : List Entry) (b : Beginning) (m : BenchState) : Type 0 where
+  pub sparing : SomeSparing (bounds.capacity a.bench.limits) a.asks.needs made b m
+  pub blocks : (size ap address : ℕ) → bounds.AreNextWrites (address / 1024) size ap address a.asks.calls → address < 2 ^ 32 → a.asks.needs ≤ 2 → SomeBlockwise (bounds.block_words a.bench.limits) a.asks.needs made b m
+
+-- So the bounds of the contract of accesses are kept.
+abbrev pub SparingKeeps : Type 0
+SparingKeeps = (p : Planner) (t : TargetState) (a : Reported) (made more : List Entry) (b : Beginning) (m : BenchState) → issued p t a.asks.calls ≡ made ++ more → IsSparingAccess a made b m →
+    bounds.KeepsBounds (issued p t a.asks.calls) a b m

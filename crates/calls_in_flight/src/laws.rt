@@ -6,7 +6,7 @@ ghost use Rattle.calls_in_flight.specs.Flights.{BenchFlies, FaultFlies, ValuesCa
 ghost use Rattle.calls_in_flight.specs.Flying.{CameStands, OpenStands};
 ghost use Rattle.calls_in_flight.specs.Forgiving.{AloneFlight};
 ghost use Rattle.calls_in_flight.specs.GoesOn.{FlushGoes, PushGoes};
-ghost use Rattle.calls_in_flight.specs.Packets.{FewBlocks, FewPackets, FirstBlock, FullByForm, FullFlight, NeedBlock, NeedPoint, NextBlock, SplitBlock, WritesAreFew};
+ghost use Rattle.calls_in_flight.specs.Packets.{FewBlocks, FewPackets, FirstBlock, FullByForm, FullFlight, NeedBlock, NeedPoint, NextBlock, SplitBlock, SparingKeeps, WritesAreFew};
 ghost use Rattle.calls_in_flight.specs.Pushing.{EntryPushed, JournalGrew, PlanGives, ValueGiven};
 ghost use Rattle.calls_in_flight.specs.Room.{ActionRoom, CallRoom, ForgivenRoom, PushRoom};
 ghost use Rattle.calls_in_flight.specs.Sending.{ActionSends, CallSends, FinishSends, FlyingSends, ForgivenSends, PushSends, WholeSends};
@@ -82,6 +82,7 @@ pub fn starting_packets_of_writes()
     ensures next { NextBlock }
     ensures need { NeedBlock }
     ensures writes { WritesAreFew }
+    ensures kept { SparingKeeps }
 {}
 
 /// What an access keeps goes on over a flight that came whole, and over a call whose accesses are pushed.

@@ -1,5 +1,5 @@
 use Rattle.calls_in_flight.proofs.WriteLemmas.{writes_are_few}
-use Rattle.calls_in_flight.proofs.BlockLemmas.{few_blocks, first_block, need_block, next_block, split_block}
+use Rattle.calls_in_flight.proofs.BlockLemmas.{few_blocks, first_block, need_block, next_block, split_block, sparing_keeps}
 use Rattle.calls_in_flight.proofs.laws.starting_packets_of_writes.Goals as goal
 
 pub returns-clause-few : goal.returns-clause-few
@@ -19,3 +19,6 @@ returns-clause-need c = need_block
 
 pub returns-clause-writes : goal.returns-clause-writes
 returns-clause-writes c = writes_are_few
+
+pub returns-clause-kept : goal.returns-clause-kept
+returns-clause-kept c = sparing_keeps
