@@ -18,3 +18,4 @@ pub mod SingleLemmas
 pub mod ActionLemmas
 pub mod PollLemmas
 pub mod GoingOn
+pub mod CallLemmas

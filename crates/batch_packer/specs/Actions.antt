@@ -1,8 +1,13 @@
 -- Commands of the probe and polls as actions, and what is done to a bench by one.
-use Rattle.std.specs.Prelude.{◌≡◌, ℕ, ◌+◌, ◌-◌, ◌^◌, false, min}
+use Rattle.std.specs.Prelude.{◌≡◌, ℕ, ◌+◌, ◌-◌, ◌*◌, ◌^◌, Bool, true, false, nat_le, min}
 use Rattle.target_machine.specs.InRange.{IsInRange}
+use Rattle.target_machine.specs.Lines.{delayed}
 use Rattle.target_machine.specs.Plain.{Action, acted, is_fault}
+use Rattle.target_machine.specs.declared.unit.ProbeCall.{ProbeCall}
+use Rattle.target_machine.specs.declared.unit.ProbeCall.TheVariants as probe
 use Rattle.call_terms.specs.Weights.{weight}
+use Rattle.dap_messages.specs.declared.command_value.CommandValue.{CommandValue}
+use Rattle.dap_messages.specs.declared.command_value.CommandValue.TheVariants.{Abort, Clock, Delay, Line, Pins}
 use Rattle.dap_transfer.specs.State.{TransferState, grown}
 use Rattle.probe_core.specs.Bench.{BenchState}
 use Rattle.batch_packer.specs.Exchanges.{IsIdle}
@@ -28,3 +33,20 @@ pub record HasActed (x : Action) (packets : ℕ) (m n : BenchState) : Type 0 whe
   pub idle : IsIdle n
   pub limits : n.probe.executor.limits ≡ m.probe.executor.limits
   pub starting : n.starting ≡ min (m.starting + packets) (2 ^ 64 - 1)
+
+-- whether one command is enough for a probe call: for all but a delay of more than 65,535 microseconds
+abbrev pub is_one : ProbeCall → Bool
+is_one (probe.Delay micros) = nat_le micros 65535
+is_one c = true
+
+-- that command
+abbrev pub command_of : ProbeCall → CommandValue
+command_of (probe.Delay micros) = Delay micros
+command_of (probe.Abort value) = Abort value
+command_of (probe.Pins output select wait) = Pins output select wait
+command_of (probe.Clock hertz) = Clock hertz
+command_of (probe.Line count bits) = Line count bits
+
+-- the transfers after so many commands that each delay 65,535 microseconds
+abbrev pub delayed_by : TransferState → ℕ → TransferState
+delayed_by p count = record p { line = record p.line { target = delayed p.line.target (65535 * count) }; work = grown p.work count }

@@ -147,6 +147,14 @@ impl Flight {
         self.at = 0;
     }
 
+    // Forgets the accesses.
+    fn empty(&mut self)
+        ensures { self.new ≡ record self.old { accesses = [] } }
+    {
+        self.accesses.clear();
+        self.size = FlightSize::new(self.limits.packet_size, self.limits.packet_count);
+    }
+
     // Notes how a flight ended, and keeps the packets and the replies of a cut or a bad reply.
     fn note_end(&mut self, end: Option<FlightEnd>)
         ensures { self.new ≡ record self.old { end = end; resumable = false; packets = items_kept end self.old.packets; replies = items_kept end self.old.replies } }
@@ -210,8 +218,7 @@ impl Flight {
             bench,
         );
         self.note_end(end);
-        self.accesses.clear();
-        self.size = FlightSize::new(self.limits.packet_size, self.limits.packet_count);
+        self.empty();
         self.resumable = can_resume(form, end);
         end
     }
@@ -291,8 +298,7 @@ impl Flight {
         requires { self.old.resumable ≡ true }
         ensures { self.new ≡ record self.old { accesses = []; end = None; resumable = false; packets = []; replies = [] } }
     {
-        self.accesses.clear();
-        self.size = FlightSize::new(self.limits.packet_size, self.limits.packet_count);
+        self.empty();
         self.packets.clear();
         self.replies.clear();
         self.end = None;

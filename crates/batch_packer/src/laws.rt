@@ -1,13 +1,39 @@
 //! What the layers above need of flights.
-ghost use Rattle.std.specs.Prelude.{ℕ, List, Option};
+ghost use Rattle.std.specs.Prelude.{◌≡◌, ℕ, true, false, List, Option};
+ghost use Rattle.dap_base.specs.Bits.{has_bit};
+ghost use Rattle.target_machine.specs.Plain.{Action, Commands, acted, given};
+ghost use Rattle.target_machine.specs.Registers.{stkerrclr};
+ghost use Rattle.target_machine.specs.declared.unit.ProbeCall.{ProbeCall};
+ghost use Rattle.target_machine.specs.declared.unit.ProbeCall.TheVariants as probe;
+ghost use Rattle.dap_messages.specs.Commands.{IsCommand};
+ghost use Rattle.dap_transfer.specs.State.{TransferState};
+ghost use Rattle.probe_core.specs.Commands.{done};
+ghost use Rattle.probe_core.specs.Probe.{ExecutorState};
 ghost use Rattle.target_machine.specs.declared.access.RegAccess.{RegAccess};
 ghost use Rattle.probe_core.specs.Bench.{BenchState};
 ghost use Rattle.flight_forms.specs.declared.form.Form.{Form};
+ghost use Rattle.batch_packer.specs.Actions.{Acts, command_of, is_one};
+ghost use Rattle.batch_packer.specs.Commands.{number_given};
 ghost use Rattle.batch_packer.specs.FlightEnds.{whole_part};
-ghost use Rattle.batch_packer.specs.Flying.{CanFly, HasFlown};
+ghost use Rattle.batch_packer.specs.Flying.{CanFly, HasFlown, transfers_of};
 
 /// After a flight that came to its end the bench can do another: match mask and match retry are 0, bit 0 of
 /// DPIDR is set, STICKYERR is clear, and the numbers of the target are in range.
 pub fn another_flight_may_follow()
     ensures { (form : Form) (accesses : List RegAccess) (values : List (Option ℕ)) (m n : BenchState) → CanFly m → HasFlown form accesses (whole_part accesses values) m n → CanFly n }
+{}
+
+/// A command of the probe in one packet is its call: what it does is the action (`acts`), and the number
+/// that it answers is what the action gives (`number`). One is enough for all but a delay of more than
+/// 65,535 microseconds.
+pub fn a_command_is_its_call()
+    ensures acts { (e : ExecutorState) (c : ProbeCall) → is_one c ≡ true → IsCommand (command_of c) → Acts (Commands c) e.transfers (done e (command_of c)).next.transfers }
+    ensures number { (e : ExecutorState) (c : ProbeCall) → number_given e (command_of c) ≡ given (acted e.transfers.line.target (Commands c)).outcome }
+{}
+
+/// After a poll or a command of the probe a flight may follow (`flies`). A write of ABORT with bit 2 set
+/// leaves STICKYERR clear, also where it was set (`clears`).
+pub fn a_flight_may_follow_an_action()
+    ensures flies { (x : Action) (m n : BenchState) → CanFly m → Acts x (transfers_of m) (transfers_of n) → CanFly n }
+    ensures clears { (value : ℕ) (p q : TransferState) → has_bit value stkerrclr ≡ true → Acts (Commands (probe.Abort value)) p q → q.line.target.sticky ≡ false }
 {}

@@ -1,0 +1,154 @@
+-- Probe calls as commands, and what they leave.
+use Rattle.std.proofs.Common.{◌≡◌, ℕ, ◌+◌, ◌-◌, ◌*◌, ◌/◌, ◌^◌, ◌<◌, ◌≤◌, ◌&&◌, max, min, not, eqb, Bool, true, false, cond, refl, ap, sym, ◌∙◌, arith}
+use Rattle.std.specs.Prelude.{bit_and, nat_le}
+use Rattle.std.proofs.lemmas.Bool.Decides.{nat_tests}
+use Rattle.dap_base.specs.Bits.{has_bit}
+use Rattle.target_machine.proofs.AccessLaws.{attempt_keeps}
+use Rattle.target_machine.proofs.ActionRanges.{acted_in_range}
+use Rattle.target_machine.specs.Attempt.{Attempt, attempt, done, is_free}
+use Rattle.target_machine.specs.InRange.{IsInRange}
+use Rattle.target_machine.specs.Lines as lines
+use Rattle.target_machine.specs.Plain.{Action, Commands, acted, dp_write_of, given, is_fault}
+use Rattle.target_machine.specs.Registers.{stkerrclr}
+use Rattle.target_machine.specs.State.{TargetState}
+use Rattle.target_machine.specs.declared.unit.ProbeCall.{ProbeCall}
+use Rattle.target_machine.specs.declared.unit.ProbeCall.TheVariants as probe
+use Rattle.dap_messages.specs.Commands.{IsCommand}
+use Rattle.call_terms.specs.Weights.{delay_commands}
+use Rattle.dap_transfer.specs.State.{TransferState, grown}
+use Rattle.probe_core.specs.Bench.{BenchState}
+use Rattle.probe_core.specs.Commands as bench
+use Rattle.probe_core.specs.Probe.{ExecutorState}
+use Rattle.batch_packer.specs.Actions.{Acts, command_of, delayed_by, is_one}
+use Rattle.batch_packer.specs.Commands.{number_given}
+use Rattle.batch_packer.specs.Flying.{CanFly, transfers_of}
+
+-- ---- a write of ABORT
+
+free_goes : (b f : Bool) (x y : Attempt) → f ≡ true → cond (b && not f) x y ≡ y
+free_goes true true x y e = refl
+free_goes true false x y e = absurd (cc)
+free_goes false f x y e = refl
+
+abort_free : (t : TargetState) (value : ℕ) → is_free t (dp_write_of 0 value) ≡ true
+unfolding is_free
+abort_free t value = refl
+
+-- the target after it
+abbrev aborted : TargetState → ℕ → TargetState
+aborted t value = cond (has_bit value stkerrclr) (record t { sticky = false }) t
+
+abort_done : (t : TargetState) (value : ℕ) → attempt t (dp_write_of 0 value) ≡ done (aborted t value)
+unfolding attempt
+abort_done t value = free_goes t.sticky (is_free t (dp_write_of 0 value)) _ _ (abort_free t value)
+
+either_clear : (b : Bool) (t : TargetState) → t.sticky ≡ false → (cond b (record t { sticky = false }) t).sticky ≡ false
+either_clear true t e = refl
+either_clear false t e = e
+
+set_clears : (b : Bool) (t : TargetState) → b ≡ true → (cond b (record t { sticky = false }) t).sticky ≡ false
+set_clears true t e = refl
+set_clears false t e = absurd (cc)
+
+-- ---- one command
+
+one_delay : (micros : ℕ) → nat_le micros 65535 ≡ true → delay_commands micros ≡ 1
+one_delay micros e = let h : micros ≤ 65535 = grind (arith, nat_tests) in omega arith
+
+pub call_acts : (e : ExecutorState) (c : ProbeCall) → is_one c ≡ true → IsCommand (command_of c) → Acts (Commands c) e.transfers (bench.done e (command_of c)).next.transfers
+call_acts e (probe.Delay micros) one command = record {
+  passes = refl;
+  target = refl;
+  work = ap (λ n. grown e.transfers.work n) (sym (one_delay micros one));
+  number = refl;
+  retries = refl;
+  pending = refl;
+  mask = refl;
+  matches = refl;
+  dpidr = refl;
+  clear = λ h. h;
+  in_range = λ h. (let r = acted_in_range e.transfers.line.target (Commands (probe.Delay micros)) h tt in r.next);
+}
+call_acts e (probe.Abort value) one command =
+    let t : TargetState = e.transfers.line.target in
+    let kept = attempt_keeps t (dp_write_of 0 value) in
+    let is = abort_done t value in
+    record {
+      passes = ap (λ (x : Attempt). is_fault x.outcome) is;
+      target = refl;
+      work = refl;
+      number = refl;
+      retries = refl;
+      pending = refl;
+      mask = refl;
+      matches = refl;
+      dpidr = kept.dpidr;
+      clear = λ h. ap (λ (x : Attempt). x.next.sticky) is ∙ either_clear (has_bit value stkerrclr) t h;
+      in_range = λ h. (let r = acted_in_range t (Commands (probe.Abort value)) h command in r.next);
+    }
+call_acts e (probe.Pins output select wait) one command = record {
+  passes = refl;
+  target = refl;
+  work = refl;
+  number = refl;
+  retries = refl;
+  pending = refl;
+  mask = refl;
+  matches = refl;
+  dpidr = refl;
+  clear = λ h. h;
+  in_range = λ h. (let r = acted_in_range e.transfers.line.target (Commands (probe.Pins output select wait)) h tt in r.next);
+}
+call_acts e (probe.Clock hertz) one command = record {
+  passes = refl;
+  target = refl;
+  work = refl;
+  number = refl;
+  retries = refl;
+  pending = refl;
+  mask = refl;
+  matches = refl;
+  dpidr = refl;
+  clear = λ h. h;
+  in_range = λ h. (let r = acted_in_range e.transfers.line.target (Commands (probe.Clock hertz)) h command.1 in r.next);
+}
+call_acts e (probe.Line count bits) one command = record {
+  passes = refl;
+  target = refl;
+  work = refl;
+  number = refl;
+  retries = refl;
+  pending = refl;
+  mask = refl;
+  matches = refl;
+  dpidr = refl;
+  clear = λ h. h;
+  in_range = λ h. (let r = acted_in_range e.transfers.line.target (Commands (probe.Line count bits)) h command.1 in r.next);
+}
+
+pub call_gives : (e : ExecutorState) (c : ProbeCall) → number_given e (command_of c) ≡ given (acted e.transfers.line.target (Commands c)).outcome
+call_gives e (probe.Delay micros) = refl
+call_gives e (probe.Abort value) = sym (ap (λ (x : Attempt). given x.outcome) (abort_done e.transfers.line.target value))
+call_gives e (probe.Pins output select wait) = refl
+call_gives e (probe.Clock hertz) = refl
+call_gives e (probe.Line count bits) = refl
+
+-- ---- what may follow
+
+pub flies_after : (x : Action) (m n : BenchState) → CanFly m → Acts x (transfers_of m) (transfers_of n) → CanFly n
+flies_after x m n can acts =
+    let guard = can.guard in
+    record {
+      guard = record {
+        mask = acts.mask ∙ guard.mask;
+        matches = acts.matches ∙ guard.matches;
+        dpidr = ap (λ (d : ℕ). eqb (bit_and d 1) 0) acts.dpidr ∙ guard.dpidr;
+        clear = acts.clear guard.clear;
+      };
+      in_range = acts.in_range can.in_range;
+    }
+
+-- after a write of ABORT that clears STICKYERR
+pub abort_clears : (value : ℕ) (p q : TransferState) → has_bit value stkerrclr ≡ true → Acts (Commands (probe.Abort value)) p q → q.line.target.sticky ≡ false
+abort_clears value p q set acts =
+    ap (λ (t : TargetState). t.sticky) acts.target ∙ ap (λ (x : Attempt). x.next.sticky) (abort_done p.line.target value) ∙ set_clears (has_bit value stkerrclr) p.line.target set
