@@ -1,0 +1,120 @@
+-- The debug variables one after the other, and whole runs of the evaluator.
+use Rattle.std.proofs.Common.{◌≡◌, ℕ, zero, suc, ◌+◌, ◌<◌, ◌≤◌, false, List, [], ◌∷◌, length, drop, get_or, Option, None, Some, unwrap_or, Result, Ok, Err, refl, sym, ap, subst, ◌∙◌, arith}
+use Rattle.std.proofs.lemmas.List.{drop_more}
+use Rattle.dap_base.specs.Outcome.{◌>>=◌}
+use Rattle.expr_grammar.specs.declared.code.Name.{Name}
+use Rattle.expr_grammar.specs.declared.code.Stmt as statement
+use Rattle.expr_grammar.specs.Tree as t
+use Rattle.expr_grammar.specs.Tree.{Tree, StmtTree, stmt_tree, code_trees}
+use Rattle.call_terms.specs.declared.calls.Value.{Value}
+use Rattle.call_terms.specs.NeedPoints.{Costs}
+use Rattle.call_terms.specs.World.{World}
+use Rattle.sequence_code.specs.Trees.{CodeSteps, SetTrees, NoSteps, steps_named}
+use Rattle.sequence_terms.specs.Calls.{given, guarded, missing}
+use Rattle.sequence_terms.specs.Late.{Late, late}
+use Rattle.sequence_terms.specs.Machine.{State, Out}
+use Rattle.sequence_terms.specs.Steps.{done, steps_at, sequence_at, debugged, run_of}
+use Rattle.sequence_terms.specs.Values.{value, stored}
+use Rattle.sequence_terms.specs.Variables.{set_visible}
+use Rattle.late_calls.specs.declared.end.End.{End}
+use Rattle.late_calls.specs.Ends.{Ends, Gives}
+use Rattle.late_calls.proofs.Leaves.{After, ends_on, later_bind, later_ok}
+use Rattle.control_flow.specs.Calls.{debugged_one, defined}
+use Rattle.control_flow.proofs.Exits.{later_debugged, later_stored, later_done, later_sequence, later_steps_at}
+
+abbrev S : Type 0
+S = State Value Late
+
+abbrev O : Type 0 → Type 0
+O A = Out Value Late A
+
+drop_end : {X : Type 0} (xs : List X) (i : ℕ) → length xs ≤ i → drop i xs ≡ []
+drop_end [] zero h = refl
+drop_end [] (suc i) h = refl
+drop_end (x ∷ xs) zero h = absurd (omega arith)
+drop_end (x ∷ xs) (suc i) h = drop_end xs i (omega arith)
+
+module _ (cost : Costs) (w : World) (turn_us : ℕ) (set : SetTrees) where
+  -- ---- the debug variables
+
+  abbrev dropped_value : {B : Type 0} → B × S → O (Unit {0})
+  dropped_value y = Ok (tt, y.1)
+
+  abbrev rest_of : {B C : Type 0} → (S → O C) → B × S → O C
+  rest_of g y = g y.1
+
+  tail_one : {B C : Type 0} (p : O B) (g : S → O C) → (p >>= rest_of {B = B} {C = C} g) ≡ ((p >>= dropped_value {B = B}) >>= rest_of {B = Unit {0}} {C = C} g)
+  tail_one (Ok x) g = refl
+  tail_one (Err e) g = refl
+
+  tail_two : {A B C : Type 0} (o : O A) (f : A × S → O B) (g : S → O C) → (o >>= λ x. f x >>= rest_of {B = B} {C = C} g) ≡ ((o >>= λ x. f x >>= dropped_value {B = B}) >>= rest_of {B = Unit {0}} {C = C} g)
+  tail_two (Ok x) f g = tail_one (f x) g
+  tail_two (Err e) f g = refl
+
+  debug_first : (st : StmtTree) (code : List StmtTree) (s : S) → debugged (late cost w) turn_us set (st ∷ code) s ≡ (debugged_one cost w turn_us set st s >>= λ y. debugged (late cost w) turn_us set code y.1)
+  unfolding debugged
+  debug_first (t.Empty at) code s = refl
+  debug_first (t.Declare name e) code s = tail_two {A = Value} {B = Value} {C = Unit {0}} (value (late cost w) (λ n q. sequence_at (late cost w) turn_us set 0 n q) e s) (λ x. stored (late cost w) name x.0 x.1) (λ q. debugged (late cost w) turn_us set code q)
+  debug_first (t.Plain at e) code s = refl
+
+  debug_more : (xs : List statement.Stmt) (i : ℕ) (d : statement.Stmt) (s : S) → i < length xs
+      → debugged (late cost w) turn_us set (code_trees (drop i xs)) s ≡ (debugged_one cost w turn_us set (stmt_tree (get_or xs i d)) s >>= λ y. debugged (late cost w) turn_us set (code_trees (drop (i + 1) xs)) y.1)
+  debug_more xs i d s h = rw (drop_more xs i d h) (debug_first (stmt_tree (get_or xs i d)) (code_trees (drop (i + 1) xs)) s)
+
+  pub debug_on : (total : O (Unit {0})) (xs : List statement.Stmt) (i : ℕ) (d : statement.Stmt) (s r : S) → total ≡ debugged (late cost w) turn_us set (code_trees (drop i xs)) s → i < length xs
+      → debugged_one cost w turn_us set (stmt_tree (get_or xs i d)) s ≡ Ok (tt, r) → total ≡ debugged (late cost w) turn_us set (code_trees (drop (i + 1) xs)) r
+  debug_on total xs i d s r same h is = same ∙ debug_more xs i d s h ∙ ap (λ o. o >>= λ y. debugged (late cost w) turn_us set (code_trees (drop (i + 1) xs)) y.1) is
+
+  pub debug_fail : (lines : ℕ) (total : O (Unit {0})) (xs : List statement.Stmt) (i : ℕ) (d : statement.Stmt) (s r : S) (e : End) → total ≡ debugged (late cost w) turn_us set (code_trees (drop i xs)) s → i < length xs
+      → Ends w lines e r (debugged_one cost w turn_us set (stmt_tree (get_or xs i d)) s) → Ends w lines e r total
+  debug_fail lines total xs i d s r e same h is =
+      rw (same ∙ debug_more xs i d s h) (ends_on w lines e r (debugged_one cost w turn_us set (stmt_tree (get_or xs i d)) s) _ is (λ y. later_debugged cost w turn_us set (code_trees (drop (i + 1) xs)) y.1))
+
+  pub debug_over : (total : O (Unit {0})) (xs : List statement.Stmt) (i : ℕ) (s : S) → total ≡ debugged (late cost w) turn_us set (code_trees (drop i xs)) s → length xs ≤ i → total ≡ Ok (tt, s)
+  unfolding debugged
+  debug_over total xs i s same h = same ∙ rw (drop_end xs i h) refl
+
+  pub debug_next : (total : O (Unit {0})) (xs : List statement.Stmt) (i : ℕ) (d a : statement.Stmt) (s r : S) → total ≡ debugged (late cost w) turn_us set (code_trees (drop i xs)) s → i < length xs → a ≡ get_or xs i d
+      → debugged_one cost w turn_us set (stmt_tree a) s ≡ Ok (tt, r) → total ≡ debugged (late cost w) turn_us set (code_trees (drop (i + 1) xs)) r
+  debug_next total xs i d a s r same h item is = debug_on total xs i d s r same h (subst (λ x. debugged_one cost w turn_us set (stmt_tree x) s ≡ Ok (tt, r)) item is)
+
+  pub debug_end : (lines : ℕ) (total : O (Unit {0})) (xs : List statement.Stmt) (i : ℕ) (d a : statement.Stmt) (s r : S) (e : End) → total ≡ debugged (late cost w) turn_us set (code_trees (drop i xs)) s → i < length xs → a ≡ get_or xs i d
+      → Ends w lines e r (debugged_one cost w turn_us set (stmt_tree a) s) → Ends w lines e r total
+  debug_end lines total xs i d a s r e same h item is = debug_fail lines total xs i d s r e same h (subst (λ x. Ends w lines e r (debugged_one cost w turn_us set (stmt_tree x) s)) item is)
+
+  -- ---- one debug variable
+
+  pub defined_on : (name : Name) (tree : Tree) (s r now : S) (v : Value) → value (late cost w) (λ n q. sequence_at (late cost w) turn_us set 0 n q) tree s ≡ Ok (v, r) → now ≡ set_visible name.text v r → defined cost w turn_us set name tree s ≡ Ok (tt, now)
+  unfolding stored guarded late
+  defined_on name tree s r now v is at = rw is (rw at refl)
+
+  pub defined_first : (lines : ℕ) (e : End) (name : Name) (tree : Tree) (s now : S) → Ends w lines e now (value (late cost w) (λ n q. sequence_at (late cost w) turn_us set 0 n q) tree s) → Ends w lines e now (defined cost w turn_us set name tree s)
+  defined_first lines e name tree s now h =
+      ends_on w lines e now (value (late cost w) (λ n q. sequence_at (late cost w) turn_us set 0 n q) tree s) _ h (λ x. later_bind w x.1 (stored (late cost w) name x.0 x.1) _ (later_stored cost w name x.0 x.1) (λ y. later_ok w y.1 _))
+
+  -- ---- the run
+
+  given_steps : (o : Option CodeSteps) (s : S) → given (late cost w) NoSteps o s ≡ Ok (unwrap_or o NoSteps, s)
+  unfolding given missing late
+  given_steps None s = refl
+  given_steps (Some steps) s = refl
+
+  steps_found : (name : List ℕ) (s : S) → steps_at (late cost w) turn_us set name s ≡ Ok (unwrap_or (steps_named name set.sequences) NoSteps, s)
+  unfolding steps_at
+  steps_found name s = given_steps (steps_named name set.sequences) s
+
+  pub run_on : (lines : ℕ) (start : List ℕ) (s r now : S) (result : Result (Unit {0}) End) (steps : CodeSteps) → debugged (late cost w) turn_us set set.debugvars s ≡ Ok (tt, r) → steps ≡ unwrap_or (steps_named start set.sequences) NoSteps
+      → Gives w lines result now (done (late cost w) turn_us (λ n q. sequence_at (late cost w) turn_us set 31 n q) steps r) → Gives w lines result now (run_of (late cost w) turn_us set start s)
+  unfolding run_of
+  run_on lines start s r now result steps debug is h =
+      let f : CodeSteps × S → O (Unit {0}) = λ y. done (late cost w) turn_us (λ n q. sequence_at (late cost w) turn_us set 31 n q) y.0 y.1 in
+      let found : (steps_at (late cost w) turn_us set start r >>= f) ≡ done (late cost w) turn_us (λ n q. sequence_at (late cost w) turn_us set 31 n q) steps r =
+      ap (λ o. o >>= f) (steps_found start r) ∙ ap (λ k. done (late cost w) turn_us (λ n q. sequence_at (late cost w) turn_us set 31 n q) k r) (sym is) in
+      subst (λ o. Gives w lines result now o) (sym (ap (λ o. o >>= λ x. steps_at (late cost w) turn_us set start x.1 >>= f) debug ∙ found)) h
+
+  -- the debug variables ended
+  pub run_first : (lines : ℕ) (start : List ℕ) (s now : S) (e : End) → Ends w lines e now (debugged (late cost w) turn_us set set.debugvars s) → Ends w lines e now (run_of (late cost w) turn_us set start s)
+  unfolding run_of
+  run_first lines start s now e h =
+      ends_on w lines e now (debugged (late cost w) turn_us set set.debugvars s) _ h
+      (λ x. later_bind w x.1 (steps_at (late cost w) turn_us set start x.1) _ (later_steps_at cost w turn_us set start x.1) (λ y. later_done cost w turn_us (λ n q. sequence_at (late cost w) turn_us set 31 n q) y.0 y.1 (later_sequence cost w turn_us set 31)))

@@ -1,0 +1,60 @@
+-- What an end is, for the exits of the code that closes a run.
+use Rattle.std.proofs.Common.{◌≡◌, ℕ, None, Some, Option, sym, ap, ◌∙◌}
+use Rattle.access_calls.proofs.KeepLemmas.{goes_same, goes_trans}
+use Rattle.access_calls.specs.Left.{answered_at, answered_by}
+use Rattle.access_calls.specs.Reported.{Reported}
+use Rattle.access_calls.specs.declared.stop.Stop.{Stop}
+use Rattle.access_calls.specs.declared.stop.Stop.TheVariants.{Cut, BenchFault, ReplyBad, OutOfMemory}
+use Rattle.control_flow.specs.Answers.{EndBy, HasSinkCause}
+use Rattle.control_flow.specs.Closing.{ComesToEnd, NoWriteFault, ending_of}
+use Rattle.control_flow.specs.declared.ended.Ending.{Ending}
+use Rattle.control_flow.specs.declared.ended.Ending.TheVariants as e
+use Rattle.late_calls.proofs.Leaves.{left_on, stopped_end, stopped_ended}
+use Rattle.late_calls.specs.Ends.{EndsBy}
+
+end_of : (st : Stop) (end : Option Stop) → EndsBy st end → EndBy (ending_of st) end
+end_of (Cut r) end h = h
+end_of (BenchFault issued confirmed) end h = h
+end_of ReplyBad end h = h
+end_of OutOfMemory end h = h
+
+-- the ending of a run that stopped
+pub stop_end : (st : Stop) (end : Option Stop) (is : Ending) → is ≡ ending_of st → EndsBy st end → EndBy is end
+stop_end st end is same h = rw same (end_of st end h)
+
+-- how many calls are answered, by a stop
+pub answered_as : (st : Stop) (a : Reported) → EndsBy st a.end → answered_by a ≡ answered_at (Some st) a.lines
+answered_as (Cut r) a h = ap (λ e. answered_at e a.lines) h
+answered_as (BenchFault issued confirmed) a h = ap (λ e. answered_at e a.lines) h
+answered_as ReplyBad a h = ap (λ e. answered_at e a.lines) h
+answered_as OutOfMemory a h = ap (λ e. answered_at e a.lines) h
+
+-- no stop is a failure of the sink
+no_fault_of : (st : Stop) → NoWriteFault (ending_of st)
+no_fault_of (Cut r) = tt
+no_fault_of (BenchFault issued confirmed) = tt
+no_fault_of ReplyBad = tt
+no_fault_of OutOfMemory = tt
+
+pub no_fault_stop : (st : Stop) (is : Ending) → is ≡ ending_of st → NoWriteFault is
+no_fault_stop st is same = rw same (no_fault_of st)
+
+pub no_fault_end : (is : Ending) → ComesToEnd is → NoWriteFault is
+no_fault_end e.Done h = tt
+no_fault_end (e.Halted cause) h = tt
+no_fault_end (e.Cut report) h = tt
+no_fault_end (e.BenchFault issued confirmed) h = tt
+no_fault_end e.ReplyBad h = tt
+no_fault_end e.WriteFault h = absurd h
+no_fault_end e.OutOfMemory h = tt
+
+pub quiet_ending : (is : Ending) (before now : ℕ) → now ≡ before → NoWriteFault is → HasSinkCause is before now
+quiet_ending e.Done before now same h = same
+quiet_ending (e.Halted cause) before now same h = same
+quiet_ending (e.Cut report) before now same h = same
+quiet_ending (e.BenchFault issued confirmed) before now same h = same
+quiet_ending e.ReplyBad before now same h = same
+quiet_ending e.WriteFault before now same h = absurd h
+quiet_ending e.OutOfMemory before now same h = same
+
+pub ruleset ending = (goes_trans, goes_same, left_on, stopped_ended, stop_end, no_fault_stop, no_fault_end, quiet_ending)

@@ -1,0 +1,180 @@
+-- What comes later, for the exits of the evaluator.
+use Rattle.std.proofs.Common.{◌≡◌, ℕ, ◌+◌, ◌<◌, ◌≤◌, Bool, true, false, cond, not, List, [], ◌∷◌, ◌++◌, length, take, nat_eq, codes, Option, None, Some, unwrap_or, Result, Ok, Err, refl, sym, ap, subst, ◌∙◌, arith}
+use Rattle.dap_base.specs.Outcome.{◌>>=◌}
+use Rattle.function_table.specs.declared.function.Function.{Function}
+use Rattle.function_table.specs.Lookup.{function_named}
+use Rattle.expr_grammar.specs.declared.code.Name.{Name}
+use Rattle.expr_grammar.specs.Tree.{Tree, ArgTree, ArgTrees, StmtTree}
+use Rattle.sequence_code.specs.Trees.{CodeStep, CodeSteps, SetTrees}
+use Rattle.call_terms.specs.declared.calls.Value.{Value}
+use Rattle.call_terms.specs.declared.calls.Value.TheVariants.{Number}
+use Rattle.call_terms.specs.NeedPoints.{Costs}
+use Rattle.call_terms.specs.World.{World}
+use Rattle.access_calls.proofs.KeepLemmas.{goes_same, goes_trans}
+use Rattle.access_calls.specs.declared.stop.Stop.TheVariants.{OutOfMemory}
+use Rattle.sequence_terms.specs.declared.bindings.Binding.{Binding}
+use Rattle.sequence_terms.specs.Calls.{use_now, missing, given, global}
+use Rattle.sequence_terms.specs.Late.{Late, late, Later}
+use Rattle.sequence_terms.specs.Machine as machine
+use Rattle.sequence_terms.specs.Machine.{Over, State, Out, end_state, with_locals, with_variables}
+use Rattle.sequence_terms.specs.Steps.{turn, turns, counted, inside, polled, polled_at, repeated, in_order, block, done, run_of, debugged, steps_at, sequence_at}
+use Rattle.sequence_terms.specs.Values.{value, stored, used_now, both, operands, result_of, truth_of, argument, arguments, chained, numbers_of, all_used, called, call_of, is_call, text_of}
+use Rattle.sequence_terms.proofs.Goes as g
+use Rattle.sequence_terms.proofs.LateLemmas.{steady_late, later_same, later_still}
+use Rattle.sequence_terms.specs.Steady.{Goes}
+use Rattle.late_calls.specs.declared.end.End.{End}
+use Rattle.late_calls.specs.declared.end.End.TheVariants as end
+use Rattle.late_calls.specs.Ends.{Ends, Left}
+use Rattle.late_calls.proofs.Leaves.{After, ends_on, later_bind, later_cond, later_ok, later_halt, later_use, later_both, later_global, later_ask, left_on}
+
+abbrev S : Type 0
+S = State Value Late
+
+abbrev O : Type 0 → Type 0
+O A = Out Value Late A
+
+-- what a call of a sequence does comes later than its start; a name of its own, for the search
+pub record CallsLater (w : World) (seq : List ℕ → S → O (Unit {0})) : Type 0 where
+  pub so : (name : List ℕ) (r : S) → After w r (seq name r)
+
+no_cost : Costs
+no_cost t calls ask = record { before = 0; after = 0 }
+
+-- the two ways to say it
+go : {A : Type 0} (w : World) (s : S) (out : O A) → After w s out → Goes (Later w) s out
+go w s out h = record { so = h.so }
+
+back : {A : Type 0} (w : World) (s : S) (out : O A) → Goes (Later w) s out → After w s out
+back w s out h = record { so = h.so }
+
+pub later_rest : {A : Type 0} (w : World) (s r : S) (x : A) → r.rest ≡ s.rest → After w s (Ok (x, r))
+later_rest w s r x e = record { so = subst (λ t. Later w s.rest t) (sym e) (later_same no_cost w s.rest) }
+
+pub later_stored : (cost : Costs) (w : World) (name : Name) (v : Value) (s : S) → After w s (stored (late cost w) name v s)
+later_stored cost w name v s = back w s _ (g.goes_stored (late cost w) (Later w) (steady_late cost w) name v s)
+
+pub later_locals : (w : World) (s : S) (locals : List (Binding Value)) → After {B = Unit {0}} w s (Ok (tt, with_locals s locals))
+later_locals w s locals = later_rest {A = Unit {0}} w s (with_locals s locals) tt refl
+
+pub later_variables : (w : World) (s : S) (globals locals : List (Binding Value)) → After {B = Unit {0}} w s (Ok (tt, with_variables s globals locals))
+later_variables w s globals locals = later_rest {A = Unit {0}} w s (with_variables s globals locals) tt refl
+
+-- ---- one line for each definition
+
+pub later_sequence : (cost : Costs) (w : World) (turn_us : ℕ) (set : SetTrees) (depth : ℕ) → CallsLater w (λ n q. sequence_at (late cost w) turn_us set depth n q)
+later_sequence cost w turn_us set depth = record { so = λ name r. back w r _ (g.goes_sequence (late cost w) (Later w) (steady_late cost w) turn_us set depth name r) }
+
+pub later_value : (cost : Costs) (w : World) (seq : List ℕ → S → O (Unit {0})) (e : Tree) (s : S) → CallsLater w seq → After w s (value (late cost w) seq e s)
+later_value cost w seq e s q = back w s _ (g.goes_value (late cost w) (Later w) (steady_late cost w) seq (λ name r. go w r _ (q.so name r)) e s)
+
+pub later_used_now : (cost : Costs) (w : World) (out : O Value) (s : S) → After w s out → After w s (used_now (late cost w) out)
+later_used_now cost w out s h = back w s _ (g.goes_used_now (late cost w) (Later w) (steady_late cost w) out s (go w s _ h))
+
+pub later_truth_of : (cost : Costs) (w : World) (out : O Value) (s : S) → After w s out → After w s (truth_of (late cost w) out)
+later_truth_of cost w out s h = back w s _ (g.goes_truth_of (late cost w) (Later w) (steady_late cost w) out s (go w s _ h))
+
+pub later_result : (cost : Costs) (w : World) (o : Option ℕ) (s : S) → After w s (result_of (late cost w) o s)
+later_result cost w o s = back w s _ (g.goes_result (late cost w) (Later w) (steady_late cost w) o s)
+
+pub later_all_used : (cost : Costs) (w : World) (vs : List Value) (s : S) → After w s (all_used (late cost w) vs s)
+later_all_used cost w vs s = back w s _ (g.goes_all_used (late cost w) (Later w) (steady_late cost w) vs s)
+
+pub later_called : (cost : Costs) (w : World) (seq : List ℕ → S → O (Unit {0})) (function : Option Function) (text n : List ℕ) (s : S) → CallsLater w seq → After w s (called (late cost w) seq function text n s)
+later_called cost w seq function text n s q = back w s _ (g.goes_called (late cost w) (Later w) (steady_late cost w) seq (λ name r. go w r _ (q.so name r)) function text n s)
+
+pub later_arguments : (cost : Costs) (w : World) (seq : List ℕ → S → O (Unit {0})) (args : ArgTrees) (got : List Value) (s : S) → CallsLater w seq → After w s (arguments (late cost w) seq args got s)
+later_arguments cost w seq args got s q = back w s _ (g.goes_arguments (late cost w) (Later w) (steady_late cost w) seq (λ name r. go w r _ (q.so name r)) args got s)
+
+pub later_block : (cost : Costs) (w : World) (turn_us : ℕ) (seq : List ℕ → S → O (Unit {0})) (code : List StmtTree) (s : S) → CallsLater w seq → After w s (block (late cost w) turn_us seq code s)
+later_block cost w turn_us seq code s q = back w s _ (g.goes_block (late cost w) (Later w) (steady_late cost w) seq (λ name r. go w r _ (q.so name r)) turn_us code s)
+
+pub later_done : (cost : Costs) (w : World) (turn_us : ℕ) (seq : List ℕ → S → O (Unit {0})) (steps : CodeSteps) (s : S) → CallsLater w seq → After w s (done (late cost w) turn_us seq steps s)
+later_done cost w turn_us seq steps s q = back w s _ (g.goes_done (late cost w) (Later w) (steady_late cost w) seq (λ name r. go w r _ (q.so name r)) turn_us steps s)
+
+pub later_inside : (cost : Costs) (w : World) (body : S → O (Unit {0})) (s : S) → ((r : S) → After w r (body r)) → After w s (inside (late cost w) body s)
+later_inside cost w body s k = back w s _ (g.goes_inside (late cost w) (Later w) (steady_late cost w) body s (λ r. go w r _ (k r)))
+
+pub later_turns : (cost : Costs) (w : World) (test : S → O Value) (body : S → O (Unit {0})) (n : ℕ) (s : S) → ((r : S) → After w r (test r)) → ((r : S) → After w r (body r)) → After w s (turns (late cost w) test body n s)
+later_turns cost w test body n s k l = back w s _ (g.goes_turns (late cost w) (Later w) (steady_late cost w) test body n s (λ r. go w r _ (k r)) (λ r. go w r _ (l r)))
+
+pub later_repeated : (cost : Costs) (w : World) (turn_us : ℕ) (seq : List ℕ → S → O (Unit {0})) (o : Option Tree) (timeout : Option ℕ) (steps : CodeSteps) (body : S → O (Unit {0})) (s : S) → CallsLater w seq → ((r : S) → After w r (body r))
+    → After w s (repeated (late cost w) turn_us seq o timeout steps body s)
+later_repeated cost w turn_us seq o timeout steps body s q k = back w s _ (g.goes_repeated (late cost w) (Later w) (steady_late cost w) seq (λ name r. go w r _ (q.so name r)) turn_us o timeout steps body s (λ r. go w r _ (k r)))
+
+pub later_polled_at : (cost : Costs) (w : World) (form : ℕ × ℕ) (n dp : ℕ) (s : S) → After w s (polled_at (late cost w) form n dp s)
+later_polled_at cost w form n dp s = back w s _ (g.goes_polled_at (late cost w) (Later w) (steady_late cost w) form n dp s)
+
+pub later_debugged : (cost : Costs) (w : World) (turn_us : ℕ) (set : SetTrees) (code : List StmtTree) (s : S) → After w s (debugged (late cost w) turn_us set code s)
+later_debugged cost w turn_us set code s = back w s _ (g.goes_debugged (late cost w) (Later w) (steady_late cost w) turn_us set code s)
+
+pub later_steps_at : (cost : Costs) (w : World) (turn_us : ℕ) (set : SetTrees) (name : List ℕ) (s : S) → After w s (steps_at (late cost w) turn_us set name s)
+later_steps_at cost w turn_us set name s = back w s _ (g.goes_steps_at (late cost w) (Later w) (steady_late cost w) turn_us set name s)
+
+-- ---- exits with more than one part after them
+
+pub operands_first : (cost : Costs) (w : World) (lines : ℕ) (e : End) (now : S) (out : O Value) (f : S → O Value) → Ends w lines e now out → ((s : S) → After w s (f s)) → Ends w lines e now (operands (late cost w) out f)
+unfolding operands
+operands_first cost w lines e now out f h k = ends_on w lines e now out _ h (λ x. later_bind w x.1 (f x.1) _ (k x.1) (λ y. later_both cost w x.0 y.0 y.1))
+
+-- the arguments of a call ended
+pub call_first : (cost : Costs) (w : World) (lines : ℕ) (e : End) (now : S) (seq : List ℕ → S → O (Unit {0})) (name : Name) (args : ArgTrees) (out : O (List Value)) → CallsLater w seq → Ends w lines e now out → Ends w lines e now (call_of (late cost w) seq name args out)
+unfolding call_of numbers_of
+call_first cost w lines e now seq name args out q h =
+    ends_on w lines e now (out >>= λ x. all_used (late cost w) x.0 x.1) _
+    (ends_on w lines e now out _ h (λ x. later_all_used cost w x.0 x.1))
+    (λ x. back w x.1 _ (g.goes_guarded (late cost w) (Later w) (steady_late cost w) _ _ x.1 (go w x.1 _ (later_called cost w seq (function_named name.text) (text_of args) x.0 x.1 q))))
+
+later_turn_rest : (w : World) (n : ℕ) (body : S → O (Unit {0})) (s : S) → ((r : S) → After w r (body r)) → After w s (cond (nat_eq n 0) (Ok (false, s)) (body s >>= λ y. Ok (true, y.1)))
+later_turn_rest w n body s k = later_cond w s (nat_eq n 0) _ _ (later_ok w s false) (later_bind w s (body s) _ (k s) (λ y. later_ok w y.1 true))
+
+pub turn_test : (cost : Costs) (w : World) (lines : ℕ) (e : End) (now s r : S) (test : S → O Value) (body : S → O (Unit {0})) → counted (late cost w) s ≡ Ok (tt, r) → Ends w lines e now (used_now (late cost w) (test r)) → ((r : S) → After w r (body r))
+    → Ends w lines e now (turn (late cost w) test body s)
+unfolding turn
+turn_test cost w lines e now s r test body is h l = rw is (ends_on w lines e now (used_now (late cost w) (test r)) _ h (λ x. later_turn_rest w x.0 body x.1 l))
+
+-- memory was refused after a part
+pub refused_after : {A B : Type 0} (w : World) (lines : ℕ) (now : S) (out : O A) (f : A × S → O B) (x : A) → out ≡ Ok (x, now) → ((y : A × S) → After w y.1 (f y)) → Left w lines OutOfMemory now (out >>= f)
+refused_after w lines now out f x is k = record { later = rw is ((k (x, now)).so); first = tt }
+
+-- a poll was counted, and the look-up of `__dp` ended
+pub polled_first : (cost : Costs) (w : World) (lines : ℕ) (e : End) (form : ℕ × ℕ) (n : ℕ) (s k now : S) → counted (late cost w) s ≡ Ok (tt, k) → Ends w lines e now (global (late cost w) (codes "__dp") k) → Ends w lines e now (polled (late cost w) form n s)
+unfolding polled
+polled_first cost w lines e form n s k now is h = rw is (ends_on w lines e now (global (late cost w) (codes "__dp") k) _ h (λ d. later_polled_at cost w form n d.0 d.1))
+
+-- a number is itself, and nothing is lost
+pub late_number : (cost : Costs) (w : World) (n : ℕ) → (late cost w).number n ≡ Number n
+unfolding late
+late_number cost w n = refl
+
+pub late_careless : (cost : Costs) (w : World) → (late cost w).is_watchful ≡ false
+unfolding late
+late_careless cost w = refl
+
+pub ruleset goes_on = (
+  ends_on,
+  later_bind,
+  later_cond,
+  later_ok,
+  later_halt,
+  later_use,
+  later_both,
+  later_global,
+  later_ask,
+  later_sequence,
+  later_value,
+  later_used_now,
+  later_truth_of,
+  later_result,
+  later_called,
+  later_done,
+  later_inside,
+  later_repeated,
+  later_polled_at,
+  late_number,
+  later_stored,
+  later_locals,
+  later_variables,
+  goes_trans,
+  goes_same,
+  left_on,
+)

@@ -1,0 +1,8 @@
+pub mod Sizes
+pub mod Exits
+pub mod Loops
+pub mod Parts
+pub mod DebugLemmas
+pub mod StartLemmas
+pub mod RunLemmas
+pub mod EndRules

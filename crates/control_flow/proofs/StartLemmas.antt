@@ -1,0 +1,142 @@
+-- What a run starts with.
+use Rattle.std.proofs.Common.{◌≡◌, ◌<◌, ◌≤◌, ℕ, zero, suc, ◌+◌, Bool, true, false, cond, List, [], ◌∷◌, ◌++◌, map, take, drop, length, get_or, slice_get, Option, None, Some, refl, sym, ap, subst, ◌∙◌, arith, bytes_eq}
+use Rattle.std.proofs.lemmas.List.{drop_more, take_more, map-append}
+use Rattle.expr_grammar.specs.Tree as t
+use Rattle.expr_grammar.specs.Tree.{StmtTree, stmt_tree, code_trees}
+use Rattle.expr_grammar.specs.declared.code.Stmt as statement
+use Rattle.function_table.specs.Variables.{predefined}
+use Rattle.sequence_code.specs.Trees.{SetTrees}
+use Rattle.target_machine.specs.declared.unit.Variable.{Variable}
+use Rattle.sequence_terms.specs.declared.bindings.Binding.{Binding}
+use Rattle.call_terms.specs.NeedPoints.{Asks, Costs, nothing_asked}
+use Rattle.call_terms.specs.Values.{number_of, IsAsked}
+use Rattle.call_terms.specs.World.{World}
+use Rattle.call_terms.specs.declared.calls.Ask.{Ask}
+use Rattle.call_terms.specs.declared.calls.Value.{Value}
+use Rattle.call_terms.specs.declared.calls.Value.TheVariants.{Number}
+use Rattle.sequence_terms.specs.Late.{Late, late, late_of}
+use Rattle.sequence_terms.specs.Machine.{State}
+use Rattle.sequence_terms.specs.Runs as runs
+use Rattle.sequence_terms.specs.Steps.{declared_names, start_state}
+use Rattle.sequence_terms.specs.Variables.{bound, has_in, with_new, with_all_new}
+use Rattle.control_flow.specs.Answers.{variables_of}
+use Rattle.control_flow.specs.Closing.{as_values, numbers_in, AreAsked}
+
+-- ---- the predefined variables have names of their own
+
+has : List (List ℕ) → List ℕ → Bool
+has [] n = false
+has (x ∷ xs) n = cond (bytes_eq n x) true (has xs n)
+
+has_is : (vs : List Variable) (i : ℕ) (n : List ℕ) → has_in (as_values (variables_of (take i vs))) n ≡ has (take i (map (λ v. v.name) vs)) n
+unfolding has
+has_is [] zero n = refl
+has_is [] (suc i) n = refl
+has_is (v ∷ vs) zero n = refl
+has_is (v ∷ vs) (suc i) n = ap (λ b. cond (bytes_eq n v.name) true b) (has_is vs i n)
+
+name_at : (vs : List Variable) (i : ℕ) (d : Variable) → i < length vs → (get_or vs i d).name ≡ get_or (map (λ v. v.name) vs) i []
+name_at [] i d h = absurd (omega arith)
+name_at (v ∷ vs) zero d h = refl
+name_at (v ∷ vs) (suc i) d h = name_at vs i d (omega arith)
+
+names_length : (vs : List Variable) → length (map (λ v. v.name) vs) ≡ length vs
+names_length [] = refl
+names_length (v ∷ vs) = ap suc (names_length vs)
+
+own_name : (i : ℕ) → i < 7 → has (take i predefined) (get_or predefined i []) ≡ false
+unfolding has
+own_name zero h = refl
+own_name (suc zero) h = refl
+own_name (suc (suc zero)) h = refl
+own_name (suc (suc (suc zero))) h = refl
+own_name (suc (suc (suc (suc zero)))) h = refl
+own_name (suc (suc (suc (suc (suc zero))))) h = refl
+own_name (suc (suc (suc (suc (suc (suc zero)))))) h = refl
+own_name (suc (suc (suc (suc (suc (suc (suc i))))))) h = absurd (omega arith)
+
+new_name : (vs : List Variable) (i : ℕ) (d : Variable) → map (λ v. v.name) vs ≡ predefined → i < length vs → has_in (as_values (variables_of (take i vs))) (get_or vs i d).name ≡ false
+new_name vs i d same h =
+    let seven : length vs ≡ 7 = sym (names_length vs) ∙ ap length same in
+    let named : (get_or vs i d).name ≡ get_or predefined i [] = name_at vs i d h ∙ ap (λ ns. get_or ns i []) same in
+    has_is vs i (get_or vs i d).name ∙ ap (λ ns. has (take i ns) (get_or vs i d).name) same ∙ ap (has (take i predefined)) named ∙ own_name i (omega arith)
+
+-- one more of them
+pub start_more : (vs : List Variable) (i : ℕ) (d v : Variable) (old new : List (Binding Value)) → map (λ v. v.name) vs ≡ predefined → i < length vs → v ≡ get_or vs i d → old ≡ as_values (variables_of (take i vs)) → new ≡ with_new old v.name (Number v.value)
+    → new ≡ as_values (variables_of (take (i + 1) vs))
+start_more vs i d v old new same h is was add =
+    let fresh : has_in old v.name ≡ false = ap (λ bs. has_in bs v.name) was ∙ ap (λ x. has_in (as_values (variables_of (take i vs))) x.name) is ∙ new_name vs i d same h in
+    add ∙ ap (λ b. cond b old (old ++ bound v.name (Number v.value) ∷ [])) fresh ∙ ap (λ bs. bs ++ bound v.name (Number v.value) ∷ []) was
+    ∙ ap (λ x. as_values (variables_of (take i vs)) ++ bound x.name (Number x.value) ∷ []) is
+    ∙ sym (ap (λ l. as_values (variables_of l)) (take_more vs i d h)
+    ∙ ap as_values (map-append (λ (x : Variable). record { name = x.name; value = x.value }) (take i vs) (get_or vs i d ∷ []))
+    ∙ map-append (λ (b : Binding ℕ). record { name = b.name; value = Number b.value }) (variables_of (take i vs)) (bound (get_or vs i d).name (get_or vs i d).value ∷ []))
+
+-- ---- the debug variables
+
+first_declared : (st : StmtTree) (code : List StmtTree) (bs : List (Binding Value)) (v : Value) → with_all_new bs (declared_names (st ∷ code)) v ≡ with_all_new (with_all_new bs (declared_names (st ∷ [])) v) (declared_names code) v
+first_declared (t.Empty at) code bs v = refl
+first_declared (t.Declare name e) code bs v = refl
+first_declared (t.Plain at e) code bs v = refl
+
+pub declared_more : (xs : List statement.Stmt) (i : ℕ) (d one : statement.Stmt) (whole old new : List (Binding Value)) → i < length xs → one ≡ get_or xs i d → whole ≡ with_all_new old (declared_names (code_trees (drop i xs))) (Number 0)
+    → new ≡ with_all_new old (declared_names (stmt_tree one ∷ [])) (Number 0) → whole ≡ with_all_new new (declared_names (code_trees (drop (i + 1) xs))) (Number 0)
+declared_more xs i d one whole old new h is same add =
+    same ∙ ap (λ l. with_all_new old (declared_names (code_trees l)) (Number 0)) (drop_more xs i d h) ∙ first_declared (stmt_tree (get_or xs i d)) (code_trees (drop (i + 1) xs)) old (Number 0)
+    ∙ ap (λ x. with_all_new (with_all_new old (declared_names (stmt_tree x ∷ [])) (Number 0)) (declared_names (code_trees (drop (i + 1) xs))) (Number 0)) (sym is)
+    ∙ ap (λ bs. with_all_new bs (declared_names (code_trees (drop (i + 1) xs))) (Number 0)) (sym add)
+
+drop_end : {X : Type 0} (xs : List X) (i : ℕ) → length xs ≤ i → drop i xs ≡ []
+drop_end [] zero h = refl
+drop_end [] (suc i) h = refl
+drop_end (x ∷ xs) zero h = absurd (omega arith)
+drop_end (x ∷ xs) (suc i) h = drop_end xs i (omega arith)
+
+pub declared_over : (xs : List statement.Stmt) (i : ℕ) (whole old : List (Binding Value)) → length xs ≤ i → whole ≡ with_all_new old (declared_names (code_trees (drop i xs))) (Number 0) → old ≡ whole
+declared_over xs i whole old h same = sym (same ∙ ap (λ l. with_all_new old (declared_names (code_trees l)) (Number 0)) (drop_end xs i h))
+
+-- ---- the variables of an answer
+
+module _ (w : World) (calls : List Ask) where
+  one_more : (cs : List (Binding Value)) (j : ℕ) (y : Binding Value) → Some y ≡ slice_get cs j → numbers_in w calls (take (suc j) cs) ≡ numbers_in w calls (take j cs) ++ bound y.name (number_of w calls y.value) ∷ []
+  one_more [] j y h = absurd cc
+  one_more (z ∷ cs) zero y h = (let same : y ≡ z = cc in ap (λ k. bound k.name (number_of w calls k.value) ∷ []) (sym same))
+  one_more (z ∷ cs) (suc j) y h = ap (λ r. bound z.name (number_of w calls z.value) ∷ r) (one_more cs j y h)
+
+  pub variables_more : (bs : List (Binding Value)) (i n : ℕ) (x : Binding Value) (old new : List Variable) (v : Variable) → Some x ≡ slice_get bs i → v.name ≡ x.name → v.value ≡ n → n ≡ number_of w calls x.value → new ≡ old ++ v ∷ []
+      → variables_of old ≡ numbers_in w calls (take i bs) → variables_of new ≡ numbers_in w calls (take (i + 1) bs)
+  variables_more bs i n x old new v at hn hv value add was =
+      ap variables_of add ∙ map-append (λ (y : Variable). record { name = y.name; value = y.value }) old (v ∷ []) ∙ ap (λ l. l ++ bound v.name v.value ∷ []) was
+      ∙ ap (λ k. numbers_in w calls (take i bs) ++ bound k v.value ∷ []) hn ∙ ap (λ k. numbers_in w calls (take i bs) ++ bound x.name k ∷ []) (hv ∙ value) ∙ sym (ap (λ k. numbers_in w calls (take k bs)) next ∙ one_more bs i x at)
+    where
+      next : i + 1 ≡ suc i
+      next = omega arith
+
+  pub variables_all : (bs : List (Binding Value)) (i : ℕ) (vs : List Variable) → variables_of vs ≡ numbers_in w calls (take i bs) → length bs ≤ i → variables_of vs ≡ numbers_in w calls bs
+  variables_all bs i vs same k = same ∙ ap (λ l. numbers_in w calls l) (all bs i k)
+    where
+      all : (cs : List (Binding Value)) (j : ℕ) → length cs ≤ j → take j cs ≡ cs
+      all [] zero q = refl
+      all [] (suc j) q = refl
+      all (z ∷ cs) zero q = absurd (omega arith)
+      all (z ∷ cs) (suc j) q = ap (λ r. z ∷ r) (all cs j (omega arith))
+
+-- a value in a list of values that were asked
+pub asked_at : (calls : ℕ) (bs : List (Binding Value)) (i : ℕ) (x : Binding Value) → AreAsked calls bs → Some x ≡ slice_get bs i → IsAsked calls x.value
+asked_at calls [] i x all h = absurd cc
+asked_at calls (b ∷ bs) zero x all h = let same : x ≡ b = cc in subst (λ k. IsAsked calls k.value) (sym same) all.0
+asked_at calls (b ∷ bs) (suc i) x all h = asked_at calls bs i x all.1 h
+
+-- ---- the state at the start
+
+same_start : (cost : Costs) (w : World) (set : SetTrees) (bs : List (Binding ℕ)) → with_all_new (as_values bs) (declared_names set.debugvars) (Number 0) ≡ with_all_new (runs.as_values (late cost w) bs) (declared_names set.debugvars) ((late cost w).number 0)
+unfolding late
+same_start cost w set bs = refl
+
+pub start_is : (cost : Costs) (w : World) (turn_us : ℕ) (set : SetTrees) (bs : List (Binding ℕ)) (gs : List (Binding Value)) (written : Option (List ℕ)) → gs ≡ with_all_new (as_values bs) (declared_names set.debugvars) (Number 0)
+    → record { globals = gs; locals = []; units = 0; lines = 0; steps = 0; rest = late_of nothing_asked written } ≡ start_state (late cost w) turn_us set (runs.as_values (late cost w) bs) (late_of nothing_asked written)
+start_is cost w turn_us set bs gs written h =
+    ap (λ k. at k) (h ∙ same_start cost w set bs)
+  where
+    at : List (Binding Value) → State Value Late
+    at k = record { globals = k; locals = []; units = 0; lines = 0; steps = 0; rest = late_of nothing_asked written }

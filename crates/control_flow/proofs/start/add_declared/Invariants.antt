@@ -1,0 +1,10 @@
+use Rattle.std.proofs.Common.{◌≡◌, drop}
+use Rattle.call_terms.specs.declared.calls.Value.TheVariants.{Number}
+use Rattle.expr_grammar.specs.Tree.{code_trees}
+use Rattle.sequence_terms.specs.Shared.{bindings_of}
+use Rattle.sequence_terms.specs.Steps.{declared_names}
+use Rattle.sequence_terms.specs.Variables.{with_all_new}
+use Rattle.control_flow.proofs.start.add_declared.Given as goal
+
+abbrev pub invariant-loop-one : goal.invariant-loop-one
+invariant-loop-one l = with_all_new (bindings_of l.fn.globals) (declared_names (code_trees l.code)) (Number 0) ≡ with_all_new (bindings_of l.globals) (declared_names (code_trees (drop l.one-index l.code))) (Number 0)

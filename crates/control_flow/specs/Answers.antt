@@ -1,0 +1,134 @@
+-- What a run answers.
+use Rattle.std.specs.Prelude.{◌≡◌, ◌⊎◌, ℕ, ◌+◌, List, [], ◌∷◌, ◌++◌, map, Option, Some, None}
+use Rattle.dap_base.specs.Causes.{Rose}
+use Rattle.call_terms.specs.Asks.{settled_last}
+use Rattle.call_terms.specs.NeedPoints.{Asks, finished, needed}
+use Rattle.call_terms.specs.declared.calls.Ask.{Ask}
+use Rattle.call_terms.specs.declared.calls.Value.{Value}
+use Rattle.access_calls.specs.declared.stop.Stop.{Stop}
+use Rattle.access_calls.specs.declared.stop.Stop.TheVariants as stop
+use Rattle.access_calls.specs.declared.stop.StopCause.{StopCause}
+use Rattle.access_calls.specs.declared.stop.StopCause.TheVariants as cause
+use Rattle.seq_check.specs.Answers.{checked_trees}
+use Rattle.seq_check.specs.declared.checked.Checked.{Checked}
+use Rattle.target_machine.specs.declared.unit.Settings.{Settings}
+use Rattle.target_machine.specs.declared.unit.Variable.{Variable}
+use Rattle.sequence_terms.specs.Late.{Late, Grows}
+use Rattle.sequence_terms.specs.Machine.{Out, end_state}
+use Rattle.sequence_terms.specs.Runs as runs
+use Rattle.sequence_terms.specs.Runs.{Program, Outcome, units_of}
+use Rattle.sequence_terms.specs.declared.bindings.Binding.{Binding}
+use Rattle.control_flow.specs.declared.ended.Ended.{Ended}
+use Rattle.control_flow.specs.declared.ended.Ending.{Ending}
+use Rattle.control_flow.specs.declared.ended.Ending.TheVariants as e
+
+-- variables with their values
+abbrev pub variables_of : List Variable → List (Binding ℕ)
+variables_of variables = map (λ (v : Variable). record { name = v.name; value = v.value }) variables
+
+-- What a call runs: a checked set, the name of a sequence, and settings.
+abbrev pub program_of : Checked → List ℕ → Settings → Program
+program_of checked start settings =
+    record { set = checked_trees checked; start = start; turn_us = settings.turn_us; predefined = variables_of settings.start }
+
+-- What a run reports: its variables, units and skips, what was asked, and what was written, where that is known.
+pub record Ran : Type 0 where
+  pub variables : List (Binding ℕ)
+  pub units : ℕ
+  pub skipped : ℕ
+  pub asks : Asks
+  pub written : Option (List ℕ)
+
+-- the same of an answer
+abbrev pub ran : Ended → Asks → Option (List ℕ) → Ran
+ran ended asks written =
+    record { variables = variables_of ended.variables; units = ended.units; skipped = ended.skipped; asks = asks; written = written }
+
+-- All is as in the outcome: the variables, units and skips, the calls, of which the last one is marked, and the lines.
+pub record IsAll (o : Outcome) (r : Ran) : Type 0 where
+  pub variables : r.variables ≡ o.variables
+  pub units : r.units ≡ units_of o
+  pub skipped : r.skipped ≡ o.skipped
+  pub calls : r.asks.calls ≡ settled_last o.calls
+  pub written : r.written ≡ o.written
+
+-- What was asked, except for a mark after the last call, and the calls of the outcome both come first in one list of calls.
+pub record SharesCalls (asked calls : List Ask) : Type 0 where
+  pub all : List Ask
+  pub more : List Ask
+  pub over : List Ask
+  pub ours : (all ≡ asked ++ more) ⊎ (asked ≡ settled_last all)
+  pub theirs : all ≡ calls ++ over
+
+-- The run was left in its middle: what was written comes first in what the outcome writes, and its calls are among the first.
+pub record IsPart (o : Outcome) (r : Ran) : Type 0 where
+  pub written : Grows r.written o.written
+  pub calls : SharesCalls r.asks.calls o.calls
+
+-- the outcome ends at a fault
+abbrev pub IsFaulted : runs.Ending → Type 0
+IsFaulted runs.Done = ⊥
+IsFaulted (runs.Halted cause) = ⊥
+IsFaulted (runs.Faulted call) = Unit {0}
+IsFaulted runs.Unanswered = ⊥
+IsFaulted runs.Lost = ⊥
+
+-- the outcome is Done or Halted
+abbrev pub IsWhole : runs.Ending → Type 0
+IsWhole runs.Done = Unit {0}
+IsWhole (runs.Halted cause) = Unit {0}
+IsWhole (runs.Faulted call) = ⊥
+IsWhole runs.Unanswered = ⊥
+IsWhole runs.Lost = ⊥
+
+-- Where the target or the probe stopped the calls, so many of which have their lines before it: the outcome ends at a fault of the
+-- next unit; or at the next unit, which is not answered; or it comes to its end with so many units, and a retry ended after them.
+abbrev pub StopsAfter : StopCause → ℕ → Outcome → Type 0
+StopsAfter cause.Faulted lines o = IsFaulted o.ending × (units_of o ≡ lines + 1)
+StopsAfter cause.NoAnswer lines o = ((o.ending ≡ runs.Unanswered) × (units_of o ≡ lines + 1)) ⊎ (IsWhole o.ending × (units_of o ≡ lines))
+
+-- A run that was cut: the outcome stops there, exactly its lines are written, and its calls are among the first.
+pub record IsCut (cause : StopCause) (lines : ℕ) (o : Outcome) (r : Ran) : Type 0 where
+  pub stops : StopsAfter cause lines o
+  pub written : r.written ≡ o.written
+  pub calls : SharesCalls r.asks.calls o.calls
+
+-- how a run ended, by the outcome
+abbrev pub EndsAs : Ending → ℕ → Outcome → Ran → Type 0
+EndsAs e.Done lines o r = (o.ending ≡ runs.Done) × IsAll o r
+EndsAs (e.Halted cause) lines o r = (o.ending ≡ runs.Halted cause) × IsAll o r
+EndsAs (e.Cut report) lines o r = IsCut report.cause lines o r
+EndsAs (e.BenchFault issued confirmed) lines o r = IsPart o r
+EndsAs e.ReplyBad lines o r = IsPart o r
+EndsAs e.WriteFault lines o r = IsPart o r
+EndsAs e.OutOfMemory lines o r = IsPart o r
+
+-- Where a run is Done or Halted, what was asked has the need points of the meaning with results that come later, and one for the end.
+abbrev pub HasNeeds : Ending → Asks → Out Value Late (Unit {0}) → Type 0
+HasNeeds e.Done asks out = asks ≡ needed (finished (end_state out).rest.asks)
+HasNeeds (e.Halted cause) asks out = asks ≡ needed (finished (end_state out).rest.asks)
+HasNeeds (e.Cut report) asks out = Unit {0}
+HasNeeds (e.BenchFault issued confirmed) asks out = Unit {0}
+HasNeeds e.ReplyBad asks out = Unit {0}
+HasNeeds e.WriteFault asks out = Unit {0}
+HasNeeds e.OutOfMemory asks out = Unit {0}
+
+-- the end of the access is the one that is answered, and else it has none
+abbrev pub EndBy : Ending → Option Stop → Type 0
+EndBy e.Done end = end ≡ None
+EndBy (e.Halted cause) end = end ≡ None
+EndBy (e.Cut r) end = end ≡ Some (stop.Cut r)
+EndBy (e.BenchFault issued confirmed) end = end ≡ Some (stop.BenchFault issued confirmed)
+EndBy e.ReplyBad end = end ≡ Some stop.ReplyBad
+EndBy e.WriteFault end = end ≡ None
+EndBy e.OutOfMemory end = end ≡ None
+
+-- the sink's count of faults rose where the sink failed, and else it is the same
+abbrev pub HasSinkCause : Ending → ℕ → ℕ → Type 0
+HasSinkCause e.Done before now = now ≡ before
+HasSinkCause (e.Halted cause) before now = now ≡ before
+HasSinkCause (e.Cut r) before now = now ≡ before
+HasSinkCause (e.BenchFault issued confirmed) before now = now ≡ before
+HasSinkCause e.ReplyBad before now = now ≡ before
+HasSinkCause e.WriteFault before now = Rose before now
+HasSinkCause e.OutOfMemory before now = now ≡ before

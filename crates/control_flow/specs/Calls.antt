@@ -1,0 +1,32 @@
+-- What the evaluator calls, and how it takes the debug variables one after the other.
+use Rattle.std.specs.Prelude.{ℕ, List, Ok}
+use Rattle.dap_base.specs.Outcome.{◌>>=◌}
+use Rattle.expr_grammar.specs.declared.code.Name.{Name}
+use Rattle.expr_grammar.specs.Tree as t
+use Rattle.expr_grammar.specs.Tree.{Tree, StmtTree}
+use Rattle.call_terms.specs.declared.calls.Value.{Value}
+use Rattle.call_terms.specs.NeedPoints.{Costs}
+use Rattle.call_terms.specs.World.{World}
+use Rattle.seq_check.specs.Answers.{checked_trees}
+use Rattle.sequence_code.specs.Trees.{SetTrees}
+use Rattle.sequence_terms.specs.Late.{Late, late}
+use Rattle.sequence_terms.specs.Machine.{State, Out}
+use Rattle.sequence_terms.specs.Steps.{sequence_at}
+use Rattle.sequence_terms.specs.Values.{value, stored}
+use Rattle.control_flow.specs.declared.runner.Runner.{Runner}
+
+-- the sequences of the runner's set, from which calls lead at most so deep
+abbrev pub calls_of : Costs → World → Runner → ℕ → List ℕ → State Value Late → Out Value Late (Unit {0})
+calls_of cost w runner depth name s = sequence_at (late cost w) runner.turn_us (checked_trees runner.set.now) depth name s
+
+module _ (cost : Costs) (w : World) (turn_us : ℕ) (set : SetTrees) where
+  -- a debug variable gets its value
+  abbrev pub defined : Name → Tree → State Value Late → Out Value Late (Unit {0})
+  defined name e s =
+      value (late cost w) (λ n q. sequence_at (late cost w) turn_us set 0 n q) e s >>= λ x. stored (late cost w) name x.0 x.1 >>= λ y. Ok (tt, y.1)
+
+  -- one statement of the debug variables
+  abbrev pub debugged_one : StmtTree → State Value Late → Out Value Late (Unit {0})
+  debugged_one (t.Empty at) s = Ok (tt, s)
+  debugged_one (t.Declare name e) s = defined name e s
+  debugged_one (t.Plain at e) s = Ok (tt, s)

@@ -1,0 +1,65 @@
+-- How a run is closed.
+use Rattle.std.specs.Prelude.{◌≡◌, ⊤, ℕ, List, [], ◌∷◌, map, Ok, Err}
+use Rattle.call_terms.specs.Values.{number_of, IsAsked}
+use Rattle.call_terms.specs.World.{World}
+use Rattle.call_terms.specs.declared.calls.Ask.{Ask}
+use Rattle.call_terms.specs.declared.calls.Value.{Value}
+use Rattle.call_terms.specs.declared.calls.Value.TheVariants.{Number}
+use Rattle.access_calls.specs.declared.stop.Stop.{Stop}
+use Rattle.access_calls.specs.declared.stop.Stop.TheVariants as stop
+use Rattle.sequence_terms.specs.Late.{Late}
+use Rattle.sequence_terms.specs.Machine as machine
+use Rattle.sequence_terms.specs.Machine.{State, Out}
+use Rattle.sequence_terms.specs.declared.bindings.Binding.{Binding}
+use Rattle.control_flow.specs.declared.ended.Ending.{Ending}
+use Rattle.control_flow.specs.declared.ended.Ending.TheVariants as e
+
+-- numbers as values
+abbrev pub as_values : List (Binding ℕ) → List (Binding Value)
+as_values bs = map (λ (b : Binding ℕ). record { name = b.name; value = Number b.value }) bs
+
+-- variables with the numbers that their values are, once these calls were made
+abbrev pub numbers_in : World → List Ask → List (Binding Value) → List (Binding ℕ)
+numbers_in w calls bs = map (λ (b : Binding Value). record { name = b.name; value = number_of w calls b.value }) bs
+
+-- the calls of all these values are among the first ones
+abbrev pub AreAsked : ℕ → List (Binding Value) → Type 0
+AreAsked calls [] = ⊤
+AreAsked calls (b ∷ bs) = IsAsked calls b.value × AreAsked calls bs
+
+-- the meaning came to its end here
+abbrev pub OutIs : Ending → State Value Late → Out Value Late (Unit {0}) → Type 0
+OutIs e.Done s out = out ≡ Ok (tt, s)
+OutIs (e.Halted cause) s out = out ≡ Err (machine.Halted cause, s)
+OutIs (e.Cut report) s out = ⊥
+OutIs (e.BenchFault issued confirmed) s out = ⊥
+OutIs e.ReplyBad s out = ⊥
+OutIs e.WriteFault s out = ⊥
+OutIs e.OutOfMemory s out = ⊥
+
+-- it is Done or Halted
+abbrev pub ComesToEnd : Ending → Type 0
+ComesToEnd e.Done = Unit {0}
+ComesToEnd (e.Halted cause) = Unit {0}
+ComesToEnd (e.Cut report) = ⊥
+ComesToEnd (e.BenchFault issued confirmed) = ⊥
+ComesToEnd e.ReplyBad = ⊥
+ComesToEnd e.WriteFault = ⊥
+ComesToEnd e.OutOfMemory = ⊥
+
+-- how a run ends by a stop
+abbrev pub ending_of : Stop → Ending
+ending_of (stop.Cut r) = e.Cut r
+ending_of (stop.BenchFault issued confirmed) = e.BenchFault issued confirmed
+ending_of stop.ReplyBad = e.ReplyBad
+ending_of stop.OutOfMemory = e.OutOfMemory
+
+-- the sink did not fail
+abbrev pub NoWriteFault : Ending → Type 0
+NoWriteFault e.Done = Unit {0}
+NoWriteFault (e.Halted cause) = Unit {0}
+NoWriteFault (e.Cut report) = Unit {0}
+NoWriteFault (e.BenchFault issued confirmed) = Unit {0}
+NoWriteFault e.ReplyBad = Unit {0}
+NoWriteFault e.WriteFault = ⊥
+NoWriteFault e.OutOfMemory = Unit {0}

@@ -1,0 +1,153 @@
+//! How a run is closed.
+ghost use Rattle.std.specs.Prelude.{◌≡◌, [], ℕ, List, Option, None, OnOk, IfOk, IfErr, length};
+ghost use Rattle.probe_core.specs.Bench.{BenchState};
+ghost use Rattle.call_terms.specs.Values.{IsAsked, number_of};
+ghost use Rattle.access_calls.specs.Answers.{StopsCalls};
+ghost use Rattle.access_calls.specs.GoesOn.{GoesOn};
+ghost use Rattle.access_calls.specs.Left.{IsLeft, answered_by};
+ghost use Rattle.access_calls.specs.Reported.{world_from};
+ghost use Rattle.sequence_terms.specs.Direct.{Now};
+ghost use Rattle.sequence_terms.specs.Late.{Late};
+ghost use Rattle.sequence_terms.specs.Laws.{Pair};
+ghost use Rattle.sequence_terms.specs.Machine.{Out};
+ghost use Rattle.sequence_terms.specs.Runs.{outcome_of};
+ghost use Rattle.sequence_terms.specs.Shared.{bindings_of};
+ghost use Rattle.late_calls.specs.Ends.{EndsBy};
+ghost use Rattle.late_calls.specs.Held.{state_of};
+ghost use Rattle.control_flow.specs.Answers.{EndBy, EndsAs, HasNeeds, ran, variables_of};
+ghost use Rattle.control_flow.specs.Closing.{AreAsked, ComesToEnd, NoWriteFault, OutIs, ending_of, numbers_in};
+
+use crate::ended::{Ended, Ending};
+use access_calls::{Access, Stop};
+use call_terms::Value;
+use dap_base::NameText;
+use late_calls::Held;
+use sequence_terms::Globals;
+use std::alloc::Global;
+use target_machine::{Variable, Variables};
+
+// The number of a value.
+#[tactic(auto, using(crate::proofs::EndRules::ending))]
+fn number<A: Access>(value: Value, access: &mut A) -> Result<u64, Stop>
+    requires open { (A.reported access.old).end ≡ None }
+    ensures value { (m : BenchState) (answered : Option ℕ) → A.begun access.old m → IsLeft (A.reported access.new) answered
+        → IfOk result (λ n. n ≡ number_of (world_from m answered) (A.reported access.old).asks.calls value) }
+    ensures calls { (A.reported access.new).asks.calls ≡ (A.reported access.old).asks.calls }
+    ensures asks { IsAsked (A.reported access.old).asks.fence value → OnOk result ((A.reported access.new).asks ≡ (A.reported access.old).asks) }
+    ensures stops { (m : BenchState) (answered : Option ℕ) → A.begun access.old m → IsLeft (A.reported access.new) answered
+        → IfErr result (StopsCalls (world_from m answered) (A.reported access.old).asks.calls (A.reported access.new).lines) }
+    ensures open { OnOk result ((A.reported access.new).end ≡ None) }
+    ensures end { IfErr result (λ s. EndsBy s (A.reported access.new).end) }
+    ensures on { (m : BenchState) → A.begun access.old m → A.begun access.new m }
+    ensures identity { A.identity access.new ≡ A.identity access.old }
+    ensures goes { GoesOn (A.reported access.old) (A.reported access.new) }
+{
+    match value {
+        Value::Number(number) => Ok(number),
+        Value::Pending(slot) => access.value(slot),
+    }
+}
+
+// The variables that all sequences share, with their numbers.
+#[tactic(auto, using(crate::proofs::EndRules::ending))]
+fn variables<A: Access>(
+    alloc: Global,
+    globals: &Globals<Value>,
+    access: &mut A,
+) -> Result<Variables, Stop>
+    requires open { (A.reported access.old).end ≡ None }
+    ensures values { (m : BenchState) (answered : Option ℕ) → A.begun access.old m → IsLeft (A.reported access.new) answered
+        → IfOk result (λ v. variables_of v ≡ numbers_in (world_from m answered) (A.reported access.old).asks.calls (bindings_of globals.now)) }
+    ensures calls { (A.reported access.new).asks.calls ≡ (A.reported access.old).asks.calls }
+    ensures asks { AreAsked (A.reported access.old).asks.fence (bindings_of globals.now) → OnOk result ((A.reported access.new).asks ≡ (A.reported access.old).asks) }
+    ensures stops { (m : BenchState) (answered : Option ℕ) → A.begun access.old m → IsLeft (A.reported access.new) answered
+        → IfErr result (StopsCalls (world_from m answered) (A.reported access.old).asks.calls (A.reported access.new).lines) }
+    ensures open { OnOk result ((A.reported access.new).end ≡ None) }
+    ensures end { IfErr result (λ s. EndsBy s (A.reported access.new).end) }
+    ensures on { (m : BenchState) → A.begun access.old m → A.begun access.new m }
+    ensures identity { A.identity access.new ≡ A.identity access.old }
+    ensures goes { GoesOn (A.reported access.old) (A.reported access.new) }
+{
+    let mut variables = Variables::new(alloc);
+    let mut index = 0;
+    while index < globals.len() {
+        let Some((name, value)) = globals.at(index) else {
+            return Err(Stop::OutOfMemory);
+        };
+        let Ok(name) = NameText::new(alloc, name) else {
+            return Err(Stop::OutOfMemory);
+        };
+        let value = match number(value, access) {
+            Ok(value) => value,
+            Err(stop) => return Err(stop),
+        };
+        match variables.push(Variable { name, value }) {
+            Ok(()) => {}
+            Err(_) => return Err(Stop::OutOfMemory),
+        }
+        index += 1;
+    }
+    Ok(variables)
+}
+
+// How a run ends by a stop.
+pub(crate) fn ending_of(stop: Stop) -> Ending
+    ensures { result ≡ ending_of stop }
+{
+    match stop {
+        Stop::Cut(report) => Ending::Cut(report),
+        Stop::BenchFault { issued, confirmed } => Ending::BenchFault { issued, confirmed },
+        Stop::ReplyBad => Ending::ReplyBad,
+        Stop::OutOfMemory => Ending::OutOfMemory,
+    }
+}
+
+// The answer of a run that was left.
+pub(crate) fn left(alloc: Global, ending: Ending, units: u32, skipped: u32) -> Ended
+    ensures ending { result.ending ≡ ending }
+    ensures units { result.units ≡ units }
+    ensures skipped { result.skipped ≡ skipped }
+    ensures none { variables_of result.variables ≡ [] }
+{
+    Ended {
+        ending,
+        units,
+        skipped,
+        variables: Variables::new(alloc),
+    }
+}
+
+// The answer of a run that comes to its end: all calls are made and settled, and the variables looked up.
+#[tactic(auto, using(crate::proofs::EndRules::ending))]
+pub(crate) fn finished<A: Access>(
+    alloc: Global,
+    ending: Ending,
+    held: &Held,
+    access: &mut A,
+) -> Ended
+    requires open { (A.reported access.old).end ≡ None }
+    requires whole { ComesToEnd ending }
+    ensures answer { (m : BenchState) (written : Option (List ℕ)) (out : Out Value Late (Unit {0})) (q : Out ℕ Now (Unit {0})) → A.begun access.old m
+        → OutIs ending (state_of held.now (A.reported access.old).asks written) out → Pair (world_from m (answered_by (A.reported access.new))) out q
+        → EndsAs result.ending (A.reported access.new).lines (outcome_of q) (ran result (A.reported access.new).asks written) × HasNeeds result.ending (A.reported access.new).asks out }
+    ensures end { EndBy result.ending (A.reported access.new).end }
+    ensures cause { NoWriteFault result.ending }
+    ensures skipped { result.skipped ≡ (A.reported access.new).skipped }
+    ensures on { (m : BenchState) → A.begun access.old m → A.begun access.new m }
+    ensures identity { A.identity access.new ≡ A.identity access.old }
+    ensures goes { GoesOn (A.reported access.old) (A.reported access.new) }
+{
+    match access.finish() {
+        Ok(()) => {}
+        Err(stop) => return left(alloc, ending_of(stop), held.units, access.skipped()),
+    }
+    match variables(alloc, &held.globals, access) {
+        Ok(variables) => Ended {
+            ending,
+            units: held.units,
+            skipped: access.skipped(),
+            variables,
+        },
+        Err(stop) => left(alloc, ending_of(stop), held.units, access.skipped()),
+    }
+}

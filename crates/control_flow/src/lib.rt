@@ -1,0 +1,20 @@
+//! Runs a checked set of sequences over an access to a target, whose results may come late.
+#![tactic(auto)]
+
+mod calling;
+mod closing;
+mod controls;
+mod ended;
+mod evaluating;
+mod polling;
+mod runner;
+mod running;
+mod start;
+mod steps;
+mod values;
+
+pub use ended::{Ended, Ending};
+pub use running::run;
+
+#[cfg(test)]
+mod tests;

@@ -1,0 +1,76 @@
+//! Runs over an access.
+ghost use Rattle.std.specs.Prelude.{◌≡◌, ◌<◌, ℕ, Bool, List, Option, None, map};
+ghost use Rattle.function_table.specs.Variables.{predefined};
+ghost use Rattle.probe_core.specs.Bench.{BenchState};
+ghost use Rattle.call_terms.specs.NeedPoints.{nothing_asked};
+ghost use Rattle.access_calls.specs.GoesOn.{GoesOn};
+ghost use Rattle.access_calls.specs.Left.{answered_by};
+ghost use Rattle.access_calls.specs.Reported.{world_from};
+ghost use Rattle.sequence_terms.specs.Runs.{late_meaning, meaning, outcome_of};
+ghost use Rattle.late_calls.specs.Held.{Knows, known_part};
+ghost use Rattle.control_flow.specs.Answers.{EndBy, EndsAs, HasNeeds, HasSinkCause, program_of, ran};
+
+use crate::closing::{ending_of, finished, left};
+use crate::ended::{Ended, Ending};
+use crate::runner::Runner;
+use crate::start::held_at_start;
+use access_calls::Access;
+use dap_base::Sink;
+use late_calls::End;
+use seq_check::Checked;
+use std::alloc::Global;
+use target_machine::Settings;
+
+/// Runs the sequence `start` of a checked set over an access that has no end and of which nothing was asked. It starts with the
+/// starting values of the settings and with the debug variables; where the set does not have the sequence, there are no steps.
+///
+/// A value that may not have come is looked up only where it is used: by an operator, as an argument, or in a condition, and never
+/// by an assignment, a branch of `?:` or parentheses. A line is written only after all earlier units were confirmed. Before the run
+/// is `Done` or `Halted` all units are settled and confirmed, so that a fault of an earlier unit comes first.
+///
+/// `Cut`, `BenchFault` and `ReplyBad` are the end of the access. `WriteFault` comes only where the sink failed, and `OutOfMemory`
+/// where memory is refused; after both nothing more was sent, and the access has no end.
+#[tactic(auto, using(crate::proofs::EndRules::ending))]
+pub fn run<A: Access, K: Sink>(
+    alloc: Global,
+    checked: &Checked,
+    start: &str,
+    settings: &Settings,
+    access: &mut A,
+    sink: &mut K,
+) -> Ended
+    requires turns { 0 < settings.now.turn_us }
+    requires names { map (λ variable. variable.name) settings.now.start ≡ predefined }
+    requires open { (A.reported access.old).end ≡ None }
+    requires fresh { (A.reported access.old).asks ≡ nothing_asked }
+    // How it ended, what is answered, and the lines are those of what the program means in the world that is left.
+    ensures answer { (m : BenchState) (known : Bool) → A.begun access.old m → Knows known (K.written sink.old)
+        → EndsAs result.ending (A.reported access.new).lines
+        (outcome_of (meaning (world_from m (answered_by (A.reported access.new))) (program_of checked.now start.now settings.now) (known_part known (K.written sink.old))))
+        (ran result (A.reported access.new).asks (known_part known (K.written sink.new))) }
+    // What was asked has the need points of the meaning with results that come later, and one for the end.
+    ensures needs { (m : BenchState) (known : Bool) → A.begun access.old m → Knows known (K.written sink.old)
+        → HasNeeds result.ending (A.reported access.new).asks
+        (late_meaning A.cost (world_from m (answered_by (A.reported access.new))) (program_of checked.now start.now settings.now) (known_part known (K.written sink.old))) }
+    ensures end { EndBy result.ending (A.reported access.new).end }
+    ensures skipped { result.skipped ≡ (A.reported access.new).skipped }
+    ensures cause { HasSinkCause result.ending (K.faults sink.old) (K.faults sink.new) }
+    ensures on { (m : BenchState) → A.begun access.old m → A.begun access.new m }
+    ensures identity { A.identity access.new ≡ A.identity access.old }
+    ensures goes { GoesOn (A.reported access.old) (A.reported access.new) }
+{
+    let Ok(mut held) = held_at_start(alloc, checked, settings) else {
+        return left(alloc, Ending::OutOfMemory, 0, access.skipped());
+    };
+    let runner = Runner {
+        alloc,
+        set: checked,
+        turn_us: settings.turn_us,
+    };
+    match runner.evaluate(start, &mut held, access, sink) {
+        Ok(()) => finished(alloc, Ending::Done, &held, access),
+        Err(End::Halted(cause)) => finished(alloc, Ending::Halted(cause), &held, access),
+        Err(End::Stopped(stop)) => left(alloc, ending_of(stop), held.units, access.skipped()),
+        Err(End::WriteFault) => left(alloc, Ending::WriteFault, held.units, access.skipped()),
+    }
+}

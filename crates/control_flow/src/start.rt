@@ -1,0 +1,80 @@
+//! What a run starts with.
+ghost use Rattle.std.specs.Prelude.{◌≡◌, ◌∷◌, [], ℕ, List, Option, IfOk, OnOk, map};
+ghost use Rattle.call_terms.specs.NeedPoints.{Costs, nothing_asked};
+ghost use Rattle.call_terms.specs.World.{World};
+ghost use Rattle.call_terms.specs.declared.calls.Value.TheVariants.{Number};
+ghost use Rattle.expr_grammar.specs.Tree.{code_trees, stmt_tree};
+ghost use Rattle.function_table.specs.Variables.{predefined};
+ghost use Rattle.seq_check.specs.Answers.{checked_trees};
+ghost use Rattle.sequence_terms.specs.Late.{late, late_of};
+ghost use Rattle.sequence_terms.specs.Runs as r;
+ghost use Rattle.sequence_terms.specs.Shared.{bindings_of};
+ghost use Rattle.sequence_terms.specs.Steps.{declared_names, start_state};
+ghost use Rattle.sequence_terms.specs.Variables.{with_all_new};
+ghost use Rattle.late_calls.specs.Held.{state_of};
+ghost use Rattle.control_flow.specs.Answers.{variables_of};
+ghost use Rattle.control_flow.specs.Closing.{as_values};
+
+use call_terms::Value;
+use dap_base::OutOfMemory;
+use expr_grammar::Stmt;
+use late_calls::Held;
+use seq_check::Checked;
+use sequence_terms::Globals;
+use std::alloc::Global;
+use target_machine::{Settings, Variable};
+
+// The predefined variables with their starting values.
+fn starting(alloc: Global, start: &[Variable]) -> Result<Globals<Value>, OutOfMemory>
+    requires { map (λ variable. variable.name) start.now ≡ predefined }
+    ensures { IfOk result (λ globals. bindings_of globals ≡ as_values (variables_of start.now)) }
+{
+    let mut globals = Globals::new(alloc);
+    for variable in start {
+        globals.add(alloc, variable.name.as_str(), Value::Number(variable.value))?;
+    }
+    Ok(globals)
+}
+
+// The variable that a statement declares, at 0.
+fn add_one(globals: &mut Globals<Value>, alloc: Global, one: &Stmt) -> Result<(), OutOfMemory>
+    ensures { OnOk result (bindings_of globals.new ≡ with_all_new (bindings_of globals.old) (declared_names (stmt_tree one.now ∷ [])) (Number 0)) }
+{
+    match one {
+        Stmt::Declare(name, _) => globals.add(alloc, name.text.as_str(), Value::Number(0)),
+        Stmt::Empty(_) | Stmt::Plain(_, _) => Ok(()),
+    }
+}
+
+// The debug variables, at 0.
+fn add_declared(
+    globals: &mut Globals<Value>,
+    alloc: Global,
+    code: &[Stmt],
+) -> Result<(), OutOfMemory>
+    ensures { OnOk result (bindings_of globals.new ≡ with_all_new (bindings_of globals.old) (declared_names (code_trees code.now)) (Number 0)) }
+{
+    for one in code {
+        match add_one(globals, alloc, one) {
+            Ok(()) => {}
+            Err(refused) => return Err(refused),
+        }
+    }
+    Ok(())
+}
+
+// What a run holds at its start: the predefined variables with their starting values, and the debug variables at 0.
+pub(crate) fn held_at_start(
+    alloc: Global,
+    checked: &Checked,
+    settings: &Settings,
+) -> Result<Held, OutOfMemory>
+    requires { map (λ variable. variable.name) settings.now.start ≡ predefined }
+    ensures state { (cost : Costs) (w : World) (written : Option (List ℕ)) → IfOk result (λ held. state_of held nothing_asked written
+        ≡ start_state (late cost w) settings.now.turn_us (checked_trees checked.now) (r.as_values (late cost w) (variables_of settings.now.start)) (late_of nothing_asked written)) }
+    ensures units { IfOk result (λ held. held.units ≡ 0) }
+{
+    let mut globals = starting(alloc, settings.start.as_slice())?;
+    add_declared(&mut globals, alloc, checked.debugvars().as_slice())?;
+    Ok(Held::new(alloc, globals))
+}
