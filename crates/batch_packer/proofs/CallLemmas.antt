@@ -1,5 +1,5 @@
 -- Probe calls as commands, and what they leave.
-use Rattle.std.proofs.Common.{◌≡◌, ℕ, ◌+◌, ◌-◌, ◌*◌, ◌/◌, ◌^◌, ◌<◌, ◌≤◌, ◌&&◌, max, min, not, eqb, Bool, true, false, cond, refl, ap, sym, ◌∙◌, arith}
+use Rattle.std.proofs.Common.{◌≡◌, ℕ, zero, suc, subst, ◌+◌, ◌-◌, ◌*◌, ◌/◌, ◌^◌, ◌<◌, ◌≤◌, ◌&&◌, max, min, not, eqb, Bool, true, false, cond, refl, ap, sym, ◌∙◌, arith}
 use Rattle.std.specs.Prelude.{bit_and, nat_le}
 use Rattle.std.proofs.lemmas.Bool.Decides.{nat_tests}
 use Rattle.dap_base.specs.Bits.{has_bit}
@@ -15,6 +15,7 @@ use Rattle.target_machine.specs.declared.unit.ProbeCall.{ProbeCall}
 use Rattle.target_machine.specs.declared.unit.ProbeCall.TheVariants as probe
 use Rattle.dap_messages.specs.Commands.{IsCommand}
 use Rattle.call_terms.specs.Weights.{delay_commands}
+use Rattle.dap_transfer.specs.Lines as transfers
 use Rattle.dap_transfer.specs.State.{TransferState, grown}
 use Rattle.probe_core.specs.Bench.{BenchState}
 use Rattle.probe_core.specs.Commands as bench
@@ -152,3 +153,62 @@ flies_after x m n can acts =
 pub abort_clears : (value : ℕ) (p q : TransferState) → has_bit value stkerrclr ≡ true → Acts (Commands (probe.Abort value)) p q → q.line.target.sticky ≡ false
 abort_clears value p q set acts =
     ap (λ (t : TargetState). t.sticky) acts.target ∙ ap (λ (x : Attempt). x.next.sticky) (abort_done p.line.target value) ∙ set_clears (has_bit value stkerrclr) p.line.target set
+
+-- ---- a delay of several commands
+
+grown_both : (w n k : ℕ) → grown (grown w n) k ≡ grown w (n + k)
+grown_both w n k = omega arith
+
+later_both : (d a b : ℕ) → lines.grown (lines.grown d a) b ≡ lines.grown d (a + b)
+later_both d a b = omega arith
+
+-- the transfers after a delay
+abbrev pub waited : TransferState → ℕ → ℕ → TransferState
+waited p micros work = record p { line = record p.line { target = lines.delayed p.line.target micros }; work = work }
+
+waits_on : (p : TransferState) (count micros all : ℕ) → 65535 * count + micros ≡ all → transfers.delayed (delayed_by p count) micros ≡ waited p all (grown p.work (count + 1))
+waits_on p count micros all e =
+    λ i. waited_at p ((later_both p.line.target.lines.delay (65535 * count) micros ∙ ap (lines.grown p.line.target.lines.delay) e) i) (grown_both p.work count 1 i)
+  where
+    waited_at : TransferState → ℕ → ℕ → TransferState
+    waited_at r delay work = record r { line = record r.line { target = record r.line.target { lines = record r.line.target.lines { delay = delay } } }; work = work }
+
+pub none_delayed : (p : TransferState) → IsInRange p.line.target → delayed_by p 0 ≡ p
+none_delayed p h =
+    let l = h.lines in
+    let d = l.delay in
+    λ i. waited_at p (same p.line.target.lines.delay d i) (still p.work i)
+  where
+    same : (n : ℕ) → n < 2 ^ 64 → lines.grown n (65535 * 0) ≡ n
+    same n lt = omega arith
+
+    still : (w : ℕ) → grown w 0 ≡ w
+    still w = omega arith
+
+    waited_at : TransferState → ℕ → ℕ → TransferState
+    waited_at r delay work = record r { line = record r.line { target = record r.line.target { lines = record r.line.target.lines { delay = delay } } }; work = work }
+
+pub next_delayed : (p : TransferState) (count : ℕ) → transfers.delayed (delayed_by p count) 65535 ≡ delayed_by p (count + 1)
+next_delayed p count = waits_on p count 65535 (65535 * (count + 1)) (omega arith)
+
+many_commands : (count rest : ℕ) → rest ≤ 65535 → (0 < count → 0 < rest) → delay_commands (65535 * count + rest) ≡ count + 1
+many_commands zero rest few some = omega arith
+many_commands (suc count) rest few some = let h = some (omega arith) in omega arith
+
+pub last_delayed : (p : TransferState) (count rest : ℕ) → rest ≤ 65535 → (0 < count → 0 < rest) → Acts (Commands (probe.Delay (65535 * count + rest))) p (transfers.delayed (delayed_by p count) rest)
+last_delayed p count rest few some =
+    let is = waits_on p count rest (65535 * count + rest) refl in
+    record {
+      passes = refl;
+      target = ap (λ (q : TransferState). q.line.target) is;
+      work = ap (λ (q : TransferState). q.work) is ∙ ap (λ n. grown p.work n) (sym (many_commands count rest few some));
+      number = refl;
+      retries = refl;
+      pending = refl;
+      mask = refl;
+      matches = refl;
+      dpidr = refl;
+      clear = λ h. h;
+      in_range = λ h. subst (λ (t : TargetState). IsInRange t) (sym (ap (λ (q : TransferState). q.line.target) is))
+          (let r = acted_in_range p.line.target (Commands (probe.Delay (65535 * count + rest))) h tt in r.next);
+    }

@@ -113,65 +113,40 @@ fn a_bench_says_its_limits(rt: HostRuntime) -> Result<(), Fail> {
     Ok(())
 }
 
-// nRESET (bit 7) falls, and the pins are those after it.
 #[test]
-fn commands_are_answered(rt: HostRuntime) -> Result<(), Fail> {
+fn settings_and_waits_are_answered(rt: HostRuntime) -> Result<(), Fail> {
     let config = Command::Configure {
         idle: 0,
         retry: 100,
         matches: 0,
     };
-    answers(
-        &rt,
-        rt.alloc(),
-        config,
-        0,
-        &[(b'>', "040064000000"), (b'<', "0400")],
-    )?;
+    let lines = [(b'>', "040064000000"), (b'<', "0400")];
+    answers(&rt, rt.alloc(), config, 0, &lines)?;
+    let lines = [(b'>', "08001e000000"), (b'<', "0800")];
+    answers(&rt, rt.alloc(), Command::Abort(0x1E), 0, &lines)?;
+    let lines = [(b'>', "09e803"), (b'<', "0900")];
+    answers(&rt, rt.alloc(), Command::Delay(1000), 0, &lines)?;
+    Ok(())
+}
+
+// nRESET (bit 7) falls, and the pins are those after it.
+#[test]
+fn commands_of_the_lines_are_answered(rt: HostRuntime) -> Result<(), Fail> {
     let pins = Command::Pins {
         output: 0,
         select: 0x80,
         wait: 0x0102_0304,
     };
-    answers(
-        &rt,
-        rt.alloc(),
-        pins,
-        0x20,
-        &[(b'>', "10008004030201"), (b'<', "1020")],
-    )?;
-    answers(
-        &rt,
-        rt.alloc(),
-        Command::Abort(0x1E),
-        0,
-        &[(b'>', "08001e000000"), (b'<', "0800")],
-    )?;
-    answers(
-        &rt,
-        rt.alloc(),
-        Command::Delay(1000),
-        0,
-        &[(b'>', "09e803"), (b'<', "0900")],
-    )?;
-    answers(
-        &rt,
-        rt.alloc(),
-        Command::Clock(1_000_000),
-        0,
-        &[(b'>', "1140420f00"), (b'<', "1100")],
-    )?;
+    let lines = [(b'>', "10008004030201"), (b'<', "1020")];
+    answers(&rt, rt.alloc(), pins, 0x20, &lines)?;
+    let lines = [(b'>', "1140420f00"), (b'<', "1100")];
+    answers(&rt, rt.alloc(), Command::Clock(1_000_000), 0, &lines)?;
     let line = Command::Line {
         count: 9,
         bits: 0x1FE,
     };
-    answers(
-        &rt,
-        rt.alloc(),
-        line,
-        0,
-        &[(b'>', "1209fe01"), (b'<', "1200")],
-    )?;
+    let lines = [(b'>', "1209fe01"), (b'<', "1200")];
+    answers(&rt, rt.alloc(), line, 0, &lines)?;
     Ok(())
 }
 
