@@ -7,8 +7,8 @@ use Rattle.access_calls.specs.declared.stop.Stop.{Stop}
 use Rattle.access_calls.specs.declared.stop.Stop.TheVariants.{Cut, BenchFault, ReplyBad, OutOfMemory}
 use Rattle.control_flow.specs.Answers.{EndBy, HasSinkCause}
 use Rattle.control_flow.specs.Closing.{ComesToEnd, NoWriteFault, ending_of}
-use Rattle.control_flow.specs.declared.ended.Ending.{Ending}
-use Rattle.control_flow.specs.declared.ended.Ending.TheVariants as e
+use Rattle.access_calls.specs.declared.ended.Ending.{Ending}
+use Rattle.access_calls.specs.declared.ended.Ending.TheVariants as e
 use Rattle.late_calls.proofs.Leaves.{left_on, stopped_end, stopped_ended}
 use Rattle.late_calls.specs.Ends.{EndsBy}
 

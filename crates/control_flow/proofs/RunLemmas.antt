@@ -41,8 +41,8 @@ use Rattle.sequence_terms.proofs.Made.{no_cost, late_pair}
 use Rattle.late_calls.specs.Ends.{Left}
 use Rattle.late_calls.specs.Held.{state_of}
 use Rattle.late_calls.specs.declared.held.Held.{Held}
-use Rattle.control_flow.specs.declared.ended.Ending.{Ending}
-use Rattle.control_flow.specs.declared.ended.Ending.TheVariants as ending
+use Rattle.access_calls.specs.declared.ended.Ending.{Ending}
+use Rattle.access_calls.specs.declared.ended.Ending.TheVariants as ending
 use Rattle.control_flow.specs.Answers.{Ran, IsAll, SharesCalls, IsPart, IsFaulted, IsWhole, StopsAfter, IsCut, EndsAs, HasNeeds}
 use Rattle.control_flow.specs.Closing.{numbers_in, AreAsked, OutIs, ending_of}
 

@@ -18,9 +18,9 @@ use Rattle.sequence_terms.specs.Machine.{Out, end_state}
 use Rattle.sequence_terms.specs.Runs as runs
 use Rattle.sequence_terms.specs.Runs.{Program, Outcome, units_of}
 use Rattle.sequence_terms.specs.declared.bindings.Binding.{Binding}
-use Rattle.control_flow.specs.declared.ended.Ended.{Ended}
-use Rattle.control_flow.specs.declared.ended.Ending.{Ending}
-use Rattle.control_flow.specs.declared.ended.Ending.TheVariants as e
+use Rattle.access_calls.specs.declared.ended.Ended.{Ended}
+use Rattle.access_calls.specs.declared.ended.Ending.{Ending}
+use Rattle.access_calls.specs.declared.ended.Ending.TheVariants as e
 
 -- variables with their values
 abbrev pub variables_of : List Variable → List (Binding ℕ)

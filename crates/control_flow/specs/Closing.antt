@@ -11,8 +11,8 @@ use Rattle.sequence_terms.specs.Late.{Late}
 use Rattle.sequence_terms.specs.Machine as machine
 use Rattle.sequence_terms.specs.Machine.{State, Out}
 use Rattle.sequence_terms.specs.declared.bindings.Binding.{Binding}
-use Rattle.control_flow.specs.declared.ended.Ending.{Ending}
-use Rattle.control_flow.specs.declared.ended.Ending.TheVariants as e
+use Rattle.access_calls.specs.declared.ended.Ending.{Ending}
+use Rattle.access_calls.specs.declared.ended.Ending.TheVariants as e
 
 -- numbers as values
 abbrev pub as_values : List (Binding ℕ) → List (Binding Value)

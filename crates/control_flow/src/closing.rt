@@ -17,8 +17,7 @@ ghost use Rattle.late_calls.specs.Held.{state_of};
 ghost use Rattle.control_flow.specs.Answers.{EndBy, EndsAs, HasNeeds, ran, variables_of};
 ghost use Rattle.control_flow.specs.Closing.{AreAsked, ComesToEnd, NoWriteFault, OutIs, ending_of, numbers_in};
 
-use crate::ended::{Ended, Ending};
-use access_calls::{Access, Stop};
+use access_calls::{Access, Ended, Ending, Stop};
 use call_terms::Value;
 use dap_base::NameText;
 use late_calls::Held;

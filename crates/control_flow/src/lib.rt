@@ -4,7 +4,6 @@
 mod calling;
 mod closing;
 mod controls;
-mod ended;
 mod evaluating;
 mod polling;
 mod runner;
@@ -13,7 +12,6 @@ mod start;
 mod steps;
 mod values;
 
-pub use ended::{Ended, Ending};
 pub use running::run;
 
 #[cfg(test)]

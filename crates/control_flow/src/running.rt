@@ -11,10 +11,9 @@ ghost use Rattle.late_calls.specs.Held.{Knows, known_part};
 ghost use Rattle.control_flow.specs.Answers.{EndBy, EndsAs, HasNeeds, HasSinkCause, program_of, ran};
 
 use crate::closing::{ending_of, finished, left};
-use crate::ended::{Ended, Ending};
 use crate::runner::Runner;
 use crate::start::held_at_start;
-use access_calls::Access;
+use access_calls::{Access, Ended, Ending};
 use dap_base::Sink;
 use late_calls::End;
 use seq_check::Checked;

@@ -2,7 +2,8 @@
 mod jobs;
 mod scripted;
 
-use crate::{Ended, Ending, run};
+use crate::run;
+use access_calls::{Ended, Ending};
 use call_terms::Ask;
 use dap_base::MemorySink;
 use jobs::{Piece, checked, settings};

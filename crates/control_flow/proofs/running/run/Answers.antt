@@ -6,7 +6,7 @@ use Rattle.sequence_terms.specs.Runs.{late_meaning, meaning, outcome_of}
 use Rattle.sequence_terms.proofs.Made.{late_pair}
 use Rattle.late_calls.specs.Held.{known_part, state_of}
 use Rattle.control_flow.specs.Answers.{EndsAs, program_of, ran}
-use Rattle.control_flow.specs.declared.ended.Ending.TheVariants as ending
+use Rattle.access_calls.specs.declared.ended.Ending.TheVariants as ending
 use Rattle.control_flow.proofs.EndRules.{answered_as, quiet_ending}
 use Rattle.control_flow.proofs.RunLemmas.{at_end, at_start, is_broken, later_end, left_end, not_begun, stopped_ends}
 use Rattle.control_flow.proofs.running.run.Goals as goal
