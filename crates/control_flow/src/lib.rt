@@ -6,6 +6,7 @@ mod closing;
 mod controls;
 mod ended;
 mod evaluating;
+mod operators;
 mod polling;
 mod runner;
 mod running;
