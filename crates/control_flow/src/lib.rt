@@ -5,6 +5,7 @@ mod calling;
 mod closing;
 mod controls;
 mod evaluating;
+mod operators;
 mod polling;
 mod runner;
 mod running;
