@@ -106,7 +106,7 @@ fn write(address: u64, value: u32, settled: bool) -> Ask {
 fn done<'a>(asked: &'a [Ask], needs: u64) -> Outcome<'a> {
     Outcome {
         ending: Ending::Done,
-        units: asked.len() as u32,
+        units: u32::try_from(asked.len()).unwrap_or(u32::MAX),
         name: "__Result",
         value: Some(0),
         needs,
