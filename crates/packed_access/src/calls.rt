@@ -1,0 +1,184 @@
+//! The calls of the access.
+use crate::access::PackedAccess;
+use crate::flights::Flights;
+use access_calls::{Access, Stop};
+use call_terms::{Ask, Asked, Part, Slot};
+use target_machine::{Call, ProbeCall, Unit};
+
+// Whether a fault of the unit is forgiven: error control counts for memory and AP units alone.
+fn may_forgive(unit: &Unit) -> bool {
+    matches!(unit, Unit::Memory { .. } | Unit::Ap { .. })
+}
+
+// What is answered for the call of this number.
+fn answer(small: bool, index: u32) -> Asked {
+    if small {
+        Asked::Small
+    } else {
+        Asked::Slot(Slot { index })
+    }
+}
+
+impl<F: Flights> PackedAccess<F> {
+    // Issues the unit of the last call. Answers whether its access port has no large addresses.
+    fn issue_asked(&mut self, unit: &Unit, forgive: bool) -> Result<bool, Stop> {
+        match *unit {
+            Unit::Poll { mask, value, turns } => match self.ask_poll(mask, value, turns) {
+                Ok(()) => Ok(false),
+                Err(stop) => Err(stop),
+            },
+            _ => {
+                if forgive && may_forgive(unit) {
+                    self.ask_forgiving(unit)
+                } else {
+                    self.ask_planned(unit)
+                }
+            }
+        }
+    }
+}
+
+impl<F: Flights> Access for PackedAccess<F> {
+    ghost use Rattle.std.specs.Prelude.{take, false};
+    ghost use Rattle.access_regs.specs.Journal.{issued};
+    ghost use Rattle.packed_access.specs.Begun.{HasBegun, stands_packed};
+    ghost use Rattle.packed_access.specs.Costs.{cost};
+    ghost use Rattle.packed_access.specs.Logs.{keeps_by, reported_by};
+
+    ghost reported = { λ s. reported_by (F.reported s.flights) (F.state s.flights) s.log (F.packet s.flights) (F.reply s.flights) };
+
+    ghost identity = { λ s. F.identity s.flights };
+
+    ghost begun = { λ s m. HasBegun (reported_by (F.reported s.flights) (F.state s.flights) s.log (F.packet s.flights) (F.reply s.flights))
+        s.managed (F.accesses s.flights) (take s.log.known s.log.results) s.log.entries m };
+
+    ghost journal = { issued };
+
+    ghost cost = { cost };
+
+    ghost is_sparing = { false };
+
+    ghost keeps = { λ s. keeps_by (F.reported s.flights) (F.state s.flights) s.log (F.packet s.flights) (F.reply s.flights) };
+
+    ghost stands = { λ s m answered is left. stands_packed _ _ _ _ _ m answered is left };
+
+    ghost spares = { λ s m answered is left. tt };
+
+    fn ask(&mut self, unit: Unit, forgive: bool) -> Result<Asked, Stop> {
+        if let Some(stop) = self.log.end() {
+            return Err(stop);
+        }
+        let index = self.log.count();
+        let ask = Ask {
+            call: Call::Access(unit),
+            forgive,
+            settled: false,
+        };
+        if self.log.ask(ask).is_err() {
+            return Err(Stop::OutOfMemory);
+        }
+        match self.issue_asked(&unit, forgive) {
+            Ok(small) => Ok(answer(small, index)),
+            Err(stop) => Err(stop),
+        }
+    }
+
+    fn command(&mut self, call: ProbeCall) -> Result<u64, Stop> {
+        if let Some(stop) = self.log.end() {
+            return Err(stop);
+        }
+        let ask = Ask {
+            call: Call::Probe(call),
+            forgive: false,
+            settled: false,
+        };
+        if self.log.ask(ask).is_err() {
+            return Err(Stop::OutOfMemory);
+        }
+        match self.send() {
+            Ok(()) => {}
+            Err(stop) => return Err(stop),
+        }
+        match self.make_command(Part::Ends, call) {
+            Err(stop) => Err(stop),
+            Ok(word) => {
+                self.log.take(0, word);
+                self.log.complete();
+                self.log.confirm();
+                self.log.need(2 + delays(call), self.log.count());
+                Ok(u64::from(word))
+            }
+        }
+    }
+
+    fn value(&mut self, slot: Slot) -> Result<u64, Stop> {
+        if !self.log.is_known(slot.index) {
+            if let Some(stop) = self.log.end() {
+                return Err(stop);
+            }
+            match self.send() {
+                Ok(()) => {}
+                Err(stop) => return Err(stop),
+            }
+        }
+        self.log.use_slot(slot.index);
+        Ok(self.log.result(slot.index))
+    }
+
+    fn flush(&mut self) -> Result<(), Stop> {
+        if let Some(stop) = self.log.end() {
+            return Err(stop);
+        }
+        match self.send() {
+            Ok(()) => {
+                self.log.need(1, self.log.count());
+                Ok(())
+            }
+            Err(stop) => Err(stop),
+        }
+    }
+
+    fn finish(&mut self) -> Result<(), Stop> {
+        if let Some(stop) = self.log.end() {
+            return Err(stop);
+        }
+        self.log.mark();
+        match self.settle(self.log.count()) {
+            Ok(()) => {}
+            Err(stop) => return Err(stop),
+        }
+        match self.send() {
+            Ok(()) => {
+                self.log.need(1, self.log.count());
+                Ok(())
+            }
+            Err(stop) => Err(stop),
+        }
+    }
+
+    fn sent(&self) -> &[u8] {
+        match self.log.end() {
+            Some(Stop::Cut(_) | Stop::ReplyBad) => self.flights.sent(),
+            None | Some(Stop::BenchFault { .. } | Stop::OutOfMemory) => &[],
+        }
+    }
+
+    fn got(&self) -> &[u8] {
+        match self.log.end() {
+            Some(Stop::Cut(_) | Stop::ReplyBad) => self.flights.got(),
+            None | Some(Stop::BenchFault { .. } | Stop::OutOfMemory) => &[],
+        }
+    }
+
+    fn skipped(&self) -> u32 {
+        self.log.skipped()
+    }
+}
+
+// How many commands a delay takes after its first.
+fn delays(call: ProbeCall) -> u64 {
+    match call {
+        ProbeCall::Delay(micros) => u64::from(micros / 0xFFFF),
+        _ => 0,
+    }
+}

@@ -1,0 +1,20 @@
+//! An access to a target that collects register accesses in flights, and sends few packets.
+#![tactic(auto)]
+
+mod access;
+mod accesses;
+mod calls;
+mod flights;
+mod forgiving;
+mod issuing;
+mod log;
+mod opening;
+mod planned;
+mod wire;
+
+pub use access::{Packed, PackedAccess};
+pub use flights::{Flights, Polled};
+pub use wire::Wire;
+
+#[cfg(test)]
+mod tests;

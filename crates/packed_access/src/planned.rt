@@ -1,0 +1,138 @@
+//! Units that forgive nothing.
+use crate::access::PackedAccess;
+use crate::flights::Flights;
+use access_calls::Stop;
+use access_regs::Plan;
+use call_terms::Part;
+use target_machine::Unit;
+
+// The access port of a memory or AP unit.
+pub(crate) fn port_of(unit: &Unit) -> u8 {
+    match *unit {
+        Unit::Memory { ap, .. } | Unit::Ap { ap, .. } => ap,
+        _ => 0,
+    }
+}
+
+// The accesses of a plan but the last, and the last.
+fn before_last(plan: Plan) -> Plan {
+    Plan {
+        count: plan.count - 1,
+        accesses: plan.accesses,
+    }
+}
+
+impl<F: Flights> PackedAccess<F> {
+    // Whether the access port is known to have large addresses.
+    pub(crate) fn is_large(&self, ap: u8) -> bool {
+        !self.managed.needs_cfg(&Unit::Memory {
+            size: 4,
+            read: true,
+            ap,
+            address: 0x1_0000_0000,
+            value: 0,
+        })
+    }
+
+    // Reads CFG of the unit's access port, and answers whether the port has large addresses.
+    fn read_cfg(&mut self, unit: &Unit) -> Result<bool, Stop> {
+        let plan = self.managed.cfg_plan(unit);
+        match self.read_by(self.log.count(), &plan) {
+            Err(stop) => Err(stop),
+            Ok(cfg) => {
+                self.log.need(1, self.log.count() - 1);
+                Ok(self.managed.learn_cfg(port_of(unit), cfg))
+            }
+        }
+    }
+
+    // Reads CSW of the unit's access port.
+    fn read_csw(&mut self, unit: &Unit) -> Result<(), Stop> {
+        let plan = self.managed.first_plan(unit);
+        match self.read_by(self.log.count(), &plan) {
+            Err(stop) => Err(stop),
+            Ok(csw) => {
+                self.log.need(1, self.log.count() - 1);
+                self.managed.learn(port_of(unit), csw);
+                Ok(())
+            }
+        }
+    }
+
+    // Issues the plan of a unit.
+    fn issue_unit(&mut self, unit: &Unit) -> Result<(), Stop> {
+        let plan = self.managed.plan(unit);
+        self.managed.made(unit);
+        let number = self.log.count();
+        match self.issue_all(number, Part::Leads, &before_last(plan)) {
+            Ok(()) => {}
+            Err(stop) => return Err(stop),
+        }
+        let last = plan.accesses[usize::from(plan.count) - 1];
+        match self.issue(number, Part::Ends, last) {
+            Ok(()) => {}
+            Err(stop) => return Err(stop),
+        }
+        self.log.complete();
+        Ok(())
+    }
+
+    // Asks a unit that forgives nothing and is no poll. Answers whether its access port has no large addresses.
+    pub(crate) fn ask_planned(&mut self, unit: &Unit) -> Result<bool, Stop> {
+        if self.managed.needs_settle(unit) {
+            match self.settle(self.log.count() - 1) {
+                Ok(()) => {}
+                Err(stop) => return Err(stop),
+            }
+        }
+        if self.managed.needs_cfg(unit) {
+            match self.read_cfg(unit) {
+                Ok(true) => {}
+                Ok(false) => {
+                    self.log.complete();
+                    self.log.confirm();
+                    return Ok(true);
+                }
+                Err(stop) => return Err(stop),
+            }
+        }
+        if self.managed.needs_csw(unit) {
+            match self.read_csw(unit) {
+                Ok(()) => {}
+                Err(stop) => return Err(stop),
+            }
+        }
+        match self.issue_unit(unit) {
+            Ok(()) => Ok(false),
+            Err(stop) => Err(stop),
+        }
+    }
+
+    // Asks a poll.
+    pub(crate) fn ask_poll(&mut self, mask: u32, requested: u32, turns: u32) -> Result<(), Stop> {
+        match self.send() {
+            Ok(()) => {}
+            Err(stop) => return Err(stop),
+        }
+        self.log.issue(self.log.count(), Part::Ends);
+        let (end, points) = if self.managed.bank_zero() {
+            let portions = (u64::from(turns) + 0xFFFF) / 0x1_0000;
+            (self.flights.poll(mask, requested, turns), 1 + portions)
+        } else {
+            match self.flights.poll_by_reads(mask, requested, turns) {
+                Ok(polled) => (Ok(polled.matched), 1 + u64::from(polled.reads)),
+                Err(end) => (Err(end), 0),
+            }
+        };
+        match end {
+            Ok(matched) => {
+                self.log.take(0, u32::from(matched));
+                self.log.complete();
+                self.log.confirm();
+                self.log.need(points, self.log.count());
+                Ok(())
+            }
+            Err(end) => Err(self.log.stop(end)),
+        }
+    }
+}
