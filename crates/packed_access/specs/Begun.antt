@@ -1,60 +1,92 @@
--- Where an access began, and how far it has come since.
-use Rattle.std.specs.Prelude.{◌≡◌, ℕ, ◌+◌, ◌*◌, ◌^◌, ◌≤◌, List, length, Option, Some, None}
+-- How far an access has come with the calls that were asked of it, and where it began.
+use Rattle.std.specs.Prelude.{◌≡◌, ℕ, zero, suc, ◌+◌, ◌*◌, ◌^◌, ◌<◌, ◌≤◌, Bool, true, false, List, [], ◌∷◌, ◌++◌, length, take, drop, slice_index, Option, Some, None, refl}
+use Rattle.std.specs.List.{AllByRecursion}
+use Rattle.target_machine.specs.State.{TargetState}
 use Rattle.target_machine.specs.declared.access.RegAccess.{RegAccess}
 use Rattle.probe_core.specs.Bench.{BenchState}
+use Rattle.probe_core.specs.Bench.{Reported as BenchReported}
 use Rattle.probe_core.specs.Probe.{target_of, work_of}
-use Rattle.access_regs.specs.Journal.{issued}
+use Rattle.call_terms.specs.Asks.{ForgiveNothing, is_forgiving, is_settled}
+use Rattle.call_terms.specs.Journal.{Entry, actions_in}
+use Rattle.call_terms.specs.World.{results, skips, small_now, start_world}
+use Rattle.call_terms.specs.declared.calls.Ask.{Ask}
+use Rattle.access_regs.specs.Entries.{kept_by, target_by}
+use Rattle.access_regs.specs.Journal.{issue_of, issued, making}
 use Rattle.access_regs.specs.Kept.{Kept}
+use Rattle.access_calls.specs.Answers.{AtCut}
 use Rattle.access_calls.specs.Issued.{AreKeptOf}
 use Rattle.access_calls.specs.Left.{IsLeft}
-use Rattle.access_calls.specs.Reported.{Reported, began}
+use Rattle.access_calls.specs.Reported.{Reported, began, world_from}
 use Rattle.access_calls.specs.Standing.{Stands, WhereObservable}
-use Rattle.access_calls.specs.declared.issued.Issued.{Issued}
 use Rattle.access_calls.specs.declared.stop.Stop.{Stop}
 use Rattle.batch_packer.specs.Flying.{CanFly}
-use Rattle.calls_in_flight.specs.Ending.{BegunAt, IsBegun, IsEnded}
-use Rattle.calls_in_flight.specs.Flying.{IsFlying}
-use Rattle.calls_in_flight.proofs.EndLemmas.{begun_stands}
+use Rattle.calls_in_flight.specs.Ending.{IsEnded, StopsBy}
+use Rattle.calls_in_flight.specs.Flights.{AreStrict}
+use Rattle.calls_in_flight.specs.Sending.{IsSending}
+use Rattle.packed_access.specs.Logs.{LogState, reported_by}
 
--- by how much the work of a probe grows at most with one call
+-- the work of a probe that one entry is at most: a poll of the most turns
 abbrev pub most_weight : ℕ
-most_weight = 60000016
+most_weight = 60000000
 
--- Without an end: its calls lie in the flight, the bench can make the flight, what is kept of the journal is of its entries, and the
--- work of the probe is still countable.
-pub record IsOpenAt (a : Reported) (kept : Kept) (accesses : List RegAccess) (came : List ℕ) (entries : List Issued) (m0 m : BenchState) : Type 0 where
-  pub flying : IsFlying a kept accesses came m0 m
+-- The call of this number forgives nothing, does not end because its AP has no large addresses, and gets its result from the entry of this
+-- place in the journal.
+pub record IsGivenAt (t : TargetState) (calls : List Ask) (index place : ℕ) : Type 0 where
+  pub asks : List Ask
+  pub ask : Ask
+  pub more : List Ask
+  pub are : calls ≡ asks ++ ask ∷ more
+  pub at : length asks ≡ index
+  pub mild : is_forgiving ask ≡ false
+  pub large : small_now (start_world t None) asks ask ≡ false
+  pub place_is : place + 1 ≡ length (issued t asks) + length (issue_of (target_by t asks) (kept_by t asks) ask).steps
+
+-- Of the entries of the calls the first are confirmed, the next lie in the flight as these accesses, and the rest is still to be issued.
+-- The calls that came have all their entries among those that are confirmed, and these results; those that were issued whole have all
+-- their entries among those that were issued. The bench can make the flight, and its work can be counted.
+pub record IsIssuing (log : LogState) (accesses : List RegAccess) (rest : List Entry) (m0 m : BenchState) : Type 0 where
+  pub flying : List Entry
+  pub sending : IsSending log.calls log.confirmed log.came flying rest accesses (take log.known log.results) m0 m
+  pub known_is : log.known ≡ log.came
+  pub count : log.confirmed + length flying ≡ length log.entries
+  pub entries_are : AreKeptOf (take (length log.entries) (issued (target_of m0.probe) log.calls)) log.entries
+  pub strict : AreStrict flying
+  pub in_order : log.came ≤ log.whole
+  pub within : log.whole ≤ length log.calls
+  pub came_made : length (issued (target_of m0.probe) (take log.came log.calls)) ≤ log.confirmed
+  pub whole_issued : length (issued (target_of m0.probe) (take log.whole log.calls)) ≤ length log.entries
+  pub came_are : take log.known log.results ≡ results (start_world (target_of m0.probe) None) (take log.came log.calls)
+  pub skipped_is : log.skipped ≡ skips (start_world (target_of m0.probe) None) (take log.came log.calls)
+  pub given : (index : ℕ) → log.came ≤ index → index < log.whole → IsGivenAt (target_of m0.probe) log.calls index (slice_index log.places index)
+  pub given_in : (index : ℕ) → log.came ≤ index → index < log.whole → (log.confirmed ≤ slice_index log.places index) × (slice_index log.places index < length log.entries)
   pub flies : CanFly m
-  pub entries_are : AreKeptOf (issued (target_of m0.probe) a.asks.calls) entries
-  pub few : work_of m.probe + length accesses ≤ 2 ^ 63 + most_weight * length a.asks.calls
+  pub few : work_of m.probe + length accesses ≤ 2 ^ 63 + most_weight * length log.entries
+
+-- So it is where the bench is observable.
+pub record HasIssued (state : Option BenchState) (log : LogState) (accesses : List RegAccess) (rest : List Entry) (m0 : BenchState) : Type 0 where
+  pub so : WhereObservable state (λ m. IsIssuing log accesses rest m0 m)
+
+-- Between two calls: all that was asked is issued, and this is known of the registers. Once a `finish` was made after the last call nothing
+-- lies in the flight.
+pub record IsOpenAt (log : LogState) (kept : Kept) (accesses : List RegAccess) (m0 m : BenchState) : Type 0 where
+  pub issuing : IsIssuing log accesses [] m0 m
+  pub whole_is : log.whole ≡ length log.calls
+  pub kept_is : kept_by (target_of m0.probe) log.calls ≡ kept
+  pub calm : is_settled log.calls ≡ true → (log.came ≡ length log.calls) × (accesses ≡ [])
 
 -- by its end
-abbrev pub IsSince : Option Stop → Reported → Kept → List RegAccess → List ℕ → List Issued → BenchState → BenchState → Type 0
-IsSince None a kept accesses came entries m0 m = IsOpenAt a kept accesses came entries m0 m
-IsSince (Some s) a kept accesses came entries m0 m = IsEnded s a came m0 m
+abbrev pub IsSince : Option Stop → Reported → LogState → Kept → List RegAccess → BenchState → BenchState → Type 0
+IsSince None a log kept accesses m0 m = IsOpenAt log kept accesses m0 m
+IsSince (Some s) a log kept accesses m0 m = IsEnded s a (take log.known log.results) m0 m
 
 -- The access began when its bench had this state.
-pub record HasBegun (a : Reported) (kept : Kept) (accesses : List RegAccess) (came : List ℕ) (entries : List Issued) (m0 : BenchState) : Type 0 where
-  pub so : WhereObservable a.state (λ m. IsSince a.end a kept accesses came entries m0 m)
+pub record HasBegun (bench : BenchReported) (state : Option BenchState) (log : LogState) (sent got : List ℕ) (kept : Kept) (accesses : List RegAccess) (m0 : BenchState) : Type 0 where
+  pub so : WhereObservable state (λ m. IsSince log.end (reported_by bench state log sent got) log kept accesses m0 m)
 
--- ---- so it has come as far as the contract of accesses says
+-- It has ended.
+pub record HasEnded (s : Stop) (a : Reported) (log : LogState) (m0 : BenchState) : Type 0 where
+  pub so : WhereObservable a.state (λ m. IsEnded s a (take log.known log.results) m0 m)
 
-since_begun : (e : Option Stop) (a : Reported) (kept : Kept) (accesses : List RegAccess) (came : List ℕ) (entries : List Issued) (m0 m : BenchState) →
-    IsSince e a kept accesses came entries m0 m → BegunAt e a kept accesses came m0 m
-since_begun None a kept accesses came entries m0 m h = h.flying
-since_begun (Some s) a kept accesses came entries m0 m h = h
-
-begun_where : (x : Option BenchState) (a : Reported) (kept : Kept) (accesses : List RegAccess) (came : List ℕ) (entries : List Issued) (m0 : BenchState) →
-    WhereObservable x (λ m. IsSince a.end a kept accesses came entries m0 m) → WhereObservable x (λ m. BegunAt a.end a kept accesses came m0 m)
-begun_where None a kept accesses came entries m0 h = h
-begun_where (Some m) a kept accesses came entries m0 h = since_begun a.end a kept accesses came entries m0 m h
-
--- the same as the laws of calls in flight say it
-pub is_begun : (a : Reported) (kept : Kept) (accesses : List RegAccess) (came : List ℕ) (entries : List Issued) (m0 : BenchState) →
-    HasBegun a kept accesses came entries m0 → IsBegun a kept accesses came m0
-is_begun a kept accesses came entries m0 h = record { so = begun_where a.state a kept accesses came entries m0 h.so }
-
--- the law of the contract
-pub stands_packed : (a : Reported) (kept : Kept) (accesses : List RegAccess) (came : List ℕ) (entries : List Issued) (m0 : BenchState) (n : Option ℕ) →
-    HasBegun a kept accesses came entries m0 → IsLeft a n → Stands issued a (began m0 n)
-stands_packed a kept accesses came entries m0 n h left = begun_stands a kept accesses came m0 n (is_begun a kept accesses came entries m0 h) left
+-- At a cut the calls stop right after those that have their lines before it, or in the settling of a `finish`.
+pub record StopsThere (m0 : BenchState) (answered : Option ℕ) (calls : List Ask) (lines : ℕ) (s : Stop) : Type 0 where
+  pub so : AtCut s (λ r. StopsBy r.cause (world_from m0 answered) calls lines)

@@ -1,3 +1,5 @@
 pub mod Logs
 pub mod Costs
+pub mod Flown
 pub mod Begun
+pub mod Stands

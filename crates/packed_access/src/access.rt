@@ -1,4 +1,6 @@
 //! The access, and how it is made and given back.
+ghost use Rattle.std.specs.Prelude.{◌≡◌, ◌-◌, None, length};
+
 use crate::flights::Flights;
 use crate::log::CallLog;
 use crate::wire::Wire;
@@ -11,6 +13,9 @@ pub struct PackedAccess<F: Flights> {
     pub(crate) flights: F,
     pub(crate) managed: Managed,
     pub(crate) log: CallLog,
+    // It can be used while there is no end, and the flight has the entries that are not confirmed.
+    ghost usable: { log.end ≡ None → F.ended flights ≡ None },
+    ghost in_flight: { log.end ≡ None → length (F.accesses flights) ≡ length log.entries - log.confirmed },
 }
 
 /// The access over a bench.

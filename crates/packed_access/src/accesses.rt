@@ -1,6 +1,7 @@
 //! The register accesses of units that are made alone, and the result of a call.
 ghost use Rattle.std.specs.Prelude.{◌≡◌, ◌<◌, ◌⊎◌, ◌*◌, ◌/◌, ◌%◌, ◌^◌, false};
-ghost use Rattle.target_machine.specs.Plain.{ap_access_of, csw_for, drw_of, from_lanes, select_of, to_lanes};
+ghost use Rattle.target_machine.specs.Plain.{ap_access_of, csw_for, drw_of, from_lanes, result_of, select_of, to_lanes};
+ghost use Rattle.target_machine.specs.Sound.{IsSoundCall};
 
 use target_machine::registers::{CSW_OTHERS, DRW, SELECT};
 use target_machine::{Call, RegAccess, Unit};
@@ -74,7 +75,10 @@ fn of_lanes(size: u8, address: u64, word: u32) -> u32
 }
 
 // The result of a call from what its last action gave.
-pub(crate) fn result_of(call: &Call, word: u32) -> u32 {
+pub(crate) fn result_of(call: &Call, word: u32) -> u32
+    requires { IsSoundCall call.now }
+    ensures { result ≡ result_of call.now word }
+{
     match *call {
         Call::Access(
             Unit::Memory {

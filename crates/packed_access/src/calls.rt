@@ -39,18 +39,18 @@ impl<F: Flights> PackedAccess<F> {
 }
 
 impl<F: Flights> Access for PackedAccess<F> {
-    ghost use Rattle.std.specs.Prelude.{take, false};
+    ghost use Rattle.std.specs.Prelude.{false};
     ghost use Rattle.access_regs.specs.Journal.{issued};
-    ghost use Rattle.packed_access.specs.Begun.{HasBegun, stands_packed};
+    ghost use Rattle.packed_access.specs.Begun.{HasBegun};
     ghost use Rattle.packed_access.specs.Costs.{cost};
     ghost use Rattle.packed_access.specs.Logs.{keeps_by, reported_by};
+    ghost use Rattle.packed_access.specs.Stands.{stands_packed};
 
     ghost reported = { λ s. reported_by (F.reported s.flights) (F.state s.flights) s.log (F.packet s.flights) (F.reply s.flights) };
 
     ghost identity = { λ s. F.identity s.flights };
 
-    ghost begun = { λ s m. HasBegun (reported_by (F.reported s.flights) (F.state s.flights) s.log (F.packet s.flights) (F.reply s.flights))
-        s.managed (F.accesses s.flights) (take s.log.known s.log.results) s.log.entries m };
+    ghost begun = { λ s m. HasBegun (F.reported s.flights) (F.state s.flights) s.log (F.packet s.flights) (F.reply s.flights) s.managed (F.accesses s.flights) m };
 
     ghost journal = { issued };
 
@@ -60,7 +60,7 @@ impl<F: Flights> Access for PackedAccess<F> {
 
     ghost keeps = { λ s. keeps_by (F.reported s.flights) (F.state s.flights) s.log (F.packet s.flights) (F.reply s.flights) };
 
-    ghost stands = { λ s m answered is left. stands_packed _ _ _ _ _ m answered is left };
+    ghost stands = { λ s m answered is left. stands_packed _ _ _ _ _ _ _ m answered is left };
 
     ghost spares = { λ s m answered is left. tt };
 
@@ -102,10 +102,11 @@ impl<F: Flights> Access for PackedAccess<F> {
         match self.make_command(Part::Ends, call) {
             Err(stop) => Err(stop),
             Ok(word) => {
-                self.log.take(0, word);
+                let count = self.log.count();
                 self.log.complete();
+                self.log.take(count - 1, word);
                 self.log.confirm();
-                self.log.need(2 + delays(call), self.log.count());
+                self.log.need(2 + delays(call), count);
                 Ok(u64::from(word))
             }
         }
@@ -121,7 +122,7 @@ impl<F: Flights> Access for PackedAccess<F> {
                 Err(stop) => return Err(stop),
             }
         }
-        self.log.use_slot(slot.index);
+        self.log.use_slot(slot);
         Ok(self.log.result(slot.index))
     }
 

@@ -106,8 +106,18 @@ impl<F: Flights> PackedAccess<F> {
             self.try_accesses(&[csw, low, last], true)
         };
         match tried {
-            Ok(_) => Ok(()),
+            Ok(tried) => {
+                self.take_tried(tried);
+                Ok(())
+            }
             Err(stop) => Err(stop),
+        }
+    }
+
+    // Takes the result of the last call, which was not skipped.
+    fn take_tried(&mut self, tried: Tried) {
+        if let Tried::Came(word) = tried {
+            self.log.take(self.log.count() - 1, word);
         }
     }
 
@@ -117,7 +127,10 @@ impl<F: Flights> PackedAccess<F> {
         self.managed.selected(select.value);
         let last = access_ap(read, addr % 16, value);
         match self.try_accesses(&[select, last], true) {
-            Ok(_) => Ok(()),
+            Ok(tried) => {
+                self.take_tried(tried);
+                Ok(())
+            }
             Err(stop) => Err(stop),
         }
     }

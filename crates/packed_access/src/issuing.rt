@@ -1,4 +1,16 @@
 //! How the accesses of calls come into flights, and flights are sent.
+ghost use Rattle.std.specs.Prelude.{◌≡◌, ◌<◌, ◌≤◌, ◌+◌, ◌*◌, ◌++◌, ◌∷◌, [], ℕ, List, Option, None, Some, false, length, IfErr, OnOk};
+ghost use Rattle.target_machine.specs.Plain.{Makes};
+ghost use Rattle.flight_forms.specs.Packing.{IsTaken};
+ghost use Rattle.probe_core.specs.Bench.{BenchState};
+ghost use Rattle.call_terms.specs.Journal.{Entry};
+ghost use Rattle.access_calls.specs.Answers.{NoMemory};
+ghost use Rattle.access_calls.specs.GoesOn.{GoesOn};
+ghost use Rattle.access_calls.specs.Issued.{kept_of, lines_before_kept};
+ghost use Rattle.access_calls.specs.Left.{IsLeft};
+ghost use Rattle.packed_access.specs.Begun.{HasEnded, HasIssued, StopsThere};
+ghost use Rattle.packed_access.specs.Logs.{IsOfCall, all_confirmed, all_taken, ended_by, most_entries, pending, reported_by, with_entry};
+
 use crate::access::PackedAccess;
 use crate::flights::Flights;
 use access_calls::Stop;
@@ -7,15 +19,39 @@ use call_terms::Part;
 use target_machine::{ProbeCall, RegAccess};
 
 impl<F: Flights> PackedAccess<F> {
-    // Takes the values of the flight that came.
-    pub(crate) fn take_values(&mut self) {
-        for place in 0..self.log.pending() {
-            self.log.take(place, self.flights.value(place));
+    // Takes the results of the calls whose entries lie in the flight that came.
+    pub(crate) fn take_values(&mut self)
+        requires { self.old.log.end ≡ None }
+        ensures log { self.new.log ≡ all_taken (F.values self.old.flights) self.old.log }
+        ensures flights { self.new.flights ≡ self.old.flights }
+        ensures managed { self.new.managed ≡ self.old.managed }
+    {
+        for index in self.log.came()..self.log.whole() {
+            let word = self.flights.value(self.log.place_of(index));
+            self.log.take(index, word);
         }
     }
 
-    // Sends the flight, and takes its values.
-    pub(crate) fn send(&mut self) -> Result<(), Stop> {
+    // Sends the flight, and takes its values. At an error the access has ended.
+    pub(crate) fn send(&mut self) -> Result<(), Stop>
+        requires open { self.old.log.end ≡ None }
+        ensures on { (m0 : BenchState) (rest : List Entry) → HasIssued (F.state self.old.flights) self.old.log (F.accesses self.old.flights) rest m0
+            → OnOk result (HasIssued (F.state self.new.flights) self.new.log [] rest m0) }
+        ensures broke { (m0 : BenchState) (rest : List Entry) → HasIssued (F.state self.old.flights) self.old.log (F.accesses self.old.flights) rest m0
+            → IfErr result (λ s. HasEnded s (reported_by (F.reported self.new.flights) (F.state self.new.flights) self.new.log (F.packet self.new.flights) (F.reply self.new.flights)) self.new.log m0) }
+        ensures stops { (m0 : BenchState) (rest : List Entry) (answered : Option ℕ) → HasIssued (F.state self.old.flights) self.old.log (F.accesses self.old.flights) rest m0
+            → IsLeft (reported_by (F.reported self.new.flights) (F.state self.new.flights) self.new.log (F.packet self.new.flights) (F.reply self.new.flights)) answered
+            → IfErr result (StopsThere m0 answered self.old.log.calls self.new.log.lines) }
+        ensures goes { GoesOn (reported_by (F.reported self.old.flights) (F.state self.old.flights) self.old.log (F.packet self.old.flights) (F.reply self.old.flights))
+            (reported_by (F.reported self.new.flights) (F.state self.new.flights) self.new.log (F.packet self.new.flights) (F.reply self.new.flights)) }
+        ensures log { OnOk result (self.new.log ≡ all_confirmed (all_taken (F.values self.new.flights) self.old.log)) }
+        ensures ended { IfErr result (λ s. self.new.log ≡ ended_by s self.old.log self.new.log) }
+        ensures empty { F.accesses self.new.flights ≡ [] }
+        ensures room { OnOk result ((next : RegAccess) → IsTaken next → F.has_room self.new.flights next ≡ true) }
+        ensures memory { IfErr result NoMemory }
+        ensures managed { self.new.managed ≡ self.old.managed }
+        ensures identity { F.identity self.new.flights ≡ F.identity self.old.flights }
+    {
         match self.flights.send() {
             Ok(()) => {
                 self.take_values();

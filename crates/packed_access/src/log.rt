@@ -1,8 +1,17 @@
 //! What an access keeps of its calls: what was asked, the results, the journal, and the end.
+ghost use Rattle.std.specs.Prelude.{◌≡◌, ℕ, ◌+◌, ◌-◌, ◌<◌, ◌≤◌, ◌++◌, ◌∷◌, [], Some, None, length, slice_get, ◌^◌, ◌*◌, nat_lt, IfSome, OnOk, OnErr};
+ghost use Rattle.target_machine.specs.Sound.{IsSoundCall};
+ghost use Rattle.call_terms.specs.Asks.{settled_last};
+ghost use Rattle.call_terms.specs.NeedPoints.{used};
+ghost use Rattle.access_calls.specs.Issued.{lines_before_kept};
+ghost use Rattle.access_calls.specs.declared.stop.Stop.TheVariants as Stop;
+ghost use Rattle.batch_packer.specs.FlightEnds.{IsShort};
+ghost use Rattle.packed_access.specs.Logs.{IsLogCut, IsOfCall, IsStopped, all_confirmed, asks_of, most_entries, nothing_logged, pending, place_of, result_at, result_for, all_issued, with_asks, with_call, with_entry, with_needs, with_result};
+
 use crate::accesses::result_of;
-use access_calls::{Issued, Stop, StopCause, mark_last, stop_report};
+use access_calls::{Issued, Report, Stop, StopCause, mark_last, stop_report};
 use batch_packer::{Cut, FlightEnd};
-use call_terms::{Ask, Part};
+use call_terms::{Ask, Part, Slot};
 use dap_base::OutOfMemory;
 use std::alloc::Global;
 use std::marker::Model;
@@ -16,12 +25,14 @@ const UNUSED: Issued = Issued {
     part: Part::Leads,
 };
 
-/// What was asked and issued, and how it ended.
+/// What was asked and issued, and how it ended. Contracts see all of it, and how many entries there is room for.
 #[derive(Drop)]
 pub(crate) struct CallLog {
     calls: Vec<Ask>,
     // one for each call; 0 where it has not come
     results: Vec<u32>,
+    // for each call, the number of the entry that gives its result
+    places: Vec<u32>,
     // the journal, with room for what a call may issue
     entries: Vec<Issued>,
     // how many entries were issued
@@ -44,14 +55,15 @@ pub(crate) struct CallLog {
 }
 
 impl Model for CallLog {
-    ghost use Rattle.std.specs.Prelude.{◌≡◌, ◌≤◌, length, take};
-    ghost use Rattle.packed_access.specs.Logs.{LogState};
+    ghost use Rattle.std.specs.Prelude.{length, take};
+    ghost use Rattle.packed_access.specs.Logs.{IsSoundLog, LogState};
 
     ghost Value = { LogState };
 
     ghost view = { λ l. record {
       calls = l.calls.items;
       results = l.results.items;
+      places = l.places.items;
       entries = take l.issued l.entries.items;
       room = length l.entries.items;
       confirmed = l.confirmed;
@@ -65,15 +77,19 @@ impl Model for CallLog {
       skipped = l.skipped;
     } };
 
-    ghost invariant = { λ l. l.issued ≤ length l.entries.items };
+    ghost invariant = { λ l. IsSoundLog l.calls.items l.results.items l.places.items (length l.entries.items) (take l.issued l.entries.items)
+        l.issued l.confirmed l.whole l.came l.known l.fence l.end };
 }
 
 impl CallLog {
     // Nothing was asked.
-    pub(crate) fn new(alloc: Global) -> CallLog {
+    pub(crate) fn new(alloc: Global) -> CallLog
+        ensures { result ≡ nothing_logged }
+    {
         CallLog {
             calls: Vec::new(alloc),
             results: Vec::new(alloc),
+            places: Vec::new(alloc),
             entries: Vec::new(alloc),
             issued: 0,
             confirmed: 0,
@@ -89,25 +105,49 @@ impl CallLog {
     }
 
     // How many calls were asked.
-    pub(crate) fn count(&self) -> u32 {
+    pub(crate) fn count(&self) -> u32
+        ensures { result ≡ length self.now.calls }
+    {
         self.calls.len() as u32
     }
 
-    pub(crate) fn end(&self) -> Option<Stop> {
+    pub(crate) fn end(&self) -> Option<Stop>
+        ensures { result ≡ self.now.end }
+    {
         self.end
     }
 
-    pub(crate) fn skipped(&self) -> u32 {
+    pub(crate) fn skipped(&self) -> u32
+        ensures { result ≡ self.now.skipped }
+    {
         self.skipped
     }
 
     // How many entries were issued and are not confirmed.
-    pub(crate) fn pending(&self) -> u32 {
+    pub(crate) fn pending(&self) -> u32
+        ensures { result ≡ pending self.now }
+    {
         self.issued - self.confirmed
     }
 
+    // How many calls came, and how many were issued whole.
+    pub(crate) fn came(&self) -> u32
+        ensures { result ≡ self.now.came }
+    {
+        self.came
+    }
+
+    pub(crate) fn whole(&self) -> u32
+        ensures { result ≡ self.now.whole }
+    {
+        self.whole
+    }
+
     // Takes the room for the entries of one call more.
-    fn take_room(&mut self) -> Result<(), OutOfMemory> {
+    fn take_room(&mut self) -> Result<(), OutOfMemory>
+        ensures same { self.new ≡ record self.old { room = self.new.room } }
+        ensures room { OnOk result (length self.old.entries + most_entries ≤ self.new.room) }
+    {
         let room = self.issued as usize + MOST_ENTRIES;
         while self.entries.len() < room {
             if self.entries.push(UNUSED).is_err() {
@@ -118,47 +158,87 @@ impl CallLog {
     }
 
     // One more call is asked. All memory that it will need is taken now; where it is refused nothing is asked.
-    pub(crate) fn ask(&mut self, ask: Ask) -> Result<(), OutOfMemory> {
-        self.take_room()?;
-        if self.results.len() == self.calls.len() && self.results.push(0).is_err() {
+    pub(crate) fn ask(&mut self, ask: Ask) -> Result<(), OutOfMemory>
+        requires sound { IsSoundCall ask.call }
+        requires few { length self.old.calls < 10000000 }
+        ensures asked { OnOk result (self.new ≡ with_call self.old ask self.new.room) }
+        ensures room { OnOk result (length self.old.entries + most_entries ≤ self.new.room) }
+        ensures refused { OnErr result (self.new ≡ record self.old { room = self.new.room }) }
+    {
+        match self.take_room() {
+            Ok(()) => {}
+            Err(OutOfMemory) => return Err(OutOfMemory),
+        }
+        let count = self.calls.len();
+        if self.results.push(0).is_err() {
+            return Err(OutOfMemory);
+        }
+        if self.places.push(0).is_err() {
+            self.results.truncate(count);
             return Err(OutOfMemory);
         }
         if self.calls.push(ask).is_err() {
+            self.results.truncate(count);
+            self.places.truncate(count);
             return Err(OutOfMemory);
         }
         Ok(())
     }
 
     // One more entry is issued.
-    pub(crate) fn issue(&mut self, unit: u32, part: Part) {
+    pub(crate) fn issue(&mut self, unit: u32, part: Part)
+        requires open { self.old.end ≡ None }
+        requires later { self.old.came ≤ lines_before_kept (record { unit = unit; part = part }) }
+        requires unit { IsOfCall (length self.old.calls) (record { unit = unit; part = part }) }
+        requires room { length self.old.entries < self.old.room }
+        requires bounded { length self.old.entries < most_entries * length self.old.calls }
+        ensures { self.new ≡ with_entry self.old (record { unit = unit; part = part }) }
+    {
         self.entries[self.issued as usize] = Issued { unit, part };
         self.issued += 1;
     }
 
-    // All entries of the calls that were asked are issued.
-    pub(crate) fn complete(&mut self) {
-        self.whole = self.calls.len() as u32;
+    // All entries of the calls that were asked are issued. The last of them gives the result of the last call.
+    pub(crate) fn complete(&mut self)
+        requires some { 0 < length self.old.calls }
+        ensures { self.new ≡ all_issued self.old }
+    {
+        let count = self.calls.len();
+        self.whole = count as u32;
+        self.places[count - 1] = self.issued.saturating_sub(1);
     }
 
-    // The entry at this place after the confirmed ones gave this word: it is the result of a call where the
-    // entry is the access that the call is for.
-    pub(crate) fn take(&mut self, place: u32, word: u32) {
-        let entry = self.entries[(self.confirmed + place) as usize];
-        if entry.part == Part::Ends {
-            let index = entry.unit as usize - 1;
-            self.results[index] = result_of(&self.calls[index].call, word);
-        }
+    // The place of the entry that gives the result of a call, among those that are not confirmed.
+    pub(crate) fn place_of(&self, index: u32) -> u32
+        requires { index < length self.now.calls }
+        ensures { result ≡ place_of self.now index }
+    {
+        self.places[index as usize].saturating_sub(self.confirmed)
+    }
+
+    // The entry that gives the result of a call gave this word.
+    pub(crate) fn take(&mut self, index: u32, word: u32)
+        requires { index < length self.old.calls }
+        ensures { self.new ≡ with_result self.old index (result_for (slice_get self.old.calls index) word) }
+    {
+        self.results[index as usize] = result_of(&self.calls[index as usize].call, word);
     }
 
     // All entries are confirmed, and all calls that were issued whole came.
-    pub(crate) fn confirm(&mut self) {
+    pub(crate) fn confirm(&mut self)
+        requires { self.old.end ≡ None }
+        ensures { self.new ≡ all_confirmed self.old }
+    {
         self.confirmed = self.issued;
         self.came = self.whole;
         self.known = self.whole;
     }
 
-    // So many need points come, before the last call or after it.
-    pub(crate) fn need(&mut self, points: u64, calls: u32) {
+    // So many need points come, where so many calls have been asked.
+    pub(crate) fn need(&mut self, points: u64, calls: u32)
+        requires within { calls ≤ length self.old.calls }
+        ensures { self.new ≡ with_needs self.old points calls }
+    {
         if points > 0 {
             self.needs = self.needs.saturating_add(points);
             self.fence = calls;
@@ -166,29 +246,42 @@ impl CallLog {
     }
 
     // The value of a slot is used.
-    pub(crate) fn use_slot(&mut self, index: u32) {
-        if index >= self.fence {
+    pub(crate) fn use_slot(&mut self, slot: Slot)
+        ensures { self.new ≡ with_asks self.old (used slot (asks_of self.old)) }
+    {
+        if slot.index >= self.fence {
             self.need(1, self.calls.len() as u32);
         }
     }
 
     // One more call was skipped.
-    pub(crate) fn skip(&mut self) {
+    pub(crate) fn skip(&mut self)
+        requires { self.old.skipped < 2 ^ 32 - 1 }
+        ensures { self.new ≡ record self.old { skipped = self.old.skipped + 1 } }
+    {
         self.skipped += 1;
     }
 
     // A `finish` is made after the last call.
-    pub(crate) fn mark(&mut self) {
+    #[tactic(auto, using(crate::proofs::LogLemmas::marked_sound))]
+    pub(crate) fn mark(&mut self)
+        ensures { self.new ≡ record self.old { calls = settled_last self.old.calls } }
+    {
         mark_last(&mut self.calls);
     }
 
     // Whether the result of this call is known.
-    pub(crate) fn is_known(&self, index: u32) -> bool {
+    pub(crate) fn is_known(&self, index: u32) -> bool
+        ensures { result ≡ nat_lt index self.now.known }
+    {
         index < self.known
     }
 
     // The result of a call that is known, and 0 for others.
-    pub(crate) fn result(&self, index: u32) -> u64 {
+    pub(crate) fn result(&self, index: u32) -> u64
+        ensures value { result ≡ result_at self.now index }
+        ensures bound { result < 2 ^ 32 }
+    {
         if index < self.known {
             u64::from(self.results[index as usize])
         } else {
@@ -196,15 +289,20 @@ impl CallLog {
         }
     }
 
-    // The flight was cut.
-    fn cut(&mut self, cut: Cut) -> Stop {
+    // The flight was cut: the report.
+    #[tactic(auto, using(crate::proofs::LogLemmas::named_here))]
+    fn cut(&mut self, cut: Cut) -> Report
+        requires open { self.old.end ≡ None }
+        requires performed { cut.performed ≤ pending self.old }
+        requires confirmed { cut.confirmed < pending self.old }
+        ensures { IsLogCut cut.performed cut.confirmed cut.response self.old (record self.new { end = Some (Stop.Cut result) }) result }
+    {
         let cause = match cut.response {
             0x02 => StopCause::NoAnswer,
             _ => StopCause::Faulted,
         };
-        let issued = &self.entries.as_slice()[..self.issued as usize];
         let stop = stop_report(
-            issued,
+            &self.entries.as_slice()[..self.issued as usize],
             self.calls.as_slice(),
             self.confirmed + cut.performed,
             self.confirmed + cut.confirmed,
@@ -213,13 +311,17 @@ impl CallLog {
         self.skipped = stop.skipped;
         self.lines = stop.lines;
         self.came = stop.lines;
-        Stop::Cut(stop.report)
+        stop.report
     }
 
     // The access ends so, and answers that from now on.
-    pub(crate) fn stop(&mut self, end: FlightEnd) -> Stop {
+    pub(crate) fn stop(&mut self, end: FlightEnd) -> Stop
+        requires open { self.old.end ≡ None }
+        requires short { IsShort (pending self.old) (Some end) }
+        ensures { IsStopped end self.old self.new result }
+    {
         let stop = match end {
-            FlightEnd::Cut(cut) => self.cut(cut),
+            FlightEnd::Cut(cut) => Stop::Cut(self.cut(cut)),
             FlightEnd::BenchFault => Stop::BenchFault {
                 issued: self.issued,
                 confirmed: self.confirmed,

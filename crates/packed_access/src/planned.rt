@@ -126,10 +126,11 @@ impl<F: Flights> PackedAccess<F> {
         };
         match end {
             Ok(matched) => {
-                self.log.take(0, u32::from(matched));
+                let count = self.log.count();
                 self.log.complete();
+                self.log.take(count - 1, u32::from(matched));
                 self.log.confirm();
-                self.log.need(points, self.log.count());
+                self.log.need(points, count);
                 Ok(())
             }
             Err(end) => Err(self.log.stop(end)),

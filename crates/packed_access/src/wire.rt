@@ -119,7 +119,7 @@ impl<B: Bench> Wire<B> {
 }
 
 impl<B: Bench> Flights for Wire<B> {
-    ghost use Rattle.batch_packer.specs.FlightStates.{item_at};
+    ghost use Rattle.batch_packer.specs.FlightStates.{has_room, item_at};
 
     ghost reported = { λ w. B.reported w.bench };
 
@@ -130,6 +130,12 @@ impl<B: Bench> Flights for Wire<B> {
     ghost accesses = { λ w. w.flight.accesses };
 
     ghost values = { λ w. w.slots.values };
+
+    ghost ended = { λ w. w.flight.end };
+
+    ghost has_room = { λ w next. has_room w.flight.limits w.flight.accesses next };
+
+    ghost is_resumable = { λ w. w.flight.resumable };
 
     ghost packet = { λ w. item_at w.flight.packets w.flight.at };
 

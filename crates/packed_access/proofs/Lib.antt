@@ -1,0 +1,9 @@
+pub mod LogLemmas
+pub mod PushLemmas
+pub mod FillLemmas
+pub mod WriteLemmas
+pub mod SlotLemmas
+pub mod CameLemmas
+pub mod WholeLemmas
+pub mod EndLemmas
+pub mod AskLemmas
