@@ -7,3 +7,4 @@ pub mod CameLemmas
 pub mod WholeLemmas
 pub mod EndLemmas
 pub mod AskLemmas
+pub mod GoesLemmas

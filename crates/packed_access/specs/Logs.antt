@@ -178,6 +178,17 @@ all_confirmed log = record log { confirmed = length log.entries; came = log.whol
 abbrev pub result_at : LogState → ℕ → ℕ
 result_at log index = if nat_lt index log.known then slice_index log.results index else 0
 
+-- Entries were issued and results came; nothing else changed, and there is no end.
+pub record IsFurther (old new : LogState) : Type 0 where
+  pub calls : new.calls ≡ old.calls
+  pub places : new.places ≡ old.places
+  pub whole : new.whole ≡ old.whole
+  pub room : new.room ≡ old.room
+  pub needs : new.needs ≡ old.needs
+  pub fence : new.fence ≡ old.fence
+  pub skipped : new.skipped ≡ old.skipped
+  pub end : new.end ≡ None
+
 -- the access ended so: nothing else changed but how many units have their lines before the end, and how many were skipped
 abbrev pub ended_by : Stop → LogState → LogState → LogState
 ended_by s old new = record old { end = Some s; came = new.came; lines = new.lines; skipped = new.skipped }

@@ -132,7 +132,8 @@ impl<F: Flights> Access for PackedAccess<F> {
         }
         match self.send() {
             Ok(()) => {
-                self.log.need(1, self.log.count());
+                let count = self.log.count();
+                self.log.need(1, count);
                 Ok(())
             }
             Err(stop) => Err(stop),
@@ -144,13 +145,14 @@ impl<F: Flights> Access for PackedAccess<F> {
             return Err(stop);
         }
         self.log.mark();
-        match self.settle(self.log.count()) {
+        let count = self.log.count();
+        match self.settle(count) {
             Ok(()) => {}
             Err(stop) => return Err(stop),
         }
         match self.send() {
             Ok(()) => {
-                self.log.need(1, self.log.count());
+                self.log.need(1, count);
                 Ok(())
             }
             Err(stop) => Err(stop),

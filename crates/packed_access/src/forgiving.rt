@@ -2,6 +2,7 @@
 use crate::access::PackedAccess;
 use crate::accesses::{access_ap, access_drw, high_of, low_of, plain_csw, write_select};
 use crate::flights::Flights;
+use crate::issuing::take_values;
 use crate::planned::port_of;
 use access_calls::Stop;
 use batch_packer::FlightEnd;
@@ -56,7 +57,7 @@ impl<F: Flights> PackedAccess<F> {
         let place = self.log.pending();
         match self.flights.send() {
             Ok(()) => {
-                self.take_values();
+                take_values(&mut self.log, &self.flights);
                 self.log.confirm();
                 Ok(Tried::Came(self.flights.value(place - 1)))
             }
@@ -117,7 +118,8 @@ impl<F: Flights> PackedAccess<F> {
     // Takes the result of the last call, which was not skipped.
     fn take_tried(&mut self, tried: Tried) {
         if let Tried::Came(word) = tried {
-            self.log.take(self.log.count() - 1, word);
+            let last = self.log.count() - 1;
+            self.log.take(last, word);
         }
     }
 
@@ -174,7 +176,8 @@ impl<F: Flights> PackedAccess<F> {
 
     // Asks a unit that forgives a fault. Answers whether its access port has no large addresses.
     pub(crate) fn ask_forgiving(&mut self, unit: &Unit) -> Result<bool, Stop> {
-        match self.settle(self.log.count() - 1) {
+        let count = self.log.count();
+        match self.settle(count - 1) {
             Ok(()) => {}
             Err(stop) => return Err(stop),
         }
@@ -188,7 +191,7 @@ impl<F: Flights> PackedAccess<F> {
                 self.managed.forget(port_of(unit));
                 self.log.complete();
                 self.log.confirm();
-                self.log.need(5, self.log.count());
+                self.log.need(5, count);
                 Ok(small)
             }
         }

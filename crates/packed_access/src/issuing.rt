@@ -1,5 +1,5 @@
 //! How the accesses of calls come into flights, and flights are sent.
-ghost use Rattle.std.specs.Prelude.{◌≡◌, ◌<◌, ◌≤◌, ◌+◌, ◌*◌, ◌++◌, ◌∷◌, [], ℕ, List, Option, None, Some, false, length, IfErr, OnOk};
+ghost use Rattle.std.specs.Prelude.{◌≡◌, ◌<◌, ◌≤◌, ◌+◌, ◌*◌, ◌++◌, ◌∷◌, [], ℕ, List, Option, None, Some, true, length, IfErr, OnOk};
 ghost use Rattle.target_machine.specs.Plain.{Makes};
 ghost use Rattle.flight_forms.specs.Packing.{IsTaken};
 ghost use Rattle.probe_core.specs.Bench.{BenchState};
@@ -9,29 +9,28 @@ ghost use Rattle.access_calls.specs.GoesOn.{GoesOn};
 ghost use Rattle.access_calls.specs.Issued.{kept_of, lines_before_kept};
 ghost use Rattle.access_calls.specs.Left.{IsLeft};
 ghost use Rattle.packed_access.specs.Begun.{HasEnded, HasIssued, StopsThere};
-ghost use Rattle.packed_access.specs.Logs.{IsOfCall, all_confirmed, all_taken, ended_by, most_entries, pending, reported_by, with_entry};
+ghost use Rattle.packed_access.specs.Logs.{IsFurther, IsOfCall, all_confirmed, all_taken, asks_of, ended_by, most_entries, reported_by};
 
 use crate::access::PackedAccess;
 use crate::flights::Flights;
+use crate::log::CallLog;
 use access_calls::Stop;
 use access_regs::Plan;
 use call_terms::Part;
 use target_machine::{ProbeCall, RegAccess};
 
-impl<F: Flights> PackedAccess<F> {
-    // Takes the results of the calls whose entries lie in the flight that came.
-    pub(crate) fn take_values(&mut self)
-        requires { self.old.log.end ≡ None }
-        ensures log { self.new.log ≡ all_taken (F.values self.old.flights) self.old.log }
-        ensures flights { self.new.flights ≡ self.old.flights }
-        ensures managed { self.new.managed ≡ self.old.managed }
-    {
-        for index in self.log.came()..self.log.whole() {
-            let word = self.flights.value(self.log.place_of(index));
-            self.log.take(index, word);
-        }
+// Takes the results of the calls whose entries lie in the flight that came.
+pub(crate) fn take_values<F: Flights>(log: &mut CallLog, flights: &F)
+    requires { log.old.end ≡ None }
+    ensures { log.new ≡ all_taken (F.values flights.now) log.old }
+{
+    for index in log.came()..log.whole() {
+        let word = flights.value(log.place_of(index));
+        log.take(index, word);
     }
+}
 
+impl<F: Flights> PackedAccess<F> {
     // Sends the flight, and takes its values. At an error the access has ended.
     pub(crate) fn send(&mut self) -> Result<(), Stop>
         requires open { self.old.log.end ≡ None }
@@ -54,7 +53,7 @@ impl<F: Flights> PackedAccess<F> {
     {
         match self.flights.send() {
             Ok(()) => {
-                self.take_values();
+                take_values(&mut self.log, &self.flights);
                 self.log.confirm();
                 Ok(())
             }
@@ -62,8 +61,35 @@ impl<F: Flights> PackedAccess<F> {
         }
     }
 
-    // Issues one access; the flight is sent first where it has no room.
-    pub(crate) fn issue(&mut self, unit: u32, part: Part, access: RegAccess) -> Result<(), Stop> {
+    // Issues one access of the last call or of a settling; the flight is sent first where it has no room. At an
+    // error the access has ended.
+    #[tactic(auto, using(access_calls::proofs::KeepLemmas::goes_trans, crate::proofs::GoesLemmas::goes_still))]
+    pub(crate) fn issue(&mut self, unit: u32, part: Part, access: RegAccess) -> Result<(), Stop>
+        requires open { self.old.log.end ≡ None }
+        requires taken { IsTaken access }
+        requires unit { IsOfCall (length self.old.log.calls) (record { unit = unit; part = part }) }
+        requires later { self.old.log.whole ≤ lines_before_kept (record { unit = unit; part = part }) }
+        requires room { length self.old.log.entries < self.old.log.room }
+        requires bounded { length self.old.log.entries < most_entries * length self.old.log.calls }
+        ensures on { (m0 : BenchState) (e : Entry) (rest : List Entry) → HasIssued (F.state self.old.flights) self.old.log (F.accesses self.old.flights) (e ∷ rest) m0
+            → e.action ≡ Makes access → e.forgiving ≡ false → kept_of e ≡ record { unit = unit; part = part }
+            → OnOk result (HasIssued (F.state self.new.flights) self.new.log (F.accesses self.new.flights) rest m0) }
+        ensures broke { (m0 : BenchState) (rest : List Entry) → HasIssued (F.state self.old.flights) self.old.log (F.accesses self.old.flights) rest m0
+            → IfErr result (λ s. HasEnded s (reported_by (F.reported self.new.flights) (F.state self.new.flights) self.new.log (F.packet self.new.flights) (F.reply self.new.flights)) self.new.log m0) }
+        ensures stops { (m0 : BenchState) (rest : List Entry) (answered : Option ℕ) → HasIssued (F.state self.old.flights) self.old.log (F.accesses self.old.flights) rest m0
+            → IsLeft (reported_by (F.reported self.new.flights) (F.state self.new.flights) self.new.log (F.packet self.new.flights) (F.reply self.new.flights)) answered
+            → IfErr result (StopsThere m0 answered self.old.log.calls self.new.log.lines) }
+        ensures goes { GoesOn (reported_by (F.reported self.old.flights) (F.state self.old.flights) self.old.log (F.packet self.old.flights) (F.reply self.old.flights))
+            (reported_by (F.reported self.new.flights) (F.state self.new.flights) self.new.log (F.packet self.new.flights) (F.reply self.new.flights)) }
+        ensures entries { OnOk result (self.new.log.entries ≡ self.old.log.entries ++ record { unit = unit; part = part } ∷ []) }
+        ensures further { OnOk result (IsFurther self.old.log self.new.log) }
+        ensures pending { OnOk result (self.new.log.confirmed < length self.new.log.entries) }
+        ensures ended { IfErr result (λ s. self.new.log.end ≡ Some s) }
+        ensures asks { asks_of self.new.log ≡ asks_of self.old.log }
+        ensures memory { IfErr result NoMemory }
+        ensures managed { self.new.managed ≡ self.old.managed }
+        ensures identity { F.identity self.new.flights ≡ F.identity self.old.flights }
+    {
         if !self.flights.room(access) {
             match self.send() {
                 Ok(()) => {}
@@ -108,7 +134,8 @@ impl<F: Flights> PackedAccess<F> {
 
     // Makes a command of the probe, which is an entry of the last call's.
     pub(crate) fn make_command(&mut self, part: Part, call: ProbeCall) -> Result<u32, Stop> {
-        self.log.issue(self.log.count(), part);
+        let unit = self.log.count();
+        self.log.issue(unit, part);
         match self.flights.command(call) {
             Ok(word) => Ok(word),
             Err(end) => Err(self.log.stop(end)),

@@ -1,5 +1,5 @@
 //! What an access keeps of its calls: what was asked, the results, the journal, and the end.
-ghost use Rattle.std.specs.Prelude.{◌≡◌, ℕ, ◌+◌, ◌-◌, ◌<◌, ◌≤◌, ◌++◌, ◌∷◌, [], Some, None, length, slice_get, ◌^◌, ◌*◌, nat_lt, IfSome, OnOk, OnErr};
+ghost use Rattle.std.specs.Prelude.{◌≡◌, ℕ, ◌+◌, ◌-◌, ◌<◌, ◌≤◌, ◌++◌, ◌∷◌, [], Some, None, length, take, slice_get, ◌^◌, ◌*◌, nat_lt, IfSome, OnOk, OnErr};
 ghost use Rattle.target_machine.specs.Sound.{IsSoundCall};
 ghost use Rattle.call_terms.specs.Asks.{settled_last};
 ghost use Rattle.call_terms.specs.NeedPoints.{used};
@@ -24,6 +24,22 @@ const UNUSED: Issued = Issued {
     unit: 0,
     part: Part::Leads,
 };
+
+// Takes the room for the entries of one call more, after so many that were issued.
+fn take_room(entries: &mut Vec<Issued>, issued: u32) -> Result<(), OutOfMemory>
+    requires { issued ≤ length entries.old.items }
+    ensures kept { take issued entries.new.items ≡ take issued entries.old.items }
+    ensures longer { length entries.old.items ≤ length entries.new.items }
+    ensures room { OnOk result (issued + most_entries ≤ length entries.new.items) }
+{
+    let room = issued as usize + MOST_ENTRIES;
+    for _ in entries.len()..room {
+        if entries.push(UNUSED).is_err() {
+            return Err(OutOfMemory);
+        }
+    }
+    Ok(())
+}
 
 /// What was asked and issued, and how it ended. Contracts see all of it, and how many entries there is room for.
 #[derive(Drop)]
@@ -143,20 +159,6 @@ impl CallLog {
         self.whole
     }
 
-    // Takes the room for the entries of one call more.
-    fn take_room(&mut self) -> Result<(), OutOfMemory>
-        ensures same { self.new ≡ record self.old { room = self.new.room } }
-        ensures room { OnOk result (length self.old.entries + most_entries ≤ self.new.room) }
-    {
-        let room = self.issued as usize + MOST_ENTRIES;
-        while self.entries.len() < room {
-            if self.entries.push(UNUSED).is_err() {
-                return Err(OutOfMemory);
-            }
-        }
-        Ok(())
-    }
-
     // One more call is asked. All memory that it will need is taken now; where it is refused nothing is asked.
     pub(crate) fn ask(&mut self, ask: Ask) -> Result<(), OutOfMemory>
         requires sound { IsSoundCall ask.call }
@@ -165,7 +167,7 @@ impl CallLog {
         ensures room { OnOk result (length self.old.entries + most_entries ≤ self.new.room) }
         ensures refused { OnErr result (self.new ≡ record self.old { room = self.new.room }) }
     {
-        match self.take_room() {
+        match take_room(&mut self.entries, self.issued) {
             Ok(()) => {}
             Err(OutOfMemory) => return Err(OutOfMemory),
         }
@@ -250,7 +252,8 @@ impl CallLog {
         ensures { self.new ≡ with_asks self.old (used slot (asks_of self.old)) }
     {
         if slot.index >= self.fence {
-            self.need(1, self.calls.len() as u32);
+            let count = self.calls.len() as u32;
+            self.need(1, count);
         }
     }
 
@@ -289,13 +292,13 @@ impl CallLog {
         }
     }
 
-    // The flight was cut: the report.
-    #[tactic(auto, using(crate::proofs::LogLemmas::named_here))]
+    // The access ends at a cut: the report.
+    #[tactic(auto, using(crate::proofs::LogLemmas::named_here, crate::proofs::LogLemmas::cut_lines, crate::proofs::LogLemmas::cut_later))]
     fn cut(&mut self, cut: Cut) -> Report
         requires open { self.old.end ≡ None }
         requires performed { cut.performed ≤ pending self.old }
         requires confirmed { cut.confirmed < pending self.old }
-        ensures { IsLogCut cut.performed cut.confirmed cut.response self.old (record self.new { end = Some (Stop.Cut result) }) result }
+        ensures { IsLogCut cut.performed cut.confirmed cut.response self.old self.new result }
     {
         let cause = match cut.response {
             0x02 => StopCause::NoAnswer,
@@ -308,10 +311,12 @@ impl CallLog {
             self.confirmed + cut.confirmed,
             cause,
         );
+        let report = stop.report;
         self.skipped = stop.skipped;
         self.lines = stop.lines;
         self.came = stop.lines;
-        stop.report
+        self.end = Some(Stop::Cut(report));
+        report
     }
 
     // The access ends so, and answers that from now on.
@@ -321,7 +326,7 @@ impl CallLog {
         ensures { IsStopped end self.old self.new result }
     {
         let stop = match end {
-            FlightEnd::Cut(cut) => Stop::Cut(self.cut(cut)),
+            FlightEnd::Cut(cut) => return Stop::Cut(self.cut(cut)),
             FlightEnd::BenchFault => Stop::BenchFault {
                 issued: self.issued,
                 confirmed: self.confirmed,

@@ -14,11 +14,12 @@ pub(crate) fn port_of(unit: &Unit) -> u8 {
     }
 }
 
-// The accesses of a plan but the last, and the last.
+// The accesses of a plan except the last.
 fn before_last(plan: Plan) -> Plan {
+    let accesses = plan.accesses;
     Plan {
         count: plan.count - 1,
-        accesses: plan.accesses,
+        accesses,
     }
 }
 
@@ -37,10 +38,11 @@ impl<F: Flights> PackedAccess<F> {
     // Reads CFG of the unit's access port, and answers whether the port has large addresses.
     fn read_cfg(&mut self, unit: &Unit) -> Result<bool, Stop> {
         let plan = self.managed.cfg_plan(unit);
-        match self.read_by(self.log.count(), &plan) {
+        let number = self.log.count();
+        match self.read_by(number, &plan) {
             Err(stop) => Err(stop),
             Ok(cfg) => {
-                self.log.need(1, self.log.count() - 1);
+                self.log.need(1, number - 1);
                 Ok(self.managed.learn_cfg(port_of(unit), cfg))
             }
         }
@@ -49,10 +51,11 @@ impl<F: Flights> PackedAccess<F> {
     // Reads CSW of the unit's access port.
     fn read_csw(&mut self, unit: &Unit) -> Result<(), Stop> {
         let plan = self.managed.first_plan(unit);
-        match self.read_by(self.log.count(), &plan) {
+        let number = self.log.count();
+        match self.read_by(number, &plan) {
             Err(stop) => Err(stop),
             Ok(csw) => {
-                self.log.need(1, self.log.count() - 1);
+                self.log.need(1, number - 1);
                 self.managed.learn(port_of(unit), csw);
                 Ok(())
             }
@@ -80,7 +83,8 @@ impl<F: Flights> PackedAccess<F> {
     // Asks a unit that forgives nothing and is no poll. Answers whether its access port has no large addresses.
     pub(crate) fn ask_planned(&mut self, unit: &Unit) -> Result<bool, Stop> {
         if self.managed.needs_settle(unit) {
-            match self.settle(self.log.count() - 1) {
+            let before = self.log.count() - 1;
+            match self.settle(before) {
                 Ok(()) => {}
                 Err(stop) => return Err(stop),
             }
@@ -114,7 +118,8 @@ impl<F: Flights> PackedAccess<F> {
             Ok(()) => {}
             Err(stop) => return Err(stop),
         }
-        self.log.issue(self.log.count(), Part::Ends);
+        let count = self.log.count();
+        self.log.issue(count, Part::Ends);
         let (end, points) = if self.managed.bank_zero() {
             let portions = (u64::from(turns) + 0xFFFF) / 0x1_0000;
             (self.flights.poll(mask, requested, turns), 1 + portions)
@@ -126,7 +131,6 @@ impl<F: Flights> PackedAccess<F> {
         };
         match end {
             Ok(matched) => {
-                let count = self.log.count();
                 self.log.complete();
                 self.log.take(count - 1, u32::from(matched));
                 self.log.confirm();
