@@ -1,7 +1,10 @@
 -- Results that are taken from the values of a flight.
 use Rattle.std.proofs.Common.{◌≡◌, ◌∙◌, ℕ, zero, suc, ◌+◌, ◌-◌, ◌<◌, ◌≤◌, List, [], ◌∷◌, ◌++◌, length, take, set, get_or, Option, refl, sym, ap, arith}
 use Rattle.std.proofs.lemmas.List.{take_more_set, length-set}
-use Rattle.packed_access.specs.Logs.{LogState, filled, result_by}
+use Rattle.std.specs.Option.{unwrap_or}
+use Rattle.std.specs.Prelude.{slice_get}
+use Rattle.batch_packer.specs.SlotList.{slot_at}
+use Rattle.packed_access.specs.Logs.{LogState, filled, place_of, result_by, result_for, with_result}
 
 -- one more of a list
 more_taken : (xs : List ℕ) (k : ℕ) → k < length xs → take (suc k) xs ≡ take k xs ++ get_or xs k 0 ∷ []
@@ -26,3 +29,20 @@ filled_is values log from (suc j) xs all front le le' each =
     ∙ (λ i. before i ++ sym (each (from + j) (omega arith) (omega arith)) i ∷ [])
     ∙ sym (more_taken all (from + j) (omega (arith, le')))
     ∙ ap (λ (k : ℕ). take k all) (let same' : suc (from + j) ≡ from + suc j = omega arith in same')
+
+-- one more result is taken
+pub filled_next : (values : List (Option ℕ)) (log now new : LogState) (index word place : ℕ) → log.came ≤ index → now ≡ record log { results = filled values log log.came (index - log.came) log.results } →
+    place ≡ place_of now index → word ≡ unwrap_or (slot_at values place) 0 → new ≡ with_result now index (result_for (slice_get now.calls index) word) →
+    new ≡ record log { results = filled values log log.came (index + 1 - log.came) log.results }
+filled_next values log now new index word place low is at word_is next =
+    next
+    ∙ ap (λ (w : ℕ). with_result now index (result_for (slice_get now.calls index) w)) (word_is ∙ ap (λ (p : ℕ). unwrap_or (slot_at values p) 0) at)
+    ∙ ap (λ (l : LogState). with_result l index (result_by values l index)) is
+    ∙ ap (λ (k : ℕ). record log { results = set (filled values log log.came (index - log.came) log.results) k (result_by values log k) }) (sym here)
+    ∙ ap (λ (k : ℕ). record log { results = filled values log log.came k log.results }) more
+  where
+    here : log.came + (index - log.came) ≡ index
+    here = omega (arith, low)
+
+    more : suc (index - log.came) ≡ index + 1 - log.came
+    more = omega (arith, low)

@@ -1,6 +1,6 @@
 -- What is kept of calls stays within its room.
-use Rattle.std.proofs.Common.{◌≡◌, ◌∙◌, ℕ, zero, suc, ◌+◌, ◌-◌, ◌<◌, ◌≤◌, Bool, true, false, cond, List, [], ◌∷◌, ◌++◌, length, drop, map, Option, Some, None, refl, sym, ap, subst, arith, length-append}
-use Rattle.std.proofs.lemmas.List.{length-map}
+use Rattle.std.proofs.Common.{◌≡◌, ◌∙◌, ℕ, zero, suc, ◌+◌, ◌-◌, ◌<◌, ◌≤◌, Bool, true, false, cond, List, [], ◌∷◌, ◌++◌, length, take, drop, map, Option, Some, None, refl, sym, ap, subst, arith, length-append}
+use Rattle.std.proofs.lemmas.List.{length-map, length-take-le}
 use Rattle.std.specs.List.{AllByRecursion}
 use Rattle.std.specs.Prelude.{slice_get, IfSome}
 use Rattle.target_machine.specs.Sound.{IsSoundCall}
@@ -13,7 +13,7 @@ use Rattle.access_calls.specs.Numbers.{HasNumbers, StopNumbers, lines_at}
 use Rattle.access_calls.specs.declared.issued.Issued.{Issued}
 use Rattle.access_calls.specs.declared.stop.Report.{Report}
 use Rattle.access_calls.specs.declared.stop.Stop.{Stop}
-use Rattle.packed_access.specs.Logs.{IsOfCall, IsSoundLog}
+use Rattle.packed_access.specs.Logs.{IsOfCall, IsSoundLog, IsSoundState}
 
 -- a mark changes no call
 pub marked_sound : (calls : List Ask) → AllByRecursion (λ ask. IsSoundCall ask.call) calls → AllByRecursion (λ ask. IsSoundCall ask.call) (settled_last calls)
@@ -156,3 +156,47 @@ sound_cut calls results places room entries issued confirmed whole came known fe
   open_known = λ none. absurd (clash_end s none);
   later = λ none. absurd (clash_end s none);
 }
+
+-- a `finish` was made after the last call
+pub sound_marked : (calls calls' : List Ask) (results places : List ℕ) (room : ℕ) (entries : List Issued) (issued confirmed whole came known fence : ℕ) (end : Option Stop) → calls' ≡ settled_last calls →
+    IsSoundLog calls results places room entries issued confirmed whole came known fence end → IsSoundLog calls' results places room entries issued confirmed whole came known fence end
+sound_marked calls calls' results places room entries issued confirmed whole came known fence end is h =
+    let n : length calls ≡ length calls' = sym (ap length is ∙ marked_length calls) in
+    record {
+      few = (let f = h.few in omega (arith, f, n));
+      sound = subst (AllByRecursion (λ ask. IsSoundCall ask.call)) (sym is) (marked_sound calls h.sound);
+      results_long = (let f = h.results_long in omega (arith, f, n));
+      places_long = (let f = h.places_long in omega (arith, f, n));
+      within = h.within;
+      bounded = (let f = h.bounded in omega (arith, f, n));
+      units = subst (λ (k : ℕ). AllByRecursion (IsOfCall k) entries) n h.units;
+      confirmed_within = h.confirmed_within;
+      whole_within = (let f = h.whole_within in omega (arith, f, n));
+      came_within = (let f = h.came_within in omega (arith, f, n));
+      known_within = (let f = h.known_within in omega (arith, f, n));
+      fence_within = (let f = h.fence_within in omega (arith, f, n));
+      open_order = h.open_order;
+      open_known = h.open_known;
+      later = h.later;
+    }
+
+-- the same of what contracts see
+pub sound_state : (calls : List Ask) (results places : List ℕ) (items : List Issued) (issued confirmed whole came known needs fence : ℕ) (end : Option Stop) (lines skipped : ℕ) →
+    IsSoundLog calls results places (length items) (take issued items) issued confirmed whole came known fence end →
+    IsSoundState (record { calls = calls; results = results; places = places; entries = take issued items; room = length items; confirmed = confirmed; whole = whole; came = came; known = known; needs = needs; fence = fence; end = end; lines = lines; skipped = skipped })
+sound_state calls results places items issued confirmed whole came known needs fence end lines skipped h =
+    let n : length (take issued items) ≡ issued = length-take-le issued items h.within in
+    record {
+      few = h.few;
+      results_long = h.results_long;
+      places_long = h.places_long;
+      within = (let f = h.within in omega (arith, f, n));
+      bounded = (let f = h.bounded in omega (arith, f, n));
+      confirmed_within = (let f = h.confirmed_within in omega (arith, f, n));
+      whole_within = h.whole_within;
+      came_within = h.came_within;
+      known_within = h.known_within;
+      fence_within = h.fence_within;
+      open_order = h.open_order;
+      open_known = h.open_known;
+    }

@@ -70,6 +70,21 @@ pub record IsSoundLog (calls : List Ask) (results places : List ℕ) (room : ℕ
   pub open_known : end ≡ None → known ≡ came
   pub later : end ≡ None → AllByRecursion (λ e. came ≤ lines_before_kept e) (drop confirmed entries)
 
+-- its numbers, as others see them
+pub record IsSoundState (log : LogState) : Type 0 where
+  pub few : length log.calls ≤ 10000000
+  pub results_long : length log.results ≡ length log.calls
+  pub places_long : length log.places ≡ length log.calls
+  pub within : length log.entries ≤ log.room
+  pub bounded : length log.entries ≤ most_entries * length log.calls
+  pub confirmed_within : log.confirmed ≤ length log.entries
+  pub whole_within : log.whole ≤ length log.calls
+  pub came_within : log.came ≤ length log.calls
+  pub known_within : log.known ≤ length log.calls
+  pub fence_within : log.fence ≤ length log.calls
+  pub open_order : log.end ≡ None → log.came ≤ log.whole
+  pub open_known : log.end ≡ None → log.known ≡ log.came
+
 -- nothing was asked
 abbrev pub nothing_logged : LogState
 nothing_logged = record {

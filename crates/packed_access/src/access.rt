@@ -1,5 +1,6 @@
 //! The access, and how it is made and given back.
 ghost use Rattle.std.specs.Prelude.{◌≡◌, ◌-◌, None, length};
+ghost use Rattle.packed_access.specs.Logs.{IsSoundState};
 
 use crate::flights::Flights;
 use crate::log::CallLog;
@@ -14,6 +15,7 @@ pub struct PackedAccess<F: Flights> {
     pub(crate) managed: Managed,
     pub(crate) log: CallLog,
     // It can be used while there is no end, and the flight has the entries that are not confirmed.
+    ghost sound: { IsSoundState log },
     ghost usable: { log.end ≡ None → F.ended flights ≡ None },
     ghost in_flight: { log.end ≡ None → length (F.accesses flights) ≡ length log.entries - log.confirmed },
 }

@@ -9,7 +9,7 @@ ghost use Rattle.access_calls.specs.GoesOn.{GoesOn};
 ghost use Rattle.access_calls.specs.Issued.{kept_of, lines_before_kept};
 ghost use Rattle.access_calls.specs.Left.{IsLeft};
 ghost use Rattle.packed_access.specs.Begun.{HasEnded, HasIssued, StopsThere};
-ghost use Rattle.packed_access.specs.Logs.{IsFurther, IsOfCall, all_confirmed, all_taken, asks_of, ended_by, most_entries, reported_by};
+ghost use Rattle.packed_access.specs.Logs.{IsFurther, IsOfCall, IsSoundState, all_confirmed, all_taken, asks_of, ended_by, most_entries, reported_by};
 
 use crate::access::PackedAccess;
 use crate::flights::Flights;
@@ -21,8 +21,10 @@ use target_machine::{ProbeCall, RegAccess};
 
 // Takes the results of the calls whose entries lie in the flight that came.
 pub(crate) fn take_values<F: Flights>(log: &mut CallLog, flights: &F)
-    requires { log.old.end ≡ None }
-    ensures { log.new ≡ all_taken (F.values flights.now) log.old }
+    requires open { log.old.end ≡ None }
+    requires sound { IsSoundState log.old }
+    ensures answer { log.new ≡ all_taken (F.values flights.now) log.old }
+    ensures sound { IsSoundState log.new }
 {
     for index in log.came()..log.whole() {
         let word = flights.value(log.place_of(index));

@@ -6,7 +6,7 @@ ghost use Rattle.call_terms.specs.NeedPoints.{used};
 ghost use Rattle.access_calls.specs.Issued.{lines_before_kept};
 ghost use Rattle.access_calls.specs.declared.stop.Stop.TheVariants as Stop;
 ghost use Rattle.batch_packer.specs.FlightEnds.{IsShort};
-ghost use Rattle.packed_access.specs.Logs.{IsLogCut, IsOfCall, IsStopped, all_confirmed, asks_of, most_entries, nothing_logged, pending, place_of, result_at, result_for, all_issued, with_asks, with_call, with_entry, with_needs, with_result};
+ghost use Rattle.packed_access.specs.Logs.{IsLogCut, IsOfCall, IsSoundState, IsStopped, all_confirmed, asks_of, most_entries, nothing_logged, pending, place_of, result_at, result_for, all_issued, with_asks, with_call, with_entry, with_needs, with_result};
 
 use crate::accesses::result_of;
 use access_calls::{Issued, Report, Stop, StopCause, mark_last, stop_report};
@@ -100,7 +100,8 @@ impl Model for CallLog {
 impl CallLog {
     // Nothing was asked.
     pub(crate) fn new(alloc: Global) -> CallLog
-        ensures { result ≡ nothing_logged }
+        ensures answer { result ≡ nothing_logged }
+        ensures sound { IsSoundState result }
     {
         CallLog {
             calls: Vec::new(alloc),
@@ -166,6 +167,7 @@ impl CallLog {
         ensures asked { OnOk result (self.new ≡ with_call self.old ask self.new.room) }
         ensures room { OnOk result (length self.old.entries + most_entries ≤ self.new.room) }
         ensures refused { OnErr result (self.new ≡ record self.old { room = self.new.room }) }
+        ensures sound { IsSoundState self.new }
     {
         match take_room(&mut self.entries, self.issued) {
             Ok(()) => {}
@@ -194,7 +196,8 @@ impl CallLog {
         requires unit { IsOfCall (length self.old.calls) (record { unit = unit; part = part }) }
         requires room { length self.old.entries < self.old.room }
         requires bounded { length self.old.entries < most_entries * length self.old.calls }
-        ensures { self.new ≡ with_entry self.old (record { unit = unit; part = part }) }
+        ensures answer { self.new ≡ with_entry self.old (record { unit = unit; part = part }) }
+        ensures sound { IsSoundState self.new }
     {
         self.entries[self.issued as usize] = Issued { unit, part };
         self.issued += 1;
@@ -203,7 +206,8 @@ impl CallLog {
     // All entries of the calls that were asked are issued. The last of them gives the result of the last call.
     pub(crate) fn complete(&mut self)
         requires some { 0 < length self.old.calls }
-        ensures { self.new ≡ all_issued self.old }
+        ensures answer { self.new ≡ all_issued self.old }
+        ensures sound { IsSoundState self.new }
     {
         let count = self.calls.len();
         self.whole = count as u32;
@@ -221,7 +225,8 @@ impl CallLog {
     // The entry that gives the result of a call gave this word.
     pub(crate) fn take(&mut self, index: u32, word: u32)
         requires { index < length self.old.calls }
-        ensures { self.new ≡ with_result self.old index (result_for (slice_get self.old.calls index) word) }
+        ensures answer { self.new ≡ with_result self.old index (result_for (slice_get self.old.calls index) word) }
+        ensures sound { IsSoundState self.new }
     {
         self.results[index as usize] = result_of(&self.calls[index as usize].call, word);
     }
@@ -229,7 +234,8 @@ impl CallLog {
     // All entries are confirmed, and all calls that were issued whole came.
     pub(crate) fn confirm(&mut self)
         requires { self.old.end ≡ None }
-        ensures { self.new ≡ all_confirmed self.old }
+        ensures answer { self.new ≡ all_confirmed self.old }
+        ensures sound { IsSoundState self.new }
     {
         self.confirmed = self.issued;
         self.came = self.whole;
@@ -239,7 +245,8 @@ impl CallLog {
     // So many need points come, where so many calls have been asked.
     pub(crate) fn need(&mut self, points: u64, calls: u32)
         requires within { calls ≤ length self.old.calls }
-        ensures { self.new ≡ with_needs self.old points calls }
+        ensures answer { self.new ≡ with_needs self.old points calls }
+        ensures sound { IsSoundState self.new }
     {
         if points > 0 {
             self.needs = self.needs.saturating_add(points);
@@ -249,7 +256,8 @@ impl CallLog {
 
     // The value of a slot is used.
     pub(crate) fn use_slot(&mut self, slot: Slot)
-        ensures { self.new ≡ with_asks self.old (used slot (asks_of self.old)) }
+        ensures answer { self.new ≡ with_asks self.old (used slot (asks_of self.old)) }
+        ensures sound { IsSoundState self.new }
     {
         if slot.index >= self.fence {
             let count = self.calls.len() as u32;
@@ -260,7 +268,8 @@ impl CallLog {
     // One more call was skipped.
     pub(crate) fn skip(&mut self)
         requires { self.old.skipped < 2 ^ 32 - 1 }
-        ensures { self.new ≡ record self.old { skipped = self.old.skipped + 1 } }
+        ensures answer { self.new ≡ record self.old { skipped = self.old.skipped + 1 } }
+        ensures sound { IsSoundState self.new }
     {
         self.skipped += 1;
     }
@@ -268,7 +277,8 @@ impl CallLog {
     // A `finish` is made after the last call.
     #[tactic(auto, using(crate::proofs::LogLemmas::marked_sound))]
     pub(crate) fn mark(&mut self)
-        ensures { self.new ≡ record self.old { calls = settled_last self.old.calls } }
+        ensures answer { self.new ≡ record self.old { calls = settled_last self.old.calls } }
+        ensures sound { IsSoundState self.new }
     {
         mark_last(&mut self.calls);
     }
@@ -298,7 +308,8 @@ impl CallLog {
         requires open { self.old.end ≡ None }
         requires performed { cut.performed ≤ pending self.old }
         requires confirmed { cut.confirmed < pending self.old }
-        ensures { IsLogCut cut.performed cut.confirmed cut.response self.old self.new result }
+        ensures answer { IsLogCut cut.performed cut.confirmed cut.response self.old self.new result }
+        ensures sound { IsSoundState self.new }
     {
         let cause = match cut.response {
             0x02 => StopCause::NoAnswer,
@@ -323,7 +334,8 @@ impl CallLog {
     pub(crate) fn stop(&mut self, end: FlightEnd) -> Stop
         requires open { self.old.end ≡ None }
         requires short { IsShort (pending self.old) (Some end) }
-        ensures { IsStopped end self.old self.new result }
+        ensures answer { IsStopped end self.old self.new result }
+        ensures sound { IsSoundState self.new }
     {
         let stop = match end {
             FlightEnd::Cut(cut) => return Stop::Cut(self.cut(cut)),
