@@ -8,3 +8,5 @@ pub mod WholeLemmas
 pub mod EndLemmas
 pub mod AskLemmas
 pub mod GoesLemmas
+pub mod BegunLemmas
+pub mod NeedLemmas

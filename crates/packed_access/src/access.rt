@@ -1,23 +1,17 @@
-//! The access, and how it is made and given back.
-ghost use Rattle.std.specs.Prelude.{◌≡◌, ◌-◌, None, length};
-ghost use Rattle.packed_access.specs.Logs.{IsSoundState};
+//! The access, and how its bench is given back.
+ghost use Rattle.std.specs.Prelude.{◌≡◌, None, length};
 
 use crate::flights::Flights;
-use crate::log::CallLog;
+use crate::sender::Sender;
 use crate::wire::Wire;
-use access_regs::Managed;
 use probe_core::Bench;
 
 /// An access that collects register accesses in flights.
 #[derive(Drop)]
 pub struct PackedAccess<F: Flights> {
-    pub(crate) flights: F,
-    pub(crate) managed: Managed,
-    pub(crate) log: CallLog,
-    // It can be used while there is no end, and the flight has the entries that are not confirmed.
-    ghost sound: { IsSoundState log },
-    ghost usable: { log.end ≡ None → F.ended flights ≡ None },
-    ghost in_flight: { log.end ≡ None → length (F.accesses flights) ≡ length log.entries - log.confirmed },
+    pub(crate) sender: Sender<F>,
+    // All calls were issued whole.
+    ghost whole: { sender.log.end ≡ None → sender.log.whole ≡ length sender.log.calls },
 }
 
 /// The access over a bench.
@@ -26,11 +20,12 @@ pub type Packed<B> = PackedAccess<Wire<B>>;
 impl<B: Bench> PackedAccess<Wire<B>> {
     /// Ends the access, and hands the bench back as its calls left it.
     pub fn into_bench(self) -> B {
-        let PackedAccess {
+        let PackedAccess { sender } = self;
+        let Sender {
             flights,
             managed: _,
             log: _,
-        } = self;
+        } = sender;
         flights.into_bench()
     }
 }

@@ -1,6 +1,7 @@
 //! The calls of the access.
 use crate::access::PackedAccess;
 use crate::flights::Flights;
+use crate::sender::Sender;
 use access_calls::{Access, Stop};
 use call_terms::{Ask, Asked, Part, Slot};
 use target_machine::{Call, ProbeCall, Unit};
@@ -19,9 +20,9 @@ fn answer(small: bool, index: u32) -> Asked {
     }
 }
 
-impl<F: Flights> PackedAccess<F> {
+impl<F: Flights> Sender<F> {
     // Issues the unit of the last call. Answers whether its access port has no large addresses.
-    fn issue_asked(&mut self, unit: &Unit, forgive: bool) -> Result<bool, Stop> {
+    pub(crate) fn issue_asked(&mut self, unit: &Unit, forgive: bool) -> Result<bool, Stop> {
         match *unit {
             Unit::Poll { mask, value, turns } => match self.ask_poll(mask, value, turns) {
                 Ok(()) => Ok(false),
@@ -46,11 +47,11 @@ impl<F: Flights> Access for PackedAccess<F> {
     ghost use Rattle.packed_access.specs.Logs.{keeps_by, reported_by};
     ghost use Rattle.packed_access.specs.Stands.{stands_packed};
 
-    ghost reported = { λ s. reported_by (F.reported s.flights) (F.state s.flights) s.log (F.packet s.flights) (F.reply s.flights) };
+    ghost reported = { λ s. reported_by (F.reported s.sender.flights) (F.state s.sender.flights) s.sender.log (F.packet s.sender.flights) (F.reply s.sender.flights) };
 
-    ghost identity = { λ s. F.identity s.flights };
+    ghost identity = { λ s. F.identity s.sender.flights };
 
-    ghost begun = { λ s m. HasBegun (F.reported s.flights) (F.state s.flights) s.log (F.packet s.flights) (F.reply s.flights) s.managed (F.accesses s.flights) m };
+    ghost begun = { λ s m. HasBegun (F.reported s.sender.flights) (F.state s.sender.flights) s.sender.log (F.packet s.sender.flights) (F.reply s.sender.flights) s.sender.managed (F.accesses s.sender.flights) m };
 
     ghost journal = { issued };
 
@@ -58,33 +59,33 @@ impl<F: Flights> Access for PackedAccess<F> {
 
     ghost is_sparing = { false };
 
-    ghost keeps = { λ s. keeps_by (F.reported s.flights) (F.state s.flights) s.log (F.packet s.flights) (F.reply s.flights) };
+    ghost keeps = { λ s. keeps_by (F.reported s.sender.flights) (F.state s.sender.flights) s.sender.log (F.packet s.sender.flights) (F.reply s.sender.flights) };
 
     ghost stands = { λ s m answered is left. stands_packed _ _ _ _ _ _ _ m answered is left };
 
     ghost spares = { λ s m answered is left. tt };
 
     fn ask(&mut self, unit: Unit, forgive: bool) -> Result<Asked, Stop> {
-        if let Some(stop) = self.log.end() {
+        if let Some(stop) = self.sender.log.end() {
             return Err(stop);
         }
-        let index = self.log.count();
+        let index = self.sender.log.count();
         let ask = Ask {
             call: Call::Access(unit),
             forgive,
             settled: false,
         };
-        if self.log.ask(ask).is_err() {
+        if self.sender.log.ask(ask).is_err() {
             return Err(Stop::OutOfMemory);
         }
-        match self.issue_asked(&unit, forgive) {
+        match self.sender.issue_asked(&unit, forgive) {
             Ok(small) => Ok(answer(small, index)),
             Err(stop) => Err(stop),
         }
     }
 
     fn command(&mut self, call: ProbeCall) -> Result<u64, Stop> {
-        if let Some(stop) = self.log.end() {
+        if let Some(stop) = self.sender.log.end() {
             return Err(stop);
         }
         let ask = Ask {
@@ -92,48 +93,48 @@ impl<F: Flights> Access for PackedAccess<F> {
             forgive: false,
             settled: false,
         };
-        if self.log.ask(ask).is_err() {
+        if self.sender.log.ask(ask).is_err() {
             return Err(Stop::OutOfMemory);
         }
-        match self.send() {
+        match self.sender.send() {
             Ok(()) => {}
             Err(stop) => return Err(stop),
         }
-        match self.make_command(Part::Ends, call) {
+        match self.sender.make_command(Part::Ends, call) {
             Err(stop) => Err(stop),
             Ok(word) => {
-                let count = self.log.count();
-                self.log.complete();
-                self.log.take(count - 1, word);
-                self.log.confirm();
-                self.log.need(2 + delays(call), count);
+                let count = self.sender.log.count();
+                self.sender.log.complete();
+                self.sender.log.take(count - 1, word);
+                self.sender.log.confirm();
+                self.sender.log.need(2 + delays(call), count);
                 Ok(u64::from(word))
             }
         }
     }
 
     fn value(&mut self, slot: Slot) -> Result<u64, Stop> {
-        if !self.log.is_known(slot.index) {
-            if let Some(stop) = self.log.end() {
+        if !self.sender.log.is_known(slot.index) {
+            if let Some(stop) = self.sender.log.end() {
                 return Err(stop);
             }
-            match self.send() {
+            match self.sender.send() {
                 Ok(()) => {}
                 Err(stop) => return Err(stop),
             }
         }
-        self.log.use_slot(slot);
-        Ok(self.log.result(slot.index))
+        self.sender.log.use_slot(slot);
+        Ok(self.sender.log.result(slot.index))
     }
 
     fn flush(&mut self) -> Result<(), Stop> {
-        if let Some(stop) = self.log.end() {
+        if let Some(stop) = self.sender.log.end() {
             return Err(stop);
         }
-        match self.send() {
+        match self.sender.send() {
             Ok(()) => {
-                let count = self.log.count();
-                self.log.need(1, count);
+                let count = self.sender.log.count();
+                self.sender.log.need(1, count);
                 Ok(())
             }
             Err(stop) => Err(stop),
@@ -141,18 +142,18 @@ impl<F: Flights> Access for PackedAccess<F> {
     }
 
     fn finish(&mut self) -> Result<(), Stop> {
-        if let Some(stop) = self.log.end() {
+        if let Some(stop) = self.sender.log.end() {
             return Err(stop);
         }
-        self.log.mark();
-        let count = self.log.count();
-        match self.settle(count) {
+        self.sender.log.mark();
+        let count = self.sender.log.count();
+        match self.sender.settle(count) {
             Ok(()) => {}
             Err(stop) => return Err(stop),
         }
-        match self.send() {
+        match self.sender.send() {
             Ok(()) => {
-                self.log.need(1, count);
+                self.sender.log.need(1, count);
                 Ok(())
             }
             Err(stop) => Err(stop),
@@ -160,21 +161,21 @@ impl<F: Flights> Access for PackedAccess<F> {
     }
 
     fn sent(&self) -> &[u8] {
-        match self.log.end() {
-            Some(Stop::Cut(_) | Stop::ReplyBad) => self.flights.sent(),
+        match self.sender.log.end() {
+            Some(Stop::Cut(_) | Stop::ReplyBad) => self.sender.flights.sent(),
             None | Some(Stop::BenchFault { .. } | Stop::OutOfMemory) => &[],
         }
     }
 
     fn got(&self) -> &[u8] {
-        match self.log.end() {
-            Some(Stop::Cut(_) | Stop::ReplyBad) => self.flights.got(),
+        match self.sender.log.end() {
+            Some(Stop::Cut(_) | Stop::ReplyBad) => self.sender.flights.got(),
             None | Some(Stop::BenchFault { .. } | Stop::OutOfMemory) => &[],
         }
     }
 
     fn skipped(&self) -> u32 {
-        self.log.skipped()
+        self.sender.log.skipped()
     }
 }
 

@@ -1,9 +1,9 @@
 //! Units that forgive a fault: each access made as by the unit alone, in flights of which only the last access may fault.
-use crate::access::PackedAccess;
 use crate::accesses::{access_ap, access_drw, high_of, low_of, plain_csw, write_select};
 use crate::flights::Flights;
 use crate::issuing::take_values;
 use crate::planned::port_of;
+use crate::sender::Sender;
 use access_calls::Stop;
 use batch_packer::FlightEnd;
 use call_terms::Part;
@@ -19,7 +19,7 @@ enum Tried {
     Skipped,
 }
 
-impl<F: Flights> PackedAccess<F> {
+impl<F: Flights> Sender<F> {
     // Clears STICKYERR after a fault that is forgiven.
     fn forgive(&mut self, attempted: bool) -> Result<(), Stop> {
         self.flights.resume();

@@ -4,16 +4,16 @@ ghost use Rattle.target_machine.specs.Plain.{Makes};
 ghost use Rattle.flight_forms.specs.Packing.{IsTaken};
 ghost use Rattle.probe_core.specs.Bench.{BenchState};
 ghost use Rattle.call_terms.specs.Journal.{Entry};
-ghost use Rattle.access_calls.specs.Answers.{NoMemory};
+ghost use Rattle.access_calls.specs.Answers.{AtCut, NoMemory};
 ghost use Rattle.access_calls.specs.GoesOn.{GoesOn};
 ghost use Rattle.access_calls.specs.Issued.{kept_of, lines_before_kept};
 ghost use Rattle.access_calls.specs.Left.{IsLeft};
 ghost use Rattle.packed_access.specs.Begun.{HasEnded, HasIssued, StopsThere};
 ghost use Rattle.packed_access.specs.Logs.{IsFurther, IsOfCall, IsSoundState, all_confirmed, all_taken, asks_of, ended_by, most_entries, reported_by};
 
-use crate::access::PackedAccess;
 use crate::flights::Flights;
 use crate::log::CallLog;
+use crate::sender::Sender;
 use access_calls::Stop;
 use access_regs::Plan;
 use call_terms::Part;
@@ -32,7 +32,7 @@ pub(crate) fn take_values<F: Flights>(log: &mut CallLog, flights: &F)
     }
 }
 
-impl<F: Flights> PackedAccess<F> {
+impl<F: Flights> Sender<F> {
     // Sends the flight, and takes its values. At an error the access has ended.
     pub(crate) fn send(&mut self) -> Result<(), Stop>
         requires open { self.old.log.end ≡ None }
@@ -49,6 +49,7 @@ impl<F: Flights> PackedAccess<F> {
         ensures ended { IfErr result (λ s. self.new.log ≡ ended_by s self.old.log self.new.log) }
         ensures empty { F.accesses self.new.flights ≡ [] }
         ensures room { OnOk result ((next : RegAccess) → IsTaken next → F.has_room self.new.flights next ≡ true) }
+        ensures some { IfErr result (λ s. AtCut s (λ r. 0 < length (F.accesses self.old.flights))) }
         ensures memory { IfErr result NoMemory }
         ensures managed { self.new.managed ≡ self.old.managed }
         ensures identity { F.identity self.new.flights ≡ F.identity self.old.flights }

@@ -10,6 +10,7 @@ mod issuing;
 mod log;
 mod opening;
 mod planned;
+mod sender;
 mod wire;
 
 pub use access::{Packed, PackedAccess};

@@ -1,6 +1,7 @@
 //! How an access begins.
 use crate::access::PackedAccess;
 use crate::log::CallLog;
+use crate::sender::Sender;
 use crate::wire::Wire;
 use access_calls::{NotBegun, Stop};
 use access_regs::Managed;
@@ -21,9 +22,11 @@ impl<B: Bench> PackedAccess<Wire<B>> {
         match Wire::new(alloc, bench, config, limits) {
             Err(bench) => Err(refused(bench, Stop::OutOfMemory)),
             Ok(flights) => Ok(PackedAccess {
-                flights,
-                managed,
-                log: CallLog::new(alloc),
+                sender: Sender {
+                    flights,
+                    managed,
+                    log: CallLog::new(alloc),
+                },
             }),
         }
     }

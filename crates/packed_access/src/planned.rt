@@ -1,6 +1,6 @@
 //! Units that forgive nothing.
-use crate::access::PackedAccess;
 use crate::flights::Flights;
+use crate::sender::Sender;
 use access_calls::Stop;
 use access_regs::Plan;
 use call_terms::Part;
@@ -23,7 +23,7 @@ fn before_last(plan: Plan) -> Plan {
     }
 }
 
-impl<F: Flights> PackedAccess<F> {
+impl<F: Flights> Sender<F> {
     // Whether the access port is known to have large addresses.
     pub(crate) fn is_large(&self, ap: u8) -> bool {
         !self.managed.needs_cfg(&Unit::Memory {

@@ -3,7 +3,7 @@ use Rattle.packed_access.specs.Begun.{HasIssued}
 use Rattle.packed_access.specs.Logs.{LogState, all_confirmed, all_taken}
 use Rattle.packed_access.proofs.EndLemmas.{has_ended, stops_there}
 use Rattle.packed_access.proofs.WholeLemmas.{has_come}
-use Rattle.packed_access.proofs.access.PackedAccess.send.Goals as goal
+use Rattle.packed_access.proofs.sender.Sender.send.Goals as goal
 
 pub returns-in-Ok-clause-on : goal.returns-in-Ok-clause-on
 returns-in-Ok-clause-on g c =
