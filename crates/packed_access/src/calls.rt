@@ -114,17 +114,16 @@ impl<F: Flights> Access for PackedAccess<F> {
     }
 
     fn value(&mut self, slot: Slot) -> Result<u64, Stop> {
-        if !self.sender.log.is_known(slot.index) {
-            if let Some(stop) = self.sender.log.end() {
-                return Err(stop);
-            }
-            match self.sender.send() {
-                Ok(()) => {}
-                Err(stop) => return Err(stop),
-            }
+        if self.sender.log.is_known(slot.index) {
+            return Ok(self.sender.log.used(slot));
         }
-        self.sender.log.use_slot(slot);
-        Ok(self.sender.log.result(slot.index))
+        if let Some(stop) = self.sender.log.end() {
+            return Err(stop);
+        }
+        match self.sender.send() {
+            Ok(()) => Ok(self.sender.log.used(slot)),
+            Err(stop) => Err(stop),
+        }
     }
 
     fn flush(&mut self) -> Result<(), Stop> {

@@ -254,14 +254,21 @@ impl CallLog {
         }
     }
 
-    // The value of a slot is used.
-    pub(crate) fn use_slot(&mut self, slot: Slot)
+    // The value of a slot is used: the result of its call where it is known, and else 0.
+    pub(crate) fn used(&mut self, slot: Slot) -> u64
         ensures answer { self.new ≡ with_asks self.old (used slot (asks_of self.old)) }
+        ensures value { result ≡ result_at self.old slot.index }
+        ensures bound { result < 2 ^ 32 }
         ensures sound { IsSoundState self.new }
     {
         if slot.index >= self.fence {
             let count = self.calls.len() as u32;
             self.need(1, count);
+        }
+        if slot.index < self.known {
+            u64::from(self.results[slot.index as usize])
+        } else {
+            0
         }
     }
 
@@ -288,18 +295,6 @@ impl CallLog {
         ensures { result ≡ nat_lt index self.now.known }
     {
         index < self.known
-    }
-
-    // The result of a call that is known, and 0 for others.
-    pub(crate) fn result(&self, index: u32) -> u64
-        ensures value { result ≡ result_at self.now index }
-        ensures bound { result < 2 ^ 32 }
-    {
-        if index < self.known {
-            u64::from(self.results[index as usize])
-        } else {
-            0
-        }
     }
 
     // The access ends at a cut: the report.
