@@ -85,3 +85,10 @@ pub has_issued : (x : Option BenchState) (log : LogState) (accesses : List RegAc
     HasIssued x log accesses (e ∷ rest) m0 → e.action ≡ Makes a → e.forgiving ≡ false → entry ≡ kept_of e → length log.entries < 2 ^ 32 →
     HasIssued x (with_entry log entry) (accesses ++ a ∷ []) rest m0
 has_issued x log accesses e rest a entry m0 h makes strict is few = record { so = issued_where x log accesses e rest a entry m0 h.so makes strict is few }
+
+-- the same, named otherwise
+pub issued_same : (x x' : Option BenchState) (log log' : LogState) (accesses accesses' : List RegAccess) (rest : List Entry) (m0 : BenchState) → x' ≡ x → log' ≡ log → accesses' ≡ accesses → HasIssued x log accesses rest m0 → HasIssued x' log' accesses' rest m0
+issued_same x x' log log' accesses accesses' rest m0 same is are h =
+    subst (λ (y : Option BenchState). HasIssued y log' accesses' rest m0) (sym same)
+    (subst (λ (l : LogState). HasIssued x l accesses' rest m0) (sym is)
+    (subst (λ (xs : List RegAccess). HasIssued x log xs rest m0) (sym are) h))
