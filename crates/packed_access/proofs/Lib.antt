@@ -10,3 +10,4 @@ pub mod AskLemmas
 pub mod GoesLemmas
 pub mod BegunLemmas
 pub mod NeedLemmas
+pub mod PlanLemmas

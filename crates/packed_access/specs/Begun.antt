@@ -1,6 +1,7 @@
 -- How far an access has come with the calls that were asked of it, and where it began.
-use Rattle.std.specs.Prelude.{◌≡◌, ℕ, zero, suc, ◌+◌, ◌*◌, ◌^◌, ◌<◌, ◌≤◌, Bool, true, false, List, [], ◌∷◌, ◌++◌, length, take, drop, slice_index, Option, Some, None, refl}
+use Rattle.std.specs.Prelude.{◌≡◌, ℕ, zero, suc, ◌+◌, ◌*◌, ◌^◌, ◌<◌, ◌≤◌, Bool, true, false, List, [], ◌∷◌, ◌++◌, length, map, take, slice_index, Option, Some, None, refl}
 use Rattle.std.specs.List.{AllByRecursion}
+use Rattle.target_machine.specs.Plain.{Makes}
 use Rattle.target_machine.specs.State.{TargetState}
 use Rattle.target_machine.specs.declared.access.RegAccess.{RegAccess}
 use Rattle.probe_core.specs.Bench.{BenchState}
@@ -10,6 +11,7 @@ use Rattle.call_terms.specs.Asks.{ForgiveNothing, is_forgiving, is_settled}
 use Rattle.call_terms.specs.Journal.{Entry, actions_in}
 use Rattle.call_terms.specs.World.{results, skips, small_now, start_world}
 use Rattle.call_terms.specs.declared.calls.Ask.{Ask}
+use Rattle.call_terms.specs.declared.journal.Part.{Part}
 use Rattle.access_regs.specs.Entries.{kept_by, target_by}
 use Rattle.access_regs.specs.Journal.{issue_of, issued, making}
 use Rattle.access_regs.specs.Kept.{Kept}
@@ -65,6 +67,10 @@ pub record IsIssuing (log : LogState) (accesses : List RegAccess) (rest : List E
 -- So it is where the bench is observable.
 pub record HasIssued (state : Option BenchState) (log : LogState) (accesses : List RegAccess) (rest : List Entry) (m0 : BenchState) : Type 0 where
   pub so : WhereObservable state (λ m. IsIssuing log accesses rest m0 m)
+
+-- the entries of accesses that are all the same to their unit, which forgives nothing
+abbrev pub entries_of : ℕ → Part → List RegAccess → List Entry
+entries_of unit part accesses = map (λ a. record { unit = unit; part = part; forgiving = false; action = Makes a }) accesses
 
 -- Between two calls: all that was asked is issued, and this is known of the registers. Once a `finish` was made after the last call nothing
 -- lies in the flight.

@@ -1,5 +1,6 @@
 //! How the accesses of calls come into flights, and flights are sent.
 ghost use Rattle.std.specs.Prelude.{◌≡◌, ◌<◌, ◌≤◌, ◌+◌, ◌*◌, ◌++◌, ◌∷◌, [], ℕ, List, Option, None, Some, false, true, length, IfErr, OnOk};
+ghost use Rattle.std.specs.List.{AllByRecursion};
 ghost use Rattle.target_machine.specs.Plain.{Makes};
 ghost use Rattle.flight_forms.specs.Packing.{IsTaken};
 ghost use Rattle.probe_core.specs.Bench.{BenchState};
@@ -8,7 +9,10 @@ ghost use Rattle.access_calls.specs.Answers.{AtCut, NoMemory};
 ghost use Rattle.access_calls.specs.GoesOn.{GoesOn};
 ghost use Rattle.access_calls.specs.Issued.{kept_of, lines_before_kept};
 ghost use Rattle.access_calls.specs.Left.{IsLeft};
-ghost use Rattle.packed_access.specs.Begun.{HasEnded, HasIssued, StopsThere};
+ghost use Rattle.access_regs.specs.Plan.{settle, settled};
+ghost use Rattle.access_regs.specs.Plans.{accesses_of};
+ghost use Rattle.call_terms.specs.declared.journal.Part.TheVariants.{Settles};
+ghost use Rattle.packed_access.specs.Begun.{HasEnded, HasIssued, StopsThere, entries_of};
 ghost use Rattle.packed_access.specs.Logs.{IsFurther, IsOfCall, IsSoundState, all_confirmed, all_taken, asks_of, ended_by, most_entries, reported_by};
 
 use crate::flights::Flights;
@@ -30,6 +34,15 @@ pub(crate) fn take_values<F: Flights>(log: &mut CallLog, flights: &F)
         let word = flights.value(log.place_of(index));
         log.take(index, word);
     }
+}
+
+// The accesses of a plan.
+pub(crate) fn listed(plan: &Plan) -> &[RegAccess]
+    ensures { result.now ≡ accesses_of plan.now }
+{
+    let accesses = &plan.accesses[..];
+    let count = usize::from(plan.count).min(accesses.len());
+    &accesses[..count]
 }
 
 impl<F: Flights> Sender<F> {
@@ -104,10 +117,40 @@ impl<F: Flights> Sender<F> {
         Ok(())
     }
 
-    // Issues the accesses of a plan, which all are the same to their unit.
-    pub(crate) fn issue_all(&mut self, unit: u32, part: Part, plan: &Plan) -> Result<(), Stop> {
-        for place in 0..plan.count {
-            match self.issue(unit, part, plan.accesses[usize::from(place)]) {
+    // Issues accesses that all are the same to their unit.
+    #[tactic(auto, using(access_calls::proofs::KeepLemmas::goes_trans, access_calls::proofs::KeepLemmas::goes_same))]
+    pub(crate) fn issue_all(
+        &mut self,
+        unit: u32,
+        part: Part,
+        accesses: &[RegAccess],
+    ) -> Result<(), Stop>
+        requires open { self.old.log.end ≡ None }
+        requires taken { AllByRecursion IsTaken accesses.now }
+        requires unit { 0 < length accesses.now → IsOfCall (length self.old.log.calls) (record { unit = unit; part = part }) }
+        requires later { 0 < length accesses.now → self.old.log.whole ≤ lines_before_kept (record { unit = unit; part = part }) }
+        requires room { length self.old.log.entries + length accesses.now ≤ self.old.log.room }
+        requires bounded { length self.old.log.entries + length accesses.now ≤ most_entries * length self.old.log.calls }
+        ensures on { (m0 : BenchState) (rest : List Entry) → HasIssued (F.state self.old.flights) self.old.log (F.accesses self.old.flights) (entries_of unit part accesses.now ++ rest) m0
+            → OnOk result (HasIssued (F.state self.new.flights) self.new.log (F.accesses self.new.flights) rest m0) }
+        ensures broke { (m0 : BenchState) (rest : List Entry) → HasIssued (F.state self.old.flights) self.old.log (F.accesses self.old.flights) (entries_of unit part accesses.now ++ rest) m0
+            → IfErr result (λ s. HasEnded s (reported_by (F.reported self.new.flights) (F.state self.new.flights) self.new.log (F.packet self.new.flights) (F.reply self.new.flights)) self.new.log m0) }
+        ensures stops { (m0 : BenchState) (rest : List Entry) (answered : Option ℕ) → HasIssued (F.state self.old.flights) self.old.log (F.accesses self.old.flights) (entries_of unit part accesses.now ++ rest) m0
+            → IsLeft (reported_by (F.reported self.new.flights) (F.state self.new.flights) self.new.log (F.packet self.new.flights) (F.reply self.new.flights)) answered
+            → IfErr result (StopsThere m0 answered self.old.log.calls self.new.log.lines) }
+        ensures goes { GoesOn (reported_by (F.reported self.old.flights) (F.state self.old.flights) self.old.log (F.packet self.old.flights) (F.reply self.old.flights))
+            (reported_by (F.reported self.new.flights) (F.state self.new.flights) self.new.log (F.packet self.new.flights) (F.reply self.new.flights)) }
+        ensures entries { OnOk result (length self.new.log.entries ≡ length self.old.log.entries + length accesses.now) }
+        ensures further { OnOk result (IsFurther self.old.log self.new.log) }
+        ensures pending { OnOk result (0 < length accesses.now → self.new.log.confirmed < length self.new.log.entries) }
+        ensures ended { IfErr result (λ s. self.new.log.end ≡ Some s) }
+        ensures asks { asks_of self.new.log ≡ asks_of self.old.log }
+        ensures memory { IfErr result NoMemory }
+        ensures managed { self.new.managed ≡ self.old.managed }
+        ensures identity { F.identity self.new.flights ≡ F.identity self.old.flights }
+    {
+        for access in accesses {
+            match self.issue(unit, part, *access) {
                 Ok(()) => {}
                 Err(stop) => return Err(stop),
             }
@@ -117,7 +160,7 @@ impl<F: Flights> Sender<F> {
 
     // Issues a read and what comes before it, sends, and answers the value of the read.
     pub(crate) fn read_by(&mut self, unit: u32, plan: &Plan) -> Result<u32, Stop> {
-        match self.issue_all(unit, Part::Leads, plan) {
+        match self.issue_all(unit, Part::Leads, listed(plan)) {
             Ok(()) => {}
             Err(stop) => return Err(stop),
         }
@@ -128,11 +171,34 @@ impl<F: Flights> Sender<F> {
         }
     }
 
-    // Settles the unsettled access port, where there is one.
-    pub(crate) fn settle(&mut self, unit: u32) -> Result<(), Stop> {
+    // Settles the unsettled access port, where there is one, as entries of this unit.
+    #[tactic(auto, using(crate::proofs::PlanLemmas::settle_taken, crate::proofs::PlanLemmas::settle_few))]
+    pub(crate) fn settle(&mut self, unit: u32) -> Result<(), Stop>
+        requires open { self.old.log.end ≡ None }
+        requires unit { 0 < length (settle self.old.managed) → IsOfCall (length self.old.log.calls) (record { unit = unit; part = Settles }) }
+        requires later { 0 < length (settle self.old.managed) → self.old.log.whole ≤ unit }
+        requires room { length self.old.log.entries + length (settle self.old.managed) ≤ self.old.log.room }
+        requires bounded { length self.old.log.entries + length (settle self.old.managed) ≤ most_entries * length self.old.log.calls }
+        ensures on { (m0 : BenchState) (rest : List Entry) → HasIssued (F.state self.old.flights) self.old.log (F.accesses self.old.flights) (entries_of unit Settles (settle self.old.managed) ++ rest) m0
+            → OnOk result (HasIssued (F.state self.new.flights) self.new.log (F.accesses self.new.flights) rest m0) }
+        ensures broke { (m0 : BenchState) (rest : List Entry) → HasIssued (F.state self.old.flights) self.old.log (F.accesses self.old.flights) (entries_of unit Settles (settle self.old.managed) ++ rest) m0
+            → IfErr result (λ s. HasEnded s (reported_by (F.reported self.new.flights) (F.state self.new.flights) self.new.log (F.packet self.new.flights) (F.reply self.new.flights)) self.new.log m0) }
+        ensures stops { (m0 : BenchState) (rest : List Entry) (answered : Option ℕ) → HasIssued (F.state self.old.flights) self.old.log (F.accesses self.old.flights) (entries_of unit Settles (settle self.old.managed) ++ rest) m0
+            → IsLeft (reported_by (F.reported self.new.flights) (F.state self.new.flights) self.new.log (F.packet self.new.flights) (F.reply self.new.flights)) answered
+            → IfErr result (StopsThere m0 answered self.old.log.calls self.new.log.lines) }
+        ensures goes { GoesOn (reported_by (F.reported self.old.flights) (F.state self.old.flights) self.old.log (F.packet self.old.flights) (F.reply self.old.flights))
+            (reported_by (F.reported self.new.flights) (F.state self.new.flights) self.new.log (F.packet self.new.flights) (F.reply self.new.flights)) }
+        ensures entries { OnOk result (length self.new.log.entries ≡ length self.old.log.entries + length (settle self.old.managed)) }
+        ensures further { OnOk result (IsFurther self.old.log self.new.log) }
+        ensures ended { IfErr result (λ s. self.new.log.end ≡ Some s) }
+        ensures asks { asks_of self.new.log ≡ asks_of self.old.log }
+        ensures memory { IfErr result NoMemory }
+        ensures managed { self.new.managed ≡ settled self.old.managed }
+        ensures identity { F.identity self.new.flights ≡ F.identity self.old.flights }
+    {
         let plan = self.managed.settle();
         self.managed.settled();
-        self.issue_all(unit, Part::Settles, &plan)
+        self.issue_all(unit, Part::Settles, listed(&plan))
     }
 
     // Makes a command of the probe, which is an entry of the last call's.

@@ -1,8 +1,8 @@
 //! Units that forgive nothing.
 use crate::flights::Flights;
+use crate::issuing::listed;
 use crate::sender::Sender;
 use access_calls::Stop;
-use access_regs::Plan;
 use call_terms::Part;
 use target_machine::Unit;
 
@@ -11,15 +11,6 @@ pub(crate) fn port_of(unit: &Unit) -> u8 {
     match *unit {
         Unit::Memory { ap, .. } | Unit::Ap { ap, .. } => ap,
         _ => 0,
-    }
-}
-
-// The accesses of a plan except the last.
-fn before_last(plan: Plan) -> Plan {
-    let accesses = plan.accesses;
-    Plan {
-        count: plan.count - 1,
-        accesses,
     }
 }
 
@@ -67,12 +58,13 @@ impl<F: Flights> Sender<F> {
         let plan = self.managed.plan(unit);
         self.managed.made(unit);
         let number = self.log.count();
-        match self.issue_all(number, Part::Leads, &before_last(plan)) {
+        let accesses = listed(&plan);
+        let last = accesses.len() - 1;
+        match self.issue_all(number, Part::Leads, &accesses[..last]) {
             Ok(()) => {}
             Err(stop) => return Err(stop),
         }
-        let last = plan.accesses[usize::from(plan.count) - 1];
-        match self.issue(number, Part::Ends, last) {
+        match self.issue(number, Part::Ends, accesses[last]) {
             Ok(()) => {}
             Err(stop) => return Err(stop),
         }
