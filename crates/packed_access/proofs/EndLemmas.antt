@@ -141,11 +141,11 @@ broken_where None y bench sent got log accesses rest m0 end s new h broke is = a
 broken_where (Some m) None bench sent got log accesses rest m0 end s new h broke is = absurd broke
 broken_where (Some m) (Some o) bench sent got log accesses rest m0 end s new h broke is = broken_off bench (Some o) sent got log accesses rest m0 m o h end s new (broke h.flies) is
 
-ended_in : (y : Option BenchState) (s : Stop) (a : Reported) (log : LogState) (calls : List Ask) (m0 : BenchState) → WhereObservable y (λ o. IsBrokenOff s a log calls m0 o) → WhereObservable y (λ o. IsEnded s a (take log.known log.results) m0 o)
+pub ended_in : (y : Option BenchState) (s : Stop) (a : Reported) (log : LogState) (calls : List Ask) (m0 : BenchState) → WhereObservable y (λ o. IsBrokenOff s a log calls m0 o) → WhereObservable y (λ o. IsEnded s a (take log.known log.results) m0 o)
 ended_in None s a log calls m0 h = h
 ended_in (Some o) s a log calls m0 h = h.ended
 
-stops_in : (y : Option BenchState) (s : Stop) (a : Reported) (log : LogState) (calls : List Ask) (m0 : BenchState) (n : Option ℕ) → WhereObservable y (λ o. IsBrokenOff s a log calls m0 o) → IsLeft a n → StopsThere m0 n calls log.lines s
+pub stops_in : (y : Option BenchState) (s : Stop) (a : Reported) (log : LogState) (calls : List Ask) (m0 : BenchState) (n : Option ℕ) → WhereObservable y (λ o. IsBrokenOff s a log calls m0 o) → IsLeft a n → StopsThere m0 n calls log.lines s
 stops_in None s a log calls m0 n h left = absurd h
 stops_in (Some o) s a log calls m0 n h left = h.stops n left
 

@@ -11,3 +11,6 @@ pub mod GoesLemmas
 pub mod BegunLemmas
 pub mod NeedLemmas
 pub mod PlanLemmas
+pub mod ActionLemmas
+pub mod LeftLemmas
+pub mod CommandLemmas

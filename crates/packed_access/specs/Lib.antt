@@ -1,4 +1,5 @@
 pub mod Logs
+pub mod Actions
 pub mod Costs
 pub mod Flown
 pub mod Begun

@@ -3,7 +3,7 @@ use crate::access::PackedAccess;
 use crate::flights::Flights;
 use crate::sender::Sender;
 use access_calls::{Access, Stop};
-use call_terms::{Ask, Asked, Part, Slot};
+use call_terms::{Ask, Asked, Slot};
 use target_machine::{Call, ProbeCall, Unit};
 
 // Whether a fault of the unit is forgiven: error control counts for memory and AP units alone.
@@ -100,13 +100,10 @@ impl<F: Flights> Access for PackedAccess<F> {
             Ok(()) => {}
             Err(stop) => return Err(stop),
         }
-        match self.sender.make_command(Part::Ends, call) {
+        match self.sender.make_last(call) {
             Err(stop) => Err(stop),
             Ok(word) => {
                 let count = self.sender.log.count();
-                self.sender.log.complete();
-                self.sender.log.take(count - 1, word);
-                self.sender.log.confirm();
                 self.sender.log.need(2 + delays(call), count);
                 Ok(u64::from(word))
             }

@@ -24,14 +24,16 @@ impl<F: Flights> Sender<F> {
     fn forgive(&mut self, attempted: bool) -> Result<(), Stop> {
         self.flights.resume();
         self.log.confirm();
-        match self.make_command(Part::Skips { attempted }, ProbeCall::Abort(CLEAR_ALL)) {
+        let unit = self.log.count();
+        self.log.issue(unit, Part::Skips { attempted });
+        match self.flights.command(ProbeCall::Abort(CLEAR_ALL)) {
             Ok(_) => {
                 self.log.complete();
                 self.log.confirm();
                 self.log.skip();
                 Ok(())
             }
-            Err(stop) => Err(stop),
+            Err(end) => Err(self.log.stop(end)),
         }
     }
 

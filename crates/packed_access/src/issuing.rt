@@ -1,7 +1,10 @@
 //! How the accesses of calls come into flights, and flights are sent.
-ghost use Rattle.std.specs.Prelude.{◌≡◌, ◌<◌, ◌≤◌, ◌+◌, ◌*◌, ◌++◌, ◌∷◌, [], ℕ, List, Option, None, Some, false, true, length, IfErr, OnOk};
+ghost use Rattle.std.specs.Prelude.{◌≡◌, ◌<◌, ◌≤◌, ◌+◌, ◌*◌, ◌++◌, ◌∷◌, [], ℕ, List, Option, None, Some, false, true, length, slice_get, IfErr, IfOk, OnOk};
 ghost use Rattle.std.specs.List.{AllByRecursion};
-ghost use Rattle.target_machine.specs.Plain.{Makes};
+ghost use Rattle.target_machine.specs.Plain.{Commands, Makes};
+ghost use Rattle.target_machine.specs.Sound.{IsSoundProbe};
+ghost use Rattle.call_terms.specs.Asks.{probe_ask};
+ghost use Rattle.call_terms.specs.declared.calls.Ask.{Ask};
 ghost use Rattle.flight_forms.specs.Packing.{IsTaken};
 ghost use Rattle.probe_core.specs.Bench.{BenchState};
 ghost use Rattle.call_terms.specs.Journal.{Entry};
@@ -11,9 +14,10 @@ ghost use Rattle.access_calls.specs.Issued.{kept_of, lines_before_kept};
 ghost use Rattle.access_calls.specs.Left.{IsLeft};
 ghost use Rattle.access_regs.specs.Plan.{settle, settled};
 ghost use Rattle.access_regs.specs.Plans.{accesses_of};
-ghost use Rattle.call_terms.specs.declared.journal.Part.TheVariants.{Settles};
+ghost use Rattle.call_terms.specs.declared.journal.Part.TheVariants.{Ends, Settles};
 ghost use Rattle.packed_access.specs.Begun.{HasEnded, HasIssued, StopsThere, entries_of};
-ghost use Rattle.packed_access.specs.Logs.{IsFurther, IsOfCall, IsSoundState, all_confirmed, all_taken, asks_of, ended_by, most_entries, reported_by};
+ghost use Rattle.packed_access.specs.Actions.{entry_of, log_done};
+ghost use Rattle.packed_access.specs.Logs.{IsFurther, IsOfCall, IsSoundState, all_confirmed, all_taken, asks_of, ended_by, most_entries, reported_by, result_for};
 
 use crate::flights::Flights;
 use crate::log::CallLog;
@@ -201,12 +205,41 @@ impl<F: Flights> Sender<F> {
         self.issue_all(unit, Part::Settles, listed(&plan))
     }
 
-    // Makes a command of the probe, which is an entry of the last call's.
-    pub(crate) fn make_command(&mut self, part: Part, call: ProbeCall) -> Result<u32, Stop> {
+    // Makes the last call, which is a command of the probe, where all calls before it came.
+    #[tactic(auto, using(access_calls::proofs::KeepLemmas::goes_trans, crate::proofs::GoesLemmas::goes_still))]
+    pub(crate) fn make_last(&mut self, call: ProbeCall) -> Result<u32, Stop>
+        requires open { self.old.log.end ≡ None }
+        requires sound { IsSoundProbe call }
+        requires rest { F.accesses self.old.flights ≡ [] }
+        requires last { self.old.log.came + 1 ≡ length self.old.log.calls }
+        requires room { length self.old.log.entries < self.old.log.room }
+        requires bounded { length self.old.log.entries < most_entries * length self.old.log.calls }
+        ensures on { (m0 : BenchState) (calls : List Ask) → self.old.log.calls ≡ calls ++ probe_ask call ∷ [] → HasIssued (F.state self.old.flights) self.old.log [] (entry_of calls (Commands call) ∷ []) m0
+            → OnOk result (HasIssued (F.state self.new.flights) self.new.log [] [] m0) }
+        ensures broke { (m0 : BenchState) (calls : List Ask) → self.old.log.calls ≡ calls ++ probe_ask call ∷ [] → HasIssued (F.state self.old.flights) self.old.log [] (entry_of calls (Commands call) ∷ []) m0
+            → IfErr result (λ s. HasEnded s (reported_by (F.reported self.new.flights) (F.state self.new.flights) self.new.log (F.packet self.new.flights) (F.reply self.new.flights)) self.new.log m0) }
+        ensures stops { (m0 : BenchState) (calls : List Ask) (answered : Option ℕ) → self.old.log.calls ≡ calls ++ probe_ask call ∷ [] → HasIssued (F.state self.old.flights) self.old.log [] (entry_of calls (Commands call) ∷ []) m0
+            → IsLeft (reported_by (F.reported self.new.flights) (F.state self.new.flights) self.new.log (F.packet self.new.flights) (F.reply self.new.flights)) answered
+            → IfErr result (StopsThere m0 answered self.old.log.calls self.new.log.lines) }
+        ensures goes { GoesOn (reported_by (F.reported self.old.flights) (F.state self.old.flights) self.old.log (F.packet self.old.flights) (F.reply self.old.flights))
+            (reported_by (F.reported self.new.flights) (F.state self.new.flights) self.new.log (F.packet self.new.flights) (F.reply self.new.flights)) }
+        ensures log { IfOk result (λ word. self.new.log ≡ log_done self.old.log (record { unit = length self.old.log.calls; part = Ends }) (self.old.log.came) (result_for (slice_get self.old.log.calls self.old.log.came) word)) }
+        ensures empty { OnOk result (F.accesses self.new.flights ≡ []) }
+        ensures ended { IfErr result (λ s. self.new.log.end ≡ Some s) }
+        ensures asks { asks_of self.new.log ≡ asks_of self.old.log }
+        ensures memory { IfErr result NoMemory }
+        ensures managed { self.new.managed ≡ self.old.managed }
+        ensures identity { F.identity self.new.flights ≡ F.identity self.old.flights }
+    {
         let unit = self.log.count();
-        self.log.issue(unit, part);
+        self.log.issue(unit, Part::Ends);
         match self.flights.command(call) {
-            Ok(word) => Ok(word),
+            Ok(word) => {
+                self.log.complete();
+                self.log.take(unit - 1, word);
+                self.log.confirm();
+                Ok(word)
+            }
             Err(end) => Err(self.log.stop(end)),
         }
     }
