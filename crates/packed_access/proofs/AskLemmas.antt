@@ -23,7 +23,12 @@ use Rattle.access_calls.specs.Standing.{WhereObservable}
 use Rattle.calls_in_flight.specs.Flying.{IsFlying}
 use Rattle.calls_in_flight.specs.Sending.{IsSending}
 use Rattle.calls_in_flight.proofs.SendLemmas.{call_sends}
-use Rattle.packed_access.specs.Begun.{HasIssued, IsGivenAt, IsIssuing, IsOpenAt, most_weight}
+use Rattle.access_calls.specs.Answers.{AtCut, StopsCalls}
+use Rattle.access_calls.specs.Reported.{world_from}
+use Rattle.access_calls.specs.declared.stop.Stop.{Stop}
+use Rattle.access_calls.specs.declared.stop.Stop.TheVariants as stops
+use Rattle.packed_access.specs.Begun.{HasBegun, HasIssued, IsGivenAt, IsIssuing, IsOpenAt, StopsThere}
+use Rattle.packed_access.proofs.BegunLemmas.{issued_begun, open_facts, open_where, stops_calls}
 use Rattle.packed_access.specs.Logs.{LogState, all_issued, reported_by, with_call}
 use Rattle.packed_access.specs.Stands.{open_flying}
 
@@ -125,7 +130,7 @@ settled_end [] ask = refl
 settled_end (c ∷ []) ask = refl
 settled_end (c ∷ d ∷ calls) ask = settled_end (d ∷ calls) ask
 
-set_here : (xs : List ℕ) (i v : ℕ) → i < length xs → get_or (set xs i v) i 0 ≡ v
+pub set_here : (xs : List ℕ) (i v : ℕ) → i < length xs → get_or (set xs i v) i 0 ≡ v
 set_here [] i v less = absurd (omega (arith, less))
 set_here (x ∷ xs) zero v less = refl
 set_here (x ∷ xs) (suc i) v less = set_here xs i v (omega (arith, less))
@@ -220,3 +225,47 @@ module _ (log : LogState) (accesses : List RegAccess) (calls : List Ask) (ask : 
     kept_is = ap (kept_by u0) are ∙ (journal_grows u0 calls ask unmarked).1 ∙ ap (λ (k : Kept). (issue_of (target_by u0 calls) k ask).kept) kept_is;
     calm = λ settled. absurd (let x : false ≡ true = sym unmarked ∙ sym (settled_end calls ask) ∙ ap is_settled (sym are) ∙ settled in cc);
   }
+
+-- ---- where the bench is observable
+
+asked_where : (x : Option BenchState) (bench : BenchReported) (state : Option BenchState) (sent got : List ℕ) (log : LogState) (kept : Kept) (accesses : List RegAccess) (ask : Ask) (room : ℕ) (m0 : BenchState) → WhereObservable x (λ m. IsOpenAt log kept accesses m0 m) → IsAskable ask → ask.settled ≡ false →
+    length log.results ≡ length log.calls → length log.places ≡ length log.calls → WhereObservable x (λ m. IsIssuing (with_call log ask room) accesses (own_entries (target_of m0.probe) log.calls kept ask) m0 m)
+asked_where None bench state sent got log kept accesses ask room m0 h ok unmarked long places = h
+asked_where (Some m) bench state sent got log kept accesses ask room m0 h ok unmarked long places = call_asked bench state sent got log kept accesses ask room m0 m h ok unmarked long places
+
+-- a call is asked
+pub begun_asked : (bench : BenchReported) (state : Option BenchState) (log new : LogState) (sent got : List ℕ) (kept : Kept) (accesses : List RegAccess) (ask : Ask) (m0 : BenchState) → HasBegun bench state log sent got kept accesses m0 → log.end ≡ None → IsAskable ask → ask.settled ≡ false →
+    length log.results ≡ length log.calls → length log.places ≡ length log.calls → new ≡ with_call log ask new.room → HasIssued state new accesses (own_entries (target_of m0.probe) log.calls kept ask) m0
+begun_asked bench state log new sent got kept accesses ask m0 h none ok unmarked long places is =
+    subst (λ (l : LogState). HasIssued state l accesses (own_entries (target_of m0.probe) log.calls kept ask) m0) (sym is)
+    (record { so = asked_where state bench state sent got log kept accesses ask new.room m0 (open_where bench state log sent got kept accesses m0 h none) ok unmarked long places })
+
+-- nothing settles after it
+pub stops_asked : (m0 : BenchState) (n : Option ℕ) (calls : List Ask) (ask : Ask) (lines : ℕ) (s : Stop) → ask.settled ≡ false → StopsThere m0 n (calls ++ ask ∷ []) lines s → StopsCalls (world_from m0 n) (calls ++ ask ∷ []) lines s
+stops_asked m0 n calls ask lines s unmarked there = stops_calls m0 n (calls ++ ask ∷ []) lines s (not_settled s) there
+  where
+    not_settled : (s : Stop) → AtCut s (λ r. is_settled (calls ++ ask ∷ []) ≡ true → ⊥)
+    not_settled (stops.Cut r) = λ settled. (let x : false ≡ true = sym unmarked ∙ sym (settled_end calls ask) ∙ settled in cc)
+    not_settled (stops.BenchFault issued confirmed) = tt
+    not_settled stops.ReplyBad = tt
+    not_settled stops.OutOfMemory = tt
+
+-- after it the registers are known so
+pub asked_kept : (bench : BenchReported) (state : Option BenchState) (log : LogState) (sent got : List ℕ) (kept : Kept) (accesses : List RegAccess) (ask : Ask) (m0 : BenchState) → HasBegun bench state log sent got kept accesses m0 → log.end ≡ None → ask.settled ≡ false →
+    kept_by (target_of m0.probe) (log.calls ++ ask ∷ []) ≡ (issue_of (target_by (target_of m0.probe) log.calls) kept ask).kept
+asked_kept bench state log sent got kept accesses ask m0 h none unmarked =
+    (journal_grows (target_of m0.probe) log.calls ask unmarked).1
+    ∙ ap (λ (k : Kept). (issue_of (target_by (target_of m0.probe) log.calls) k ask).kept) (open_facts bench state log sent got kept accesses m0 h none)
+
+-- and no settling was made after it
+pub asked_calm : (calls : List Ask) (ask : Ask) → ask.settled ≡ false → is_settled (calls ++ ask ∷ []) ≡ true → ⊥
+asked_calm calls ask unmarked settled = (let x : false ≡ true = sym unmarked ∙ sym (settled_end calls ask) ∙ settled in cc)
+
+-- a call that was made at once
+pub begun_made : (bench bench' : BenchReported) (state state' : Option BenchState) (log new : LogState) (sent got sent' got' : List ℕ) (kept kept' : Kept) (accesses accesses' : List RegAccess) (ask : Ask) (m0 : BenchState) → HasBegun bench state log sent got kept accesses m0 → log.end ≡ None → ask.settled ≡ false →
+    HasIssued state' new [] [] m0 → new.end ≡ None → new.calls ≡ log.calls ++ ask ∷ [] → new.whole ≡ length new.calls → kept' ≡ (issue_of (target_by (target_of m0.probe) log.calls) kept ask).kept → accesses' ≡ [] → HasBegun bench' state' new sent' got' kept' accesses' m0
+begun_made bench bench' state state' log new sent got sent' got' kept kept' accesses accesses' ask m0 h none unmarked there none' calls whole kept_is empty =
+    subst (λ (xs : List RegAccess). HasBegun bench' state' new sent' got' kept' xs m0) (sym empty)
+    (issued_begun bench' state' new sent' got' kept' [] m0 there none' whole
+    (ap (kept_by (target_of m0.probe)) calls ∙ asked_kept bench state log sent got kept accesses ask m0 h none unmarked ∙ sym kept_is)
+    (λ settled. absurd (asked_calm log.calls ask unmarked (subst (λ (l : List Ask). is_settled l ≡ true) calls settled))))

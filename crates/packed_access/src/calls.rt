@@ -1,4 +1,8 @@
 //! The calls of the access.
+ghost use Rattle.std.specs.Prelude.{◌≡◌};
+ghost use Rattle.call_terms.specs.Asks.{IsProbeInRange};
+ghost use Rattle.packed_access.specs.Costs.{command_points};
+
 use crate::access::PackedAccess;
 use crate::flights::Flights;
 use crate::sender::Sender;
@@ -17,6 +21,19 @@ fn answer(small: bool, index: u32) -> Asked {
         Asked::Small
     } else {
         Asked::Slot(Slot { index })
+    }
+}
+
+// How many need points a command makes: one for the send before it, and one for each of its packets. The command's
+// numbers are in the ranges of their types.
+fn points_of(call: ProbeCall) -> u64
+    ensures answer { result ≡ command_points call }
+    ensures range { IsProbeInRange call }
+{
+    match call {
+        ProbeCall::Delay(micros) => 2 + u64::from(micros / 0xFFFF),
+        ProbeCall::Abort(_) | ProbeCall::Pins { .. } => 2,
+        ProbeCall::Clock(_) | ProbeCall::Line { .. } => 2,
     }
 }
 
@@ -88,6 +105,7 @@ impl<F: Flights> Access for PackedAccess<F> {
         if let Some(stop) = self.sender.log.end() {
             return Err(stop);
         }
+        let points = points_of(call);
         let ask = Ask {
             call: Call::Probe(call),
             forgive: false,
@@ -104,7 +122,7 @@ impl<F: Flights> Access for PackedAccess<F> {
             Err(stop) => Err(stop),
             Ok(word) => {
                 let count = self.sender.log.count();
-                self.sender.log.need(2 + delays(call), count);
+                self.sender.log.need(points, count);
                 Ok(u64::from(word))
             }
         }
@@ -172,13 +190,5 @@ impl<F: Flights> Access for PackedAccess<F> {
 
     fn skipped(&self) -> u32 {
         self.sender.log.skipped()
-    }
-}
-
-// How many commands a delay takes after its first.
-fn delays(call: ProbeCall) -> u64 {
-    match call {
-        ProbeCall::Delay(micros) => u64::from(micros / 0xFFFF),
-        _ => 0,
     }
 }
