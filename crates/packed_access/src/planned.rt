@@ -1,4 +1,16 @@
 //! Units that forgive nothing.
+ghost use Rattle.std.specs.Prelude.{◌≡◌, ◌<◌, ◌≤◌, ◌+◌, ◌*◌, ◌++◌, ◌∷◌, [], ℕ, List, Option, None, Some, length, IfErr, OnOk};
+ghost use Rattle.target_machine.specs.Sound.{IsSound};
+ghost use Rattle.probe_core.specs.Bench.{BenchState};
+ghost use Rattle.call_terms.specs.Journal.{Entry};
+ghost use Rattle.call_terms.specs.declared.journal.Part.TheVariants.{Ends, Leads};
+ghost use Rattle.access_regs.specs.Plan.{last_access, leads, made};
+ghost use Rattle.access_calls.specs.Answers.{NoMemory};
+ghost use Rattle.access_calls.specs.GoesOn.{GoesOn};
+ghost use Rattle.access_calls.specs.Left.{IsLeft};
+ghost use Rattle.packed_access.specs.Begun.{HasEnded, HasIssued, StopsThere, entries_of};
+ghost use Rattle.packed_access.specs.Logs.{IsFurther, asks_of, most_entries, reported_by};
+
 use crate::flights::Flights;
 use crate::issuing::listed;
 use crate::sender::Sender;
@@ -53,23 +65,45 @@ impl<F: Flights> Sender<F> {
         }
     }
 
-    // Issues the plan of a unit.
-    fn issue_unit(&mut self, unit: &Unit) -> Result<(), Stop> {
+    // Issues the plan of the last call's unit, which is no poll.
+    #[tactic(auto, using(access_calls::proofs::KeepLemmas::goes_trans, crate::proofs::PlanLemmas::plan_taken, crate::proofs::PlanLemmas::leads_few, crate::proofs::PlanLemmas::plan_parts))]
+    fn issue_unit(&mut self, unit: &Unit) -> Result<(), Stop>
+        requires open { self.old.log.end ≡ None }
+        requires sound { IsSound unit.now }
+        requires whole { self.old.log.whole + 1 ≡ length self.old.log.calls }
+        requires room { length self.old.log.entries + 5 ≤ self.old.log.room }
+        requires bounded { length self.old.log.entries + 5 ≤ most_entries * length self.old.log.calls }
+        ensures on { (m0 : BenchState) (rest : List Entry) → HasIssued (F.state self.old.flights) self.old.log (F.accesses self.old.flights)
+            (entries_of (length self.old.log.calls) Leads (leads self.old.managed unit.now) ++ (entries_of (length self.old.log.calls) Ends (last_access unit.now ∷ []) ++ rest)) m0
+            → OnOk result (HasIssued (F.state self.new.flights) self.new.log (F.accesses self.new.flights) rest m0) }
+        ensures broke { (m0 : BenchState) (rest : List Entry) → HasIssued (F.state self.old.flights) self.old.log (F.accesses self.old.flights)
+            (entries_of (length self.old.log.calls) Leads (leads self.old.managed unit.now) ++ (entries_of (length self.old.log.calls) Ends (last_access unit.now ∷ []) ++ rest)) m0
+            → IfErr result (λ s. HasEnded s (reported_by (F.reported self.new.flights) (F.state self.new.flights) self.new.log (F.packet self.new.flights) (F.reply self.new.flights)) self.new.log m0) }
+        ensures stops { (m0 : BenchState) (rest : List Entry) (answered : Option ℕ) → HasIssued (F.state self.old.flights) self.old.log (F.accesses self.old.flights)
+            (entries_of (length self.old.log.calls) Leads (leads self.old.managed unit.now) ++ (entries_of (length self.old.log.calls) Ends (last_access unit.now ∷ []) ++ rest)) m0
+            → IsLeft (reported_by (F.reported self.new.flights) (F.state self.new.flights) self.new.log (F.packet self.new.flights) (F.reply self.new.flights)) answered
+            → IfErr result (StopsThere m0 answered self.old.log.calls self.new.log.lines) }
+        ensures goes { GoesOn (reported_by (F.reported self.old.flights) (F.state self.old.flights) self.old.log (F.packet self.old.flights) (F.reply self.old.flights))
+            (reported_by (F.reported self.new.flights) (F.state self.new.flights) self.new.log (F.packet self.new.flights) (F.reply self.new.flights)) }
+        ensures entries { OnOk result (length self.new.log.entries ≤ length self.old.log.entries + 5) }
+        ensures further { OnOk result (IsFurther self.old.log self.new.log) }
+        ensures pending { OnOk result (self.new.log.confirmed < length self.new.log.entries) }
+        ensures ended { IfErr result (λ s. self.new.log.end ≡ Some s) }
+        ensures asks { asks_of self.new.log ≡ asks_of self.old.log }
+        ensures memory { IfErr result NoMemory }
+        ensures managed { self.new.managed ≡ made self.old.managed unit.now }
+        ensures identity { F.identity self.new.flights ≡ F.identity self.old.flights }
+    {
         let plan = self.managed.plan(unit);
         self.managed.made(unit);
-        let number = self.log.count();
         let accesses = listed(&plan);
         let last = accesses.len() - 1;
+        let number = self.log.count();
         match self.issue_all(number, Part::Leads, &accesses[..last]) {
             Ok(()) => {}
             Err(stop) => return Err(stop),
         }
-        match self.issue(number, Part::Ends, accesses[last]) {
-            Ok(()) => {}
-            Err(stop) => return Err(stop),
-        }
-        self.log.complete();
-        Ok(())
+        self.issue(number, Part::Ends, accesses[last])
     }
 
     // Asks a unit that forgives nothing and is no poll. Answers whether its access port has no large addresses.
@@ -99,7 +133,10 @@ impl<F: Flights> Sender<F> {
             }
         }
         match self.issue_unit(unit) {
-            Ok(()) => Ok(false),
+            Ok(()) => {
+                self.log.complete();
+                Ok(false)
+            }
             Err(stop) => Err(stop),
         }
     }
