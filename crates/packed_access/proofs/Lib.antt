@@ -14,3 +14,4 @@ pub mod PlanLemmas
 pub mod ActionLemmas
 pub mod LeftLemmas
 pub mod CommandLemmas
+pub mod ReadLemmas

@@ -8,7 +8,7 @@ use Rattle.probe_core.specs.Bench.{BenchState}
 use Rattle.probe_core.specs.Bench.{Reported as BenchReported}
 use Rattle.probe_core.specs.Probe.{target_of, work_of}
 use Rattle.call_terms.specs.Asks.{ForgiveNothing, is_forgiving, is_settled}
-use Rattle.call_terms.specs.Journal.{Entry, actions_in}
+use Rattle.call_terms.specs.Journal.{Entry, target_after}
 use Rattle.call_terms.specs.World.{results, skips, small_now, start_world}
 use Rattle.call_terms.specs.declared.calls.Ask.{Ask}
 use Rattle.call_terms.specs.declared.journal.Part.{Part}
@@ -71,6 +71,10 @@ pub record HasIssued (state : Option BenchState) (log : LogState) (accesses : Li
 -- the entries of accesses that are all the same to their unit, which forgives nothing
 abbrev pub entries_of : ℕ → Part → List RegAccess → List Entry
 entries_of unit part accesses = map (λ a. record { unit = unit; part = part; forgiving = false; action = Makes a }) accesses
+
+-- the target after the entries that were issued
+abbrev pub target_issued : LogState → BenchState → TargetState
+target_issued log m0 = target_after (target_of m0.probe) (take (length log.entries) (issued (target_of m0.probe) log.calls))
 
 -- Between two calls: all that was asked is issued, and this is known of the registers. Once a `finish` was made after the last call nothing
 -- lies in the flight.

@@ -1,21 +1,25 @@
 //! How the accesses of calls come into flights, and flights are sent.
-ghost use Rattle.std.specs.Prelude.{◌≡◌, ◌<◌, ◌≤◌, ◌+◌, ◌*◌, ◌++◌, ◌∷◌, [], ℕ, List, Option, None, Some, false, true, length, slice_get, IfErr, IfOk, OnOk};
+ghost use Rattle.std.specs.Prelude.{◌≡◌, ◌<◌, ◌≤◌, ◌+◌, ◌-◌, ◌*◌, ◌++◌, ◌∷◌, [], ℕ, List, Option, None, Some, false, true, length, slice_get, IfErr, IfOk, OnOk};
 ghost use Rattle.std.specs.List.{AllByRecursion};
-ghost use Rattle.target_machine.specs.Plain.{Commands, Makes};
+ghost use Rattle.target_machine.specs.Plain.{Commands, Makes, acted, given};
+ghost use Rattle.std.specs.Option.{unwrap_or};
+ghost use Rattle.probe_core.specs.Probe.{target_of};
+ghost use Rattle.batch_packer.specs.SlotList.{slot_at};
+ghost use Rattle.access_regs.specs.Journal.{gives, issued};
 ghost use Rattle.target_machine.specs.Sound.{IsSoundProbe};
 ghost use Rattle.call_terms.specs.Asks.{probe_ask};
 ghost use Rattle.call_terms.specs.declared.calls.Ask.{Ask};
 ghost use Rattle.flight_forms.specs.Packing.{IsTaken};
 ghost use Rattle.probe_core.specs.Bench.{BenchState};
-ghost use Rattle.call_terms.specs.Journal.{Entry};
+ghost use Rattle.call_terms.specs.Journal.{Entry, target_after};
 ghost use Rattle.access_calls.specs.Answers.{AtCut, NoMemory};
 ghost use Rattle.access_calls.specs.GoesOn.{GoesOn};
 ghost use Rattle.access_calls.specs.Issued.{kept_of, lines_before_kept};
 ghost use Rattle.access_calls.specs.Left.{IsLeft};
 ghost use Rattle.access_regs.specs.Plan.{settle, settled};
 ghost use Rattle.access_regs.specs.Plans.{accesses_of};
-ghost use Rattle.call_terms.specs.declared.journal.Part.TheVariants.{Ends, Settles};
-ghost use Rattle.packed_access.specs.Begun.{HasEnded, HasIssued, StopsThere, entries_of};
+ghost use Rattle.call_terms.specs.declared.journal.Part.TheVariants.{Ends, Leads, Settles};
+ghost use Rattle.packed_access.specs.Begun.{HasEnded, HasIssued, StopsThere, entries_of, target_issued};
 ghost use Rattle.packed_access.specs.Actions.{entry_of, log_done};
 ghost use Rattle.packed_access.specs.Logs.{IsFurther, IsOfCall, IsSoundState, all_confirmed, all_taken, asks_of, ended_by, most_entries, reported_by, result_for};
 
@@ -60,6 +64,9 @@ impl<F: Flights> Sender<F> {
         ensures stops { (m0 : BenchState) (rest : List Entry) (answered : Option ℕ) → HasIssued (F.state self.old.flights) self.old.log (F.accesses self.old.flights) rest m0
             → IsLeft (reported_by (F.reported self.new.flights) (F.state self.new.flights) self.new.log (F.packet self.new.flights) (F.reply self.new.flights)) answered
             → IfErr result (StopsThere m0 answered self.old.log.calls self.new.log.lines) }
+        ensures last { (m0 : BenchState) (rest front : List Entry) (e : Entry) (more : List Entry) → HasIssued (F.state self.old.flights) self.old.log (F.accesses self.old.flights) rest m0
+            → issued (target_of m0.probe) self.old.log.calls ≡ front ++ e ∷ more → length front + 1 ≡ length self.old.log.entries → self.old.log.confirmed < length self.old.log.entries
+            → OnOk result (unwrap_or (slot_at (F.values self.new.flights) (length self.old.log.entries - self.old.log.confirmed - 1)) 0 ≡ given (acted (target_after (target_of m0.probe) front) e.action).outcome) }
         ensures goes { GoesOn (reported_by (F.reported self.old.flights) (F.state self.old.flights) self.old.log (F.packet self.old.flights) (F.reply self.old.flights))
             (reported_by (F.reported self.new.flights) (F.state self.new.flights) self.new.log (F.packet self.new.flights) (F.reply self.new.flights)) }
         ensures log { OnOk result (self.new.log ≡ all_confirmed (all_taken (F.values self.new.flights) self.old.log)) }
@@ -162,15 +169,44 @@ impl<F: Flights> Sender<F> {
         Ok(())
     }
 
-    // Issues a read and what comes before it, sends, and answers the value of the read.
-    pub(crate) fn read_by(&mut self, unit: u32, plan: &Plan) -> Result<u32, Stop> {
-        match self.issue_all(unit, Part::Leads, listed(plan)) {
+    // Issues a read of the last call and what comes before it, sends, and answers the value of the read.
+    #[tactic(auto, using(access_calls::proofs::KeepLemmas::goes_trans))]
+    pub(crate) fn read_by(&mut self, unit: u32, accesses: &[RegAccess]) -> Result<u32, Stop>
+        requires open { self.old.log.end ≡ None }
+        requires some { 0 < length accesses.now }
+        requires taken { AllByRecursion IsTaken accesses.now }
+        requires unit { IsOfCall (length self.old.log.calls) (record { unit = unit; part = Leads }) }
+        requires later { self.old.log.whole ≤ lines_before_kept (record { unit = unit; part = Leads }) }
+        requires room { length self.old.log.entries + length accesses.now ≤ self.old.log.room }
+        requires bounded { length self.old.log.entries + length accesses.now ≤ most_entries * length self.old.log.calls }
+        ensures on { (m0 : BenchState) (rest : List Entry) → HasIssued (F.state self.old.flights) self.old.log (F.accesses self.old.flights) (entries_of unit Leads accesses.now ++ rest) m0
+            → OnOk result (HasIssued (F.state self.new.flights) self.new.log [] rest m0) }
+        ensures value { (m0 : BenchState) (lead : List RegAccess) (a : RegAccess) (rest : List Entry) → accesses.now ≡ lead ++ a ∷ []
+            → HasIssued (F.state self.old.flights) self.old.log (F.accesses self.old.flights) (entries_of unit Leads accesses.now ++ rest) m0
+            → IfOk result (λ v. v ≡ gives (target_issued self.old.log m0) accesses.now) }
+        ensures broke { (m0 : BenchState) (rest : List Entry) → HasIssued (F.state self.old.flights) self.old.log (F.accesses self.old.flights) (entries_of unit Leads accesses.now ++ rest) m0
+            → IfErr result (λ s. HasEnded s (reported_by (F.reported self.new.flights) (F.state self.new.flights) self.new.log (F.packet self.new.flights) (F.reply self.new.flights)) self.new.log m0) }
+        ensures stops { (m0 : BenchState) (rest : List Entry) (answered : Option ℕ) → HasIssued (F.state self.old.flights) self.old.log (F.accesses self.old.flights) (entries_of unit Leads accesses.now ++ rest) m0
+            → IsLeft (reported_by (F.reported self.new.flights) (F.state self.new.flights) self.new.log (F.packet self.new.flights) (F.reply self.new.flights)) answered
+            → IfErr result (StopsThere m0 answered self.old.log.calls self.new.log.lines) }
+        ensures goes { GoesOn (reported_by (F.reported self.old.flights) (F.state self.old.flights) self.old.log (F.packet self.old.flights) (F.reply self.old.flights))
+            (reported_by (F.reported self.new.flights) (F.state self.new.flights) self.new.log (F.packet self.new.flights) (F.reply self.new.flights)) }
+        ensures entries { OnOk result (length self.new.log.entries ≡ length self.old.log.entries + length accesses.now) }
+        ensures further { OnOk result (IsFurther self.old.log self.new.log) }
+        ensures empty { OnOk result (F.accesses self.new.flights ≡ []) }
+        ensures ended { IfErr result (λ s. self.new.log.end ≡ Some s) }
+        ensures asks { asks_of self.new.log ≡ asks_of self.old.log }
+        ensures memory { IfErr result NoMemory }
+        ensures managed { self.new.managed ≡ self.old.managed }
+        ensures identity { F.identity self.new.flights ≡ F.identity self.old.flights }
+    {
+        match self.issue_all(unit, Part::Leads, accesses) {
             Ok(()) => {}
             Err(stop) => return Err(stop),
         }
-        let place = self.log.pending();
+        let place = self.log.pending() - 1;
         match self.send() {
-            Ok(()) => Ok(self.flights.value(place - 1)),
+            Ok(()) => Ok(self.flights.value(place)),
             Err(stop) => Err(stop),
         }
     }

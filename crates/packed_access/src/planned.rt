@@ -42,7 +42,7 @@ impl<F: Flights> Sender<F> {
     fn read_cfg(&mut self, unit: &Unit) -> Result<bool, Stop> {
         let plan = self.managed.cfg_plan(unit);
         let number = self.log.count();
-        match self.read_by(number, &plan) {
+        match self.read_by(number, listed(&plan)) {
             Err(stop) => Err(stop),
             Ok(cfg) => {
                 self.log.need(1, number - 1);
@@ -55,7 +55,7 @@ impl<F: Flights> Sender<F> {
     fn read_csw(&mut self, unit: &Unit) -> Result<(), Stop> {
         let plan = self.managed.first_plan(unit);
         let number = self.log.count();
-        match self.read_by(number, &plan) {
+        match self.read_by(number, listed(&plan)) {
             Err(stop) => Err(stop),
             Ok(csw) => {
                 self.log.need(1, number - 1);

@@ -2,6 +2,7 @@ use Rattle.std.proofs.Common.{◌≡◌, ◌∙◌, ◌+◌, ◌*◌, ◌^◌, �
 use Rattle.packed_access.specs.Begun.{HasIssued}
 use Rattle.packed_access.specs.Logs.{LogState, all_confirmed, all_taken}
 use Rattle.packed_access.proofs.EndLemmas.{has_ended, stops_there}
+use Rattle.packed_access.proofs.ReadLemmas.{last_value}
 use Rattle.packed_access.proofs.WholeLemmas.{has_come}
 use Rattle.packed_access.proofs.sender.Sender.send.Goals as goal
 
@@ -18,3 +19,6 @@ returns-in-Err-clause-broke g c = λ m0 rest h. has_ended _ _ _ _ _ c.args.self.
 
 pub returns-in-Err-clause-stops : goal.returns-in-Err-clause-stops
 returns-in-Err-clause-stops g c = λ m0 rest answered h left. stops_there _ _ _ _ _ c.args.self.now.log _ rest m0 c.in-Err.end c.stop.result c.stop.new.self answered h c.in-Err.ensures.broke c.stop.ensures.answer left
+
+pub returns-in-Ok-clause-last : goal.returns-in-Ok-clause-last
+returns-in-Ok-clause-last g c = λ m0 rest front e more h is at some. last_value _ _ c.args.self.now.log _ rest _ m0 front e more h c.in-Ok.ensures.came is at some
