@@ -9,7 +9,8 @@ use Rattle.target_machine.specs.declared.unit.Unit.{Unit as AccessUnit}
 use Rattle.target_machine.specs.declared.unit.Unit.TheVariants as unit
 use Rattle.flight_forms.specs.Packing.{IsTaken}
 use Rattle.access_regs.specs.Kept.{Kept, known}
-use Rattle.access_regs.specs.Plan.{csw_needed, high_needed, last_access, leads, plan, port_writes, select_needed, settle, settling, tar_needed, unless}
+use Rattle.target_machine.specs.Registers.{csw_register}
+use Rattle.access_regs.specs.Plan.{csw_needed, first_plan, high_needed, last_access, leads, plan, port_writes, select_needed, settle, settling, tar_needed, unless}
 use Rattle.access_regs.specs.declared.known.Known.{Known}
 use Rattle.access_regs.specs.declared.known.Unsettled.{Unsettled}
 
@@ -120,3 +121,17 @@ plan_parts k asked accesses is sound =
       first_taken = subst (AllByRecursion IsTaken) (sym first) (leads_taken k asked);
       last_taken = last_taken asked sound;
     }
+
+-- ---- the first plan of an AP
+
+pub first_taken : (k : Kept) (ap : ℕ) → AllByRecursion IsTaken (first_plan k ap)
+first_taken k ap = both_taken (select_needed k ap 0) (ap_access_of true csw_register 0 ∷ []) (unless_taken _ _ (select_taken ap 0)) (ap_taken true csw_register 0, tt)
+
+first_count : (k : Kept) (ap : ℕ) → length (first_plan k ap) ≡ length (select_needed k ap 0) + 1
+first_count k ap = length-append (select_needed k ap 0) (ap_access_of true csw_register 0 ∷ [])
+
+pub first_some : (k : Kept) (ap : ℕ) → 0 < length (first_plan k ap)
+first_some k ap = (let n = first_count k ap in omega (arith, n))
+
+pub first_few : (k : Kept) (ap : ℕ) → length (first_plan k ap) ≤ 2
+first_few k ap = (let n = first_count k ap in let s : length (select_needed k ap 0) ≤ 1 = unless_few _ _ in omega (arith, n, s))

@@ -1,14 +1,16 @@
 //! Units that forgive nothing.
-ghost use Rattle.std.specs.Prelude.{◌≡◌, ◌<◌, ◌≤◌, ◌+◌, ◌*◌, ◌++◌, ◌∷◌, [], ℕ, List, Option, None, Some, length, IfErr, OnOk};
+ghost use Rattle.std.specs.Prelude.{◌≡◌, ◌<◌, ◌≤◌, ◌+◌, ◌-◌, ◌*◌, ◌++◌, ◌∷◌, [], ℕ, List, Option, None, Some, true, length, IfErr, OnOk};
 ghost use Rattle.target_machine.specs.Sound.{IsSound};
 ghost use Rattle.probe_core.specs.Bench.{BenchState};
 ghost use Rattle.call_terms.specs.Journal.{Entry};
 ghost use Rattle.call_terms.specs.declared.journal.Part.TheVariants.{Ends, Leads};
-ghost use Rattle.access_regs.specs.Plan.{last_access, leads, made};
+ghost use Rattle.call_terms.specs.NeedPoints.{capped_sum};
+ghost use Rattle.access_regs.specs.Journal.{gives, port_of};
+ghost use Rattle.access_regs.specs.Plan.{first_plan, last_access, leads, learned, made, needs_csw};
 ghost use Rattle.access_calls.specs.Answers.{NoMemory};
 ghost use Rattle.access_calls.specs.GoesOn.{GoesOn};
 ghost use Rattle.access_calls.specs.Left.{IsLeft};
-ghost use Rattle.packed_access.specs.Begun.{HasEnded, HasIssued, StopsThere, entries_of};
+ghost use Rattle.packed_access.specs.Begun.{HasEnded, HasIssued, StopsThere, entries_of, target_issued};
 ghost use Rattle.packed_access.specs.Logs.{IsFurther, asks_of, most_entries, reported_by};
 
 use crate::flights::Flights;
@@ -19,7 +21,9 @@ use call_terms::Part;
 use target_machine::Unit;
 
 // The access port of a memory or AP unit.
-pub(crate) fn port_of(unit: &Unit) -> u8 {
+pub(crate) fn port_of(unit: &Unit) -> u8
+    ensures { result ≡ port_of unit.now }
+{
     match *unit {
         Unit::Memory { ap, .. } | Unit::Ap { ap, .. } => ap,
         _ => 0,
@@ -51,8 +55,40 @@ impl<F: Flights> Sender<F> {
         }
     }
 
-    // Reads CSW of the unit's access port.
-    fn read_csw(&mut self, unit: &Unit) -> Result<(), Stop> {
+    // Reads CSW of the unit's access port, which is not known.
+    #[tactic(auto, using(access_calls::proofs::KeepLemmas::goes_trans, crate::proofs::PlanLemmas::first_taken, crate::proofs::PlanLemmas::first_some, crate::proofs::PlanLemmas::first_few))]
+    fn read_csw(&mut self, unit: &Unit) -> Result<(), Stop>
+        requires unknown { needs_csw self.old.managed unit.now ≡ true }
+        requires open { self.old.log.end ≡ None }
+        requires whole { self.old.log.whole + 1 ≡ length self.old.log.calls }
+        requires room { length self.old.log.entries + 2 ≤ self.old.log.room }
+        requires bounded { length self.old.log.entries + 2 ≤ most_entries * length self.old.log.calls }
+        ensures on { (m0 : BenchState) (rest : List Entry) → HasIssued (F.state self.old.flights) self.old.log (F.accesses self.old.flights)
+            (entries_of (length self.old.log.calls) Leads (first_plan self.old.managed (port_of unit.now)) ++ rest) m0
+            → OnOk result (HasIssued (F.state self.new.flights) self.new.log [] rest m0) }
+        ensures kept { (m0 : BenchState) (rest : List Entry) → HasIssued (F.state self.old.flights) self.old.log (F.accesses self.old.flights)
+            (entries_of (length self.old.log.calls) Leads (first_plan self.old.managed (port_of unit.now)) ++ rest) m0
+            → OnOk result (self.new.managed ≡ learned self.old.managed (port_of unit.now) (gives (target_issued self.old.log m0) (first_plan self.old.managed (port_of unit.now)))) }
+        ensures broke { (m0 : BenchState) (rest : List Entry) → HasIssued (F.state self.old.flights) self.old.log (F.accesses self.old.flights)
+            (entries_of (length self.old.log.calls) Leads (first_plan self.old.managed (port_of unit.now)) ++ rest) m0
+            → IfErr result (λ s. HasEnded s (reported_by (F.reported self.new.flights) (F.state self.new.flights) self.new.log (F.packet self.new.flights) (F.reply self.new.flights)) self.new.log m0) }
+        ensures stops { (m0 : BenchState) (rest : List Entry) (answered : Option ℕ) → HasIssued (F.state self.old.flights) self.old.log (F.accesses self.old.flights)
+            (entries_of (length self.old.log.calls) Leads (first_plan self.old.managed (port_of unit.now)) ++ rest) m0
+            → IsLeft (reported_by (F.reported self.new.flights) (F.state self.new.flights) self.new.log (F.packet self.new.flights) (F.reply self.new.flights)) answered
+            → IfErr result (StopsThere m0 answered self.old.log.calls self.new.log.lines) }
+        ensures goes { GoesOn (reported_by (F.reported self.old.flights) (F.state self.old.flights) self.old.log (F.packet self.old.flights) (F.reply self.old.flights))
+            (reported_by (F.reported self.new.flights) (F.state self.new.flights) self.new.log (F.packet self.new.flights) (F.reply self.new.flights)) }
+        ensures entries { OnOk result (length self.new.log.entries ≤ length self.old.log.entries + 2) }
+        ensures whole_same { OnOk result (self.new.log.whole ≡ self.old.log.whole) }
+        ensures places { OnOk result (self.new.log.places ≡ self.old.log.places) }
+        ensures room_same { OnOk result (self.new.log.room ≡ self.old.log.room) }
+        ensures open { OnOk result (self.new.log.end ≡ None) }
+        ensures asks { OnOk result (asks_of (self.new.log) ≡ record { calls = self.old.log.calls; needs = capped_sum self.old.log.needs 1; fence = length self.old.log.calls - 1 }) }
+        ensures calls { self.new.log.calls ≡ self.old.log.calls }
+        ensures ended { IfErr result (λ s. self.new.log.end ≡ Some s) }
+        ensures memory { IfErr result NoMemory }
+        ensures identity { F.identity self.new.flights ≡ F.identity self.old.flights }
+    {
         let plan = self.managed.first_plan(unit);
         let number = self.log.count();
         match self.read_by(number, listed(&plan)) {
