@@ -15,3 +15,4 @@ pub mod ActionLemmas
 pub mod LeftLemmas
 pub mod CommandLemmas
 pub mod ReadLemmas
+pub mod PlannedLemmas

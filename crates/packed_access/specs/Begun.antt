@@ -1,9 +1,11 @@
 -- How far an access has come with the calls that were asked of it, and where it began.
-use Rattle.std.specs.Prelude.{◌≡◌, ℕ, zero, suc, ◌+◌, ◌*◌, ◌^◌, ◌<◌, ◌≤◌, Bool, true, false, List, [], ◌∷◌, ◌++◌, length, map, take, slice_index, Option, Some, None, refl}
+use Rattle.std.specs.Prelude.{◌≡◌, ℕ, zero, suc, ◌+◌, ◌-◌, ◌*◌, ◌^◌, ◌<◌, ◌≤◌, Bool, true, false, List, [], ◌∷◌, ◌++◌, length, map, take, slice_index, Option, Some, None, refl}
 use Rattle.std.specs.List.{AllByRecursion}
 use Rattle.target_machine.specs.Plain.{Makes}
 use Rattle.target_machine.specs.State.{TargetState}
 use Rattle.target_machine.specs.declared.access.RegAccess.{RegAccess}
+use Rattle.target_machine.specs.declared.unit.Unit.{Unit as AccessUnit}
+use Rattle.target_machine.specs.declared.unit.Unit.TheVariants as unit
 use Rattle.probe_core.specs.Bench.{BenchState}
 use Rattle.probe_core.specs.Bench.{Reported as BenchReported}
 use Rattle.probe_core.specs.Probe.{target_of, work_of}
@@ -13,7 +15,7 @@ use Rattle.call_terms.specs.World.{results, skips, small_now, start_world}
 use Rattle.call_terms.specs.declared.calls.Ask.{Ask}
 use Rattle.call_terms.specs.declared.journal.Part.{Part}
 use Rattle.access_regs.specs.Entries.{kept_by, target_by}
-use Rattle.access_regs.specs.Journal.{issue_of, issued, making}
+use Rattle.access_regs.specs.Journal.{Step, issue_of, issued, numbered}
 use Rattle.access_regs.specs.Kept.{Kept}
 use Rattle.access_calls.specs.Answers.{AtCut}
 use Rattle.access_calls.specs.Issued.{AreKeptOf}
@@ -71,6 +73,17 @@ pub record HasIssued (state : Option BenchState) (log : LogState) (accesses : Li
 -- the entries of accesses that are all the same to their unit, which forgives nothing
 abbrev pub entries_of : ℕ → Part → List RegAccess → List Entry
 entries_of unit part accesses = map (λ a. record { unit = unit; part = part; forgiving = false; action = Makes a }) accesses
+
+-- the unit is no poll
+abbrev pub IsNoPoll : AccessUnit → Type 0
+IsNoPoll (unit.Memory size read ap address value) = Unit {0}
+IsNoPoll (unit.Ap read ap addr value) = Unit {0}
+IsNoPoll (unit.Dp read addr value) = Unit {0}
+IsNoPoll (unit.Poll mask value turns) = ⊥
+
+-- steps of the last of so many calls, which forgives nothing
+abbrev pub steps_left : LogState → List Step → List Entry
+steps_left log steps = numbered (length log.calls - 1) false steps
 
 -- the target after the entries that were issued
 abbrev pub target_issued : LogState → BenchState → TargetState

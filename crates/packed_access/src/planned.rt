@@ -5,12 +5,12 @@ ghost use Rattle.probe_core.specs.Bench.{BenchState};
 ghost use Rattle.call_terms.specs.Journal.{Entry};
 ghost use Rattle.call_terms.specs.declared.journal.Part.TheVariants.{Ends, Leads};
 ghost use Rattle.call_terms.specs.NeedPoints.{capped_sum};
-ghost use Rattle.access_regs.specs.Journal.{gives, port_of};
+ghost use Rattle.access_regs.specs.Journal.{by_csw, gives, port_of};
 ghost use Rattle.access_regs.specs.Plan.{first_plan, last_access, leads, learned, made, needs_csw};
 ghost use Rattle.access_calls.specs.Answers.{NoMemory};
 ghost use Rattle.access_calls.specs.GoesOn.{GoesOn};
 ghost use Rattle.access_calls.specs.Left.{IsLeft};
-ghost use Rattle.packed_access.specs.Begun.{HasEnded, HasIssued, StopsThere, entries_of, target_issued};
+ghost use Rattle.packed_access.specs.Begun.{HasEnded, HasIssued, IsNoPoll, StopsThere, entries_of, steps_left, target_issued};
 ghost use Rattle.packed_access.specs.Logs.{IsFurther, asks_of, most_entries, reported_by};
 
 use crate::flights::Flights;
@@ -78,6 +78,7 @@ impl<F: Flights> Sender<F> {
             → IfErr result (StopsThere m0 answered self.old.log.calls self.new.log.lines) }
         ensures goes { GoesOn (reported_by (F.reported self.old.flights) (F.state self.old.flights) self.old.log (F.packet self.old.flights) (F.reply self.old.flights))
             (reported_by (F.reported self.new.flights) (F.state self.new.flights) self.new.log (F.packet self.new.flights) (F.reply self.new.flights)) }
+        ensures empty { OnOk result (F.accesses self.new.flights ≡ []) }
         ensures entries { OnOk result (length self.new.log.entries ≤ length self.old.log.entries + 2) }
         ensures whole_same { OnOk result (self.new.log.whole ≡ self.old.log.whole) }
         ensures places { OnOk result (self.new.log.places ≡ self.old.log.places) }
@@ -142,15 +143,51 @@ impl<F: Flights> Sender<F> {
         self.issue(number, Part::Ends, accesses[last])
     }
 
-    // Asks a unit that forgives nothing and is no poll. Answers whether its access port has no large addresses.
-    pub(crate) fn ask_planned(&mut self, unit: &Unit) -> Result<bool, Stop> {
-        if self.managed.needs_settle(unit) {
-            let before = self.log.count() - 1;
-            match self.settle(before) {
-                Ok(()) => {}
-                Err(stop) => return Err(stop),
-            }
+    // Issues the last call's unit, which is no poll, with a read of CSW before it where that is not known.
+    #[tactic(auto, using(access_calls::proofs::KeepLemmas::goes_trans))]
+    fn issue_by_csw(&mut self, unit: &Unit) -> Result<(), Stop>
+        requires open { self.old.log.end ≡ None }
+        requires sound { IsSound unit.now }
+        requires no_poll { IsNoPoll unit.now }
+        requires whole { self.old.log.whole + 1 ≡ length self.old.log.calls }
+        requires room { length self.old.log.entries + 7 ≤ self.old.log.room }
+        requires bounded { length self.old.log.entries + 7 ≤ most_entries * length self.old.log.calls }
+        ensures on { (m0 : BenchState) → HasIssued (F.state self.old.flights) self.old.log (F.accesses self.old.flights)
+            (steps_left self.old.log (by_csw (target_issued self.old.log m0) self.old.managed unit.now).steps) m0
+            → OnOk result (HasIssued (F.state self.new.flights) self.new.log (F.accesses self.new.flights) [] m0) }
+        ensures kept { (m0 : BenchState) → HasIssued (F.state self.old.flights) self.old.log (F.accesses self.old.flights)
+            (steps_left self.old.log (by_csw (target_issued self.old.log m0) self.old.managed unit.now).steps) m0
+            → OnOk result (self.new.managed ≡ (by_csw (target_issued self.old.log m0) self.old.managed unit.now).kept) }
+        ensures broke { (m0 : BenchState) → HasIssued (F.state self.old.flights) self.old.log (F.accesses self.old.flights)
+            (steps_left self.old.log (by_csw (target_issued self.old.log m0) self.old.managed unit.now).steps) m0
+            → IfErr result (λ s. HasEnded s (reported_by (F.reported self.new.flights) (F.state self.new.flights) self.new.log (F.packet self.new.flights) (F.reply self.new.flights)) self.new.log m0) }
+        ensures stops { (m0 : BenchState) (answered : Option ℕ) → HasIssued (F.state self.old.flights) self.old.log (F.accesses self.old.flights)
+            (steps_left self.old.log (by_csw (target_issued self.old.log m0) self.old.managed unit.now).steps) m0
+            → IsLeft (reported_by (F.reported self.new.flights) (F.state self.new.flights) self.new.log (F.packet self.new.flights) (F.reply self.new.flights)) answered
+            → IfErr result (StopsThere m0 answered self.old.log.calls self.new.log.lines) }
+        ensures goes { GoesOn (reported_by (F.reported self.old.flights) (F.state self.old.flights) self.old.log (F.packet self.old.flights) (F.reply self.old.flights))
+            (reported_by (F.reported self.new.flights) (F.state self.new.flights) self.new.log (F.packet self.new.flights) (F.reply self.new.flights)) }
+        ensures entries { OnOk result (length self.new.log.entries ≤ length self.old.log.entries + 7) }
+        ensures whole_same { OnOk result (self.new.log.whole ≡ self.old.log.whole) }
+        ensures open { OnOk result (self.new.log.end ≡ None) }
+        ensures pending { OnOk result (self.new.log.confirmed < length self.new.log.entries) }
+        ensures calls { self.new.log.calls ≡ self.old.log.calls }
+        ensures ended { IfErr result (λ s. self.new.log.end ≡ Some s) }
+        ensures memory { IfErr result NoMemory }
+        ensures identity { F.identity self.new.flights ≡ F.identity self.old.flights }
+    {
+        if !self.managed.needs_csw(unit) {
+            return self.issue_unit(unit);
         }
+        match self.read_csw(unit) {
+            Ok(()) => self.issue_unit(unit),
+            Err(stop) => Err(stop),
+        }
+    }
+
+    // The same, with a read of CFG before it where that is needed. Answers whether the access port has no large
+    // addresses, where nothing more is issued.
+    fn issue_by_cfg(&mut self, unit: &Unit) -> Result<bool, Stop> {
         if self.managed.needs_cfg(unit) {
             match self.read_cfg(unit) {
                 Ok(true) => {}
@@ -162,17 +199,23 @@ impl<F: Flights> Sender<F> {
                 Err(stop) => return Err(stop),
             }
         }
-        if self.managed.needs_csw(unit) {
-            match self.read_csw(unit) {
-                Ok(()) => {}
-                Err(stop) => return Err(stop),
-            }
-        }
-        match self.issue_unit(unit) {
+        match self.issue_by_csw(unit) {
             Ok(()) => {
                 self.log.complete();
                 Ok(false)
             }
+            Err(stop) => Err(stop),
+        }
+    }
+
+    // Asks a unit that forgives nothing and is no poll. Answers whether its access port has no large addresses.
+    pub(crate) fn ask_planned(&mut self, unit: &Unit) -> Result<bool, Stop> {
+        if !self.managed.needs_settle(unit) {
+            return self.issue_by_cfg(unit);
+        }
+        let before = self.log.count() - 1;
+        match self.settle(before) {
+            Ok(()) => self.issue_by_cfg(unit),
             Err(stop) => Err(stop),
         }
     }
