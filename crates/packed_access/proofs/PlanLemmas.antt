@@ -9,8 +9,8 @@ use Rattle.target_machine.specs.declared.unit.Unit.{Unit as AccessUnit}
 use Rattle.target_machine.specs.declared.unit.Unit.TheVariants as unit
 use Rattle.flight_forms.specs.Packing.{IsTaken}
 use Rattle.access_regs.specs.Kept.{Kept, known}
-use Rattle.target_machine.specs.Registers.{csw_register}
-use Rattle.access_regs.specs.Plan.{csw_needed, first_plan, high_needed, last_access, leads, plan, port_writes, select_needed, settle, settling, tar_needed, unless}
+use Rattle.target_machine.specs.Registers.{cfg_register, csw_register}
+use Rattle.access_regs.specs.Plan.{cfg_plan, csw_needed, first_plan, high_needed, last_access, leads, plan, port_writes, select_needed, settle, settling, tar_needed, unless}
 use Rattle.access_regs.specs.declared.known.Known.{Known}
 use Rattle.access_regs.specs.declared.known.Unsettled.{Unsettled}
 
@@ -135,3 +135,17 @@ first_some k ap = (let n = first_count k ap in omega (arith, n))
 
 pub first_few : (k : Kept) (ap : ℕ) → length (first_plan k ap) ≤ 2
 first_few k ap = (let n = first_count k ap in let s : length (select_needed k ap 0) ≤ 1 = unless_few _ _ in omega (arith, n, s))
+
+-- ---- the read of CFG
+
+pub cfg_taken : (k : Kept) (ap : ℕ) → AllByRecursion IsTaken (cfg_plan k ap)
+cfg_taken k ap = both_taken (select_needed k ap (cfg_register / 16)) (ap_access_of true (cfg_register % 16) 0 ∷ []) (unless_taken _ _ (select_taken ap (cfg_register / 16))) (ap_taken true (cfg_register % 16) 0, tt)
+
+cfg_count : (k : Kept) (ap : ℕ) → length (cfg_plan k ap) ≡ length (select_needed k ap (cfg_register / 16)) + 1
+cfg_count k ap = length-append (select_needed k ap (cfg_register / 16)) (ap_access_of true (cfg_register % 16) 0 ∷ [])
+
+pub cfg_some : (k : Kept) (ap : ℕ) → 0 < length (cfg_plan k ap)
+cfg_some k ap = (let n = cfg_count k ap in omega (arith, n))
+
+pub cfg_few : (k : Kept) (ap : ℕ) → length (cfg_plan k ap) ≤ 2
+cfg_few k ap = (let n = cfg_count k ap in let s : length (select_needed k ap (cfg_register / 16)) ≤ 1 = unless_few _ _ in omega (arith, n, s))

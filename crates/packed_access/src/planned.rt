@@ -1,12 +1,14 @@
 //! Units that forgive nothing.
-ghost use Rattle.std.specs.Prelude.{◌≡◌, ◌<◌, ◌≤◌, ◌+◌, ◌-◌, ◌*◌, ◌++◌, ◌∷◌, [], ℕ, List, Option, None, Some, true, length, IfErr, OnOk};
+ghost use Rattle.std.specs.Prelude.{◌≡◌, ◌<◌, ◌≤◌, ◌+◌, ◌-◌, ◌*◌, ◌++◌, ◌∷◌, [], ℕ, List, Option, None, Some, true, length, IfErr, IfOk, OnOk};
+ghost use Rattle.dap_base.specs.Bits.{has_bit};
+ghost use Rattle.target_machine.specs.Registers.{cfg_la};
 ghost use Rattle.target_machine.specs.Sound.{IsSound};
 ghost use Rattle.probe_core.specs.Bench.{BenchState};
 ghost use Rattle.call_terms.specs.Journal.{Entry};
 ghost use Rattle.call_terms.specs.declared.journal.Part.TheVariants.{Ends, Leads};
 ghost use Rattle.call_terms.specs.NeedPoints.{capped_sum};
 ghost use Rattle.access_regs.specs.Journal.{by_csw, gives, port_of};
-ghost use Rattle.access_regs.specs.Plan.{first_plan, last_access, leads, learned, made, needs_csw};
+ghost use Rattle.access_regs.specs.Plan.{cfg_plan, first_plan, last_access, leads, learned, learned_cfg, made, needs_cfg, needs_csw};
 ghost use Rattle.access_calls.specs.Answers.{NoMemory};
 ghost use Rattle.access_calls.specs.GoesOn.{GoesOn};
 ghost use Rattle.access_calls.specs.Left.{IsLeft};
@@ -43,7 +45,43 @@ impl<F: Flights> Sender<F> {
     }
 
     // Reads CFG of the unit's access port, and answers whether the port has large addresses.
-    fn read_cfg(&mut self, unit: &Unit) -> Result<bool, Stop> {
+    #[tactic(auto, using(access_calls::proofs::KeepLemmas::goes_trans, crate::proofs::PlanLemmas::cfg_taken, crate::proofs::PlanLemmas::cfg_some, crate::proofs::PlanLemmas::cfg_few))]
+    fn read_cfg(&mut self, unit: &Unit) -> Result<bool, Stop>
+        requires unknown { needs_cfg self.old.managed unit.now ≡ true }
+        requires open { self.old.log.end ≡ None }
+        requires whole { self.old.log.whole + 1 ≡ length self.old.log.calls }
+        requires room { length self.old.log.entries + 2 ≤ self.old.log.room }
+        requires bounded { length self.old.log.entries + 2 ≤ most_entries * length self.old.log.calls }
+        ensures on { (m0 : BenchState) (rest : List Entry) → HasIssued (F.state self.old.flights) self.old.log (F.accesses self.old.flights)
+            (entries_of (length self.old.log.calls) Leads (cfg_plan self.old.managed (port_of unit.now)) ++ rest) m0
+            → OnOk result (HasIssued (F.state self.new.flights) self.new.log [] rest m0) }
+        ensures kept { (m0 : BenchState) (rest : List Entry) → HasIssued (F.state self.old.flights) self.old.log (F.accesses self.old.flights)
+            (entries_of (length self.old.log.calls) Leads (cfg_plan self.old.managed (port_of unit.now)) ++ rest) m0
+            → OnOk result (self.new.managed ≡ learned_cfg self.old.managed (port_of unit.now) (gives (target_issued self.old.log m0) (cfg_plan self.old.managed (port_of unit.now)))) }
+        ensures large { (m0 : BenchState) (rest : List Entry) → HasIssued (F.state self.old.flights) self.old.log (F.accesses self.old.flights)
+            (entries_of (length self.old.log.calls) Leads (cfg_plan self.old.managed (port_of unit.now)) ++ rest) m0
+            → IfOk result (λ large. large ≡ has_bit (gives (target_issued self.old.log m0) (cfg_plan self.old.managed (port_of unit.now))) cfg_la) }
+        ensures broke { (m0 : BenchState) (rest : List Entry) → HasIssued (F.state self.old.flights) self.old.log (F.accesses self.old.flights)
+            (entries_of (length self.old.log.calls) Leads (cfg_plan self.old.managed (port_of unit.now)) ++ rest) m0
+            → IfErr result (λ s. HasEnded s (reported_by (F.reported self.new.flights) (F.state self.new.flights) self.new.log (F.packet self.new.flights) (F.reply self.new.flights)) self.new.log m0) }
+        ensures stops { (m0 : BenchState) (rest : List Entry) (answered : Option ℕ) → HasIssued (F.state self.old.flights) self.old.log (F.accesses self.old.flights)
+            (entries_of (length self.old.log.calls) Leads (cfg_plan self.old.managed (port_of unit.now)) ++ rest) m0
+            → IsLeft (reported_by (F.reported self.new.flights) (F.state self.new.flights) self.new.log (F.packet self.new.flights) (F.reply self.new.flights)) answered
+            → IfErr result (StopsThere m0 answered self.old.log.calls self.new.log.lines) }
+        ensures goes { GoesOn (reported_by (F.reported self.old.flights) (F.state self.old.flights) self.old.log (F.packet self.old.flights) (F.reply self.old.flights))
+            (reported_by (F.reported self.new.flights) (F.state self.new.flights) self.new.log (F.packet self.new.flights) (F.reply self.new.flights)) }
+        ensures empty { OnOk result (F.accesses self.new.flights ≡ []) }
+        ensures entries { OnOk result (length self.new.log.entries ≤ length self.old.log.entries + 2) }
+        ensures whole_same { OnOk result (self.new.log.whole ≡ self.old.log.whole) }
+        ensures places { OnOk result (self.new.log.places ≡ self.old.log.places) }
+        ensures room_same { OnOk result (self.new.log.room ≡ self.old.log.room) }
+        ensures open { OnOk result (self.new.log.end ≡ None) }
+        ensures asks { OnOk result (asks_of (self.new.log) ≡ record { calls = self.old.log.calls; needs = capped_sum self.old.log.needs 1; fence = length self.old.log.calls - 1 }) }
+        ensures calls { self.new.log.calls ≡ self.old.log.calls }
+        ensures ended { IfErr result (λ s. self.new.log.end ≡ Some s) }
+        ensures memory { IfErr result NoMemory }
+        ensures identity { F.identity self.new.flights ≡ F.identity self.old.flights }
+    {
         let plan = self.managed.cfg_plan(unit);
         let number = self.log.count();
         match self.read_by(number, listed(&plan)) {
