@@ -19,6 +19,7 @@ struct Setting<'a> {
     powered: bool,
     power_reads: u32,
     la: bool,
+    carry: bool,
     words: &'a [(u64, u32)],
 }
 
@@ -28,6 +29,7 @@ const BASE: Setting<'static> = Setting {
     powered: true,
     power_reads: 0,
     la: false,
+    carry: false,
     words: &[],
 };
 
@@ -35,6 +37,8 @@ const BASE: Setting<'static> = Setting {
 #[derive(Drop)]
 enum Step {
     Ask(Unit),
+    // so many words from 0x20000000 on, the first of them 1
+    Writes(u32),
     Forgive(Unit),
     Make(ProbeCall),
     // the result of a call
@@ -46,6 +50,7 @@ enum Step {
     // a call ends the access
     Fails(Unit, StopCause),
     ForgiveFails(Unit, StopCause),
+    FlushFails(Report),
     FinishFails(Report),
 }
 
@@ -87,7 +92,7 @@ fn target(alloc: Global, setting: &Setting<'_>) -> Result<TargetJob, OutOfMemory
         powered: setting.powered,
         power_reads: setting.power_reads,
         pins: 0xA0,
-        carry: false,
+        carry: setting.carry,
         aps: list(alloc, &[port])?,
         memory: list(alloc, &[region(0x2000_0000), region(0x1_0000_0000)])?,
         words: words(alloc, setting.words)?,
@@ -161,6 +166,19 @@ fn shows(rt: &impl Abort, bench: &mut MemoryBench, lines: &[&str]) {
     assert_eq!(rt; bench.show(index, &mut bytes), Ok(Shown::Past));
 }
 
+// Asks for words written from 0x20000000 on.
+fn make_writes<A: Access>(rt: &impl Abort, access: &mut A, count: u32) {
+    let mut address = 0x2000_0000;
+    for value in 1..=count {
+        let unit = word(false, address, value);
+        assert!(rt;
+            matches!(access.ask(unit, false), Ok(Asked::Slot(_))),
+            "{unit:?}"
+        );
+        address += 4;
+    }
+}
+
 // Asks one step.
 fn make<A: Access>(rt: &impl Abort, access: &mut A, step: &Step) {
     match step {
@@ -170,6 +188,7 @@ fn make<A: Access>(rt: &impl Abort, access: &mut A, step: &Step) {
                 "{unit:?}"
             );
         }
+        Step::Writes(count) => make_writes(rt, access, *count),
         Step::Forgive(unit) => {
             assert!(rt;
                 matches!(access.ask(*unit, true), Ok(Asked::Slot(_))),
@@ -191,6 +210,7 @@ fn make<A: Access>(rt: &impl Abort, access: &mut A, step: &Step) {
             Err(Stop::Cut(report)) => assert_eq!(rt; report.cause, *cause),
             _ => assert!(rt; false, "{unit:?}"),
         },
+        Step::FlushFails(report) => assert_eq!(rt; access.flush(), Err(Stop::Cut(*report))),
         Step::FinishFails(report) => assert_eq!(rt; access.finish(), Err(Stop::Cut(*report))),
     }
 }
@@ -308,28 +328,13 @@ fn a_read_and_a_write_share_a_flight(rt: HostRuntime) -> Result<(), Fail> {
     )
 }
 
-fn nine_writes() -> [Step; 10] {
-    [
-        write(0x2000_0000, 1),
-        write(0x2000_0004, 2),
-        write(0x2000_0008, 3),
-        write(0x2000_000C, 4),
-        write(0x2000_0010, 5),
-        write(0x2000_0014, 6),
-        write(0x2000_0018, 7),
-        write(0x2000_001C, 8),
-        write(0x2000_0020, 9),
-        Step::Finish,
-    ]
-}
-
 #[test]
 fn nine_writes_in_one_packet(rt: HostRuntime) -> Result<(), Fail> {
     row(
         &rt,
         rt.alloc(),
         &BASE,
-        &nine_writes(),
+        &[Step::Writes(9), Step::Finish],
         &[
             ">050002080000000003",
             "<05020140000000",
@@ -351,7 +356,7 @@ fn nine_writes_in_a_chain(rt: HostRuntime) -> Result<(), Fail> {
         &rt,
         rt.alloc(),
         &setting,
-        &nine_writes(),
+        &[Step::Writes(9), Step::Finish],
         &[
             ">050002080000000003",
             "<05020140000000",
@@ -424,6 +429,157 @@ fn a_fault_in_a_flight(rt: HostRuntime) -> Result<(), Fail> {
             "<05020140000000",
             ">050009015200000005000000200d0100000005000000300d0200000005040000200d0300000001420000000504000020",
             "<050504",
+        ],
+    )
+}
+
+// A poll whose reads do not match in all its turns.
+#[test]
+fn a_poll_that_does_not_match(rt: HostRuntime) -> Result<(), Fail> {
+    let setting = Setting {
+        powered: false,
+        power_reads: 5,
+        ..BASE
+    };
+    let poll = Unit::Poll {
+        mask: 0xA000_0000,
+        value: 0xA000_0000,
+        turns: 5,
+    };
+    row(
+        &rt,
+        rt.alloc(),
+        &setting,
+        &[
+            write_dp(8, 0),
+            write_dp(4, 0x5000_0000),
+            Step::Ask(poll),
+            write_dp(0, 0x1E),
+            Step::Finish,
+            Step::Value(2, 0),
+        ],
+        &[
+            ">05000208000000000400000050",
+            "<050201",
+            ">7f0404006400040005000220000000a016000000a00500012000000000040064000000",
+            "<7f0404000501110501010400",
+            ">050001001e000000",
+            "<050101",
+        ],
+    )
+}
+
+// A poll of more turns than a value match has.
+#[test]
+fn a_poll_of_two_packets(rt: HostRuntime) -> Result<(), Fail> {
+    let setting = Setting {
+        powered: false,
+        power_reads: 70_000,
+        ..BASE
+    };
+    let poll = Unit::Poll {
+        mask: 0xA000_0000,
+        value: 0xA000_0000,
+        turns: 100_000,
+    };
+    row(
+        &rt,
+        rt.alloc(),
+        &setting,
+        &[
+            write_dp(8, 0),
+            write_dp(4, 0x5000_0000),
+            Step::Ask(poll),
+            write_dp(0, 0x1E),
+            Step::Finish,
+            Step::Value(2, 1),
+        ],
+        &[
+            ">05000208000000000400000050",
+            "<050201",
+            ">7f0404006400ffff05000220000000a016000000a00500012000000000040064000000",
+            "<7f0404000501110501010400",
+            ">7f04040064009f8605000220000000a016000000a00500012000000000040064000000",
+            "<7f0404000502010501010400",
+            ">050001001e000000",
+            "<050101",
+        ],
+    )
+}
+
+// TAR is written again at its edge, whatever the port does there.
+#[test]
+fn an_edge_of_tar(rt: HostRuntime) -> Result<(), Fail> {
+    let edge = |carry| row(
+        &rt,
+        rt.alloc(),
+        &Setting { carry, ..BASE },
+        &[
+            write(0x2000_03F8, 1),
+            write(0x2000_03FC, 2),
+            write(0x2000_0400, 3),
+            write(0x2000_0404, 4),
+            Step::Finish,
+        ],
+        &[
+            ">050002080000000003",
+            "<05020140000000",
+            ">050009015200000005f80300200d010000000d0200000005000400200d030000000d0400000001420000000504040020",
+            "<050901",
+        ],
+    );
+    edge(false)?;
+    edge(true)
+}
+
+// Blocks where a packet would be full.
+#[test]
+fn many_writes(rt: HostRuntime) -> Result<(), Fail> {
+    row(
+        &rt,
+        rt.alloc(),
+        &BASE,
+        &[Step::Writes(64), Step::Finish],
+        &[
+            ">050002080000000003",
+            "<05020140000000",
+            ">05000c015200000005000000200d010000000d020000000d030000000d040000000d050000000d060000000d070000000d080000000d090000000d0a000000",
+            "<050c01",
+            ">06000e000d0b0000000c0000000d0000000e0000000f000000100000001100000012000000130000001400000015000000160000001700000018000000",
+            "<060e0001",
+            ">06000e000d190000001a0000001b0000001c0000001d0000001e0000001f00000020000000210000002200000023000000240000002500000026000000",
+            "<060e0001",
+            ">06000e000d2700000028000000290000002a0000002b0000002c0000002d0000002e0000002f0000003000000031000000320000003300000034000000",
+            "<060e0001",
+            ">06000c000d35000000360000003700000038000000390000003a0000003b0000003c0000003d0000003e0000003f00000040000000",
+            "<060c0001",
+            ">050002014200000005fc000020",
+            "<050201",
+        ],
+    )
+}
+
+// A fault that a flush finds: nothing settles.
+#[test]
+fn a_fault_in_a_flush(rt: HostRuntime) -> Result<(), Fail> {
+    let report = Report {
+        cause: StopCause::Faulted,
+        unit: 1,
+        what: Call::Access(word(false, 0x3000_0000, 2)),
+        attempted: 1,
+        accesses: 5,
+        confirmed: 4,
+    };
+    row(
+        &rt,
+        rt.alloc(),
+        &BASE,
+        &[write(0x3000_0000, 2), Step::FlushFails(report)],
+        &[
+            ">050002080000000003",
+            "<05020140000000",
+            ">050003015200000005000000300d02000000",
+            "<050304",
         ],
     )
 }
@@ -593,32 +749,6 @@ fn a_fault_before_a_read(rt: HostRuntime) -> Result<(), Fail> {
     )
 }
 
-fn twenty_writes(report: Report) -> [Step; 21] {
-    [
-        write(0x2000_0000, 1),
-        write(0x2000_0004, 2),
-        write(0x2000_0008, 3),
-        write(0x2000_000C, 4),
-        write(0x2000_0010, 5),
-        write(0x2000_0014, 6),
-        write(0x2000_0018, 7),
-        write(0x2000_001C, 8),
-        write(0x2000_0020, 9),
-        write(0x2000_0024, 10),
-        write(0x2000_0028, 11),
-        write(0x2000_002C, 12),
-        write(0x2000_0030, 13),
-        write(0x2000_0034, 14),
-        write(0x2000_0038, 15),
-        write(0x2000_003C, 16),
-        write(0x2000_0040, 17),
-        write(0x2000_0044, 18),
-        write(0x2000_0048, 19),
-        write(0x2000_004C, 20),
-        Step::FinishFails(report),
-    ]
-}
-
 // A retry ends in the first packet of a chain of three: the others are not made.
 #[test]
 fn a_retry_ends_in_a_chain(rt: HostRuntime) -> Result<(), Fail> {
@@ -639,7 +769,7 @@ fn a_retry_ends_in_a_chain(rt: HostRuntime) -> Result<(), Fail> {
         &rt,
         rt.alloc(),
         &setting,
-        &twenty_writes(report),
+        &[Step::Writes(20), Step::FinishFails(report)],
         &[
             ">050002080000000003",
             "<05020140000000",
