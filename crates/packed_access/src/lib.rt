@@ -18,4 +18,8 @@ pub use flights::{Flights, Polled};
 pub use wire::Wire;
 
 #[cfg(test)]
+mod end_tests;
+#[cfg(test)]
+mod rows;
+#[cfg(test)]
 mod tests;
