@@ -1,13 +1,13 @@
 -- What holds of every report of a bench.
-use Rattle.std.specs.Prelude.{◌≡◌, ℕ, ◌+◌, ◌<◌, ◌≤◌, length}
+use Rattle.std.specs.Prelude.{◌≡◌, ℕ, ◌+◌, ◌^◌, ◌<◌, ◌≤◌, length}
 use Rattle.probe_core.specs.Bench.{BenchState, Exchange, Reported}
 use Rattle.probe_core.specs.Ranges.{AreLimits}
 use Rattle.probe_core.specs.declared.job.Limits.{Limits}
 
 -- The packet limits are in range. Fewer packets are held than the packet count; an exchange has at most packet count
 -- packets, and at most as many replies, with those that wait. While packets are held, no reply waits, and the last
--- exchange is of just these packets, with no reply.
-pub record AreInRange (limits : Limits) (held waiting : ℕ) (last : Exchange) : Type 0 where
+-- exchange is of just these packets, with no reply. Exchanges are counted up to 2^64 - 1.
+pub record AreInRange (limits : Limits) (held waiting exchanges : ℕ) (last : Exchange) : Type 0 where
   pub limits_in_range : AreLimits limits
   pub few_held : held < limits.packet_count
   pub few_packets : length last.packets ≤ limits.packet_count
@@ -15,10 +15,11 @@ pub record AreInRange (limits : Limits) (held waiting : ℕ) (last : Exchange) :
   pub none_waits : 0 < held → waiting ≡ 0
   pub all_held : 0 < held → length last.packets ≡ held
   pub none_replied : 0 < held → length last.replies ≡ 0
+  pub few_exchanges : exchanges < 2 ^ 64
 
 -- what a bench reports is in range
 abbrev pub IsInRange : Reported → Type 0
-IsInRange reported = AreInRange reported.limits reported.held reported.waiting reported.last
+IsInRange reported = AreInRange reported.limits reported.held reported.waiting reported.exchanges reported.last
 
 -- what a bench reports is so of its state
 pub record AgreesWith (reported : Reported) (m : BenchState) : Type 0 where

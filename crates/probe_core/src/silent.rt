@@ -50,6 +50,8 @@ impl Bench for SilentBench {
 
     ghost agrees = { λ _. tt };
 
+    ghost counts = { λ _. tt };
+
     fn load(&mut self, alloc: Global, job: &BenchJob) -> Result<(), LoadError> {
         self.inner.load(alloc, job)
     }

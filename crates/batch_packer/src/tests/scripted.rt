@@ -21,7 +21,7 @@ struct Scripted {
     ghost short: { len ≤ 16 },
     ghost packets_room: { packets.room ≡ 1 },
     ghost replies_room: { replies.room ≡ 1 },
-    ghost in_range: { AreInRange (record { packet_size = 64; packet_count = 1 }) 0 (if waits then 1 else 0) (record { packets = packets.items; replies = replies.items }) },
+    ghost in_range: { AreInRange (record { packet_size = 64; packet_count = 1 }) 0 (if waits then 1 else 0) exchanges (record { packets = packets.items; replies = replies.items }) },
 }
 
 impl Scripted {
@@ -68,6 +68,8 @@ impl Bench for Scripted {
     ghost in_range = { λ b. b.in_range };
 
     ghost agrees = { λ _. tt };
+
+    ghost counts = { λ _. tt };
 
     fn load(&mut self, _alloc: Global, _job: &BenchJob) -> Result<(), LoadError> {
         self.fail();
