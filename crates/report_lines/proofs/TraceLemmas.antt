@@ -7,10 +7,10 @@ use Rattle.std.specs.Io.KnownBytes.{Appends}
 use Rattle.std.specs.List.{flat_map}
 use Rattle.dap_base.specs.Streams.{AppendsPrefix, PutAppends}
 use Rattle.probe_core.specs.Bench.{BenchState}
-use Rattle.probe_core.specs.Log.{Entry, Log, packet_entry, reply_entry}
+use Rattle.probe_core.specs.Log.{Entry, IsCountedLog, Log, packet_entry, reply_entry}
 use Rattle.probe_core.specs.Shows.{Shows}
 use Rattle.probe_core.specs.declared.interface.Shown.TheVariants.{NotKept, Past, Replied, Sent}
-use Rattle.report_lines.specs.Trace.{EntriesPut, EntryPut, IsCounted, LinePut, StepPut, entry_line, kept_line, trace}
+use Rattle.report_lines.specs.Trace.{EntriesPut, EntryPut, LinePut, StepPut, entry_line, kept_line, trace}
 use Rattle.report_lines.specs.declared.put.TextEnd.{TextEnd}
 use Rattle.report_lines.specs.declared.trace.Seen.{Seen}
 use Rattle.report_lines.specs.declared.trace.Seen.TheVariants as seen
@@ -52,7 +52,7 @@ take-whole [] (suc i) all = refl
 take-whole (x ∷ xs) zero all = let no : ⊥ = omega arith in absurd no
 take-whole (x ∷ xs) (suc i) all = ap (λ ys. x ∷ ys) (take-whole xs i (omega arith))
 
-kept_comes : (log : Log) (i k : ℕ) (a b c : Option (List ℕ)) → IsCounted log → HaveCome log i k a b → EntryPut log i (Ok seen.Kept) b c → HaveCome log (i + 1) (k + 1) a c
+kept_comes : (log : Log) (i k : ℕ) (a b c : Option (List ℕ)) → IsCountedLog log → HaveCome log i k a b → EntryPut log i (Ok seen.Kept) b c → HaveCome log (i + 1) (k + 1) a c
 kept_comes log i k a b c few come put =
     let below = within log.kept i put.0 put.1 in record {
       counted = let most = few.kept in omega arith;
@@ -68,7 +68,7 @@ passed_comes log i k a b c come put =
       written = rw (put.2, take-whole log.kept (i + 1) all_more) (rw (take-whole log.kept i all) at come.written);
     }
 
-all_come : (log : Log) (i k : ℕ) (a b : Option (List ℕ)) → IsCounted log → HaveCome log i k a b → log.count ≤ i → EntriesPut log (Ok (k, i)) a b
+all_come : (log : Log) (i k : ℕ) (a b : Option (List ℕ)) → IsCountedLog log → HaveCome log i k a b → log.count ≤ i → EntriesPut log (Ok (k, i)) a b
 all_come log i k a b few come past =
     let kept = few.kept in let counted = come.counted in
     let all : length log.kept ≤ i = omega arith in (
@@ -91,43 +91,43 @@ stops_at log i k a b c end come (inr part) = row_cut a b c entry_line log.kept i
 
 -- ---- over a bench, where it is observable
 
-pub entries_begin : (state : Option BenchState) (a : Option (List ℕ)) → Appends a a [] → IfSome state (λ m. IsCounted m.log → HaveCome m.log 0 0 a a)
+pub entries_begin : (state : Option BenchState) (a : Option (List ℕ)) → Appends a a [] → IfSome state (λ m. IsCountedLog m.log → HaveCome m.log 0 0 a a)
 entries_begin None a none = tt
 entries_begin (Some m) a none = λ few. record { counted = omega arith; kept_are = grind (arith, common_steps); written = none }
 
-step_comes : (log : Log) (i k n : ℕ) (a b c : Option (List ℕ)) → IsCounted log → HaveCome log i k a b → ((n ≡ k + 1) × EntryPut log i (Ok seen.Kept) b c) ⊎ ((n ≡ k) × EntryPut log i (Ok seen.NotKept) b c) → HaveCome log (i + 1) n a c
+step_comes : (log : Log) (i k n : ℕ) (a b c : Option (List ℕ)) → IsCountedLog log → HaveCome log i k a b → ((n ≡ k + 1) × EntryPut log i (Ok seen.Kept) b c) ⊎ ((n ≡ k) × EntryPut log i (Ok seen.NotKept) b c) → HaveCome log (i + 1) n a c
 step_comes log i k n a b c few come (inl kept) = rw (kept.0) (kept_comes log i k a b c few come kept.1)
 step_comes log i k n a b c few come (inr passed) = rw (passed.0) (passed_comes log i k a b c come passed.1)
 
-pub entry_comes : (s t : Option BenchState) (i k n : ℕ) (a b c : Option (List ℕ)) → t ≡ s → IfSome s (λ m. IsCounted m.log → HaveCome m.log i k a b) → IfSome t (λ m. StepPut m.log i k (Ok (Some n)) b c) → IfSome s (λ m. IsCounted m.log → HaveCome m.log (i + 1) n a c)
+pub entry_comes : (s t : Option BenchState) (i k n : ℕ) (a b c : Option (List ℕ)) → t ≡ s → IfSome s (λ m. IsCountedLog m.log → HaveCome m.log i k a b) → IfSome t (λ m. StepPut m.log i k (Ok (Some n)) b c) → IfSome s (λ m. IsCountedLog m.log → HaveCome m.log (i + 1) n a c)
 unfolding StepPut
 entry_comes None t i k n a b c same come put = tt
 entry_comes (Some m) t i k n a b c same come put = λ few. step_comes m.log i k n a b c few (come few) (subst (λ u. IfSome u (λ m. StepPut m.log i k (Ok (Some n)) b c)) same put)
 
-pub entries_end : (s t : Option BenchState) (i k : ℕ) (a b c : Option (List ℕ)) → t ≡ s → IfSome s (λ m. IsCounted m.log → HaveCome m.log i k a b) → IfSome t (λ m. StepPut m.log i k (Ok None) b c) → IfSome s (λ m. IsCounted m.log → EntriesPut m.log (Ok (k, i)) a c)
+pub entries_end : (s t : Option BenchState) (i k : ℕ) (a b c : Option (List ℕ)) → t ≡ s → IfSome s (λ m. IsCountedLog m.log → HaveCome m.log i k a b) → IfSome t (λ m. StepPut m.log i k (Ok None) b c) → IfSome s (λ m. IsCountedLog m.log → EntriesPut m.log (Ok (k, i)) a c)
 unfolding StepPut
 entries_end None t i k a b c same come put = tt
 entries_end (Some m) t i k a b c same come put = λ few.
     let past : EntryPut m.log i (Ok seen.Past) b c = subst (λ u. IfSome u (λ m. StepPut m.log i k (Ok None) b c)) same put in
     rw (past.1) (all_come m.log i k a b few (come few) past.0)
 
-pub entries_full : (s : Option BenchState) (i k : ℕ) (a b : Option (List ℕ)) → 2 ^ 32 - 1 ≤ i → IfSome s (λ m. IsCounted m.log → HaveCome m.log i k a b) → IfSome s (λ m. IsCounted m.log → EntriesPut m.log (Ok (k, i)) a b)
+pub entries_full : (s : Option BenchState) (i k : ℕ) (a b : Option (List ℕ)) → 2 ^ 32 - 1 ≤ i → IfSome s (λ m. IsCountedLog m.log → HaveCome m.log i k a b) → IfSome s (λ m. IsCountedLog m.log → EntriesPut m.log (Ok (k, i)) a b)
 entries_full None i k a b last come = tt
 entries_full (Some m) i k a b last come = λ few. all_come m.log i k a b few (come few) (let most = few.few in omega arith)
 
-pub entries_stop : (s t : Option BenchState) (i k : ℕ) (a b c : Option (List ℕ)) (end : TextEnd) → t ≡ s → IfSome s (λ m. IsCounted m.log → HaveCome m.log i k a b) → IfSome t (λ m. StepPut m.log i k (Err end) b c) → IfSome s (λ m. IsCounted m.log → EntriesPut m.log (Err end) a c)
+pub entries_stop : (s t : Option BenchState) (i k : ℕ) (a b c : Option (List ℕ)) (end : TextEnd) → t ≡ s → IfSome s (λ m. IsCountedLog m.log → HaveCome m.log i k a b) → IfSome t (λ m. StepPut m.log i k (Err end) b c) → IfSome s (λ m. IsCountedLog m.log → EntriesPut m.log (Err end) a c)
 unfolding StepPut
 entries_stop None t i k a b c end same come put = tt
 entries_stop (Some m) t i k a b c end same come put = λ few. stops_at m.log i k a b c end (come few) (subst (λ u. IfSome u (λ m. StepPut m.log i k (Err end) b c)) same put)
 
 -- ---- the last line
 
-pub trace_put : {E : Type 0} (s : Option BenchState) (kept count : ℕ) (a b c : Option (List ℕ)) (r : Result (Unit {0}) E) → IfSome s (λ m. IsCounted m.log → EntriesPut m.log (Ok (kept, count)) a b) → PutAppends b c r (kept_line kept count) → IfSome s (λ m. IsCounted m.log → PutAppends a c r (trace m.log))
-trace_put None kept count a b c r come put = tt
-trace_put (Some m) kept count a b c r come put = λ few.
+pub trace_put : {E : Type 0} (s : Option BenchState) (kept count : ℕ) (a b c : Option (List ℕ)) (r : Result (Unit {0}) E) → IfSome s (λ m. IsCountedLog m.log) → IfSome s (λ m. IsCountedLog m.log → EntriesPut m.log (Ok (kept, count)) a b) → PutAppends b c r (kept_line kept count) → IfSome s (λ m. PutAppends a c r (trace m.log))
+trace_put None kept count a b c r few come put = tt
+trace_put (Some m) kept count a b c r few come put =
     let all = come few in
     put_after a b c r (flat_map entry_line m.log.kept) (kept_line (length m.log.kept) m.log.count) all.0 (rw (all.1, all.2) at put)
 
-pub trace_cut : (s : Option BenchState) (a b : Option (List ℕ)) (end : TextEnd) → IfSome s (λ m. IsCounted m.log → EntriesPut m.log (Err end) a b) → IfSome s (λ m. IsCounted m.log → AppendsPrefix a b (trace m.log))
-trace_cut None a b end come = tt
-trace_cut (Some m) a b end come = λ few. prefix_first a b (flat_map entry_line m.log.kept) (kept_line (length m.log.kept) m.log.count) (come few)
+pub trace_cut : (s : Option BenchState) (a b : Option (List ℕ)) (end : TextEnd) → IfSome s (λ m. IsCountedLog m.log) → IfSome s (λ m. IsCountedLog m.log → EntriesPut m.log (Err end) a b) → IfSome s (λ m. AppendsPrefix a b (trace m.log))
+trace_cut None a b end few come = tt
+trace_cut (Some m) a b end few come = prefix_first a b (flat_map entry_line m.log.kept) (kept_line (length m.log.kept) m.log.count) (come few)

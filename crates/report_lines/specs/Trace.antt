@@ -26,11 +26,6 @@ kept_line kept count = codes "trace kept " ++ decimal kept ++ codes " of " ++ de
 abbrev pub trace : Log → List ℕ
 trace log = flat_map entry_line log.kept ++ kept_line (length log.kept) log.count
 
--- the entries that are kept are among those that are counted, and at most 2^32 - 1 are
-pub record IsCounted (log : Log) : Type 0 where
-  pub kept : length log.kept ≤ log.count
-  pub few : log.count < 2 ^ 32
-
 -- what was put of a line: it is whole, or a part of it from the front
 abbrev pub LinePut : Entry → Result Seen TextEnd → Option (List ℕ) → Option (List ℕ) → Type 0
 LinePut entry (Ok seen.Kept) old new = Appends old new (entry_line entry)

@@ -1,9 +1,10 @@
 //! The trace of a run.
 ghost use Rattle.std.specs.Prelude.{◌≡◌, ◌≢◌, ◌+◌, ◌<◌, ◌≤◌, IfErr, IfOk, IfSome};
 ghost use Rattle.dap_base.specs.Streams.{PutAppends};
+ghost use Rattle.probe_core.specs.Log.{IsCountedLog};
 ghost use Rattle.probe_core.specs.Bench.{IsAsBefore, seen};
 ghost use Rattle.text_lines.specs.Causes.{NamesFault};
-ghost use Rattle.report_lines.specs.Trace.{EntriesPut, EntryPut, IsCounted, LinePut, StepPut, entry_line, entry_mark, kept_line, trace};
+ghost use Rattle.report_lines.specs.Trace.{EntriesPut, EntryPut, LinePut, StepPut, entry_line, entry_mark, kept_line, trace};
 
 use crate::endings::with_digits;
 use crate::put::{TextEnd, put_line};
@@ -120,7 +121,7 @@ fn write_entries<K: Sink, B: Bench>(
     bench: &mut B,
     sink: &mut K,
 ) -> Result<(u32, u32), TextEnd>
-    ensures text { IfSome (B.state bench.old) (λ m. IsCounted m.log → EntriesPut m.log result (K.written sink.old) (K.written sink.new)) }
+    ensures text { IfSome (B.state bench.old) (λ m. IsCountedLog m.log → EntriesPut m.log result (K.written sink.old) (K.written sink.new)) }
     ensures same { IsAsBefore (seen B.reported B.state bench.old) (seen B.reported B.state bench.new) }
     ensures identity { B.identity bench.new ≡ B.identity bench.old }
     ensures bench { NamesFault TextEnd.BenchFault (B.reported bench.old).faults (B.reported bench.new).faults result }
@@ -150,7 +151,7 @@ pub fn trace_text<K: Sink, B: Bench>(
     bench: &mut B,
     sink: &mut K,
 ) -> Result<(), TextEnd>
-    ensures text { IfSome (B.state bench.old) (λ m. IsCounted m.log → PutAppends (K.written sink.old) (K.written sink.new) result (trace m.log)) }
+    ensures text { IfSome (B.state bench.old) (λ m. PutAppends (K.written sink.old) (K.written sink.new) result (trace m.log)) }
     ensures same { IsAsBefore (seen B.reported B.state bench.old) (seen B.reported B.state bench.new) }
     ensures identity { B.identity bench.new ≡ B.identity bench.old }
     ensures bench { NamesFault TextEnd.BenchFault (B.reported bench.old).faults (B.reported bench.new).faults result }
