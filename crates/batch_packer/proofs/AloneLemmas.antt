@@ -26,12 +26,13 @@ use Rattle.flight_forms.proofs.TransferAnswers.{transfer_answers}
 use Rattle.flight_forms.proofs.Transfers.{does_transfer}
 use Rattle.flight_forms.specs.Packets.{FitsPacket, block_answer, transfer_answer}
 use Rattle.flight_forms.specs.Packing.{AreTaken, AreWords, requests_for}
+use Rattle.batch_packer.proofs.OnceLemmas.{reads_once}
 use Rattle.batch_packer.proofs.PacketLemmas.{answered_one}
 use Rattle.batch_packer.proofs.RangeLemmas.{taken_in_range}
 use Rattle.batch_packer.proofs.StateSteps.{steps_map}
 use Rattle.batch_packer.specs.Alone.{IsBlock, one_command, one_form}
 use Rattle.batch_packer.specs.Exchanges.{HasAnswered, IsIdle, MayHaveRun}
-use Rattle.batch_packer.specs.Flying.{HasFlown, HasFlownBy, IsReady, MayHaveFlown, transfers_of}
+use Rattle.batch_packer.specs.Flying.{HasFlown, HasFlownBy, IsReady, MayHaveFlown, OnceBy, transfers_of}
 use Rattle.batch_packer.specs.Readings.{IsPart, IsSeen, IsShown, part_as, part_in, part_with, reading, shown_in}
 use Rattle.batch_packer.specs.declared.part.Progress.{Progress}
 
@@ -58,6 +59,7 @@ pub record DoesOne (b : Bool) (p : TransferState) (accesses : List RegAccess) : 
   pub answers : Answers (one_command b accesses) (one_answer b (one_done b p accesses))
   pub does : DoesPart p (one_done b p accesses).next accesses (one_part b (one_done b p accesses) accesses)
   pub mask : (one_done b p accesses).next.mask ≡ p.mask
+  pub once : OnceBy (one_form b) accesses (one_part b (one_done b p accesses) accesses) p (one_done b p accesses).next
 
 pub response_known : (x : Response) → response_of (code_of x) ≡ Some x
 response_known Good = refl
@@ -115,11 +117,13 @@ one_does true p accesses block taken words clear h = record {
   answers = (let is = block refl in block_answers p is.0 accesses is.2 clear);
   does = (let is = block refl in (does_block p is.0 accesses is.2 clear).0);
   mask = (let is = block refl in (does_block p is.0 accesses is.2 clear).1);
+  once = λ form one. absurd (cc);
 }
 one_does false p accesses block taken words clear h = record {
   answers = transfer_answers p accesses taken words clear h;
   does = (does_transfer p accesses taken clear).0;
   mask = (does_transfer p accesses taken clear).1;
+  once = λ form one. reads_once p accesses one (does_transfer p accesses taken clear).1;
 }
 
 -- after an exchange: what the reply shows, and what was done
@@ -148,13 +152,14 @@ flown_alone b given accesses packet reply m n short words fits is ready does has
         idle = has.idle;
         starting = has.starting;
         in_range = after_in_range (transfers_of m) (transfers_of n) accesses part made flies.in_range words;
+        once = subst (λ (q : TransferState). OnceBy (one_form b) accesses part e.transfers q) (sym transfers) does.once;
       },
     )
 
 -- after one that failed
 pub ran_alone : (b : Bool) (given : Limits) (accesses : List RegAccess) (packet : List ℕ) (m n : BenchState) → given.packet_size ≤ 1024 →
     FitsPacket given.packet_size 0 (one_command b accesses) → packet ≡ command_bytes (one_command b accesses) → IsReady given m → DoesOne b (transfers_of m) accesses → MayHaveRun packet m n →
-    MayHaveFlown accesses m n
+    MayHaveFlown (one_form b) accesses m n
 ran_alone b given accesses packet m n short fits is ready does (inl same) = inl (ap (λ (x : ExecutorState). x.transfers) same)
 ran_alone b given accesses packet m n short fits is ready does (inr ran) =
     let e : ExecutorState = m.probe.executor in
@@ -162,7 +167,12 @@ ran_alone b given accesses packet m n short fits is ready does (inr ran) =
     let short_here : e.limits.packet_size ≤ 1024 = subst (λ (l : Limits). l.packet_size ≤ 1024) (sym ready.limits) short in
     let fits_here : FitsPacket e.limits.packet_size 0 (one_command b accesses) = subst (λ (l : Limits). FitsPacket l.packet_size 0 (one_command b accesses)) (sym ready.limits) fits in
     let next = ran ∙ ap (λ (x : Answered). x.next) (answered_alone b e accesses packet short_here fits_here is) in
-    inr (one_part b d accesses, subst (λ (q : TransferState). DoesPart e.transfers q accesses (one_part b d accesses)) (ap (λ (x : ExecutorState). x.transfers) (sym next)) does.does)
+    let after = ap (λ (x : ExecutorState). x.transfers) (sym next) in
+    inr (
+      one_part b d accesses,
+      subst (λ (q : TransferState). DoesPart e.transfers q accesses (one_part b d accesses)) after does.does,
+      subst (λ (q : TransferState). OnceBy (one_form b) accesses (one_part b d accesses) e.transfers q) after does.once,
+    )
 
 -- ---- what was read is what was done
 
@@ -211,11 +221,11 @@ flew_alone b given accesses packet reply progress new x y limits block taken wor
 pub may_have_flown : (b : Bool) (given : Limits) (accesses : List RegAccess) (packet : List ℕ) (x y : Option BenchState) →
     AreLimits given → (b ≡ true → IsBlock accesses) → AreTaken accesses → AreWords accesses → FitsPacket given.packet_size 0 (one_command b accesses) →
     packet ≡ command_bytes (one_command b accesses) →
-    StepsTo (λ m o. IsIdle m → MayHaveRun packet m o) x y → StepsTo (λ m n. IsReady given m → MayHaveFlown accesses m n) x y
+    StepsTo (λ m o. IsIdle m → MayHaveRun packet m o) x y → StepsTo (λ m n. IsReady given m → MayHaveFlown (one_form b) accesses m n) x y
 may_have_flown b given accesses packet x y limits block taken words fits is steps =
     steps_map one x y steps
   where
-    one : (m n : BenchState) → (IsIdle m → MayHaveRun packet m n) → IsReady given m → MayHaveFlown accesses m n
+    one : (m n : BenchState) → (IsIdle m → MayHaveRun packet m n) → IsReady given m → MayHaveFlown (one_form b) accesses m n
     one m n may ready =
         let flies = ready.flies in
         let guard = flies.guard in

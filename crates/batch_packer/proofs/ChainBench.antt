@@ -253,6 +253,7 @@ flown_chain given accesses (first ∷ rest) replies m n o short some all words t
         idle = record { held = ap (λ (x : ProbeState). x.held) gone.probe; waiting = ap (λ (x : ProbeState). x.waiting) gone.probe };
         starting = gone.starting;
         in_range = after_in_range p (transfers_of o) accesses part made flies.in_range words;
+        once = λ form one. absurd (cc);
       },
     )
 
@@ -266,7 +267,7 @@ held_only m (suc k) (accesses ∷ []) below = absurd (omega arith)
 held_only m (suc k) (accesses ∷ next ∷ parts) below = held_only (served m (bytes_of_kind Queue (guarded_command accesses ∷ []))) k (next ∷ parts) (omega arith)
 
 chain_executed : (given : Limits) (accesses : List RegAccess) (parts : List (List RegAccess)) (m n : BenchState) → given.packet_size ≤ 1024 → 0 < length parts → all_of parts ≡ accesses → AllTaken parts →
-    FitChain given.packet_size parts → IsReady given m → n ≡ fold served m (chain_packets parts) → MayHaveFlown accesses m n
+    FitChain given.packet_size parts → IsReady given m → n ≡ fold served m (chain_packets parts) → MayHaveFlown Chain accesses m n
 chain_executed given accesses [] m n short some all taken fits ready is = absurd (omega arith)
 chain_executed given accesses (first ∷ rest) m n short some all taken fits ready is =
     let parts : List (List RegAccess) = first ∷ rest in
@@ -280,7 +281,7 @@ chain_executed given accesses (first ∷ rest) m n short some all taken fits rea
     let part : Part = chain_part parts (chain_replies p parts) in
     let probe : n.probe ≡ chain_taken m.probe parts = ap (λ (b : BenchState). b.probe) is ∙ served_probe m (chain_packets parts) ∙ chain_ran m.probe first rest idle.held idle.waiting short_here fits_here in
     let transfers : transfers_of n ≡ chain_after p parts = ap (λ (x : ProbeState). x.executor.transfers) probe in
-    inr (part, subst (λ (q : TransferState). DoesPart p q accesses part) (sym transfers) (subst (λ (xs : List RegAccess). DoesPart p (chain_after p parts) xs part) all chain.part))
+    inr (part, subst (λ (q : TransferState). DoesPart p q accesses part) (sym transfers) (subst (λ (xs : List RegAccess). DoesPart p (chain_after p parts) xs part) all chain.part), λ form one. absurd (cc))
 
 take_most : (k : ℕ) (xs : List (List ℕ)) → length xs ≤ k → take k xs ≡ xs
 take_most zero [] h = refl
@@ -298,14 +299,14 @@ by_count (suc k) (suc n) = either (by_count k n)
     either (inr h) = inr (omega arith)
 
 pub some_sent : (given : Limits) (accesses : List RegAccess) (parts : List (List RegAccess)) (packets : List (List ℕ)) (m n : BenchState) → given.packet_size ≤ 1024 → 0 < length parts → all_of parts ≡ accesses →
-    AllTaken parts → FitChain given.packet_size parts → packets ≡ chain_packets parts → IsReady given m → ServedSome packets m n → MayHaveFlown accesses m n
+    AllTaken parts → FitChain given.packet_size parts → packets ≡ chain_packets parts → IsReady given m → ServedSome packets m n → MayHaveFlown Chain accesses m n
 some_sent given accesses parts packets m n short some all taken fits is ready served_some =
     by_cases (by_count served_some.count (length parts))
   where
     next : n ≡ fold served m (take served_some.count (chain_packets parts))
     next = served_some.next ∙ ap (λ xs. fold served m (take served_some.count xs)) is
 
-    by_cases : (served_some.count < length parts) ⊎ (length parts ≤ served_some.count) → MayHaveFlown accesses m n
+    by_cases : (served_some.count < length parts) ⊎ (length parts ≤ served_some.count) → MayHaveFlown Chain accesses m n
     by_cases (inl below) = inl (ap (λ (b : BenchState). b.probe.executor.transfers) next ∙ ap (λ (x : ExecutorState). x.transfers) (held_only m served_some.count parts below))
     by_cases (inr most) =
         chain_executed given accesses parts m n short some all taken fits ready
@@ -316,16 +317,16 @@ handed_transfers : (replies : List (List ℕ)) (n o : BenchState) → HandedSome
 handed_transfers replies n o handed_is = ap (λ (b : BenchState). b.probe.executor) handed_is.next ∙ handed_executor n replies
 
 pub not_all_taken : (given : Limits) (accesses : List RegAccess) (parts : List (List RegAccess)) (packets replies : List (List ℕ)) (m n o : BenchState) → given.packet_size ≤ 1024 → 0 < length parts → all_of parts ≡ accesses →
-    AllTaken parts → FitChain given.packet_size parts → packets ≡ chain_packets parts → IsReady given m → n ≡ fold served m packets → HandedSome replies n o → MayHaveFlown accesses m o
+    AllTaken parts → FitChain given.packet_size parts → packets ≡ chain_packets parts → IsReady given m → n ≡ fold served m packets → HandedSome replies n o → MayHaveFlown Chain accesses m o
 not_all_taken given accesses parts packets replies m n o short some all taken fits is ready sent_is handed_is =
     after_taken (chain_executed given accesses parts m n short some all taken fits ready (sent_is ∙ ap (fold served m) is))
   where
     same : transfers_of o ≡ transfers_of n
     same = ap (λ (x : ExecutorState). x.transfers) (handed_transfers replies n o handed_is)
 
-    after_taken : MayHaveFlown accesses m n → MayHaveFlown accesses m o
+    after_taken : MayHaveFlown Chain accesses m n → MayHaveFlown Chain accesses m o
     after_taken (inl kept) = inl (same ∙ kept)
-    after_taken (inr made) = inr (made.0, subst (λ (q : TransferState). DoesPart (transfers_of m) q accesses made.0) (sym same) made.1)
+    after_taken (inr made) = inr (made.0, subst (λ (q : TransferState). DoesPart (transfers_of m) q accesses made.0) (sym same) made.1, λ form one. absurd (cc))
 
 -- ---- over a bench
 
@@ -343,12 +344,12 @@ flew_chain given accesses parts packets replies progress new a b c short some al
 
 pub send_failed : (given : Limits) (accesses : List RegAccess) (parts : List (List RegAccess)) (packets : List (List ℕ)) (a b : Option BenchState) →
     given.packet_size ≤ 1024 → 0 < length parts → all_of parts ≡ accesses → AllTaken parts → FitChain given.packet_size parts → packets ≡ chain_packets parts →
-    StepsTo (ServedSome packets) a b → StepsTo (λ m n. IsReady given m → MayHaveFlown accesses m n) a b
+    StepsTo (ServedSome packets) a b → StepsTo (λ m n. IsReady given m → MayHaveFlown Chain accesses m n) a b
 send_failed given accesses parts packets a b short some all taken fits is h =
     steps_map (λ m n s ready. some_sent given accesses parts packets m n short some all taken fits is ready s) a b h
 
 pub receive_failed : (given : Limits) (accesses : List RegAccess) (parts : List (List RegAccess)) (packets replies : List (List ℕ)) (a b c : Option BenchState) →
     given.packet_size ≤ 1024 → 0 < length parts → all_of parts ≡ accesses → AllTaken parts → FitChain given.packet_size parts → packets ≡ chain_packets parts →
-    StepsTo (λ m n. n ≡ fold served m packets) a b → StepsTo (HandedSome replies) b c → StepsTo (λ m o. IsReady given m → MayHaveFlown accesses m o) a c
+    StepsTo (λ m n. n ≡ fold served m packets) a b → StepsTo (HandedSome replies) b c → StepsTo (λ m o. IsReady given m → MayHaveFlown Chain accesses m o) a c
 receive_failed given accesses parts packets replies a b c short some all taken fits is first second =
     steps_then (λ m n o s t ready. not_all_taken given accesses parts packets replies m n o short some all taken fits is ready s t) a b c first second

@@ -5,6 +5,7 @@ pub mod PacketLemmas
 pub mod FewLemmas
 pub mod RangeLemmas
 pub mod AloneLemmas
+pub mod OnceLemmas
 pub mod FlightFacts
 pub mod ChainLemmas
 pub mod PartLemmas

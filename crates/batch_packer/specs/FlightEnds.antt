@@ -75,7 +75,7 @@ FlewCut form accesses cut values (Some response) m n = (response ≡ Good → �
 abbrev pub Flew : Form → List RegAccess → Option FlightEnd → List (Option ℕ) → BenchState → BenchState → Type 0
 Flew form accesses None values m n = HasFlown form accesses (whole_part accesses values) m n
 Flew form accesses (Some (ends.Cut cut)) values m n = FlewCut form accesses cut values (response_of cut.response) m n
-Flew form accesses (Some ends.BenchFault) values m n = MayHaveFlown accesses m n
+Flew form accesses (Some ends.BenchFault) values m n = MayHaveFlown form accesses m n
 Flew form accesses (Some ends.ReplyBad) values m n = ⊥
 
 -- whether a flight that ended so got all its replies

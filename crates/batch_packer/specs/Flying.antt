@@ -1,7 +1,10 @@
 -- What a flight does to a bench.
-use Rattle.std.specs.Prelude.{◌≡◌, ◌≤◌, ◌⊎◌, ℕ, Bool, false, not, List, Option, Some, None}
+use Rattle.std.specs.Prelude.{◌≡◌, ◌≤◌, ◌⊎◌, ℕ, Bool, false, not, List, [], ◌∷◌, Option, Some, None}
+use Rattle.target_machine.specs.Attempt.{bank}
 use Rattle.target_machine.specs.InRange.{IsInRange}
+use Rattle.target_machine.specs.Plain.{dp_read_of}
 use Rattle.target_machine.specs.declared.access.RegAccess.{RegAccess}
+use Rattle.dap_messages.specs.declared.request.Response.TheVariants.{Good}
 use Rattle.dap_transfer.specs.State.{TransferState, is_good}
 use Rattle.probe_core.specs.Bench.{BenchState, counted}
 use Rattle.probe_core.specs.Commands.{with_transfers}
@@ -10,7 +13,7 @@ use Rattle.probe_core.specs.declared.job.Limits.{Limits}
 use Rattle.flight_forms.specs.Chains.{IsGuardOpen}
 use Rattle.flight_forms.specs.Flights.{DoesPart, Part}
 use Rattle.flight_forms.specs.declared.form.Form.{Form}
-use Rattle.flight_forms.specs.declared.form.Form.TheVariants.{Chain}
+use Rattle.flight_forms.specs.declared.form.Form.TheVariants.{Chain, Transfer}
 use Rattle.batch_packer.specs.Exchanges.{IsIdle}
 use Rattle.batch_packer.specs.Readings.{part_with}
 use Rattle.batch_packer.specs.declared.part.Progress.{Progress}
@@ -42,6 +45,17 @@ abbrev pub may_stay_shut : Form → Bool → Bool
 may_stay_shut Chain good = not good
 may_stay_shut _ good = false
 
+-- A flight of one read of CTRL/STAT: where it was not good nothing was performed, where DPBANKSEL is 0 it was good, and the match mask
+-- stays.
+pub record ReadsOnce (part : Part) (p q : TransferState) : Type 0 where
+  pub refused : (part.response ≡ Good → ⊥) → part.performed ≡ 0
+  pub free : bank p.line.target ≡ 0 → part.response ≡ Good
+  pub mask : q.mask ≡ p.mask
+
+-- so it is of one Transfer of such a read
+abbrev pub OnceBy : Form → List RegAccess → Part → TransferState → TransferState → Type 0
+OnceBy form accesses part p q = form ≡ Transfer → accesses ≡ dp_read_of 0x4 ∷ [] → ReadsOnce part p q
+
 -- After a flight in this form whose replies were taken, and which did this part of its accesses: one starting packet was sent, and
 -- nothing but the transfers changed.
 pub record HasFlown (form : Form) (accesses : List RegAccess) (part : Part) (m n : BenchState) : Type 0 where
@@ -51,6 +65,7 @@ pub record HasFlown (form : Form) (accesses : List RegAccess) (part : Part) (m n
   pub idle : IsIdle n
   pub starting : n.starting ≡ counted m.starting
   pub in_range : IsInRange (target_of n.probe)
+  pub once : OnceBy form accesses part (transfers_of m) (transfers_of n)
 
 -- what a flight did whose replies were read so; each of them is one that its command may get
 abbrev pub HasFlownBy : Form → List RegAccess → Option Progress → List (Option ℕ) → BenchState → BenchState → Type 0
@@ -58,8 +73,9 @@ HasFlownBy form accesses None values m n = ⊥
 HasFlownBy form accesses (Some progress) values m n = HasFlown form accesses (part_with progress values) m n
 
 -- a flight of which a bench call failed: it did nothing, or a part of its accesses
-abbrev pub MayHaveFlown : List RegAccess → BenchState → BenchState → Type 0
-MayHaveFlown accesses m n = (transfers_of n ≡ transfers_of m) ⊎ ((part : Part) × DoesPart (transfers_of m) (transfers_of n) accesses part)
+abbrev pub MayHaveFlown : Form → List RegAccess → BenchState → BenchState → Type 0
+MayHaveFlown form accesses m n =
+    (transfers_of n ≡ transfers_of m) ⊎ ((part : Part) × DoesPart (transfers_of m) (transfers_of n) accesses part × OnceBy form accesses part (transfers_of m) (transfers_of n))
 
 -- limits of at most these
 pub record IsWithin (limits given : Limits) : Type 0 where

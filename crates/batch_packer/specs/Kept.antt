@@ -1,8 +1,8 @@
 -- The packets of a flight, which of them it ended at, and what is kept of them.
-use Rattle.std.specs.Prelude.{◌≡◌, ℕ, List, [], ◌∷◌, Option, Some, None}
+use Rattle.std.specs.Prelude.{◌≡◌, ℕ, List, [], ◌∷◌, length, Option, Some, None}
 use Rattle.target_machine.specs.declared.access.RegAccess.{RegAccess}
 use Rattle.dap_messages.specs.Commands.{command_bytes}
-use Rattle.probe_core.specs.Bench.{counted}
+use Rattle.probe_core.specs.Bench.{Exchange, counted}
 use Rattle.flight_forms.specs.Chains.{nothing_yet}
 use Rattle.flight_forms.specs.Forms.{parts_of}
 use Rattle.flight_forms.specs.Packets.{block_command, chain_packets, transfer_command}
@@ -26,6 +26,11 @@ form_ended_at Chain size accesses replies = ended_at (Some nothing_yet) 0 0 (par
 abbrev pub AreSent : Option Form → ℕ → List RegAccess → List (List ℕ) → Type 0
 AreSent None size accesses packets = Unit {0}
 AreSent (Some form) size accesses packets = packets ≡ form_packets form size accesses
+
+-- as many replies came as packets were sent, where something was
+abbrev pub AreReplied : Option Form → Exchange → Type 0
+AreReplied None last = Unit {0}
+AreReplied (Some form) last = length last.replies ≡ length last.packets
 
 -- the flight ended at the packet and reply of this number
 abbrev pub EndedAt : Option Form → ℕ → List RegAccess → List (List ℕ) → ℕ → Type 0

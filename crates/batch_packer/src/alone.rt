@@ -50,12 +50,13 @@ pub fn fly_alone<B: Bench>(
     requires room { 255 ≤ slots.old.room }
     ensures flown { IfOk result (λ progress. StepsTo (λ m n. IsReady (B.reported bench.old).limits m
         → HasFlownBy (one_form is_block) accesses.now progress slots.new.values m n) (B.state bench.old) (B.state bench.new)) }
-    ensures failed { OnErr result (StepsTo (λ m n. IsReady (B.reported bench.old).limits m → MayHaveFlown accesses.now m n) (B.state bench.old) (B.state bench.new)) }
+    ensures failed { OnErr result (StepsTo (λ m n. IsReady (B.reported bench.old).limits m → MayHaveFlown (one_form is_block) accesses.now m n) (B.state bench.old) (B.state bench.new)) }
     ensures read { IfOk result (λ progress. IsSeen (one_reading is_block accesses.now replies.new.items) progress slots.new.values) }
     ensures short { IfOk result (λ progress. IfSome progress (λ p. IsPartOf (length accesses.now) (part_with p slots.new.values))) }
     ensures few { IfOk result (λ progress. IfSome progress IsSmall) }
     ensures packets { OnOk result (packets.new.items ≡ command_bytes (one_command is_block accesses.now) ∷ []) }
     ensures last { OnOk result ((B.reported bench.new).last ≡ record { packets = packets.new.items; replies = replies.new.items }) }
+    ensures replied { OnOk result (length replies.new.items ≡ length packets.new.items) }
     ensures exchanges { OnOk result ((B.reported bench.new).exchanges ≡ counted (B.reported bench.old).exchanges) }
     ensures open { OnOk result (IsOpen (B.reported bench.new)) }
     ensures packets_room { packets.new.room ≡ packets.old.room }

@@ -8,7 +8,7 @@ ghost use Rattle.batch_packer.specs.Exchanges.{GoesOn, IsOpen};
 ghost use Rattle.batch_packer.specs.FlightEnds.{HasEndCause, IsShort, got_replies};
 ghost use Rattle.batch_packer.specs.FlightStates.{ReadBy, SentBy, can_resume, can_resume_by, has_room, item_at, items_kept, new_flight, sent_form};
 ghost use Rattle.batch_packer.specs.Flying.{CanFly, IsWithin};
-ghost use Rattle.batch_packer.specs.Kept.{AreCounted, AreSent, EndedAt};
+ghost use Rattle.batch_packer.specs.Kept.{AreCounted, AreReplied, AreSent, EndedAt};
 ghost use Rattle.batch_packer.specs.SlotList.{slot_room};
 
 use crate::accesses::AccessList;
@@ -108,6 +108,17 @@ impl Flight {
         })
     }
 
+    /// Gives a flight of no accesses smaller limits: packet size from 64, packet count from 1.
+    pub fn limit_to(&mut self, limits: Limits)
+        requires limits { AreLimits limits }
+        requires within { IsWithin limits self.old.limits }
+        requires empty { self.old.accesses ≡ [] }
+        ensures { self.new ≡ record self.old { limits = limits } }
+    {
+        self.limits = limits;
+        self.size = FlightSize::new(limits.packet_size, limits.packet_count);
+    }
+
     /// Whether some form holds the flight with this access more: a block of writes, one Transfer, or a
     /// guarded chain. The access is one that a flight takes: of an access port any, of the debug port a
     /// read of 0x0 or 0x4, or a write of 0x0, 0x4, 0x8 or 0xC.
@@ -193,6 +204,7 @@ impl Flight {
         ensures packets { self.new.packets ≡ items_kept result (B.reported bench.new).last.packets }
         ensures replies { self.new.replies ≡ items_kept result (B.reported bench.new).last.replies }
         ensures at { got_replies result ≡ true → EndedAt (sent_form self.old.limits self.old.accesses) self.old.limits.packet_size self.old.accesses (B.reported bench.new).last.replies self.new.at }
+        ensures replied { got_replies result ≡ true → AreReplied (sent_form self.old.limits self.old.accesses) (B.reported bench.new).last }
         ensures exchanges { got_replies result ≡ true → AreCounted (sent_form self.old.limits self.old.accesses) (B.reported bench.old).exchanges (B.reported bench.new).exchanges }
         ensures slots_room { slots.new.room ≡ slots.old.room }
         ensures keeps { GoesOn (B.reported bench.old) (B.reported bench.new) }
@@ -267,6 +279,9 @@ impl Flight {
         ensures replies { self.old.end ≡ None → self.new.replies ≡ items_kept self.new.end (B.reported bench.new).last.replies }
         ensures at { self.old.end ≡ None → got_replies self.new.end ≡ true → EndedAt (sent_form self.old.limits self.old.accesses) self.old.limits.packet_size self.old.accesses
             (B.reported bench.new).last.replies self.new.at }
+        // As many replies came as packets were sent.
+        ensures replied { self.old.end ≡ None → got_replies self.new.end ≡ true
+            → AreReplied (sent_form self.old.limits self.old.accesses) (B.reported bench.new).last }
         ensures exchanges { self.old.end ≡ None → got_replies self.new.end ≡ true
             → AreCounted (sent_form self.old.limits self.old.accesses) (B.reported bench.old).exchanges (B.reported bench.new).exchanges }
         ensures slots_room { slots.new.room ≡ slots.old.room }
@@ -307,7 +322,8 @@ impl Flight {
 
     /// The packet at which the flight ended, where it was cut or a reply was bad; else nothing.
     pub fn sent(&self) -> &[u8]
-        ensures { result.now ≡ item_at self.now.packets self.now.at }
+        ensures sent { result.now ≡ item_at self.now.packets self.now.at }
+        ensures bound { length result.now ≤ 1024 }
     {
         if self.at < self.packets.len() {
             self.packets.get(self.at)
@@ -318,7 +334,8 @@ impl Flight {
 
     /// The reply to that packet; else nothing.
     pub fn got(&self) -> &[u8]
-        ensures { result.now ≡ item_at self.now.replies self.now.at }
+        ensures got { result.now ≡ item_at self.now.replies self.now.at }
+        ensures bound { length result.now ≤ 1024 }
     {
         if self.at < self.replies.len() {
             self.replies.get(self.at)

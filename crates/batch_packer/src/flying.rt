@@ -54,13 +54,14 @@ fn fly_in<B: Bench>(
     requires at { at.old ≡ 0 }
     ensures flown { IfOk result (λ progress. StepsTo (λ m n. IsReady (B.reported bench.old).limits m
         → HasFlownBy form accesses.now progress slots.new.values m n) (B.state bench.old) (B.state bench.new)) }
-    ensures failed { OnErr result (StepsTo (λ m n. IsReady (B.reported bench.old).limits m → MayHaveFlown accesses.now m n) (B.state bench.old) (B.state bench.new)) }
+    ensures failed { OnErr result (StepsTo (λ m n. IsReady (B.reported bench.old).limits m → MayHaveFlown form accesses.now m n) (B.state bench.old) (B.state bench.new)) }
     ensures read { IfOk result (λ progress. IsSeen (form_reading form limits.packet_size accesses.now replies.new.items) progress slots.new.values) }
     ensures short { IfOk result (λ progress. IfSome progress (λ p. IsPartOf (length accesses.now) (part_with p slots.new.values))) }
     ensures few { IfOk result (λ progress. IfSome progress IsSmall) }
     ensures packets { OnOk result (packets.new.items ≡ form_packets form limits.packet_size accesses.now) }
     ensures at { OnOk result (at.new ≡ form_ended_at form limits.packet_size accesses.now replies.new.items) }
     ensures last { OnOk result ((B.reported bench.new).last ≡ record { packets = packets.new.items; replies = replies.new.items }) }
+    ensures replied { OnOk result (length replies.new.items ≡ length packets.new.items) }
     ensures exchanges { OnOk result ((B.reported bench.new).exchanges ≡ counted (B.reported bench.old).exchanges) }
     ensures open { OnOk result (IsOpen (B.reported bench.new)) }
     ensures packets_room { packets.new.room ≡ packets.old.room }
@@ -148,6 +149,7 @@ pub fn fly<B: Bench>(
     ensures packets { got_replies result ≡ true → (B.reported bench.new).last.packets ≡ form_packets form limits.packet_size accesses.now }
     ensures at { got_replies result ≡ true → at.new ≡ form_ended_at form limits.packet_size accesses.now (B.reported bench.new).last.replies }
     ensures last { got_replies result ≡ true → (B.reported bench.new).last ≡ record { packets = packets.new.items; replies = replies.new.items } }
+    ensures replied { got_replies result ≡ true → length (B.reported bench.new).last.replies ≡ length (B.reported bench.new).last.packets }
     ensures exchanges { got_replies result ≡ true → (B.reported bench.new).exchanges ≡ counted (B.reported bench.old).exchanges }
     ensures open { got_replies result ≡ true → IsOpen (B.reported bench.new) }
     ensures packets_room { packets.new.room ≡ packets.old.room }

@@ -194,6 +194,7 @@ pub fn send_poll<B: Bench>(
     ensures read { got_replies (end_in result) ≡ true → result ≡ matched_read config ask replies.new.items }
     ensures packets { packets.new.items ≡ packet_bytes (packet_of config ask) ∷ [] }
     ensures last { got_replies (end_in result) ≡ true → (B.reported bench.new).last ≡ record { packets = packets.new.items; replies = replies.new.items } }
+    ensures replied { got_replies (end_in result) ≡ true → length replies.new.items ≡ 1 }
     ensures exchanges { got_replies (end_in result) ≡ true → (B.reported bench.new).exchanges ≡ counted (B.reported bench.old).exchanges }
     ensures open { got_replies (end_in result) ≡ true → IsOpen (B.reported bench.new) }
     ensures packets_room { packets.new.room ≡ packets.old.room }

@@ -100,7 +100,7 @@ module _ (entries made : List Entry) (e : Entry) (rest : List Entry) (n : Option
       by_left (inl same) = inl (subst (Agree (target_of o.probe)) at_front same)
       by_left (inr part) = inr (subst (λ (x : Option Entry). IsPartOf x (target_after t0 (take (length made) entries)) (target_of o.probe)) (sym next_is) (subst (λ (s : TargetState). IsPart e.action s (target_of o.probe)) at_front part))
 
-  pub action_wait : (r : Report) (b : Reported) → Agree (target_of o.probe) (target_of m.probe) → ended_retries_of o.probe ≡ ended_retries_of m.probe + 1 → number_of o ≤ number_of m + work + 1 → pending_of o ≡ false → r.accesses ≡ length made → r.confirmed ≡ length made → HasNumbers entries b.asks.calls b.skipped b.lines r →
+  pub action_wait : (r : Report) (b : Reported) → Agree (target_of o.probe) (target_of m.probe) → ended_retries_of o.probe ≡ ended_retries_of m.probe + 1 → number_of o ≤ number_of m + 2 * work + 1 → pending_of o ≡ false → r.accesses ≡ length made → r.confirmed ≡ length made → HasNumbers entries b.asks.calls b.skipped b.lines r →
       IsUnanswered entries r b (began m0 n) o
   action_wait r b same retries number pending accesses confirmed numbers = record {
     performed = record {

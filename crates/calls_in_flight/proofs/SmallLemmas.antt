@@ -1,5 +1,6 @@
 -- Which accesses do not end because their AP has no large addresses.
-use Rattle.std.proofs.Common.{◌≡◌, ◌≢◌, ◌∙◌, ℕ, zero, suc, ◌<◌, Bool, true, false, not, ◌&&◌, ◌||◌, nat_lt, List, [], ◌∷◌, length, Option, Some, None, refl, sym, ap, subst, arith}
+use Rattle.std.proofs.Common.{◌≡◌, ◌≢◌, ◌∙◌, ℕ, zero, suc, ◌<◌, Bool, true, false, not, ◌&&◌, ◌||◌, nat_lt, List, [], ◌∷◌, length, Option, Some, None, refl, ap, subst, arith}
+use Rattle.target_machine.specs.Fresh.{IsFresh}
 use Rattle.target_machine.specs.Plain.{Action, CallEnd, Faulted, call_done, contains, ended, is_small}
 use Rattle.target_machine.specs.State.{TargetState}
 use Rattle.target_machine.specs.declared.unit.Call.{Call}
@@ -7,14 +8,16 @@ use Rattle.target_machine.specs.declared.unit.Call.TheVariants.{Access}
 use Rattle.target_machine.specs.declared.unit.Unit.{Unit as AccessUnit}
 use Rattle.target_machine.specs.declared.unit.Unit.TheVariants as unit
 use Rattle.probe_core.specs.Probe.{target_of}
-use Rattle.call_terms.specs.Asks.{IsUnitInRange, unit_ask}
-use Rattle.call_terms.specs.World.{AtLeast, is_faulted, is_over, is_small_end, one_fewer, small_after, stop, stops_here, world_after}
+use Rattle.call_terms.specs.Asks.{AreAskable, IsUnitInRange, is_wide, unit_ask}
+use Rattle.call_terms.specs.World.{AtLeast, is_faulted, is_over, is_small_end, one_fewer, small_after, small_now, start_world, stop, stops_here, world_after}
 use Rattle.call_terms.specs.declared.calls.Ask.{Ask}
 use Rattle.call_terms.proofs.CallLists.{head_of}
 use Rattle.access_regs.specs.Alone.{NoneFaults, alone, alone_after, large_of_all}
+use Rattle.access_regs.specs.Entries.{kept_by}
 use Rattle.access_regs.specs.Kept.{Kept, known}
 use Rattle.access_regs.specs.Plan.{needs_cfg}
 use Rattle.access_regs.specs.Stops.{world_at}
+use Rattle.access_regs.specs.declared.planner.Planner.{Planner}
 use Rattle.access_regs.proofs.AllCalls.{journal_follows}
 use Rattle.calls_in_flight.specs.Small.{NotSmall}
 use Rattle.calls_in_flight.proofs.OpenLemmas.{after_alone, large_alone}
@@ -75,18 +78,36 @@ done_small : (t : TargetState) (large : List ℕ) (forgive : Bool) (call : Call)
 unfolding call_done
 done_small t large forgive call none = not_small _ _ (is_small t large call) _ _ _ _ none
 
-pub not_small_now : NotSmall
-not_small_now p a kept accesses came n m0 m asked forgive f enough range none = by_stop (stop (world_at (target_of m0.probe) [] n) a.asks.calls) refl
+-- an access of an address of 32 bits, and what is no memory access, does not end so
+small_narrow : (t : TargetState) (large : List ℕ) (asked : AccessUnit) → is_wide asked ≡ false → is_small t large (Access asked) ≡ false
+small_narrow t large (unit.Memory size read n address value) e = and_first _ _ (and_first _ _ e)
+small_narrow t large (unit.Ap read n addr value) e = refl
+small_narrow t large (unit.Dp read addr value) e = refl
+small_narrow t large (unit.Poll mask value turns) e = refl
+
+pub never_narrow : (t : TargetState) (asks : List Ask) (n : Option ℕ) (asked : AccessUnit) (forgive : Bool) → is_wide asked ≡ false → small_now (start_world t n) asks (unit_ask asked forgive) ≡ false
+never_narrow t asks n asked forgive narrow = by_stop (stop (start_world t n) asks)
   where
-    by_stop : (x : Option ℕ) → stop (world_at (target_of m0.probe) [] n) a.asks.calls ≡ x → small_after x (world_after (world_at (target_of m0.probe) [] n) a.asks.calls) (unit_ask asked forgive) ≡ false
+    by_stop : (x : Option ℕ) → small_after x (world_after (start_world t n) asks) (unit_ask asked forgive) ≡ false
+    by_stop (Some k) = refl
+    by_stop None = done_small (world_after (start_world t n) asks).target (world_after (start_world t n) asks).large forgive (Access asked) (small_narrow (world_after (start_world t n) asks).target (world_after (start_world t n) asks).large asked narrow)
+
+-- by the calls alone
+pub never_small : (p : Planner) (t : TargetState) (asks : List Ask) (n : Option ℕ) (asked : AccessUnit) (forgive : Bool) → IsFresh t → AreAskable asks → IsUnitInRange asked → needs_cfg (kept_by p t asks) asked ≡ false →
+    small_now (start_world t n) asks (unit_ask asked forgive) ≡ false
+never_small p t asks n asked forgive fresh ok range none = by_stop (stop (world_at t [] n) asks) refl
+  where
+    by_stop : (x : Option ℕ) → stop (world_at t [] n) asks ≡ x → small_after x (world_after (world_at t [] n) asks) (unit_ask asked forgive) ≡ false
     by_stop (Some k) e = refl
     by_stop None e =
-        let s = never_stops (target_of m0.probe) [] n a.asks.calls e in
-        let follows = journal_follows p (target_of m0.probe) a.asks.calls f.fresh f.askable s.none in
-        let target = after_alone (target_of m0.probe) [] n a.asks.calls s.none s.enough in
-        let large = large_alone (target_of m0.probe) [] n a.asks.calls s.none s.enough in
-        let larges : (q : ℕ) → q < 256 → (known kept q).large ≡ contains (large_of_all (target_of m0.probe) [] a.asks.calls) q =
-        λ q less. ap (λ (k : Kept). (known k q).large) (sym f.kept_is) ∙ follows.larges q less in
+        let s = never_stops t [] n asks e in
+        let follows = journal_follows p t asks fresh ok s.none in
+        let target = after_alone t [] n asks s.none s.enough in
+        let large = large_alone t [] n asks s.none s.enough in
         (λ j. is_small_end (call_done (target j) (large j) forgive (Access asked)).end)
-        ∙ done_small (alone_after (target_of m0.probe) [] a.asks.calls) (large_of_all (target_of m0.probe) [] a.asks.calls) forgive (Access asked)
-        (small_none (alone_after (target_of m0.probe) [] a.asks.calls) (large_of_all (target_of m0.probe) [] a.asks.calls) kept asked range larges none)
+        ∙ done_small (alone_after t [] asks) (large_of_all t [] asks) forgive (Access asked)
+        (small_none (alone_after t [] asks) (large_of_all t [] asks) (kept_by p t asks) asked range follows.larges none)
+
+pub not_small_now : NotSmall
+not_small_now p a kept accesses came n m0 m asked forgive f enough range none =
+    never_small p (target_of m0.probe) a.asks.calls n asked forgive f.fresh f.askable range (ap (λ (k : Kept). needs_cfg k asked) f.kept_is ∙ none)

@@ -44,7 +44,7 @@ abbrev pub ActionWait : Type 0
 ActionWait = (entries made : List Entry) (e : Entry) (rest : List Entry) (n : Option ℕ) (m0 m o : BenchState) (work : ℕ) (r : Report) (b : Reported) →
     IsUnderWay entries made [] (e ∷ rest) [] m0 m →
     work_of o.probe ≡ work_of m.probe + work → work < weight (target_of m.probe) e.action → Agree (target_of o.probe) (target_of m.probe) →
-    ended_retries_of o.probe ≡ ended_retries_of m.probe + 1 → number_of o ≤ number_of m + work + 1 → pending_of o ≡ false →
+    ended_retries_of o.probe ≡ ended_retries_of m.probe + 1 → number_of o ≤ number_of m + 2 * work + 1 → pending_of o ≡ false →
     r.accesses ≡ length made → r.confirmed ≡ length made → HasNumbers entries b.asks.calls b.skipped b.lines r →
     IsUnanswered entries r b (began m0 n) o
 

@@ -1,5 +1,5 @@
 -- How an access ends whose calls lie in a flight, and what is true of it from its beginning to its end.
-use Rattle.std.specs.Prelude.{◌≡◌, ◌⊎◌, ℕ, ◌+◌, ◌<◌, ◌≤◌, true, false, List, [], ◌∷◌, length, take, Option, Some, None}
+use Rattle.std.specs.Prelude.{◌≡◌, ◌⊎◌, ℕ, ◌+◌, ◌*◌, ◌<◌, ◌≤◌, true, false, List, [], ◌∷◌, length, take, Option, Some, None}
 use Rattle.target_machine.specs.State.{Agree}
 use Rattle.target_machine.specs.declared.access.RegAccess.{RegAccess}
 use Rattle.dap_messages.specs.declared.request.Response.{Response}
@@ -94,7 +94,7 @@ abbrev pub PollEnds : Type 0
 PollEnds = (p : Planner) (confirmed count : ℕ) (e : Entry) (rest : List Entry) (came : List ℕ) (m0 m o : BenchState) (work : ℕ) (r : Report) (b : Reported) →
     IsSending p b.asks.calls confirmed count [] (e ∷ rest) [] came m0 m →
     work_of o.probe ≡ work_of m.probe + work → work < weight (target_of m.probe) e.action → Agree (target_of o.probe) (target_of m.probe) →
-    ended_retries_of o.probe ≡ ended_retries_of m.probe + 1 → number_of o ≤ number_of m + work + 1 → pending_of o ≡ false →
+    ended_retries_of o.probe ≡ ended_retries_of m.probe + 1 → number_of o ≤ number_of m + 2 * work + 1 → pending_of o ≡ false →
     r.cause ≡ NoAnswer → r.accesses ≡ confirmed → r.confirmed ≡ confirmed → IsCutOff p r b m0 → EndsCut p r b count came m0 o
 
 -- ---- a bench that failed

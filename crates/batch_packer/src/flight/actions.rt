@@ -1,5 +1,5 @@
 //! Polls and commands of the probe, each in packets of its own.
-ghost use Rattle.std.specs.Prelude.{◌≡◌, ◌≤◌, [], ◌∷◌, true, false, None, Some, IfSome, MatchResult};
+ghost use Rattle.std.specs.Prelude.{◌≡◌, ◌≤◌, [], ◌∷◌, true, false, length, None, Some, IfSome, MatchResult};
 ghost use Rattle.target_machine.specs.Attempt.{bank};
 ghost use Rattle.target_machine.specs.InRange.{IsInRange};
 ghost use Rattle.dap_messages.specs.Commands.{IsCommand, command_bytes, command_value, packet_bytes};
@@ -34,6 +34,7 @@ impl Flight {
         ensures done { StepsTo (λ m n. IsInRange (target_of m.probe) → DoneBy (command_value command.now) result m n) (B.state bench.old) (B.state bench.new) }
         ensures read { got_replies (end_in result) ≡ true → result ≡ number_read (command_value command.now) (B.reported bench.new).last.replies }
         ensures packet { got_replies (end_in result) ≡ true → (B.reported bench.new).last.packets ≡ command_bytes (command_value command.now) ∷ [] }
+        ensures replied { got_replies (end_in result) ≡ true → length (B.reported bench.new).last.replies ≡ 1 }
         ensures exchanges { got_replies (end_in result) ≡ true → (B.reported bench.new).exchanges ≡ counted (B.reported bench.old).exchanges }
         ensures open { got_replies (end_in result) ≡ true → IsOpen (B.reported bench.new) }
         ensures flight { self.new ≡ record self.old {
@@ -94,6 +95,8 @@ impl Flight {
             → result ≡ number_read (command_value command.now) (B.reported bench.new).last.replies }
         ensures packet { self.old.end ≡ None → got_replies self.new.end ≡ true
             → (B.reported bench.new).last.packets ≡ command_bytes (command_value command.now) ∷ [] }
+        // One reply came.
+        ensures replied { self.old.end ≡ None → got_replies self.new.end ≡ true → length (B.reported bench.new).last.replies ≡ 1 }
         ensures exchanges { self.old.end ≡ None → got_replies self.new.end ≡ true
             → (B.reported bench.new).exchanges ≡ counted (B.reported bench.old).exchanges }
         ensures open { self.old.end ≡ None → got_replies self.new.end ≡ true → IsOpen (B.reported bench.new) }
@@ -130,6 +133,7 @@ impl Flight {
         ensures polled { StepsTo (λ m n. CanFly m → bank (target_of m.probe) ≡ 0 → PolledBy config ask result m n) (B.state bench.old) (B.state bench.new) }
         ensures read { got_replies (end_in result) ≡ true → result ≡ matched_read config ask (B.reported bench.new).last.replies }
         ensures packet { got_replies (end_in result) ≡ true → (B.reported bench.new).last.packets ≡ packet_bytes (packet_of config ask) ∷ [] }
+        ensures replied { got_replies (end_in result) ≡ true → length (B.reported bench.new).last.replies ≡ 1 }
         ensures exchanges { got_replies (end_in result) ≡ true → (B.reported bench.new).exchanges ≡ counted (B.reported bench.old).exchanges }
         ensures open { got_replies (end_in result) ≡ true → IsOpen (B.reported bench.new) }
         ensures flight { self.new ≡ record self.old {
@@ -193,6 +197,8 @@ impl Flight {
             → result ≡ matched_read config ask (B.reported bench.new).last.replies }
         ensures packet { self.old.end ≡ None → got_replies self.new.end ≡ true
             → (B.reported bench.new).last.packets ≡ packet_bytes (packet_of config ask) ∷ [] }
+        // One reply came.
+        ensures replied { self.old.end ≡ None → got_replies self.new.end ≡ true → length (B.reported bench.new).last.replies ≡ 1 }
         ensures exchanges { self.old.end ≡ None → got_replies self.new.end ≡ true
             → (B.reported bench.new).exchanges ≡ counted (B.reported bench.old).exchanges }
         ensures open { self.old.end ≡ None → got_replies self.new.end ≡ true → IsOpen (B.reported bench.new) }

@@ -25,7 +25,7 @@ pub returns-in-Err-clause-failed : goal.returns-in-Err-clause-failed
 returns-in-Err-clause-failed g c =
     let packet : c.get.result.now ≡ command_bytes (one_command c.args.is_block c.args.accesses.now) =
     first_kept c.args.packets.now.items c.push.new.self.items (take c.write_one-size.result c.write_one-size.new.bytes) c.get.result.now c.requires.packets.none
-    (ap (λ (p : Packets). p.items) c.push.ensures) c.get.ensures ∙ c.write_one-size.ensures.front in
+    (ap (λ (p : Packets). p.items) c.push.ensures) c.get.ensures.value ∙ c.write_one-size.ensures.front in
     may_have_flown c.args.is_block (g.B.Bench.reported c.args.bench.now).limits c.args.accesses.now c.get.result.now (g.B.Bench.state c.args.bench.now) (g.B.Bench.state c.exchange.new.bench)
     c.requires.limits c.requires.block c.requires.taken c.requires.words c.requires.fits packet c.in-Err.ensures.failed
 
@@ -39,11 +39,11 @@ returns-in-Ok-clause-flown g c =
     let bytes : List ℕ = take c.write_one-size.result c.write_one-size.new.bytes in
     let kept : new ≡ old ++ bytes ∷ [] = ap (λ (p : Packets). p.items) c.push.ensures in
     let packet : c.get.result.now ≡ command_bytes (one_command c.args.is_block c.args.accesses.now) =
-    first_kept old new bytes c.get.result.now c.requires.packets.none kept c.get.ensures ∙ c.write_one-size.ensures.front in
+    first_kept old new bytes c.get.result.now c.requires.packets.none kept c.get.ensures.value ∙ c.write_one-size.ensures.front in
     let again : c.get-in-Ok.result.now ≡ command_bytes (one_command c.args.is_block c.args.accesses.now) =
-    first_kept old new bytes c.get-in-Ok.result.now c.requires.packets.none kept c.get-in-Ok.ensures ∙ c.write_one-size.ensures.front in
+    first_kept old new bytes c.get-in-Ok.result.now c.requires.packets.none kept c.get-in-Ok.ensures.value ∙ c.write_one-size.ensures.front in
     let reply : c.get-in-Ok-2.result.now ≡ take c.in-Ok.len c.exchange.new.out =
-    first_kept c.args.replies.now.items c.push-in-Ok.new.self.items (take c.in-Ok.len c.exchange.new.out) c.get-in-Ok-2.result.now c.requires.replies.none (ap (λ (p : Packets). p.items) c.push-in-Ok.ensures) c.get-in-Ok-2.ensures in
+    first_kept c.args.replies.now.items c.push-in-Ok.new.self.items (take c.in-Ok.len c.exchange.new.out) c.get-in-Ok-2.result.now c.requires.replies.none (ap (λ (p : Packets). p.items) c.push-in-Ok.ensures) c.get-in-Ok-2.ensures.value in
     let rs : List Request = take c.put_requests-count.result c.put_requests-count.new.requests in
     flew_alone c.args.is_block limits c.args.accesses.now c.get.result.now c.get-in-Ok-2.result.now c.read_reply.result c.read_reply.new.slots.values
     (g.B.Bench.state c.args.bench.now) (g.B.Bench.state c.exchange.new.bench)
@@ -62,10 +62,10 @@ returns-in-Ok-clause-read g c =
     let bytes : List ℕ = take c.write_one-size.result c.write_one-size.new.bytes in
     let kept : new ≡ old ++ bytes ∷ [] = ap (λ (p : Packets). p.items) c.push.ensures in
     let again : c.get-in-Ok.result.now ≡ command_bytes (one_command c.args.is_block c.args.accesses.now) =
-    first_kept old new bytes c.get-in-Ok.result.now c.requires.packets.none kept c.get-in-Ok.ensures ∙ c.write_one-size.ensures.front in
+    first_kept old new bytes c.get-in-Ok.result.now c.requires.packets.none kept c.get-in-Ok.ensures.value ∙ c.write_one-size.ensures.front in
     let reply : List ℕ = take c.in-Ok.len c.exchange.new.out in
     let pushed : c.push-in-Ok.new.self.items ≡ c.args.replies.now.items ++ reply ∷ [] = ap (λ (p : Packets). p.items) c.push-in-Ok.ensures in
-    let got : c.get-in-Ok-2.result.now ≡ reply = first_kept c.args.replies.now.items c.push-in-Ok.new.self.items reply c.get-in-Ok-2.result.now c.requires.replies.none pushed c.get-in-Ok-2.ensures in
+    let got : c.get-in-Ok-2.result.now ≡ reply = first_kept c.args.replies.now.items c.push-in-Ok.new.self.items reply c.get-in-Ok-2.result.now c.requires.replies.none pushed c.get-in-Ok-2.ensures.value in
     let rs : List Request = take c.put_requests-count.result c.put_requests-count.new.requests in
     read_alone c.args.is_block c.args.accesses.now c.get-in-Ok-2.result.now c.push-in-Ok.new.self.items c.read_reply.result c.read_reply.new.slots.values
     (one_kept c.args.replies.now.items c.push-in-Ok.new.self.items reply c.requires.replies.none pushed ∙ ap (λ (x : List ℕ). x ∷ []) (sym got))
@@ -77,7 +77,7 @@ returns-in-Ok-clause-short g c =
     let in_range = c.requires.limits in
     let accesses = c.args.accesses.now in
     let again : c.get-in-Ok.result.now ≡ command_bytes (one_command c.args.is_block accesses) =
-    first_kept c.args.packets.now.items c.push.new.self.items (take c.write_one-size.result c.write_one-size.new.bytes) c.get-in-Ok.result.now c.requires.packets.none (ap (λ (p : Packets). p.items) c.push.ensures) c.get-in-Ok.ensures
+    first_kept c.args.packets.now.items c.push.new.self.items (take c.write_one-size.result c.write_one-size.new.bytes) c.get-in-Ok.result.now c.requires.packets.none (ap (λ (p : Packets). p.items) c.push.ensures) c.get-in-Ok.ensures.value
     ∙ c.write_one-size.ensures.front in
     let rs : List Request = take c.put_requests-count.result c.put_requests-count.new.requests in
     let from = c.read_reply.ensures.from Plain (one_command c.args.is_block accesses)

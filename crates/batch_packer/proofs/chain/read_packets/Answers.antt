@@ -27,7 +27,7 @@ read_next-requires-clause-packet c =
     let same : take (length c.args.accesses.now - c.loop-i.start) rest ≡ rest = slice_rest c.loop-i.start c.args.accesses.now c.loop-i.invariant.within in
     let part : parts_of size rest ≡ take len rest ∷ parts_of size (drop len rest) =
     subst (λ (ys : List RegAccess). parts_of size ys ≡ take len ys ∷ parts_of size (drop len ys)) same c.first_part-len.ensures.part in
-    let next = next_packet c.loop-i.i c.args.packets.now.items c.get.result.now (take len rest) (parts_of size rest) (parts_of size (drop len rest)) c.get.ensures c.loop-i.invariant.packets part c.loop-i.invariant.fits in
+    let next = next_packet c.loop-i.i c.args.packets.now.items c.get.result.now (take len rest) (parts_of size rest) (parts_of size (drop len rest)) c.get.ensures.value c.loop-i.invariant.packets part c.loop-i.invariant.fits in
     subst (λ (ys : List RegAccess). IsPartPacket (take len ys) c.get.result.now) (sym same) next.is_packet
 
 pub read_next-requires-clause-performed : goal.read_next-requires-clause-performed
@@ -47,7 +47,7 @@ returns-in-None-clause-seen c =
     let seen : IsSeen (then_reading (part_with c.loop-i.so_far c.loop-i.slots.values) (guarded_reading (take len rest) c.get-in-loop-i.result.now)) None c.read_next.new.slots.values =
     subst (λ (ys : List RegAccess). IsSeen (then_reading (part_with c.loop-i.so_far c.loop-i.slots.values) (guarded_reading (take len ys) c.get-in-loop-i.result.now)) None c.read_next.new.slots.values) same c.in-None.ensures.seen in
     stops_at c.loop-i.i c.args.replies.now.items c.get-in-loop-i.result.now (take len rest) (parts_of size rest) (parts_of size (drop len rest)) (part_with c.loop-i.so_far c.loop-i.slots.values) c.read_next.new.slots.values
-    (readings_after (Some nothing_yet) (parts_of size c.args.accesses.now) c.args.replies.now.items) c.get-in-loop-i.ensures part c.loop-i.invariant.whole seen
+    (readings_after (Some nothing_yet) (parts_of size c.args.accesses.now) c.args.replies.now.items) c.get-in-loop-i.ensures.value part c.loop-i.invariant.whole seen
 
 pub returns-in-None-clause-at : goal.returns-in-None-clause-at
 returns-in-None-clause-at c =
@@ -60,7 +60,7 @@ returns-in-None-clause-at c =
     let seen : IsSeen (then_reading (part_with c.loop-i.so_far c.loop-i.slots.values) (guarded_reading (take len rest) c.get-in-loop-i.result.now)) None c.read_next.new.slots.values =
     subst (λ (ys : List RegAccess). IsSeen (then_reading (part_with c.loop-i.so_far c.loop-i.slots.values) (guarded_reading (take len ys) c.get-in-loop-i.result.now)) None c.read_next.new.slots.values) same c.in-None.ensures.seen in
     end_stops_at c.loop-i.i c.loop-i.at c.args.replies.now.items c.get-in-loop-i.result.now (take len rest) (parts_of size rest) (parts_of size (drop len rest)) (part_with c.loop-i.so_far c.loop-i.slots.values) c.read_next.new.slots.values
-    (ended_at (Some nothing_yet) 0 0 (parts_of size c.args.accesses.now) c.args.replies.now.items) c.get-in-loop-i.ensures part c.loop-i.invariant.at_is seen
+    (ended_at (Some nothing_yet) 0 0 (parts_of size c.args.accesses.now) c.args.replies.now.items) c.get-in-loop-i.ensures.value part c.loop-i.invariant.at_is seen
 
 pub loop-i-preserved : goal.loop-i-preserved
 loop-i-preserved c =
@@ -76,7 +76,7 @@ loop-i-preserved c =
     let within : len ≤ length rest = subst (λ (ys : List RegAccess). len ≤ length ys) same c.first_part-len.ensures.within in
     let made = part_made size start len xs inv.within within part in
     let left : List (List RegAccess) = parts_of size (drop (start + len) xs) in
-    let next = next_packet c.loop-i.i c.args.packets.now.items c.get.result.now (take len rest) (parts_of size rest) left c.get.ensures inv.packets made.parts inv.fits in
+    let next = next_packet c.loop-i.i c.args.packets.now.items c.get.result.now (take len rest) (parts_of size rest) left c.get.ensures.value inv.packets made.parts inv.fits in
     let fits = fits_left 1024 (take len rest) (parts_of size rest) left made.parts inv.fits in
     let seen : IsSeen (then_reading (part_with c.loop-i.so_far c.loop-i.slots.values) (guarded_reading (take len rest) c.get-in-loop-i.result.now)) (Some c.in-Some.progress) c.read_next.new.slots.values =
     subst (λ (ys : List RegAccess). IsSeen (then_reading (part_with c.loop-i.so_far c.loop-i.slots.values) (guarded_reading (take len ys) c.get-in-loop-i.result.now)) (Some c.in-Some.progress) c.read_next.new.slots.values) same c.in-Some.ensures.seen in
@@ -86,9 +86,9 @@ loop-i-preserved c =
     subst (λ (ys : List RegAccess). IfSome (guarded_reading (take len ys) c.get-in-loop-i.result.now) (IsPartOf (length (take len ys)))) same c.in-Some.ensures.short in
     record {
       whole = goes_on c.loop-i.i c.args.replies.now.items c.get-in-loop-i.result.now (take len rest) (parts_of size rest) left (part_with c.loop-i.so_far c.loop-i.slots.values) c.in-Some.progress c.read_next.new.slots.values
-          (readings_after (Some nothing_yet) (parts_of size xs) c.args.replies.now.items) c.get-in-loop-i.ensures made.parts inv.whole seen;
+          (readings_after (Some nothing_yet) (parts_of size xs) c.args.replies.now.items) c.get-in-loop-i.ensures.value made.parts inv.whole seen;
       at_is = end_goes_on c.loop-i.i c.loop-i.at c.mark.new.at c.args.replies.now.items c.get-in-loop-i.result.now (take len rest) (parts_of size rest) left (part_with c.loop-i.so_far c.loop-i.slots.values) c.in-Some.progress
-          c.read_next.new.slots.values (ended_at (Some nothing_yet) 0 0 (parts_of size xs) c.args.replies.now.items) c.get-in-loop-i.ensures made.parts inv.at_is c.mark.ensures seen;
+          c.read_next.new.slots.values (ended_at (Some nothing_yet) 0 0 (parts_of size xs) c.args.replies.now.items) c.get-in-loop-i.ensures.value made.parts inv.at_is c.mark.ensures seen;
       packets = next.rest;
       within = made.within;
       fits = fits.1;

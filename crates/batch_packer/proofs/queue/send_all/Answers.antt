@@ -9,7 +9,7 @@ use Rattle.batch_packer.proofs.queue.send_all.Goals as goal
 pub returns-in-Err-clause-failed : goal.returns-in-Err-clause-failed
 returns-in-Err-clause-failed g c =
     served_some c.loop-i.i c.args.packets.now.items c.get.result.now (g.B.Bench.state c.args.bench.now) (g.B.Bench.reported c.loop-i.bench) (g.B.Bench.reported c.send.new.self)
-    (g.B.Bench.state c.loop-i.bench) (g.B.Bench.state c.send.new.self) c.get.ensures c.loop-i.invariant.state c.in-Err.ensures.failed
+    (g.B.Bench.state c.loop-i.bench) (g.B.Bench.state c.send.new.self) c.get.ensures.value c.loop-i.invariant.state c.in-Err.ensures.failed
 
 pub returns-in-Err-clause-keeps : goal.returns-in-Err-clause-keeps
 returns-in-Err-clause-keeps g c =
@@ -28,15 +28,15 @@ loop-i-preserved g c =
     let packet = c.get.result.now in
     let within : c.loop-i.i < length c.args.packets.now.items = omega (arith, c.loop-i-test.true, c.len-i-end.ensures) in
     record {
-      reported = sent_next c.loop-i.i c.args.packets.now.items packet (g.B.Bench.reported c.args.bench.now) (g.B.Bench.reported c.loop-i.bench) (g.B.Bench.reported c.send.new.self) c.get.ensures inv.reported reported;
-      state = served_next c.loop-i.i c.args.packets.now.items packet (g.B.Bench.state c.args.bench.now) (g.B.Bench.state c.loop-i.bench) (g.B.Bench.state c.send.new.self) c.get.ensures inv.state c.in-Ok.ensures.state;
+      reported = sent_next c.loop-i.i c.args.packets.now.items packet (g.B.Bench.reported c.args.bench.now) (g.B.Bench.reported c.loop-i.bench) (g.B.Bench.reported c.send.new.self) c.get.ensures.value inv.reported reported;
+      state = served_next c.loop-i.i c.args.packets.now.items packet (g.B.Bench.state c.args.bench.now) (g.B.Bench.state c.loop-i.bench) (g.B.Bench.state c.send.new.self) c.get.ensures.value inv.state c.in-Ok.ensures.state;
       runs = runs_then (g.B.Bench.state c.args.bench.now) (g.B.Bench.state c.loop-i.bench) (g.B.Bench.state c.send.new.self) inv.runs c.send.ensures.runs;
       identity = c.in-Ok.ensures.identity ∙ inv.identity;
       faults = ap (λ (t : Reported). t.faults) reported ∙ inv.faults;
       limits = ap (λ (t : Reported). t.limits) reported ∙ inv.limits;
       exchanges = sent_count c.loop-i.i (g.B.Bench.reported c.args.bench.now).exchanges packet (g.B.Bench.reported c.loop-i.bench) (g.B.Bench.reported c.send.new.self) reported (inv.held within) inv.exchanges;
-      held = λ h. (let q : is_queued packet ≡ true = c.requires.chain.held c.loop-i.i packet c.get.ensures h in
+      held = λ h. (let q : is_queued packet ≡ true = c.requires.chain.held c.loop-i.i packet c.get.ensures.value h in
           ap (λ (t : Reported). t.held) reported ∙ ap (λ b. cond b ((g.B.Bench.reported c.loop-i.bench).held + 1) 0) q ∙ ap (λ n. n + 1) (inv.held within));
-      waiting = λ h. (let q : is_queued packet ≡ true = c.requires.chain.held c.loop-i.i packet c.get.ensures h in
+      waiting = λ h. (let q : is_queued packet ≡ true = c.requires.chain.held c.loop-i.i packet c.get.ensures.value h in
           ap (λ (t : Reported). t.waiting) reported ∙ ap (λ b. cond b (g.B.Bench.reported c.loop-i.bench).waiting ((g.B.Bench.reported c.loop-i.bench).held + 1)) q ∙ inv.waiting within);
     }

@@ -18,13 +18,13 @@ write_single-size-requires-clause-fits g c = let s = single_short (command_value
 pub exchange-requires-clause-some : goal.exchange-requires-clause-some
 exchange-requires-clause-some g c =
     single_some (command_value c.args.command.now) c.get.result.now c.requires.single
-    (first_kept c.args.packets.now.items c.push.new.self.items (take c.write_single-size.result c.write_single-size.new.bytes) c.get.result.now c.requires.packets.none (ap (λ (p : Packets). p.items) c.push.ensures) c.get.ensures
+    (first_kept c.args.packets.now.items c.push.new.self.items (take c.write_single-size.result c.write_single-size.new.bytes) c.get.result.now c.requires.packets.none (ap (λ (p : Packets). p.items) c.push.ensures) c.get.ensures.value
     ∙ c.write_single-size.ensures.front)
 
 pub exchange-requires-clause-fits : goal.exchange-requires-clause-fits
 exchange-requires-clause-fits g c =
     let packet : c.get.result.now ≡ command_bytes (command_value c.args.command.now) =
-    first_kept c.args.packets.now.items c.push.new.self.items (take c.write_single-size.result c.write_single-size.new.bytes) c.get.result.now c.requires.packets.none (ap (λ (p : Packets). p.items) c.push.ensures) c.get.ensures
+    first_kept c.args.packets.now.items c.push.new.self.items (take c.write_single-size.result c.write_single-size.new.bytes) c.get.result.now c.requires.packets.none (ap (λ (p : Packets). p.items) c.push.ensures) c.get.ensures.value
     ∙ c.write_single-size.ensures.front in
     let limits = c.requires.limits in
     let low = limits.size_low in
@@ -35,7 +35,7 @@ exchange-requires-clause-fits g c =
 pub exchange-requires-clause-plain : goal.exchange-requires-clause-plain
 exchange-requires-clause-plain g c =
     single_plain (command_value c.args.command.now) c.get.result.now c.requires.single
-    (first_kept c.args.packets.now.items c.push.new.self.items (take c.write_single-size.result c.write_single-size.new.bytes) c.get.result.now c.requires.packets.none (ap (λ (p : Packets). p.items) c.push.ensures) c.get.ensures
+    (first_kept c.args.packets.now.items c.push.new.self.items (take c.write_single-size.result c.write_single-size.new.bytes) c.get.result.now c.requires.packets.none (ap (λ (p : Packets). p.items) c.push.ensures) c.get.ensures.value
     ∙ c.write_single-size.ensures.front)
 
 pub returns-in-Err-clause-done : goal.returns-in-Err-clause-done
@@ -45,7 +45,7 @@ returns-in-Err-clause-done g c =
       limits = c.requires.limits;
       single = c.requires.single;
       command = c.requires.command;
-      bytes = first_kept c.args.packets.now.items c.push.new.self.items (take c.write_single-size.result c.write_single-size.new.bytes) c.get.result.now c.requires.packets.none (ap (λ (p : Packets). p.items) c.push.ensures) c.get.ensures
+      bytes = first_kept c.args.packets.now.items c.push.new.self.items (take c.write_single-size.result c.write_single-size.new.bytes) c.get.result.now c.requires.packets.none (ap (λ (p : Packets). p.items) c.push.ensures) c.get.ensures.value
           ∙ c.write_single-size.ensures.front;
     })
     c.in-Err.ensures.failed
@@ -59,10 +59,10 @@ returns-in-Ok-clause-done g c =
     let new : List (List ℕ) = c.push.new.self.items in
     let bytes : List ℕ = take c.write_single-size.result c.write_single-size.new.bytes in
     let kept : new ≡ old ++ bytes ∷ [] = ap (λ (p : Packets). p.items) c.push.ensures in
-    let packet : c.get.result.now ≡ command_bytes value = first_kept old new bytes c.get.result.now c.requires.packets.none kept c.get.ensures ∙ c.write_single-size.ensures.front in
-    let again : c.get-in-Ok.result.now ≡ command_bytes value = first_kept old new bytes c.get-in-Ok.result.now c.requires.packets.none kept c.get-in-Ok.ensures ∙ c.write_single-size.ensures.front in
+    let packet : c.get.result.now ≡ command_bytes value = first_kept old new bytes c.get.result.now c.requires.packets.none kept c.get.ensures.value ∙ c.write_single-size.ensures.front in
+    let again : c.get-in-Ok.result.now ≡ command_bytes value = first_kept old new bytes c.get-in-Ok.result.now c.requires.packets.none kept c.get-in-Ok.ensures.value ∙ c.write_single-size.ensures.front in
     let reply : c.get-in-Ok-2.result.now ≡ take c.in-Ok.len c.exchange.new.out =
-    first_kept c.args.replies.now.items c.push-in-Ok.new.self.items (take c.in-Ok.len c.exchange.new.out) c.get-in-Ok-2.result.now c.requires.replies.none (ap (λ (p : Packets). p.items) c.push-in-Ok.ensures) c.get-in-Ok-2.ensures in
+    first_kept c.args.replies.now.items c.push-in-Ok.new.self.items (take c.in-Ok.len c.exchange.new.out) c.get-in-Ok-2.result.now c.requires.replies.none (ap (λ (p : Packets). p.items) c.push-in-Ok.ensures) c.get-in-Ok-2.ensures.value in
     done_single limits value c.get.result.now c.get-in-Ok-2.result.now c.read_number.result (g.B.Bench.state c.args.bench.now) (g.B.Bench.state c.exchange.new.bench)
     (record { limits = in_range; single = c.requires.single; command = c.requires.command; bytes = packet })
     (c.read_number.ensures.read Plain
@@ -78,10 +78,10 @@ returns-in-Ok-clause-read g c = λ _.
     let new : List (List ℕ) = c.push.new.self.items in
     let bytes : List ℕ = take c.write_single-size.result c.write_single-size.new.bytes in
     let kept : new ≡ old ++ bytes ∷ [] = ap (λ (p : Packets). p.items) c.push.ensures in
-    let again : c.get-in-Ok.result.now ≡ command_bytes value = first_kept old new bytes c.get-in-Ok.result.now c.requires.packets.none kept c.get-in-Ok.ensures ∙ c.write_single-size.ensures.front in
+    let again : c.get-in-Ok.result.now ≡ command_bytes value = first_kept old new bytes c.get-in-Ok.result.now c.requires.packets.none kept c.get-in-Ok.ensures.value ∙ c.write_single-size.ensures.front in
     let reply : List ℕ = take c.in-Ok.len c.exchange.new.out in
     let pushed : c.push-in-Ok.new.self.items ≡ c.args.replies.now.items ++ reply ∷ [] = ap (λ (p : Packets). p.items) c.push-in-Ok.ensures in
-    let got : c.get-in-Ok-2.result.now ≡ reply = first_kept c.args.replies.now.items c.push-in-Ok.new.self.items reply c.get-in-Ok-2.result.now c.requires.replies.none pushed c.get-in-Ok-2.ensures in
+    let got : c.get-in-Ok-2.result.now ≡ reply = first_kept c.args.replies.now.items c.push-in-Ok.new.self.items reply c.get-in-Ok-2.result.now c.requires.replies.none pushed c.get-in-Ok-2.ensures.value in
     read_single value c.get-in-Ok-2.result.now c.push-in-Ok.new.self.items c.read_number.result
     (c.read_number.ensures.read Plain
     (fits_packet Plain value c.get-in-Ok.result.now limits.packet_size in_range.size_high (single_fits value limits.packet_size c.requires.single c.requires.command in_range.size_low) (again ∙ sym (append-nil (command_bytes value)))))

@@ -1,0 +1,211 @@
+-- Calls all of whose entries were made have come.
+use Rattle.std.proofs.Common.{◌≡◌, ◌⊎◌, inl, inr, ◌∙◌, ℕ, suc, ◌+◌, ◌-◌, ◌<◌, ◌≤◌, Bool, true, false, cond, List, [], ◌∷◌, ◌++◌, length, take, drop, Option, Some, None, refl, sym, ap, subst, arith, append-nil, append_assoc, length-append}
+use Rattle.std.proofs.Math.Seq.{take-append_seam, take-append-add, take-length}
+use Rattle.std.proofs.lemmas.Bool.{cases_lt}
+use Rattle.std.proofs.lemmas.List.{take-append-drop, length-take-le, length-map}
+use Rattle.std.specs.Prelude.{slice_index}
+use Rattle.target_machine.specs.Fresh.{IsFresh}
+use Rattle.target_machine.specs.Plain.{acted, given, result_of}
+use Rattle.target_machine.specs.State.{TargetState}
+use Rattle.probe_core.specs.Bench.{BenchState}
+use Rattle.probe_core.specs.Probe.{target_of}
+use Rattle.call_terms.specs.Asks.{AreAskable, is_forgiving, is_settled, settled_last}
+use Rattle.call_terms.specs.Journal.{Entry, Passes, lines_before, settles, target_after}
+use Rattle.call_terms.specs.World.{AtLeast, World, results, small_now, start_world, stop, world_after}
+use Rattle.call_terms.specs.declared.calls.Ask.{Ask}
+use Rattle.call_terms.specs.declared.journal.Part.TheVariants.{Settles}
+use Rattle.call_terms.proofs.CallLists.{append_results, count_of}
+use Rattle.call_terms.proofs.EntryLemmas.{pass_front}
+use Rattle.call_terms.proofs.MarkLemmas.{length_marked, marked_same, results_marked, stop_marked}
+use Rattle.access_regs.specs.Alone.{NoneFaults, alone}
+use Rattle.access_regs.specs.Entries.{kept_by, target_by}
+use Rattle.access_regs.specs.Journal.{Step, entries_at, finish_of, issue_of, issued, issued_from, kept_at, kept_from, numbered, steps_of, target_at}
+use Rattle.access_regs.specs.Kept.{Kept, nothing_kept}
+use Rattle.access_regs.specs.Plan.{settle}
+use Rattle.access_regs.specs.Stops.{NoneStops, world_at}
+use Rattle.access_regs.proofs.EntryLemmas.{journal_marks}
+use Rattle.access_regs.proofs.Joins.{journal_joins}
+use Rattle.access_regs.proofs.Seams.{InFirst, InSecond, seam_in}
+use Rattle.access_regs.proofs.StopLists.{finish_settles, numbered_unit, passing_stops}
+use Rattle.access_calls.specs.Reported.{world_from}
+use Rattle.calls_in_flight.specs.Flights.{IsCutAt}
+use Rattle.calls_in_flight.proofs.OpenLemmas.{askable_first, whole_results}
+use Rattle.calls_in_flight.proofs.StopLemmas.{came_before}
+use Rattle.packed_access.specs.Marks.{length_unmarked, marked_unmarked, take_unmarked, unmarked_last, unmarked_same}
+use Rattle.packed_access.specs.Stands.{begins_with}
+use Rattle.access_regs.specs.declared.planner.Planner.TheVariants.{Managed}
+
+-- what is known of the first calls, where all their entries were made: how many results they have, that these are theirs in each world
+-- that answers them, and that each later entry has their lines before it
+pub record HaveCome (calls : List Ask) (confirmed count : ℕ) (m0 : BenchState) : Type 0 where
+  pub none_stops : NoneStops (target_of m0.probe) [] (take count calls)
+  pub length_is : length (results (start_world (target_of m0.probe) None) (take count calls)) ≡ count
+  pub results_are : (n : Option ℕ) → AtLeast count n → take count (results (world_from m0 n) calls) ≡ results (start_world (target_of m0.probe) None) (take count calls)
+  pub lines : (k : ℕ) → confirmed ≤ k → (cut : IsCutAt (issued Managed (target_of m0.probe) calls) k (target_of m0.probe)) → count ≤ lines_before cut.entry
+
+module _ (calls : List Ask) (made more : List Entry) (confirmed count : ℕ) (m0 : BenchState) (fresh : IsFresh (target_of m0.probe)) (askable : AreAskable calls) (within : count ≤ length calls)
+    (are : issued Managed (target_of m0.probe) calls ≡ made ++ more) (passes : Passes (target_of m0.probe) made) (confirmed_is : length made ≡ confirmed) (enough : length (issued Managed (target_of m0.probe) (take count calls)) ≤ confirmed) where
+  abbrev t0 : TargetState
+  t0 = target_of m0.probe
+
+  abbrev front : List Ask
+  front = take count calls
+
+  abbrev back : List Ask
+  back = drop count calls
+
+  split : calls ≡ front ++ back
+  split = sym (take-append-drop count calls)
+
+  others : List Entry
+  others = issued_from Managed (0 + length front) (kept_from Managed nothing_kept t0 front) (target_after t0 (issued Managed t0 front)) back
+
+  joined : issued Managed t0 calls ≡ issued Managed t0 front ++ issued_from Managed (0 + length front) (kept_from Managed nothing_kept t0 front) (target_after t0 (issued Managed t0 front)) back
+  joined = ap (issued Managed t0) split ∙ journal_joins Managed 0 nothing_kept t0 front back
+
+  made_is : made ≡ issued Managed t0 front ++ take (length made - length (issued Managed t0 front)) (issued_from Managed (0 + length front) (kept_from Managed nothing_kept t0 front) (target_after t0 (issued Managed t0 front)) back)
+  made_is = begins_with (issued Managed t0 front) _ made more (sym joined ∙ are) (let a = enough in let b = confirmed_is in omega (arith, a, b))
+
+  none : NoneStops t0 [] front
+  none = passing_stops Managed t0 front fresh (askable_first front back (subst AreAskable split askable)) (pass_front t0 (issued Managed t0 front) _ (subst (Passes t0) made_is passes))
+
+  count_is : length front ≡ count
+  count_is = length-take-le count calls within
+
+  results_count : length (results (start_world t0 None) front) ≡ count
+  results_count = count_of (start_world t0 None) front (none.stops None tt) ∙ count_is
+
+  first_results : (n : Option ℕ) → AtLeast count n → take count (results (world_from m0 n) calls) ≡ results (start_world t0 None) front
+  first_results n least =
+      let w : World = world_from m0 n in
+      let whole : stop w front ≡ None = none.stops n (subst (λ (k : ℕ). AtLeast k n) (sym count_is) least) in
+      let first : results w front ≡ results (start_world t0 None) front = whole_results w front whole in
+      let parts : results w calls ≡ results (start_world t0 None) front ++ results (world_after w front) back =
+      ap (results w) split ∙ append_results w front back whole ∙ ap (λ (l : List ℕ). l ++ results (world_after w front) back) first in
+      (λ j. take (sym results_count j) (parts j)) ∙ take-append_seam (results (start_world t0 None) front) (results (world_after w front) back)
+
+  first_lines : (k : ℕ) → confirmed ≤ k → (cut : IsCutAt (issued Managed t0 calls) k t0) → count ≤ lines_before cut.entry
+  first_lines k low cut =
+      let there : IsCutAt (issued Managed t0 (front ++ back)) k t0 = record { front = cut.front; entry = cut.entry; more = cut.more; is = ap (issued Managed t0) (sym split) ∙ cut.is; at = cut.at; passes = cut.passes } in
+      let few : length front ≤ lines_before cut.entry = came_before Managed t0 front back k (omega (arith, low, enough)) there in
+      omega (arith, few, count_is)
+
+  pub have_come : HaveCome calls confirmed count m0
+  have_come = record { none_stops = none; length_is = results_count; results_are = first_results; lines = first_lines }
+
+-- ---- calls with a settling after the last one, which need not be made
+
+askable_unmarked : (calls : List Ask) → AreAskable (settled_last calls) → AreAskable calls
+askable_unmarked [] h = tt
+askable_unmarked (x ∷ []) h = (record { sound = h.0.sound; range = h.0.range }, tt)
+askable_unmarked (x ∷ y ∷ calls) h = (h.0, askable_unmarked (y ∷ calls) h.1)
+
+faults_marked : (t : TargetState) (large : List ℕ) (calls : List Ask) → NoneFaults t large calls → NoneFaults t large (settled_last calls)
+faults_marked t large [] h = h
+faults_marked t large (x ∷ []) h = h
+faults_marked t large (x ∷ y ∷ calls) h = (h.0, faults_marked (alone t large x).next (alone t large x).large (y ∷ calls) h.1)
+
+pub none_marked : (t : TargetState) (large : List ℕ) (calls : List Ask) → NoneStops t large calls → NoneStops t large (settled_last calls)
+none_marked t large calls h = record {
+  none = faults_marked t large calls h.none;
+  stops = λ n least. stop_marked (world_at t large n) calls ∙ h.stops n (subst (λ (k : ℕ). AtLeast k n) (length_marked calls) least);
+}
+
+-- an entry that settles after so many units has all their lines before it
+settling_lines : (n : ℕ) (k : Kept) (front : List Entry) (e : Entry) (more : List Entry) → numbered n false (steps_of Settles (settle k)) ≡ front ++ e ∷ more → lines_before e ≡ n
+settling_lines n k front e more is =
+    let so : settles e.part ≡ true = finish_settles n true k front e more is in
+    let unit : e.unit ≡ n = numbered_unit n false (steps_of Settles (settle k)) front e more is ∙ ap (λ (b : Bool). cond b n (n + 1)) so in
+    ap (λ (b : Bool). cond b e.unit (e.unit - 1)) so ∙ unit
+
+module _ (calls : List Ask) (made more : List Entry) (confirmed : ℕ) (m0 : BenchState) (fresh : IsFresh (target_of m0.probe)) (askable : AreAskable (settled_last calls))
+    (are : issued Managed (target_of m0.probe) (settled_last calls) ≡ made ++ more) (passes : Passes (target_of m0.probe) made) (confirmed_is : length made ≡ confirmed) (enough : length (issued Managed (target_of m0.probe) calls) ≤ confirmed) where
+  abbrev u0 : TargetState
+  u0 = target_of m0.probe
+
+  settling : List Entry
+  settling = numbered (length calls) false (steps_of Settles (settle (kept_by Managed u0 calls)))
+
+  grown : issued Managed u0 (settled_last calls) ≡ issued Managed u0 calls ++ numbered (length calls) false (steps_of Settles (settle (kept_by Managed u0 calls)))
+  grown = (journal_marks Managed u0 calls).0
+
+  made_all : made ≡ issued Managed u0 calls ++ take (length made - length (issued Managed u0 calls)) (numbered (length calls) false (steps_of Settles (settle (kept_by Managed u0 calls))))
+  made_all = begins_with (issued Managed u0 calls) _ made more (sym grown ∙ are) (omega (arith, enough, confirmed_is))
+
+  none_there : NoneStops u0 [] calls
+  none_there = passing_stops Managed u0 calls fresh (askable_unmarked calls askable) (pass_front u0 (issued Managed u0 calls) _ (subst (Passes u0) made_all passes))
+
+  all_first : take (length calls) (settled_last calls) ≡ settled_last calls
+  all_first = ap (λ (n : ℕ). take n (settled_last calls)) (sym (length_marked calls)) ∙ take-length (settled_last calls)
+
+  all_results : length (results (start_world u0 None) calls) ≡ length calls
+  all_results = count_of (start_world u0 None) calls (none_there.stops None tt)
+
+  same_results : (n : Option ℕ) → AtLeast (length calls) n → take (length calls) (results (world_from m0 n) (settled_last calls)) ≡ results (start_world u0 None) (settled_last calls)
+  same_results n least =
+      let w : World = world_from m0 n in
+      ap (take (length calls)) (results_marked w calls ∙ whole_results w calls (none_there.stops n least))
+      ∙ ap (λ (k : ℕ). take k (results (start_world u0 None) calls)) (sym all_results) ∙ take-length (results (start_world u0 None) calls)
+      ∙ sym (results_marked (start_world u0 None) calls)
+
+  later_lines : (k : ℕ) → confirmed ≤ k → (cut : IsCutAt (issued Managed u0 (settled_last calls)) k u0) → length calls ≤ lines_before cut.entry
+  later_lines k low cut = by_seam (seam_in (issued Managed u0 calls) _ cut.front cut.entry cut.more (sym grown ∙ cut.is))
+    where
+      by_seam : InFirst (issued Managed u0 calls) cut.front cut.entry ⊎ InSecond (issued Managed u0 calls) (numbered (length calls) false (steps_of Settles (settle (kept_by Managed u0 calls)))) cut.front cut.entry cut.more → length calls ≤ lines_before cut.entry
+      by_seam (inl s) = absurd (let a = ap length s.is ∙ length-append cut.front (cut.entry ∷ s.more) in let b = cut.at in omega (arith, a, b, low, enough))
+      by_seam (inr s) = (let a = settling_lines (length calls) (kept_by Managed u0 calls) s.back cut.entry cut.more s.is in omega (arith, a))
+
+  come_marked : HaveCome (settled_last calls) confirmed (length calls) m0
+  come_marked = record {
+    none_stops = subst (NoneStops u0 []) (sym all_first) (none_marked u0 [] calls none_there);
+    length_is = ap (λ (l : List Ask). length (results (start_world u0 None) l)) all_first ∙ ap length (results_marked (start_world u0 None) calls) ∙ all_results;
+    results_are = λ n least. same_results n least ∙ ap (results (start_world u0 None)) (sym all_first);
+    lines = later_lines;
+  }
+
+-- all their own entries were made
+pub have_come_own : (calls : List Ask) (made more : List Entry) (confirmed count : ℕ) (m0 : BenchState) → IsFresh (target_of m0.probe) → AreAskable calls → count ≤ length calls →
+    issued Managed (target_of m0.probe) calls ≡ made ++ more → Passes (target_of m0.probe) made → length made ≡ confirmed → length (issued Managed (target_of m0.probe) (take count (unmarked_last calls))) ≤ confirmed → HaveCome calls confirmed count m0
+have_come_own calls made more confirmed count m0 fresh askable within are passes confirmed_is enough = by_mark (is_settled calls) refl
+  where
+    plain : take count (unmarked_last calls) ≡ take count calls → HaveCome calls confirmed count m0
+    plain same = have_come calls made more confirmed count m0 fresh askable within are passes confirmed_is (let e = ap (λ (l : List Ask). length (issued Managed (target_of m0.probe) l)) same in omega (arith, enough, e))
+
+    marked : is_settled calls ≡ true → length calls ≤ count → HaveCome calls confirmed count m0
+    marked settled ge =
+        let same : settled_last (unmarked_last calls) ≡ calls = marked_unmarked calls ∙ marked_same calls settled in
+        let number : length (unmarked_last calls) ≡ count = (let l = length_unmarked calls in omega (arith, l, ge, within)) in
+        let first : take count (unmarked_last calls) ≡ unmarked_last calls = ap (λ (n : ℕ). take n (unmarked_last calls)) (sym number) ∙ take-length (unmarked_last calls) in
+        let own : length (issued Managed (target_of m0.probe) (unmarked_last calls)) ≤ confirmed = (let e = ap (λ (l : List Ask). length (issued Managed (target_of m0.probe) l)) first in omega (arith, enough, e)) in
+        subst (λ (l : List Ask). HaveCome l confirmed count m0) same
+        (subst (λ (n : ℕ). HaveCome (settled_last (unmarked_last calls)) confirmed n m0) number
+        (come_marked (unmarked_last calls) made more confirmed m0 fresh (subst AreAskable (sym same) askable) (ap (issued Managed (target_of m0.probe)) same ∙ are) passes confirmed_is own))
+
+    by_place : is_settled calls ≡ true → (count < length calls) ⊎ (length calls ≤ count) → HaveCome calls confirmed count m0
+    by_place settled (inl less) = plain (take_unmarked count calls less)
+    by_place settled (inr ge) = marked settled ge
+
+    by_mark : (b : Bool) → is_settled calls ≡ b → HaveCome calls confirmed count m0
+    by_mark true settled = by_place settled (cases_lt count (length calls))
+    by_mark false unsettled = plain (ap (take count) (unmarked_same calls unsettled))
+
+-- ---- where the result of a call is
+
+-- the calls up to one are among so many first ones
+pub take_through : (count : ℕ) (asks : List Ask) (ask : Ask) (more : List Ask) → length asks < count → take count (asks ++ ask ∷ more) ≡ asks ++ ask ∷ take (count - suc (length asks)) more
+take_through count asks ask more less =
+    (let sum : count ≡ length asks + suc (count - suc (length asks)) = omega (arith, less) in ap (λ (n : ℕ). take n (asks ++ ask ∷ more)) sum)
+    ∙ take-append-add asks (ask ∷ more) (suc (count - suc (length asks)))
+
+-- the last own entry of a call is among the entries of calls that begin with it
+pub place_within : (t : TargetState) (asks : List Ask) (ask : Ask) (more : List Ask) → length (issued Managed t asks) + length (issue_of Managed (target_by Managed t asks) (kept_by Managed t asks) ask).steps ≤ length (issued Managed t (asks ++ ask ∷ more))
+place_within t asks ask more =
+    let j = ap length (journal_joins Managed 0 nothing_kept t asks (ask ∷ more)) in
+    let own : List Entry = numbered (0 + length asks) (is_forgiving ask) (issue_of Managed (target_by Managed t asks) (kept_by Managed t asks) ask).steps in
+    let settling : List Entry = numbered ((0 + length asks) + 1) false (finish_of Managed (target_by Managed t asks) (kept_by Managed t asks) ask).steps in
+    let others : List Entry = issued_from Managed ((0 + length asks) + 1) (kept_at Managed (target_by Managed t asks) (kept_by Managed t asks) ask) (target_at Managed (target_by Managed t asks) (kept_by Managed t asks) ask) more in
+    let a = length-append (issued Managed t asks) ((own ++ settling) ++ others) in
+    let b = length-append (own ++ settling) others in
+    let c = length-append own settling in
+    let d : length own ≡ length (issue_of Managed (target_by Managed t asks) (kept_by Managed t asks) ask).steps = length-map (issue_of Managed (target_by Managed t asks) (kept_by Managed t asks) ask).steps _ in
+    omega (arith, j, a, b, c, d)

@@ -1,0 +1,164 @@
+-- A flight that did not come to its end.
+use Rattle.std.proofs.Common.{◌≡◌, ◌⊎◌, ◌∙◌, ℕ, zero, suc, ◌+◌, ◌-◌, ◌<◌, ◌≤◌, List, [], ◌∷◌, ◌++◌, length, take, Option, Some, None, refl, sym, ap, subst, arith, length-append}
+use Rattle.std.proofs.lemmas.List.{length-take}
+use Rattle.std.specs.Prelude.{slice_get}
+use Rattle.target_machine.specs.declared.access.RegAccess.{RegAccess}
+use Rattle.dap_messages.specs.declared.request.Response.TheVariants.{Wait, Fault}
+use Rattle.probe_core.specs.Bench.{BenchState, StepsTo}
+use Rattle.probe_core.specs.Bench.{Reported as BenchReported}
+use Rattle.probe_core.specs.Probe.{target_of}
+use Rattle.call_terms.specs.Journal.{Entry, attempted_in, skipped_in}
+use Rattle.call_terms.specs.declared.calls.Ask.{Ask}
+use Rattle.access_regs.specs.Journal.{issued}
+use Rattle.access_calls.specs.Issued.{AreKeptOf}
+use Rattle.access_calls.specs.Left.{IsLeft}
+use Rattle.access_calls.specs.Numbers.{HasNumbers, attempted_by, lines_at, stop_numbers, unit_at}
+use Rattle.access_calls.specs.Reported.{Reported}
+use Rattle.access_calls.specs.Standing.{WhereObservable}
+use Rattle.access_calls.specs.declared.stop.Report.{Report}
+use Rattle.access_calls.specs.declared.stop.Stop.{Stop}
+use Rattle.access_calls.specs.declared.stop.Stop.TheVariants as stop
+use Rattle.access_calls.specs.declared.stop.StopCause.{StopCause}
+use Rattle.access_calls.specs.declared.stop.StopCause.TheVariants.{Faulted, NoAnswer}
+use Rattle.batch_packer.specs.Flying.{CanFly}
+use Rattle.batch_packer.specs.declared.ends.Cut.{Cut}
+use Rattle.batch_packer.specs.declared.ends.FlightEnd.{FlightEnd}
+use Rattle.batch_packer.specs.declared.ends.FlightEnd.TheVariants as ends
+use Rattle.calls_in_flight.specs.Ending.{EndsCut, IsCutOff, IsEnded, IsStrictAt, StopsBy, response_of_cause}
+use Rattle.calls_in_flight.specs.Flights.{AreStrict}
+use Rattle.calls_in_flight.proofs.EndLemmas.{flight_ends, flight_fails}
+use Rattle.calls_in_flight.proofs.FlightLemmas.{flight_length}
+use Rattle.packed_access.specs.Begun.{HasEnded, HasIssued, IsIssuing, StopsThere}
+use Rattle.packed_access.specs.Flown.{BrokeOff, MayHaveFlown, WasCut}
+use Rattle.packed_access.specs.Logs.{IsCause, IsLogCut, IsStopped, LogState, reported_by}
+use Rattle.packed_access.proofs.WholeLemmas.{take_first}
+use Rattle.access_regs.specs.declared.planner.Planner.TheVariants.{Managed}
+
+-- ---- the numbers of a stop among more entries
+
+get_first : {A : Type 0} → (n : ℕ) (xs : List A) (k : ℕ) → k < n → slice_get (take n xs) k ≡ slice_get xs k
+get_first zero xs k less = absurd (omega (arith, less))
+get_first (suc n) [] k less = refl
+get_first (suc n) (x ∷ xs) zero less = refl
+get_first (suc n) (x ∷ xs) (suc k) less = get_first n xs k (omega (arith, less))
+
+pub numbers_longer : (entries : List Entry) (n : ℕ) (calls : List Ask) (skipped lines : ℕ) (r : Report) → HasNumbers (take n entries) calls skipped lines r → r.accesses ≤ n → HasNumbers entries calls skipped lines r
+numbers_longer entries n calls skipped lines r h le = record {
+  named = (let a = h.named in let l = length-take n entries in grind (arith, a, l));
+  numbers = h.numbers ∙ (λ j. record {
+    unit = unit_at (at j);
+    attempted = attempted_by r.cause (unit_at (at j)) (attempted_in (front j));
+    skipped = skipped_in (front j);
+    lines = lines_at (at j);
+  });
+  what = h.what;
+}
+  where
+    at : slice_get (take n entries) r.confirmed ≡ slice_get entries r.confirmed
+    at = get_first n entries r.confirmed (let a = h.named in let l = length-take n entries in grind (arith, a, l))
+
+    front : take r.accesses (take n entries) ≡ take r.accesses entries
+    front = take_first r.accesses n entries le
+
+-- ---- a cut
+
+-- what is kept after a cut
+abbrev log_cut : LogState → Report → ℕ → ℕ → LogState
+log_cut log r lines skipped = record log { end = Some (stop.Cut r); came = lines; lines = lines; skipped = skipped }
+
+module _ (bench : BenchReported) (state : Option BenchState) (sent got : List ℕ) (log : LogState) (accesses : List RegAccess) (rest : List Entry) (m0 m o : BenchState) (h : IsIssuing log accesses rest m0 m) where
+  module _ (cut : Cut) (r : Report) (lines skipped : ℕ) (broke : WasCut cut accesses m o) (cause : IsCause cut.response r.cause) (accesses_are : r.accesses ≡ log.confirmed + cut.performed) (confirmed_are : r.confirmed ≡ log.confirmed + cut.confirmed)
+      (numbers : (all : List Entry) → AreKeptOf all log.entries → HasNumbers all log.calls skipped lines r) where
+    abbrev b : Reported
+    b = reported_by bench state (record log { end = Some (stop.Cut r); came = lines; lines = lines; skipped = skipped }) sent got
+
+    few : r.accesses ≤ length log.entries
+    few =
+        let p = broke.performed in
+        let most = broke.flies.made.most in
+        let l = flight_length h.flying accesses h.sending.on.flight in
+        let n = h.count in
+        omega (arith, accesses_are, p, most, l, n)
+
+    cut_off : IsCutOff Managed r b m0
+    cut_off = record {
+      end = refl;
+      numbers = numbers_longer (issued Managed (target_of m0.probe) log.calls) (length log.entries) log.calls skipped lines r (numbers (take (length log.entries) (issued Managed (target_of m0.probe) log.calls)) h.entries_are) few;
+      came = refl;
+    }
+
+    response_is : (x : StopCause) → IsCause cut.response x → broke.part.response ≡ response_of_cause x
+    response_is Faulted c = broke.fault c
+    response_is NoAnswer c = broke.wait c
+
+    strict_at : (x : StopCause) → IsStrictAt x h.flying
+    strict_at Faulted = h.strict
+    strict_at NoAnswer = tt
+
+    pub cut_ends : EndsCut Managed r b log.came (take log.known log.results) m0 o
+    cut_ends = flight_ends Managed log.confirmed log.came h.flying rest accesses (take log.known log.results) m0 m o broke.part r b h.sending broke.flies (response_is r.cause cause) (strict_at r.cause)
+        (let p = broke.performed in omega (arith, accesses_are, p)) (let p = broke.confirmed in omega (arith, confirmed_are, p)) cut_off
+
+  -- ---- the bench failed
+
+  abbrev failed : LogState
+  failed = record log { end = Some (stop.BenchFault (length log.entries) log.confirmed) }
+
+  pub bench_ends : MayHaveFlown accesses m o → IsEnded Managed (stop.BenchFault (length log.entries) log.confirmed) (reported_by bench state (record log { end = Some (stop.BenchFault (length log.entries) log.confirmed) }) sent got) (take log.known log.results) m0 o
+  bench_ends broke =
+      subst (λ (n : ℕ). IsEnded Managed (stop.BenchFault n log.confirmed) (reported_by bench state (record log { end = Some (stop.BenchFault n log.confirmed) }) sent got) (take log.known log.results) m0 o) h.count
+      (flight_fails Managed log.confirmed log.came h.flying rest accesses (take log.known log.results) m0 m o broke.part
+      (reported_by bench state (record log { end = Some (stop.BenchFault (log.confirmed + length h.flying) log.confirmed) }) sent got)
+      h.sending broke.either broke.never (record { end = refl; came = refl }))
+
+-- ---- any end
+
+-- what is so after an end
+pub record IsBrokenOff (s : Stop) (a : Reported) (log : LogState) (calls : List Ask) (m0 o : BenchState) : Type 0 where
+  pub ended : IsEnded Managed s a (take log.known log.results) m0 o
+  pub stops : (n : Option ℕ) → IsLeft a n → StopsThere m0 n calls log.lines s
+
+module _ (bench : BenchReported) (state : Option BenchState) (sent got : List ℕ) (log : LogState) (accesses : List RegAccess) (rest : List Entry) (m0 m o : BenchState) (h : IsIssuing log accesses rest m0 m) where
+  pub broken_off : (end : FlightEnd) (s : Stop) (new : LogState) → BrokeOff end accesses m o → IsStopped end log new s → IsBrokenOff s (reported_by bench state new sent got) new log.calls m0 o
+  broken_off (ends.Cut cut) (stop.Cut r) new broke is =
+      let e = cut_ends bench state sent got log accesses rest m0 m o h cut r new.lines new.skipped broke is.cause is.accesses is.confirmed_is is.numbers in
+      subst (λ (x : LogState). IsBrokenOff (stop.Cut r) (reported_by bench state x sent got) x log.calls m0 o) (sym is.next)
+      (record { ended = e.ended; stops = λ n left. record { so = e.stops n left } })
+  broken_off (ends.Cut cut) (stop.BenchFault issued confirmed) new broke is = absurd is
+  broken_off (ends.Cut cut) stop.ReplyBad new broke is = absurd is
+  broken_off (ends.Cut cut) stop.OutOfMemory new broke is = absurd is
+  broken_off ends.BenchFault s new broke is =
+      let here : IsBrokenOff (stop.BenchFault (length log.entries) log.confirmed) (reported_by bench state (record log { end = Some (stop.BenchFault (length log.entries) log.confirmed) }) sent got) (record log { end = Some (stop.BenchFault (length log.entries) log.confirmed) }) log.calls m0 o =
+      record { ended = bench_ends bench state sent got log accesses rest m0 m o h broke; stops = λ n left. record { so = tt } } in
+      let at_s : IsBrokenOff s (reported_by bench state (record log { end = Some s }) sent got) (record log { end = Some s }) log.calls m0 o =
+      subst (λ (x : Stop). IsBrokenOff x (reported_by bench state (record log { end = Some x }) sent got) (record log { end = Some x }) log.calls m0 o) (sym is.0) here in
+      subst (λ (x : LogState). IsBrokenOff s (reported_by bench state x sent got) x log.calls m0 o) (sym is.1) at_s
+  broken_off ends.ReplyBad s new broke is = absurd broke
+
+broken_where : (x y : Option BenchState) (bench : BenchReported) (sent got : List ℕ) (log : LogState) (accesses : List RegAccess) (rest : List Entry) (m0 : BenchState) (end : FlightEnd) (s : Stop) (new : LogState) →
+    WhereObservable x (λ m. IsIssuing log accesses rest m0 m) → StepsTo (λ m o. CanFly m → BrokeOff end accesses m o) x y → IsStopped end log new s →
+    WhereObservable y (λ o. IsBrokenOff s (reported_by bench y new sent got) new log.calls m0 o)
+broken_where None y bench sent got log accesses rest m0 end s new h broke is = absurd h
+broken_where (Some m) None bench sent got log accesses rest m0 end s new h broke is = absurd broke
+broken_where (Some m) (Some o) bench sent got log accesses rest m0 end s new h broke is = broken_off bench (Some o) sent got log accesses rest m0 m o h end s new (broke h.flies) is
+
+pub ended_in : (y : Option BenchState) (s : Stop) (a : Reported) (log : LogState) (calls : List Ask) (m0 : BenchState) → WhereObservable y (λ o. IsBrokenOff s a log calls m0 o) → WhereObservable y (λ o. IsEnded Managed s a (take log.known log.results) m0 o)
+ended_in None s a log calls m0 h = h
+ended_in (Some o) s a log calls m0 h = h.ended
+
+pub stops_in : (y : Option BenchState) (s : Stop) (a : Reported) (log : LogState) (calls : List Ask) (m0 : BenchState) (n : Option ℕ) → WhereObservable y (λ o. IsBrokenOff s a log calls m0 o) → IsLeft a n → StopsThere m0 n calls log.lines s
+stops_in None s a log calls m0 n h left = absurd h
+stops_in (Some o) s a log calls m0 n h left = h.stops n left
+
+-- where the bench is observable, the access has ended so
+pub has_ended : (x y : Option BenchState) (bench : BenchReported) (sent got : List ℕ) (log : LogState) (accesses : List RegAccess) (rest : List Entry) (m0 : BenchState) (end : FlightEnd) (s : Stop) (new : LogState) →
+    HasIssued x log accesses rest m0 → StepsTo (λ m o. CanFly m → BrokeOff end accesses m o) x y → IsStopped end log new s →
+    HasEnded s (reported_by bench y new sent got) new m0
+has_ended x y bench sent got log accesses rest m0 end s new h broke is = record { so = ended_in y s (reported_by bench y new sent got) new log.calls m0 (broken_where x y bench sent got log accesses rest m0 end s new h.so broke is) }
+
+-- and there the calls stop
+pub stops_there : (x y : Option BenchState) (bench : BenchReported) (sent got : List ℕ) (log : LogState) (accesses : List RegAccess) (rest : List Entry) (m0 : BenchState) (end : FlightEnd) (s : Stop) (new : LogState) (n : Option ℕ) →
+    HasIssued x log accesses rest m0 → StepsTo (λ m o. CanFly m → BrokeOff end accesses m o) x y → IsStopped end log new s →
+    IsLeft (reported_by bench y new sent got) n → StopsThere m0 n log.calls new.lines s
+stops_there x y bench sent got log accesses rest m0 end s new n h broke is left =
+    stops_in y s (reported_by bench y new sent got) new log.calls m0 n (broken_where x y bench sent got log accesses rest m0 end s new h.so broke is) left

@@ -1,0 +1,208 @@
+-- A poll as the last call.
+use Rattle.std.proofs.Common.{◌≡◌, ◌∙◌, ℕ, zero, suc, ◌+◌, ◌-◌, ◌≤◌, Bool, true, false, cond, ◌&&◌, eqb, List, [], ◌∷◌, ◌++◌, length, take, Option, Some, None, refl, sym, ap, subst, arith, length-append}
+use Rattle.std.proofs.Math.Seq.{take-append_seam}
+use Rattle.std.proofs.lemmas.Bool.{eqb-true}
+use Rattle.std.proofs.lemmas.Nat.{and_assoc}
+use Rattle.std.specs.Prelude.{bit_and, is_some, slice_get}
+use Rattle.target_machine.specs.Attempt.{Attempt, attempt, bank}
+use Rattle.target_machine.specs.declared.access.Outcome.{Outcome}
+use Rattle.target_machine.specs.declared.access.Outcome.TheVariants.{Value, Done, Fault}
+use Rattle.target_machine.specs.Plain.{Action, Polled, Polls, call_done, dp_read_of, looked, polled, result_of}
+use Rattle.target_machine.specs.Registers.{dpbanksel, select_stored}
+use Rattle.target_machine.specs.State.{TargetState}
+use Rattle.target_machine.specs.declared.unit.Call.{Call}
+use Rattle.target_machine.specs.declared.unit.Call.TheVariants.{Access}
+use Rattle.target_machine.specs.declared.unit.Unit.TheVariants as unit
+use Rattle.target_machine.specs.declared.access.RegAccess.{RegAccess}
+use Rattle.probe_core.specs.Bench.{BenchState, StepsTo}
+use Rattle.probe_core.specs.Bench.{Reported as BenchReported}
+use Rattle.probe_core.specs.Probe.{target_of}
+use Rattle.call_terms.specs.Asks.{AreAskable, is_forgiving, is_settled}
+use Rattle.call_terms.specs.Journal.{Entry, Passes, target_after}
+use Rattle.call_terms.specs.World.{World, small_after, small_now, stop, world_after}
+use Rattle.call_terms.specs.declared.calls.Ask.{Ask}
+use Rattle.call_terms.specs.declared.journal.Part.TheVariants.{Ends}
+use Rattle.access_regs.specs.Alone.{NoneFaults}
+use Rattle.access_regs.specs.Costs.{poll_cost, portions}
+use Rattle.access_regs.specs.Entries.{kept_by, target_by}
+use Rattle.access_regs.specs.Journal.{Issue, after_settling, alone_at, by_cfg, issue, issue_of, issued, numbered, planned}
+use Rattle.access_regs.specs.Kept.{Kept}
+use Rattle.access_regs.specs.Plan.{bank_zero, bank_zero_of}
+use Rattle.access_regs.proofs.AllCalls.{journal_follows}
+use Rattle.access_regs.proofs.EntryLemmas.{journal_grows}
+use Rattle.access_regs.proofs.StopLists.{passing_stops}
+use Rattle.access_calls.specs.Issued.{kept_of}
+use Rattle.access_calls.specs.Standing.{WhereObservable}
+use Rattle.batch_packer.specs.Flying.{CanFly}
+use Rattle.calls_in_flight.specs.Sending.{IsSending}
+use Rattle.calls_in_flight.proofs.OpenLemmas.{askable_first}
+use Rattle.calls_in_flight.proofs.SmallLemmas.{not_small}
+use Rattle.packed_access.specs.Actions.{entry_of, log_done}
+use Rattle.packed_access.specs.Begun.{HasAsked, HasBegun, HasIssued, IsIssuing, most_weight, own_entries}
+use Rattle.packed_access.specs.Logs.{LogState, result_for}
+use Rattle.packed_access.specs.Polls.{HasPoll}
+use Rattle.packed_access.proofs.ActionLemmas.{at_rest}
+use Rattle.packed_access.proofs.AskLemmas.{asked_calm}
+use Rattle.packed_access.proofs.BegunLemmas.{issued_begun}
+use Rattle.packed_access.proofs.CommandLemmas.{last_there}
+use Rattle.access_regs.specs.declared.planner.Planner.TheVariants.{Managed}
+
+-- ---- what a poll issues, and what is known after it
+
+and_no : (b : Bool) → (b && false) ≡ false
+and_no true = refl
+and_no false = refl
+
+poll_planned : (t : TargetState) (k : Kept) (mask requested turns : ℕ) → planned t k (unit.Poll mask requested turns) ≡ record { steps = record { part = Ends; action = Polls mask requested turns } ∷ []; kept = k }
+poll_planned t k mask requested turns = ap (λ (b : Bool). cond b (after_settling t k (λ u l. by_cfg u l (unit.Poll mask requested turns))) (by_cfg t k (unit.Poll mask requested turns))) (and_no (is_some k.unsettled))
+
+pub poll_issue : (t : TargetState) (k : Kept) (forgive : Bool) (mask requested turns : ℕ) → issue Managed t k forgive (Access (unit.Poll mask requested turns)) ≡ record { steps = record { part = Ends; action = Polls mask requested turns } ∷ []; kept = k }
+poll_issue t k forgive mask requested turns =
+    ap (λ (b : Bool). cond b (after_settling t k (alone_at forgive (unit.Poll mask requested turns))) (planned t k (unit.Poll mask requested turns))) (and_no forgive)
+    ∙ poll_planned t k mask requested turns
+
+pub poll_issue_of : (t : TargetState) (k : Kept) (ask : Ask) (mask requested turns : ℕ) → ask.call ≡ Access (unit.Poll mask requested turns) → issue_of Managed t k ask ≡ record { steps = record { part = Ends; action = Polls mask requested turns } ∷ []; kept = k }
+poll_issue_of t k ask mask requested turns call = ap (issue Managed t k ask.forgive) call ∙ poll_issue t k ask.forgive mask requested turns
+
+pub poll_mild : (ask : Ask) (mask requested turns : ℕ) → ask.call ≡ Access (unit.Poll mask requested turns) → is_forgiving ask ≡ false
+poll_mild ask mask requested turns call = ap (λ (c : Call). is_forgiving (record ask { call = c })) call ∙ and_no ask.forgive
+
+pub poll_entries : (t : TargetState) (calls : List Ask) (k : Kept) (ask : Ask) (mask requested turns : ℕ) → ask.call ≡ Access (unit.Poll mask requested turns) → own_entries t calls k ask ≡ entry_of calls (Polls mask requested turns) ∷ []
+poll_entries t calls k ask mask requested turns call =
+    (λ j. numbered (length calls) (poll_mild ask mask requested turns call j) (poll_issue_of (target_by Managed t calls) k ask mask requested turns call j).steps)
+
+-- it never ends because its AP has no large addresses
+small_here : (x : Option ℕ) (w : World) (forgive settled : Bool) (mask requested turns : ℕ) → small_after x w (record { call = Access (unit.Poll mask requested turns); forgive = forgive; settled = settled }) ≡ false
+unfolding call_done
+small_here None w forgive settled mask requested turns = not_small _ _ false _ _ _ _ refl
+small_here (Some n) w forgive settled mask requested turns = refl
+
+pub poll_not_small : (w : World) (calls : List Ask) (ask : Ask) (mask requested turns : ℕ) → ask.call ≡ Access (unit.Poll mask requested turns) → small_now w calls ask ≡ false
+poll_not_small w calls ask mask requested turns call =
+    ap (λ (c : Call). small_after (stop w calls) (world_after w calls) (record { call = c; forgive = ask.forgive; settled = ask.settled })) call ∙ small_here (stop w calls) (world_after w calls) ask.forgive ask.settled mask requested turns
+
+-- ---- how much it weighs
+
+looked_few : (o : Outcome) (t : TargetState) (mask requested n : ℕ) (rest : Polled) → rest.reads ≤ n → (looked o t mask requested rest).reads ≤ suc n
+looked_few (Value v) t mask requested n rest le = one (eqb (bit_and v mask) requested)
+  where
+    one : (b : Bool) → (cond b (record { outcome = Value 1; reads = 1; next = t }) (record rest { reads = rest.reads + 1 })).reads ≤ suc n
+    one true = omega arith
+    one false = omega (arith, le)
+looked_few Done t mask requested n rest le = omega (arith, le)
+looked_few Fault t mask requested n rest le = omega arith
+
+reads_few : (turns mask requested : ℕ) (t : TargetState) → (polled turns mask requested t).reads ≤ turns
+unfolding polled
+reads_few zero mask requested t = omega arith
+reads_few (suc turns) mask requested t =
+    let first : Attempt = attempt t (dp_read_of 4) in
+    looked_few first.outcome first.next mask requested turns (polled turns mask requested first.next) (reads_few turns mask requested first.next)
+
+pub poll_light : (turns mask requested : ℕ) (t : TargetState) → turns ≤ 60000000 → (polled turns mask requested t).reads ≤ most_weight
+poll_light turns mask requested t few = (let r = reads_few turns mask requested t in omega (arith, r, few))
+
+-- ---- what is kept after it
+
+pub asked_log : (log new : LogState) (calls : List Ask) (ask : Ask) (x : Action) (word : ℕ) → log.calls ≡ calls ++ ask ∷ [] → log.came ≡ length calls →
+    new ≡ log_done log (record { unit = length log.calls; part = Ends }) log.came (result_for (slice_get log.calls log.came) word) →
+    new ≡ log_done log (kept_of (entry_of calls x)) (length calls) (result_of ask.call word)
+asked_log log new calls ask x word are came is =
+    let count : length log.calls ≡ length calls + 1 = ap length are ∙ length-append calls (ask ∷ []) in
+    let there : slice_get log.calls log.came ≡ Some ask = (λ j. slice_get (are j) (came j)) ∙ last_there calls ask in
+    is ∙ (λ j. log_done log (record { unit = count j; part = Ends }) (came j) (result_for (there j) word))
+
+-- ---- DPBANKSEL before it
+
+masked_zero : (v select : ℕ) → select ≡ bit_and v select_stored → bit_and v dpbanksel ≡ 0 → bit_and select dpbanksel ≡ 0
+masked_zero v select is zeros = ap (λ (n : ℕ). bit_and n dpbanksel) is ∙ and_assoc dpbanksel v select_stored ∙ zeros
+
+bank_known : (x : Option ℕ) (select : ℕ) → ((v : ℕ) → x ≡ Some v → select ≡ bit_and v select_stored) → bank_zero_of x ≡ true → bit_and select dpbanksel ≡ 0
+bank_known None select known zeros = absurd (cc)
+bank_known (Some v) select known zeros = masked_zero v select (known v refl) (eqb-true (bit_and v dpbanksel) 0 zeros)
+
+module _ (log : LogState) (kept : Kept) (calls : List Ask) (ask : Ask) (mask requested turns : ℕ) (m0 m : BenchState) (h : IsIssuing log [] (entry_of calls (Polls mask requested turns) ∷ []) m0 m) (are : log.calls ≡ calls ++ ask ∷ [])
+    (call : ask.call ≡ Access (unit.Poll mask requested turns)) (unmarked : ask.settled ≡ false) (kept_is : kept_by Managed (target_of m0.probe) calls ≡ kept) where
+  abbrev t0 : TargetState
+  t0 = target_of m0.probe
+
+  rest_is : IsSending Managed log.calls log.confirmed log.came [] (entry_of calls (Polls mask requested turns) ∷ []) [] (take log.known log.results) m0 m
+  rest_is = at_rest log (entry_of calls (Polls mask requested turns) ∷ []) m0 m h
+
+  grown : issued Managed t0 log.calls ≡ issued Managed t0 calls ++ entry_of calls (Polls mask requested turns) ∷ []
+  grown =
+      ap (issued Managed t0) are ∙ (journal_grows Managed t0 calls ask unmarked).0
+      ∙ ap (λ (l : List Entry). issued Managed t0 calls ++ l) (poll_entries t0 calls (kept_by Managed t0 calls) ask mask requested turns call)
+
+  same_count : length rest_is.made ≡ length (issued Managed t0 calls)
+  same_count =
+      let a = ap length rest_is.on.are in
+      let b = length-append rest_is.made (entry_of calls (Polls mask requested turns) ∷ []) in
+      let c = ap length grown in
+      let d = length-append (issued Managed t0 calls) (entry_of calls (Polls mask requested turns) ∷ []) in
+      omega (arith, a, b, c, d)
+
+  made_is : rest_is.made ≡ issued Managed t0 calls
+  made_is =
+      sym (take-append_seam rest_is.made (entry_of calls (Polls mask requested turns) ∷ []))
+      ∙ (λ j. take (same_count j) ((sym rest_is.on.are ∙ grown) j))
+      ∙ take-append_seam (issued Managed t0 calls) (entry_of calls (Polls mask requested turns) ∷ [])
+
+  pub target_there : target_of m.probe ≡ target_by Managed t0 calls
+  target_there = rest_is.on.target ∙ ap (target_after t0) made_is
+
+  none : NoneFaults t0 [] calls
+  none = (passing_stops Managed t0 calls h.sending.fresh (askable_first calls (ask ∷ []) (subst AreAskable are h.sending.askable)) (subst (Passes t0) made_is rest_is.on.passes)).none
+
+  pub bank_there : bank_zero kept ≡ true → bank (target_of m.probe) ≡ 0
+  bank_there zeros =
+      let f = journal_follows Managed t0 calls h.sending.fresh (askable_first calls (ask ∷ []) (subst AreAskable are h.sending.askable)) none in
+      ap bank (target_there ∙ f.rest)
+      ∙ bank_known kept.select _ (λ v is. f.select v (ap (λ (k : Kept). k.select) kept_is ∙ is)) zeros
+
+-- ---- where the bench is observable
+
+pub step_with : (x y : Option BenchState) (Q : BenchState → Type 0) (P R : BenchState → BenchState → Type 0) → WhereObservable x Q → StepsTo P x y → ((m o : BenchState) → Q m → P m o → R m o) → StepsTo R x y
+step_with None y Q P R h s f = absurd h
+step_with (Some m) None Q P R h s f = s
+step_with (Some m) (Some o) Q P R h s f = f m o h s
+
+fact_with : (x y : Option BenchState) (Q : BenchState → Type 0) (P : BenchState → BenchState → Type 0) (A : Type 0) → WhereObservable x Q → StepsTo P x y → ((m o : BenchState) → Q m → P m o → A) → A
+fact_with None y Q P A h s f = absurd h
+fact_with (Some m) None Q P A h s f = absurd s
+fact_with (Some m) (Some o) Q P A h s f = f m o h s
+
+module _ (x y : Option BenchState) (log : LogState) (kept : Kept) (calls : List Ask) (ask : Ask) (mask requested turns : ℕ) (m0 : BenchState) (h : HasPoll x log kept calls ask mask requested turns m0) (zero_is : Bool) (by : zero_is ≡ bank_zero kept) where
+  -- what is so where DPBANKSEL is 0 is so
+  pub poll_steps : (R : BenchState → BenchState → Type 0) → StepsTo (λ m o. CanFly m → (zero_is ≡ true → bank (target_of m.probe) ≡ 0) → R m o) x y → StepsTo (λ m o. CanFly m → R m o) x y
+  poll_steps R s =
+      step_with x y (λ m. IsIssuing log [] (entry_of calls (Polls mask requested turns) ∷ []) m0 m) (λ m o. CanFly m → (zero_is ≡ true → bank (target_of m.probe) ≡ 0) → R m o) (λ m o. CanFly m → R m o) h.issued.so s
+      (λ m o i p fly. p fly (λ is. bank_there log kept calls ask mask requested turns m0 m i h.are h.call h.unmarked h.kept_is (sym by ∙ is)))
+
+  pub poll_points : (points : ℕ) → StepsTo (λ m o. CanFly m → points ≡ 1 + cond zero_is (portions turns) (polled turns mask requested (target_of m.probe)).reads) x y → points ≡ poll_cost kept (target_by Managed (target_of m0.probe) calls) mask requested turns
+  poll_points points s =
+      fact_with x y (λ m. IsIssuing log [] (entry_of calls (Polls mask requested turns) ∷ []) m0 m) (λ m o. CanFly m → points ≡ 1 + cond zero_is (portions turns) (polled turns mask requested (target_of m.probe)).reads) _ h.issued.so s
+      (λ m o i p. p i.flies ∙ (λ j. 1 + cond (by j) (portions turns) (polled turns mask requested (target_there log kept calls ask mask requested turns m0 m i h.are h.call h.unmarked h.kept_is j)).reads))
+
+-- ---- between two calls
+
+-- all that was asked before is sent
+pub asked_poll : (x y : Option BenchState) (log mid : LogState) (accesses : List RegAccess) (kept kept' : Kept) (calls : List Ask) (ask : Ask) (mask requested turns : ℕ) (m0 : BenchState) → ask.call ≡ Access (unit.Poll mask requested turns) → HasAsked x log accesses kept calls ask m0 →
+    HasIssued y mid [] (own_entries (target_of m0.probe) calls kept ask) m0 → mid.calls ≡ log.calls → kept' ≡ kept → HasPoll y mid kept' calls ask mask requested turns m0
+asked_poll x y log mid accesses kept kept' calls ask mask requested turns m0 call h there same kept_is = record {
+  are = same ∙ h.are;
+  call = call;
+  unmarked = h.unmarked;
+  kept_is = h.kept_is ∙ sym kept_is;
+  issued = subst (λ (rest : List Entry). HasIssued y mid [] rest m0) (poll_entries (target_of m0.probe) calls kept ask mask requested turns call) there;
+}
+
+-- the poll is made
+pub begun_polled : (bench : BenchReported) (x y : Option BenchState) (log new : LogState) (sent got : List ℕ) (kept kept' : Kept) (accesses : List RegAccess) (calls : List Ask) (ask : Ask) (mask requested turns : ℕ) (m0 : BenchState) → HasPoll x log kept calls ask mask requested turns m0 →
+    HasIssued y new [] [] m0 → new.calls ≡ log.calls → new.end ≡ None → new.whole ≡ length new.calls → kept' ≡ kept → accesses ≡ [] → HasBegun bench y new sent got kept' accesses m0
+begun_polled bench x y log new sent got kept kept' accesses calls ask mask requested turns m0 h there same none whole kept_is empty =
+    subst (λ (xs : List RegAccess). HasBegun bench y new sent got kept' xs m0) (sym empty)
+    (issued_begun bench y new sent got kept' [] m0 there none whole
+    (ap (kept_by Managed (target_of m0.probe)) (same ∙ h.are) ∙ (journal_grows Managed (target_of m0.probe) calls ask h.unmarked).1
+    ∙ ap (λ (i : Issue). i.kept) (poll_issue_of (target_by Managed (target_of m0.probe) calls) (kept_by Managed (target_of m0.probe) calls) ask mask requested turns h.call) ∙ h.kept_is ∙ sym kept_is)
+    (λ settled. absurd (asked_calm calls ask h.unmarked (subst (λ (l : List Ask). is_settled l ≡ true) (same ∙ h.are) settled))))

@@ -1,0 +1,213 @@
+-- A unit that forgives a fault, from its call to its first access.
+use Rattle.std.proofs.Common.{◌≡◌, ◌∙◌, ℕ, ◌+◌, ◌-◌, ◌<◌, Bool, true, false, cond, ◌&&◌, List, [], ◌∷◌, ◌++◌, length, take, Option, Some, None, refl, sym, ap, subst, arith, append_assoc, length-append}
+use Rattle.std.proofs.Math.Seq.{take-append_seam}
+use Rattle.target_machine.specs.Fresh.{IsFresh}
+use Rattle.target_machine.specs.Lists.{PassTo, after}
+use Rattle.target_machine.specs.Plain.{Makes, after_cfg, call_actions, cfg_actions, contains, may_forgive, memory_actions, needs_cfg as wants_cfg}
+use Rattle.target_machine.specs.State.{TargetState}
+use Rattle.target_machine.specs.declared.access.RegAccess.{RegAccess}
+use Rattle.target_machine.specs.declared.unit.Call.TheVariants.{Access}
+use Rattle.target_machine.specs.declared.unit.Unit.{Unit as AccessUnit}
+use Rattle.target_machine.specs.declared.unit.Unit.TheVariants as unit
+use Rattle.target_machine.proofs.ActionLists.{pass_after}
+use Rattle.probe_core.specs.Bench.{BenchState}
+use Rattle.probe_core.specs.Probe.{target_of}
+use Rattle.call_terms.specs.Asks.{AreAskable, IsAskable, is_forgiving, unit_ask}
+use Rattle.call_terms.specs.Journal.{Entry, actions_in, target_after}
+use Rattle.call_terms.specs.World.{start_world, stop}
+use Rattle.call_terms.specs.declared.calls.Ask.{Ask}
+use Rattle.call_terms.specs.declared.journal.Part.TheVariants.{Settles}
+use Rattle.access_regs.specs.Alone.{alone_after, large_of_all}
+use Rattle.access_regs.specs.Entries.{kept_by, target_by}
+use Rattle.access_regs.specs.Follows.{Follows}
+use Rattle.access_regs.specs.Journal.{Issue, Step, after_settling, alone_at, issue_of, issued, large_of, making, numbered, planned, steps_of}
+use Rattle.access_regs.specs.Kept.{Kept}
+use Rattle.access_regs.specs.Plan.{settle, settled}
+use Rattle.access_regs.specs.declared.planner.Planner.TheVariants.{Managed}
+use Rattle.access_regs.proofs.AllCalls.{journal_follows}
+use Rattle.access_regs.proofs.EntryLemmas.{journal_grows}
+use Rattle.access_regs.proofs.Seams.{after_split}
+use Rattle.access_regs.proofs.Settle.{settles}
+use Rattle.access_calls.specs.Standing.{WhereObservable}
+use Rattle.calls_in_flight.proofs.SmallLemmas.{NeverStops, never_stops}
+use Rattle.packed_access.specs.Begun.{HasAsked, HasIssued, IsIssuing, entries_of, own_entries}
+use Rattle.packed_access.specs.Forgiving.{HasTried, IsTrying}
+use Rattle.packed_access.specs.Logs.{LogState}
+use Rattle.packed_access.proofs.ActionLemmas.{at_rest}
+use Rattle.packed_access.specs.Marks.{unmarked_last}
+use Rattle.packed_access.proofs.CameLemmas.{HaveCome, have_come_own}
+use Rattle.packed_access.proofs.TryStepLemmas.{numbered_both}
+
+-- ---- the call
+
+both_true : (a b : Bool) → (a && b) ≡ true → (a ≡ true) × (b ≡ true)
+both_true true b e = (refl, e)
+both_true false b e = absurd (cc)
+
+pub ask_is : (ask : Ask) (asked : AccessUnit) → ask.call ≡ Access asked → is_forgiving ask ≡ true → ask.settled ≡ false → ask ≡ unit_ask asked true
+ask_is ask asked call forgives unmarked = (λ j. record { call = call j; forgive = (both_true ask.forgive (may_forgive ask.call) forgives).0 j; settled = unmarked j })
+
+pub may_is : (ask : Ask) (asked : AccessUnit) → ask.call ≡ Access asked → is_forgiving ask ≡ true → may_forgive (Access asked) ≡ true
+may_is ask asked call forgives = ap may_forgive (sym call) ∙ (both_true ask.forgive (may_forgive ask.call) forgives).1
+
+-- the target where the accesses of the unit begin
+abbrev pub target_settled : TargetState → List Ask → Kept → TargetState
+target_settled t calls k = after (target_by Managed t calls) (making (settle k))
+
+-- what the unit issues after the settling
+abbrev pub alone_issue : TargetState → List Ask → Kept → AccessUnit → Issue
+alone_issue t calls k asked = alone_at true asked (target_settled t calls k) (settled k)
+
+pub issue_is : (t : TargetState) (calls : List Ask) (k : Kept) (asked : AccessUnit) → may_forgive (Access asked) ≡ true →
+    issue_of Managed (target_by Managed t calls) k (unit_ask asked true) ≡ after_settling (target_by Managed t calls) k (alone_at true asked)
+issue_is t calls k asked may = ap (λ (b : Bool). cond (true && b) (after_settling (target_by Managed t calls) k (alone_at true asked)) (planned (target_by Managed t calls) k asked)) may
+
+settles_numbered : (units : ℕ) (b : Bool) (xs : List RegAccess) → numbered units b (steps_of Settles xs) ≡ entries_of units Settles xs
+settles_numbered units true [] = refl
+settles_numbered units false [] = refl
+settles_numbered units true (x ∷ xs) = ap (λ l. record { unit = units; part = Settles; forgiving = false; action = Makes x } ∷ l) (settles_numbered units true xs)
+settles_numbered units false (x ∷ xs) = ap (λ l. record { unit = units; part = Settles; forgiving = false; action = Makes x } ∷ l) (settles_numbered units false xs)
+
+-- its entries: those that settle, and then its own
+pub entries_are : (t : TargetState) (calls : List Ask) (k : Kept) (asked : AccessUnit) → may_forgive (Access asked) ≡ true →
+    own_entries t calls k (unit_ask asked true) ≡ entries_of (length calls) Settles (settle k) ++ numbered (length calls) true (alone_issue t calls k asked).steps
+entries_are t calls k asked may =
+    (λ j. numbered (length calls) (may j) (issue_is t calls k asked may j).steps)
+    ∙ numbered_both (length calls) true (steps_of Settles (settle k)) (alone_issue t calls k asked).steps
+    ∙ ap (λ (l : List Entry). l ++ numbered (length calls) true (alone_issue t calls k asked).steps) (settles_numbered (length calls) true (settle k))
+
+-- an access port is unsettled only after a call
+settle_unit : (t : TargetState) (calls : List Ask) (u : ℕ) → (0 < length calls → u ≡ length calls) → entries_of (length calls) Settles (settle (kept_by Managed t calls)) ≡ entries_of u Settles (settle (kept_by Managed t calls))
+settle_unit t [] u is = refl
+settle_unit t (c ∷ calls) u is = ap (λ (n : ℕ). entries_of n Settles (settle (kept_by Managed t (c ∷ calls)))) (sym (is (omega arith)))
+
+-- the settling is to be issued, and then the unit
+pub begin_settling : (x : Option BenchState) (log : LogState) (accesses : List RegAccess) (kept : Kept) (calls : List Ask) (ask : Ask) (asked : AccessUnit) (m0 : BenchState) (u : ℕ) → HasAsked x log accesses kept calls ask m0 → ask.call ≡ Access asked → is_forgiving ask ≡ true →
+    (0 < length calls → u ≡ length calls) → HasIssued x log accesses (entries_of u Settles (settle kept) ++ numbered (length calls) true (alone_issue (target_of m0.probe) calls kept asked).steps) m0
+begin_settling x log accesses kept calls ask asked m0 u h call forgives is =
+    subst (λ (l : List Entry). HasIssued x log accesses l m0)
+    (ap (own_entries (target_of m0.probe) calls kept) (ask_is ask asked call forgives h.unmarked) ∙ entries_are (target_of m0.probe) calls kept asked (may_is ask asked call forgives)
+    ∙ ap (λ (l : List Entry). l ++ numbered (length calls) true (alone_issue (target_of m0.probe) calls kept asked).steps)
+    (subst (λ (q : Kept). entries_of (length calls) Settles (settle q) ≡ entries_of u Settles (settle q)) h.kept_is (settle_unit (target_of m0.probe) calls u is)))
+    h.issued
+
+-- ---- where the calls before it are
+
+pub fact_of : (x : Option BenchState) (P : BenchState → Type 0) (A : Type 0) → ((m : BenchState) → P m → A) → WhereObservable x P → A
+fact_of None P A f h = absurd h
+fact_of (Some m) P A f h = f m h
+
+pub where_same : (x : Option BenchState) (P Q : BenchState → Type 0) → ((m : BenchState) → P m → Q m) → WhereObservable x P → WhereObservable x Q
+where_same None P Q f h = h
+where_same (Some m) P Q f h = f m h
+
+-- the calls before this one do not stop, and may be asked with it
+pub record IsBefore (t : TargetState) (calls : List Ask) (ask : Ask) : Type 0 where
+  pub fresh : IsFresh t
+  pub askable : AreAskable (calls ++ ask ∷ [])
+  pub whole : stop (start_world t None) calls ≡ None
+
+pub first_before : (log : LogState) (calls : List Ask) (ask : Ask) → log.calls ≡ calls ++ ask ∷ [] → take (length calls) log.calls ≡ calls
+first_before log calls ask are = ap (take (length calls)) are ∙ take-append_seam calls (ask ∷ [])
+
+before_at : (log : LogState) (calls : List Ask) (ask : Ask) (rest : List Entry) (m0 m : BenchState) → IsIssuing log [] rest m0 m → log.calls ≡ calls ++ ask ∷ [] → log.came ≡ length calls → IsBefore (target_of m0.probe) calls ask
+before_at log calls ask rest m0 m h are came =
+    let s = at_rest log rest m0 m h in
+    let count : length log.calls ≡ length calls + 1 = ap length are ∙ length-append calls (ask ∷ []) in
+    let c : HaveCome log.calls log.confirmed (length calls) m0 = have_come_own log.calls s.made rest log.confirmed (length calls) m0 s.fresh s.askable (omega (arith, count)) s.on.are s.on.passes s.confirmed_is
+    (let f = ap (λ (k : ℕ). length (issued Managed (target_of m0.probe) (take k (unmarked_last log.calls)))) came in let n = h.came_made in omega (arith, f, n)) in
+    record {
+      fresh = s.fresh;
+      askable = subst AreAskable are s.askable;
+      whole = subst (λ (l : List Ask). stop (start_world (target_of m0.probe) None) l ≡ None) (first_before log calls ask are) (c.none_stops.stops None tt);
+    }
+
+pub is_before : (x : Option BenchState) (log : LogState) (calls : List Ask) (ask : Ask) (rest : List Entry) (m0 : BenchState) → HasIssued x log [] rest m0 → log.calls ≡ calls ++ ask ∷ [] → log.came ≡ length calls → IsBefore (target_of m0.probe) calls ask
+is_before x log calls ask rest m0 h are came = fact_of x (λ m. IsIssuing log [] rest m0 m) _ (λ m i. before_at log calls ask rest m0 m i are came) h.so
+
+-- after the settling the target follows the one after the calls alone
+pub record IsCalm (t : TargetState) (calls : List Ask) : Type 0 where
+  pub pass : PassTo (target_by Managed t calls) (making (settle (kept_by Managed t calls))) (target_settled t calls (kept_by Managed t calls))
+  pub follows : Follows (settled (kept_by Managed t calls)) (large_of_all t [] calls) (alone_after t [] calls) (target_settled t calls (kept_by Managed t calls))
+
+pub askable_front : (calls : List Ask) (ask : Ask) → AreAskable (calls ++ ask ∷ []) → AreAskable calls
+askable_front [] ask h = tt
+askable_front (c ∷ calls) ask h = (h.0, askable_front calls ask h.1)
+
+pub askable_last : (calls : List Ask) (ask : Ask) → AreAskable (calls ++ ask ∷ []) → IsAskable ask
+askable_last [] ask h = h.0
+askable_last (c ∷ calls) ask h = askable_last calls ask h.1
+
+pub is_calm : (t : TargetState) (calls : List Ask) (ask : Ask) → IsBefore t calls ask → IsCalm t calls
+is_calm t calls ask b =
+    let s : NeverStops t [] None calls = never_stops t [] None calls b.whole in
+    let follows : Follows (kept_by Managed t calls) (large_of_all t [] calls) (alone_after t [] calls) (target_by Managed t calls) = journal_follows Managed t calls b.fresh (askable_front calls ask b.askable) s.none in
+    let g = settles (kept_by Managed t calls) (large_of_all t [] calls) (alone_after t [] calls) (target_by Managed t calls) follows in
+    let at : after (target_by Managed t calls) (making (settle (kept_by Managed t calls))) ≡ g.at = pass_after (target_by Managed t calls) g.at (making (settle (kept_by Managed t calls))) g.pass in
+    record {
+      pass = subst (PassTo (target_by Managed t calls) (making (settle (kept_by Managed t calls)))) (sym at) g.pass;
+      follows = subst (Follows (settled (kept_by Managed t calls)) (large_of_all t [] calls) (alone_after t [] calls)) (sym at) g.follows;
+    }
+
+-- ---- its first access
+
+pub settles_in : (units : ℕ) (xs : List RegAccess) → actions_in (entries_of units Settles xs) ≡ making xs
+settles_in units [] = refl
+settles_in units (x ∷ xs) = ap (λ l. Makes x ∷ l) (settles_in units xs)
+
+cancel_back : (xs ys zs : List Entry) → xs ++ zs ≡ ys ++ zs → xs ≡ ys
+cancel_back xs ys zs e =
+    let l = ap length e in let a = length-append xs zs in let b = length-append ys zs in
+    let same : length xs ≡ length ys = omega (arith, l, a, b) in
+    sym (take-append_seam xs zs) ∙ (λ j. take (same j) (e j)) ∙ take-append_seam ys zs
+
+some_actions : (t : TargetState) (large : List ℕ) (asked : AccessUnit) → may_forgive (Access asked) ≡ true → call_actions t large (Access asked) ≡ [] → ⊥
+some_actions t large (unit.Memory size read n address value) may none = by_wide (wants_cfg large n address) none
+  where
+    by_wide : (b : Bool) → cond b (cfg_actions n ++ after_cfg t size read n address value) (memory_actions t (contains large n) size read n address value) ≡ [] → ⊥
+    by_wide true e = cc
+    by_wide false e = cc
+some_actions t large (unit.Ap read n addr value) may none = cc
+some_actions t large (unit.Dp read addr value) may none = (let x : ◌≡◌ {A = Bool} false true = may in cc)
+some_actions t large (unit.Poll mask value turns) may none = (let x : ◌≡◌ {A = Bool} false true = may in cc)
+
+trying_at : (log : LogState) (calls : List Ask) (asked : AccessUnit) (m0 m : BenchState) → may_forgive (Access asked) ≡ true → log.calls ≡ calls ++ unit_ask asked true ∷ [] →
+    IsIssuing log [] (numbered (length calls) true (alone_issue (target_of m0.probe) calls (kept_by Managed (target_of m0.probe) calls) asked).steps) m0 m →
+    IsTrying log asked (settled (kept_by Managed (target_of m0.probe) calls)) (target_settled (target_of m0.probe) calls (kept_by Managed (target_of m0.probe) calls)) []
+    (call_actions (target_settled (target_of m0.probe) calls (kept_by Managed (target_of m0.probe) calls)) (large_of (settled (kept_by Managed (target_of m0.probe) calls)) asked) (Access asked)) m0 m
+trying_at log calls asked m0 m may are h =
+    let t0 : TargetState = target_of m0.probe in
+    let k : Kept = kept_by Managed (target_of m0.probe) calls in
+    let steps : List Step = (alone_issue (target_of m0.probe) calls (kept_by Managed (target_of m0.probe) calls) asked).steps in
+    let own : List Entry = numbered (length calls) true steps in
+    let calming : List Entry = entries_of (length calls) Settles (settle (kept_by Managed (target_of m0.probe) calls)) in
+    let s = at_rest log (numbered (length calls) true (alone_issue (target_of m0.probe) calls (kept_by Managed (target_of m0.probe) calls) asked).steps) m0 m h in
+    let count : length log.calls - 1 ≡ length calls = (let c = ap length are ∙ length-append calls (unit_ask asked true ∷ []) in omega (arith, c)) in
+    let grown : issued Managed (target_of m0.probe) log.calls ≡ (issued Managed (target_of m0.probe) calls ++ calming) ++ own =
+    ap (issued Managed (target_of m0.probe)) are ∙ (journal_grows Managed (target_of m0.probe) calls (unit_ask asked true) refl).0
+    ∙ ap (λ (l : List Entry). issued Managed (target_of m0.probe) calls ++ l) (entries_are (target_of m0.probe) calls (kept_by Managed (target_of m0.probe) calls) asked may)
+    ∙ sym (append_assoc (issued Managed (target_of m0.probe) calls) calming own) in
+    let made : s.made ≡ issued Managed (target_of m0.probe) calls ++ calming = cancel_back s.made (issued Managed (target_of m0.probe) calls ++ calming) own (sym s.on.are ∙ grown) in
+    record {
+      left = steps;
+      issuing = subst (λ (n : ℕ). IsIssuing log [] (numbered n true (alone_issue (target_of m0.probe) calls (kept_by Managed (target_of m0.probe) calls) asked).steps) m0 m) (sym count) h;
+      actions = refl;
+      steps = refl;
+      good = tt;
+      target = s.on.target ∙ ap (target_after (target_of m0.probe)) made ∙ after_split (target_of m0.probe) (issued Managed (target_of m0.probe) calls) calming
+          ∙ ap (after (target_by Managed (target_of m0.probe) calls)) (settles_in (length calls) (settle (kept_by Managed (target_of m0.probe) calls)));
+      end = λ none. absurd (some_actions _ _ asked may none);
+    }
+
+-- where the bench is observable
+pub begin_trying : (x : Option BenchState) (log : LogState) (kept : Kept) (calls : List Ask) (asked : AccessUnit) (m0 : BenchState) → kept_by Managed (target_of m0.probe) calls ≡ kept → may_forgive (Access asked) ≡ true → log.calls ≡ calls ++ unit_ask asked true ∷ [] →
+    HasIssued x log [] (numbered (length calls) true (alone_issue (target_of m0.probe) calls kept asked).steps) m0 →
+    HasTried x log asked (settled kept) (target_settled (target_of m0.probe) calls kept) [] (call_actions (target_settled (target_of m0.probe) calls kept) (large_of (settled kept) asked) (Access asked)) m0
+begin_trying x log kept calls asked m0 kept_is may are =
+    subst (λ (q : Kept). HasIssued x log [] (numbered (length calls) true (alone_issue (target_of m0.probe) calls q asked).steps) m0 →
+    HasTried x log asked (settled q) (target_settled (target_of m0.probe) calls q) [] (call_actions (target_settled (target_of m0.probe) calls q) (large_of (settled q) asked) (Access asked)) m0) kept_is
+    (λ h. record { so = where_same x _ _ (λ m i. trying_at log calls asked m0 m may are i) h.so })
+
+-- what is known of 256 access ports
+pub settled_table : (t : TargetState) (kept : Kept) (calls : List Ask) (ask : Ask) → kept_by Managed t calls ≡ kept → IsBefore t calls ask → length (settled kept).ports ≡ 256
+settled_table t kept calls ask kept_is b = subst (λ (q : Kept). length (settled q).ports ≡ 256) kept_is (is_calm t calls ask b).follows.table

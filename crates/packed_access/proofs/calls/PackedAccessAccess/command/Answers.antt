@@ -1,0 +1,122 @@
+use Rattle.std.proofs.Common.{rules, ◌≡◌, ◌∙◌, ℕ, ◌+◌, ◌<◌, ◌≤◌, ◌++◌, ◌∷◌, [], inl, inr, List, length, None, Some, false, arith, refl, sym, ap, subst, length-append}
+use Rattle.std.specs.Prelude.{slice_get, slice_index}
+use Rattle.call_terms.specs.Asks.{IsAskable, probe_ask}
+use Rattle.call_terms.specs.World.{results, stop}
+use Rattle.call_terms.specs.declared.calls.Ask.{Ask}
+use Rattle.access_calls.specs.Reported.{world_from}
+use Rattle.packed_access.specs.Begun.{StopsThere}
+use Rattle.packed_access.specs.Logs.{LogState, result_at, result_for, with_call}
+use Rattle.packed_access.proofs.AskLemmas.{begun_asked, begun_made, stops_asked}
+use Rattle.packed_access.proofs.BegunLemmas.{ended_begun, known_result, none_stopped}
+use Rattle.packed_access.proofs.CommandLemmas.{done_result, last_there}
+use Rattle.packed_access.proofs.NeedLemmas.{begun_needs, left_needs, needs_new, refused_new}
+use Rattle.packed_access.proofs.calls.PackedAccessAccess.command.Goals as goal
+
+pub returns-then-is_err-clause-on : goal.returns-then-is_err-clause-on
+returns-then-is_err-clause-on g c = λ m h. begun_needs _ _ c.args.self.now.sender.log c.ask.new.self _ _ _ _ _ _ m h refl refl (refused_new c.args.self.now.sender.log c.ask.new.self (search rules))
+
+pub returns-in-Err-clause-stops : goal.returns-in-Err-clause-stops
+returns-in-Err-clause-stops g c = λ m answered h left none.
+    let old = c.args.self.now.sender in
+    let asked : c.ask.new.self ≡ with_call old.log (probe_ask c.args.call) c.ask.new.self.room = search rules in
+    let ok : IsAskable (probe_ask c.args.call) = record { sound = c.requires.sound; range = c.points_of-points.ensures.range } in
+    let there = begun_asked _ _ old.log c.ask.new.self _ _ _ _ (probe_ask c.args.call) m h none ok refl old.sound.results_long old.sound.places_long asked in
+    stops_asked m answered old.log.calls (probe_ask c.args.call) _ c.in-Err.stop refl
+    (subst (λ (calls : List Ask). StopsThere m answered calls c.send.new.self.log.lines c.in-Err.stop) (ap (λ (l : LogState). l.calls) asked) (c.in-Err.ensures.stops m _ answered there left))
+
+pub returns-in-Err-clause-on : goal.returns-in-Err-clause-on
+returns-in-Err-clause-on g c = λ m h.
+    let old = c.args.self.now.sender in
+    let none : old.log.end ≡ None = search rules in
+    let asked : c.ask.new.self ≡ with_call old.log (probe_ask c.args.call) c.ask.new.self.room = search rules in
+    let ok : IsAskable (probe_ask c.args.call) = record { sound = c.requires.sound; range = c.points_of-points.ensures.range } in
+    let there = begun_asked _ _ old.log c.ask.new.self _ _ _ _ (probe_ask c.args.call) m h none ok refl old.sound.results_long old.sound.places_long asked in
+    ended_begun _ _ c.send.new.self.log _ _ _ _ m c.in-Err.stop (c.in-Err.ensures.broke m _ there) (ap (λ (l : LogState). l.end) c.in-Err.ensures.ended)
+
+pub returns-in-Err-make_last-clause-stops : goal.returns-in-Err-make_last-clause-stops
+returns-in-Err-make_last-clause-stops g c = λ m answered h left none.
+    let old = c.args.self.now.sender in
+    let asked : c.ask.new.self ≡ with_call old.log (probe_ask c.args.call) c.ask.new.self.room = search rules in
+    let ok : IsAskable (probe_ask c.args.call) = record { sound = c.requires.sound; range = c.points_of-points.ensures.range } in
+    let there = begun_asked _ _ old.log c.ask.new.self _ _ _ _ (probe_ask c.args.call) m h none ok refl old.sound.results_long old.sound.places_long asked in
+    let sent = c.in-Ok.ensures.on m _ there in
+    let calls : c.send.new.self.log.calls ≡ old.log.calls ++ probe_ask c.args.call ∷ [] = ap (λ (l : LogState). l.calls) c.in-Ok.ensures.log ∙ ap (λ (l : LogState). l.calls) asked in
+    stops_asked m answered old.log.calls (probe_ask c.args.call) _ c.in-Err-make_last.stop refl
+    (subst (λ (calls : List Ask). StopsThere m answered calls c.make_last.new.self.log.lines c.in-Err-make_last.stop) calls (c.in-Err-make_last.ensures.stops m old.log.calls answered calls sent left))
+
+pub returns-in-Err-make_last-clause-on : goal.returns-in-Err-make_last-clause-on
+returns-in-Err-make_last-clause-on g c = λ m h.
+    let old = c.args.self.now.sender in
+    let none : old.log.end ≡ None = search rules in
+    let asked : c.ask.new.self ≡ with_call old.log (probe_ask c.args.call) c.ask.new.self.room = search rules in
+    let ok : IsAskable (probe_ask c.args.call) = record { sound = c.requires.sound; range = c.points_of-points.ensures.range } in
+    let there = begun_asked _ _ old.log c.ask.new.self _ _ _ _ (probe_ask c.args.call) m h none ok refl old.sound.results_long old.sound.places_long asked in
+    let sent = c.in-Ok.ensures.on m _ there in
+    let calls : c.send.new.self.log.calls ≡ old.log.calls ++ probe_ask c.args.call ∷ [] = ap (λ (l : LogState). l.calls) c.in-Ok.ensures.log ∙ ap (λ (l : LogState). l.calls) asked in
+    ended_begun _ _ c.make_last.new.self.log _ _ _ _ m _ (c.in-Err-make_last.ensures.broke m old.log.calls calls sent) c.in-Err-make_last.ensures.ended
+
+pub returns-in-Ok-make_last-clause-on : goal.returns-in-Ok-make_last-clause-on
+returns-in-Ok-make_last-clause-on g c = λ m h.
+    let old = c.args.self.now.sender in
+    let mid = c.send.new.self in
+    let new = c.make_last.new.self in
+    let none : old.log.end ≡ None = search rules in
+    let asked : c.ask.new.self ≡ with_call old.log (probe_ask c.args.call) c.ask.new.self.room = search rules in
+    let ok : IsAskable (probe_ask c.args.call) = record { sound = c.requires.sound; range = c.points_of-points.ensures.range } in
+    let there = begun_asked _ _ old.log c.ask.new.self _ _ _ _ (probe_ask c.args.call) m h none ok refl old.sound.results_long old.sound.places_long asked in
+    let sent = c.in-Ok.ensures.on m _ there in
+    let calls : mid.log.calls ≡ old.log.calls ++ probe_ask c.args.call ∷ [] = ap (λ (l : LogState). l.calls) c.in-Ok.ensures.log ∙ ap (λ (l : LogState). l.calls) asked in
+    let done = c.in-Ok-make_last.ensures.on m old.log.calls calls sent in
+    let same : new.log.calls ≡ mid.log.calls = ap (λ (l : LogState). l.calls) c.in-Ok-make_last.ensures.log in
+    let end : new.log.end ≡ None = ap (λ (l : LogState). l.end) c.in-Ok-make_last.ensures.log ∙ ap (λ (l : LogState). l.end) c.in-Ok.ensures.log ∙ ap (λ (l : LogState). l.end) asked ∙ none in
+    let whole : new.log.whole ≡ length new.log.calls = ap (λ (l : LogState). l.whole) c.in-Ok-make_last.ensures.log ∙ ap length (sym same) in
+    begun_needs _ _ new.log c.need.new.self _ _ _ _ _ _ m
+    (begun_made _ _ _ _ old.log new.log _ _ _ _ _ _ _ _ (probe_ask c.args.call) m h none refl done end (same ∙ calls) whole (c.make_last.ensures.managed ∙ c.send.ensures.managed) c.in-Ok-make_last.ensures.empty)
+    refl refl (needs_new new.log _ c.points_of-points.result c.count-count.result c.need.ensures.answer)
+
+pub returns-in-Ok-make_last-clause-whole : goal.returns-in-Ok-make_last-clause-whole
+returns-in-Ok-make_last-clause-whole g c = λ m answered h left.
+    let old = c.args.self.now.sender in
+    let mid = c.send.new.self in
+    let new = c.make_last.new.self in
+    let none : old.log.end ≡ None = search rules in
+    let asked : c.ask.new.self ≡ with_call old.log (probe_ask c.args.call) c.ask.new.self.room = search rules in
+    let ok : IsAskable (probe_ask c.args.call) = record { sound = c.requires.sound; range = c.points_of-points.ensures.range } in
+    let there = begun_asked _ _ old.log c.ask.new.self _ _ _ _ (probe_ask c.args.call) m h none ok refl old.sound.results_long old.sound.places_long asked in
+    let sent = c.in-Ok.ensures.on m _ there in
+    let calls : mid.log.calls ≡ old.log.calls ++ probe_ask c.args.call ∷ [] = ap (λ (l : LogState). l.calls) c.in-Ok.ensures.log ∙ ap (λ (l : LogState). l.calls) asked in
+    let done = c.in-Ok-make_last.ensures.on m old.log.calls calls sent in
+    let same : new.log.calls ≡ mid.log.calls = ap (λ (l : LogState). l.calls) c.in-Ok-make_last.ensures.log in
+    let end : new.log.end ≡ None = ap (λ (l : LogState). l.end) c.in-Ok-make_last.ensures.log ∙ ap (λ (l : LogState). l.end) c.in-Ok.ensures.log ∙ ap (λ (l : LogState). l.end) asked ∙ none in
+    let came : new.log.came ≡ length new.log.calls = ap (λ (l : LogState). l.came) c.in-Ok-make_last.ensures.log ∙ ap length (sym same) in
+    subst (λ (calls : List Ask). stop (world_from m answered) calls ≡ None) (same ∙ calls)
+    (none_stopped _ _ new.log [] [] [] m answered done refl end came (left_needs _ _ new.log c.need.new.self [] [] _ _ answered (needs_new new.log _ c.points_of-points.result c.count-count.result c.need.ensures.answer) left))
+
+pub returns-in-Ok-make_last-clause-value : goal.returns-in-Ok-make_last-clause-value
+returns-in-Ok-make_last-clause-value g c = λ m answered h left.
+    let old = c.args.self.now.sender in
+    let mid = c.send.new.self in
+    let new = c.make_last.new.self in
+    let none : old.log.end ≡ None = search rules in
+    let asked : c.ask.new.self ≡ with_call old.log (probe_ask c.args.call) c.ask.new.self.room = search rules in
+    let ok : IsAskable (probe_ask c.args.call) = record { sound = c.requires.sound; range = c.points_of-points.ensures.range } in
+    let there = begun_asked _ _ old.log c.ask.new.self _ _ _ _ (probe_ask c.args.call) m h none ok refl old.sound.results_long old.sound.places_long asked in
+    let sent = c.in-Ok.ensures.on m _ there in
+    let calls : mid.log.calls ≡ old.log.calls ++ probe_ask c.args.call ∷ [] = ap (λ (l : LogState). l.calls) c.in-Ok.ensures.log ∙ ap (λ (l : LogState). l.calls) asked in
+    let done = c.in-Ok-make_last.ensures.on m old.log.calls calls sent in
+    let same : new.log.calls ≡ mid.log.calls = ap (λ (l : LogState). l.calls) c.in-Ok-make_last.ensures.log in
+    let end : new.log.end ≡ None = ap (λ (l : LogState). l.end) c.in-Ok-make_last.ensures.log ∙ ap (λ (l : LogState). l.end) c.in-Ok.ensures.log ∙ ap (λ (l : LogState). l.end) asked ∙ none in
+    let whole : new.log.whole ≡ length new.log.calls = ap (λ (l : LogState). l.whole) c.in-Ok-make_last.ensures.log ∙ ap length (sym same) in
+    let begun = begun_made _ (g.F.Flights.reported new.flights) _ _ old.log new.log _ _ [] [] _ _ _ _ (probe_ask c.args.call) m h none refl done end (same ∙ calls) whole (c.make_last.ensures.managed ∙ c.send.ensures.managed) c.in-Ok-make_last.ensures.empty in
+    let all_before : old.log.whole ≡ length old.log.calls = c.args.self.now.whole none in
+    let came : mid.log.came ≡ length old.log.calls = ap (λ (l : LogState). l.came) c.in-Ok.ensures.log ∙ ap (λ (l : LogState). l.whole) asked ∙ all_before in
+    let count : length mid.log.calls ≡ length old.log.calls + 1 = ap length calls ∙ length-append old.log.calls (probe_ask c.args.call ∷ []) in
+    let last : slice_get mid.log.calls mid.log.came ≡ Some (probe_ask c.args.call) = (λ j. slice_get (calls j) (came j)) ∙ last_there old.log.calls (probe_ask c.args.call) in
+    let result : result_at new.log mid.log.came ≡ c.in-Ok-make_last.word =
+    done_result mid.log new.log _ mid.log.came _ c.in-Ok-make_last.ensures.log (omega (arith, came, count)) mid.sound.results_long ∙ ap (λ x. result_for x c.in-Ok-make_last.word) last in
+    let known : new.log.known ≡ length mid.log.calls = ap (λ (l : LogState). l.known) c.in-Ok-make_last.ensures.log in
+    let within : new.log.known ≤ length new.log.results = (let s = new.sound in let k = s.known_within in let l = s.results_long in omega (arith, k, l)) in
+    let word : c.from.result ≡ c.in-Ok-make_last.word = search rules in
+    word ∙ sym result
+    ∙ known_result _ _ new.log [] [] _ _ m answered mid.log.came begun (left_needs _ _ new.log c.need.new.self [] [] _ _ answered (needs_new new.log _ c.points_of-points.result c.count-count.result c.need.ensures.answer) left) within (inl (omega (arith, known, came, count)))
+    ∙ (λ j. slice_index (results (world_from m answered) ((same ∙ calls) j)) (came j))

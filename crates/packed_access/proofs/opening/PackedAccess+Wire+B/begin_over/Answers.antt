@@ -1,0 +1,8 @@
+use Rattle.std.proofs.Common.{ap}
+use Rattle.packed_access.proofs.OpeningLemmas.{has_begun, steps_from}
+use Rattle.packed_access.proofs.opening.PackedAccess+Wire+B.begin_over.Goals as goal
+
+pub returns-in-Ok-open-clause-begun : goal.returns-in-Ok-open-clause-begun
+returns-in-Ok-open-clause-begun g c =
+    has_begun _ _ _ c.args.config _ _ _ _ _ c.new-in-Ok-open.ensures.answer c.in-Ok.ensures c.open.ensures.empty
+    (steps_from _ (g.B.Bench.state c.in-Ok-new.flights.bench) (g.B.Bench.state c.args.bench) (g.B.Bench.state c.open.new.self.bench) (ap g.B.Bench.state c.in-Ok-new.ensures.bench) c.in-Ok-open.ensures.on)

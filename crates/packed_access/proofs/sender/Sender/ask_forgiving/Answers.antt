@@ -1,0 +1,188 @@
+use Rattle.std.proofs.Common.{◌≡◌, ◌∙◌, ◌<◌, ◌++◌, ◌∷◌, [], true, List, length, None, arith, refl, sym, ap, subst, length-append}
+use Rattle.target_machine.specs.Plain.{call_actions}
+use Rattle.target_machine.specs.declared.unit.Call.TheVariants.{Access}
+use Rattle.probe_core.specs.Probe.{target_of}
+use Rattle.call_terms.specs.Asks.{unit_ask}
+use Rattle.call_terms.specs.NeedPoints.{Asks, asked}
+use Rattle.call_terms.specs.World.{small_now, start_world}
+use Rattle.call_terms.specs.declared.calls.Ask.{Ask}
+use Rattle.access_regs.specs.Costs.{cost_by}
+use Rattle.access_regs.specs.Journal.{large_of}
+use Rattle.access_regs.specs.Kept.{Kept, forget}
+use Rattle.access_regs.specs.Plan.{settled}
+use Rattle.access_regs.specs.declared.planner.Planner.TheVariants.{Managed}
+use Rattle.packed_access.specs.Begun.{StopsThere}
+use Rattle.packed_access.specs.Forgiving.{HasTried, IsDoneBy}
+use Rattle.packed_access.specs.Logs.{LogState, asks_of}
+use Rattle.packed_access.proofs.NeedLemmas.{begun_needs, needs_new}
+use Rattle.packed_access.proofs.TryBeginLemmas.{ask_is, begin_settling, begin_trying, is_before, may_is, settled_table, target_settled}
+use Rattle.packed_access.proofs.TryCloseLemmas.{closed_asks, closed_end, closed_whole, has_closed}
+use Rattle.packed_access.proofs.TryDoneLemmas.{unit_begun, unit_kept, unit_needs, unit_outcome}
+use Rattle.packed_access.proofs.sender.Sender.ask_forgiving.Goals as goal
+
+pub returns-in-Err-clause-broke : goal.returns-in-Err-clause-broke
+returns-in-Err-clause-broke g c = λ m0 calls ask call forgives h.
+    let old = c.args.self.now in
+    let u_is : 0 < length calls → c.max.result ≡ length calls = λ some. (let a = c.max.ensures in let b = c.count-count.ensures in let l = ap length h.are ∙ length-append calls (ask ∷ []) in omega (arith, a, b, l, some)) in
+    let there = begin_settling _ old.log _ old.managed calls ask c.args.unit.now m0 c.max.result h call forgives u_is in
+    c.in-Err.ensures.broke m0 _ there
+
+pub returns-in-Err-clause-stops : goal.returns-in-Err-clause-stops
+returns-in-Err-clause-stops g c = λ m0 calls ask answered call forgives h left.
+    let old = c.args.self.now in
+    let u_is : 0 < length calls → c.max.result ≡ length calls = λ some. (let a = c.max.ensures in let b = c.count-count.ensures in let l = ap length h.are ∙ length-append calls (ask ∷ []) in omega (arith, a, b, l, some)) in
+    let there = begin_settling _ old.log _ old.managed calls ask c.args.unit.now m0 c.max.result h call forgives u_is in
+    c.in-Err.ensures.stops m0 _ answered there left
+
+pub returns-in-Err-send-clause-broke : goal.returns-in-Err-send-clause-broke
+returns-in-Err-send-clause-broke g c = λ m0 calls ask call forgives h.
+    let old = c.args.self.now in
+    let u_is : 0 < length calls → c.max.result ≡ length calls = λ some. (let a = c.max.ensures in let b = c.count-count.ensures in let l = ap length h.are ∙ length-append calls (ask ∷ []) in omega (arith, a, b, l, some)) in
+    let there = begin_settling _ old.log _ old.managed calls ask c.args.unit.now m0 c.max.result h call forgives u_is in
+    let there2 = c.in-Ok.ensures.on m0 _ there in
+    c.in-Err-send.ensures.broke m0 _ there2
+
+pub returns-in-Err-send-clause-stops : goal.returns-in-Err-send-clause-stops
+returns-in-Err-send-clause-stops g c = λ m0 calls ask answered call forgives h left.
+    let old = c.args.self.now in
+    let u_is : 0 < length calls → c.max.result ≡ length calls = λ some. (let a = c.max.ensures in let b = c.count-count.ensures in let l = ap length h.are ∙ length-append calls (ask ∷ []) in omega (arith, a, b, l, some)) in
+    let there = begin_settling _ old.log _ old.managed calls ask c.args.unit.now m0 c.max.result h call forgives u_is in
+    let there2 = c.in-Ok.ensures.on m0 _ there in
+    subst (λ (l : List Ask). StopsThere m0 answered l c.send.new.self.log.lines c.in-Err-send.stop) c.in-Ok.ensures.further.calls (c.in-Err-send.ensures.stops m0 _ answered there2 left)
+
+pub returns-in-Err-try_unit-clause-broke : goal.returns-in-Err-try_unit-clause-broke
+returns-in-Err-try_unit-clause-broke g c = λ m0 calls ask call forgives h.
+    let old = c.args.self.now in
+    let u_is : 0 < length calls → c.max.result ≡ length calls = λ some. (let a = c.max.ensures in let b = c.count-count.ensures in let l = ap length h.are ∙ length-append calls (ask ∷ []) in omega (arith, a, b, l, some)) in
+    let there = begin_settling _ old.log _ old.managed calls ask c.args.unit.now m0 c.max.result h call forgives u_is in
+    let there2 = c.in-Ok.ensures.on m0 _ there in
+    let sent = c.send.new.self in
+    let t0 = target_of m0.probe in
+    let same : ask ≡ unit_ask c.args.unit.now true = ask_is ask c.args.unit.now call forgives h.unmarked in
+    let may = may_is ask c.args.unit.now call forgives in
+    let there3 = c.in-Ok-send.ensures.on m0 _ there2 in
+    let calls3 : sent.log.calls ≡ calls ++ unit_ask c.args.unit.now true ∷ [] = ap (λ (l : LogState). l.calls) c.in-Ok-send.ensures.log ∙ c.in-Ok.ensures.further.calls ∙ h.are ∙ ap (λ (a : Ask). calls ++ a ∷ []) same in
+    let managed3 : sent.managed ≡ settled old.managed = c.send.ensures.managed ∙ c.settle.ensures.managed in
+    let whole3 : sent.log.whole ≡ length calls = (let w = ap (λ (l : LogState). l.whole) c.in-Ok-send.ensures.log in let f = c.in-Ok.ensures.further.whole in let o = c.requires.whole in let l = ap length h.are ∙ length-append calls (ask ∷ []) in omega (arith, w, f, o, l)) in
+    let came3 : sent.log.came ≡ length calls = (let w = ap (λ (l : LogState). l.came) c.in-Ok-send.ensures.log in let f = c.in-Ok.ensures.further.whole in let o = c.requires.whole in let l = ap length h.are ∙ length-append calls (ask ∷ []) in omega (arith, w, f, o, l)) in
+    let b = is_before _ sent.log calls (unit_ask c.args.unit.now true) _ m0 there3 calls3 came3 in
+    let tried = subst (λ (q : Kept). HasTried (g.F.Flights.state sent.flights) sent.log c.args.unit.now q (target_settled (target_of m0.probe) calls old.managed) [] (call_actions (target_settled (target_of m0.probe) calls old.managed) (large_of (settled old.managed) c.args.unit.now) (Access c.args.unit.now)) m0) (sym managed3)
+    (begin_trying _ sent.log old.managed calls c.args.unit.now m0 h.kept_is may calls3 there3) in
+    let table : length sent.managed.ports ≡ 256 = subst (λ (q : Kept). length q.ports ≡ 256) (sym managed3) (settled_table (target_of m0.probe) old.managed calls (unit_ask c.args.unit.now true) h.kept_is b) in
+    record { so = (c.in-Err-try_unit.ensures.broke m0 _ _ table tried).ended }
+
+pub returns-in-Err-try_unit-clause-stops : goal.returns-in-Err-try_unit-clause-stops
+returns-in-Err-try_unit-clause-stops g c = λ m0 calls ask answered call forgives h left.
+    let old = c.args.self.now in
+    let u_is : 0 < length calls → c.max.result ≡ length calls = λ some. (let a = c.max.ensures in let b = c.count-count.ensures in let l = ap length h.are ∙ length-append calls (ask ∷ []) in omega (arith, a, b, l, some)) in
+    let there = begin_settling _ old.log _ old.managed calls ask c.args.unit.now m0 c.max.result h call forgives u_is in
+    let there2 = c.in-Ok.ensures.on m0 _ there in
+    let sent = c.send.new.self in
+    let t0 = target_of m0.probe in
+    let same : ask ≡ unit_ask c.args.unit.now true = ask_is ask c.args.unit.now call forgives h.unmarked in
+    let may = may_is ask c.args.unit.now call forgives in
+    let there3 = c.in-Ok-send.ensures.on m0 _ there2 in
+    let calls3 : sent.log.calls ≡ calls ++ unit_ask c.args.unit.now true ∷ [] = ap (λ (l : LogState). l.calls) c.in-Ok-send.ensures.log ∙ c.in-Ok.ensures.further.calls ∙ h.are ∙ ap (λ (a : Ask). calls ++ a ∷ []) same in
+    let managed3 : sent.managed ≡ settled old.managed = c.send.ensures.managed ∙ c.settle.ensures.managed in
+    let whole3 : sent.log.whole ≡ length calls = (let w = ap (λ (l : LogState). l.whole) c.in-Ok-send.ensures.log in let f = c.in-Ok.ensures.further.whole in let o = c.requires.whole in let l = ap length h.are ∙ length-append calls (ask ∷ []) in omega (arith, w, f, o, l)) in
+    let came3 : sent.log.came ≡ length calls = (let w = ap (λ (l : LogState). l.came) c.in-Ok-send.ensures.log in let f = c.in-Ok.ensures.further.whole in let o = c.requires.whole in let l = ap length h.are ∙ length-append calls (ask ∷ []) in omega (arith, w, f, o, l)) in
+    let b = is_before _ sent.log calls (unit_ask c.args.unit.now true) _ m0 there3 calls3 came3 in
+    let tried = subst (λ (q : Kept). HasTried (g.F.Flights.state sent.flights) sent.log c.args.unit.now q (target_settled (target_of m0.probe) calls old.managed) [] (call_actions (target_settled (target_of m0.probe) calls old.managed) (large_of (settled old.managed) c.args.unit.now) (Access c.args.unit.now)) m0) (sym managed3)
+    (begin_trying _ sent.log old.managed calls c.args.unit.now m0 h.kept_is may calls3 there3) in
+    let table : length sent.managed.ports ≡ 256 = subst (λ (q : Kept). length q.ports ≡ 256) (sym managed3) (settled_table (target_of m0.probe) old.managed calls (unit_ask c.args.unit.now true) h.kept_is b) in
+    let calls_same : sent.log.calls ≡ old.log.calls = ap (λ (l : LogState). l.calls) c.in-Ok-send.ensures.log ∙ c.in-Ok.ensures.further.calls in
+    subst (λ (l : List Ask). StopsThere m0 answered l c.try_unit.new.self.log.lines c.in-Err-try_unit.stop) calls_same ((c.in-Err-try_unit.ensures.broke m0 _ _ table tried).stops answered left)
+
+pub returns-in-Ok-try_unit-clause-on : goal.returns-in-Ok-try_unit-clause-on
+returns-in-Ok-try_unit-clause-on g c = λ m0 calls ask call forgives h.
+    let old = c.args.self.now in
+    let u_is : 0 < length calls → c.max.result ≡ length calls = λ some. (let a = c.max.ensures in let b = c.count-count.ensures in let l = ap length h.are ∙ length-append calls (ask ∷ []) in omega (arith, a, b, l, some)) in
+    let there = begin_settling _ old.log _ old.managed calls ask c.args.unit.now m0 c.max.result h call forgives u_is in
+    let there2 = c.in-Ok.ensures.on m0 _ there in
+    let sent = c.send.new.self in
+    let t0 = target_of m0.probe in
+    let same : ask ≡ unit_ask c.args.unit.now true = ask_is ask c.args.unit.now call forgives h.unmarked in
+    let may = may_is ask c.args.unit.now call forgives in
+    let there3 = c.in-Ok-send.ensures.on m0 _ there2 in
+    let calls3 : sent.log.calls ≡ calls ++ unit_ask c.args.unit.now true ∷ [] = ap (λ (l : LogState). l.calls) c.in-Ok-send.ensures.log ∙ c.in-Ok.ensures.further.calls ∙ h.are ∙ ap (λ (a : Ask). calls ++ a ∷ []) same in
+    let managed3 : sent.managed ≡ settled old.managed = c.send.ensures.managed ∙ c.settle.ensures.managed in
+    let whole3 : sent.log.whole ≡ length calls = (let w = ap (λ (l : LogState). l.whole) c.in-Ok-send.ensures.log in let f = c.in-Ok.ensures.further.whole in let o = c.requires.whole in let l = ap length h.are ∙ length-append calls (ask ∷ []) in omega (arith, w, f, o, l)) in
+    let came3 : sent.log.came ≡ length calls = (let w = ap (λ (l : LogState). l.came) c.in-Ok-send.ensures.log in let f = c.in-Ok.ensures.further.whole in let o = c.requires.whole in let l = ap length h.are ∙ length-append calls (ask ∷ []) in omega (arith, w, f, o, l)) in
+    let b = is_before _ sent.log calls (unit_ask c.args.unit.now true) _ m0 there3 calls3 came3 in
+    let tried = subst (λ (q : Kept). HasTried (g.F.Flights.state sent.flights) sent.log c.args.unit.now q (target_settled (target_of m0.probe) calls old.managed) [] (call_actions (target_settled (target_of m0.probe) calls old.managed) (large_of (settled old.managed) c.args.unit.now) (Access c.args.unit.now)) m0) (sym managed3)
+    (begin_trying _ sent.log old.managed calls c.args.unit.now m0 h.kept_is may calls3 there3) in
+    let table : length sent.managed.ports ≡ 256 = subst (λ (q : Kept). length q.ports ≡ 256) (sym managed3) (settled_table (target_of m0.probe) old.managed calls (unit_ask c.args.unit.now true) h.kept_is b) in
+    let unit_done = c.try_unit.new.self in
+    let word = c.in-Ok-try_unit.tried.word in
+    let done = subst (λ (q : Kept). IsDoneBy c.in-Ok-try_unit.tried.small c.in-Ok-try_unit.tried.word c.in-Ok-try_unit.tried.reads unit_done.managed (g.F.Flights.state unit_done.flights) unit_done.log c.args.unit.now q (target_settled (target_of m0.probe) calls old.managed) m0) managed3
+    (c.in-Ok-try_unit.ensures.on m0 _ _ may table tried) in
+    let outcome = unit_outcome _ unit_done.log old.managed calls c.args.unit.now c.in-Ok-try_unit.tried.small c.in-Ok-try_unit.tried.word c.in-Ok-try_unit.tried.reads unit_done.managed m0 h.kept_is may b done in
+    let calls4 : unit_done.log.calls ≡ calls ++ unit_ask c.args.unit.now true ∷ [] = c.in-Ok-try_unit.ensures.further.calls ∙ calls3 in
+    let new_calls : c.close.new.log.calls ≡ unit_done.log.calls = ap (λ (l : LogState). l.calls) c.close.ensures.answer ∙ ap (λ (a : Asks). a.calls) (closed_asks c.in-Ok-try_unit.tried.word unit_done.log) in
+    let came4 : unit_done.log.came ≡ length calls = c.in-Ok-try_unit.ensures.came ∙ c.in-Ok-try_unit.ensures.further.whole ∙ whole3 in
+    let issuing = has_closed c.in-Ok-try_unit.tried.word _ unit_done.log c.close.new.log calls (unit_ask c.args.unit.now true) m0 outcome.issuing calls4 refl came4 outcome.results_are outcome.skips_are unit_done.sound.results_long unit_done.sound.few c.close.ensures.answer in
+    let kept : c.forget.new.self ≡ forget unit_done.managed _ = c.forget.ensures ∙ ap (forget unit_done.managed) c.port_of.ensures in
+    let end : c.close.new.log.end ≡ None = ap (λ (l : LogState). l.end) c.close.ensures.answer ∙ closed_end c.in-Ok-try_unit.tried.word unit_done.log ∙ c.in-Ok-try_unit.ensures.further.end in
+    let whole : c.close.new.log.whole ≡ length c.close.new.log.calls = ap (λ (l : LogState). l.whole) c.close.ensures.answer ∙ (closed_whole c.in-Ok-try_unit.tried.word unit_done.log).0 ∙ ap length (sym new_calls) in
+    let came : c.close.new.log.came ≡ length c.close.new.log.calls = ap (λ (l : LogState). l.came) c.close.ensures.answer ∙ (closed_whole c.in-Ok-try_unit.tried.word unit_done.log).1 ∙ ap length (sym new_calls) in
+    begun_needs _ _ c.close.new.log c.need.new.self _ _ _ _ _ _ m0
+    (unit_begun _ _ c.close.new.log _ _ _ _ calls c.args.unit.now m0 issuing end whole came (new_calls ∙ calls4) (unit_kept (target_of m0.probe) old.managed calls c.args.unit.now unit_done.managed h.kept_is may done.kept_is ∙ sym kept) c.in-Ok-try_unit.ensures.empty)
+    refl refl (needs_new c.close.new.log c.need.new.self _ _ c.need.ensures.answer)
+
+pub returns-in-Ok-try_unit-clause-small : goal.returns-in-Ok-try_unit-clause-small
+returns-in-Ok-try_unit-clause-small g c = λ m0 calls ask call forgives h.
+    let old = c.args.self.now in
+    let u_is : 0 < length calls → c.max.result ≡ length calls = λ some. (let a = c.max.ensures in let b = c.count-count.ensures in let l = ap length h.are ∙ length-append calls (ask ∷ []) in omega (arith, a, b, l, some)) in
+    let there = begin_settling _ old.log _ old.managed calls ask c.args.unit.now m0 c.max.result h call forgives u_is in
+    let there2 = c.in-Ok.ensures.on m0 _ there in
+    let sent = c.send.new.self in
+    let t0 = target_of m0.probe in
+    let same : ask ≡ unit_ask c.args.unit.now true = ask_is ask c.args.unit.now call forgives h.unmarked in
+    let may = may_is ask c.args.unit.now call forgives in
+    let there3 = c.in-Ok-send.ensures.on m0 _ there2 in
+    let calls3 : sent.log.calls ≡ calls ++ unit_ask c.args.unit.now true ∷ [] = ap (λ (l : LogState). l.calls) c.in-Ok-send.ensures.log ∙ c.in-Ok.ensures.further.calls ∙ h.are ∙ ap (λ (a : Ask). calls ++ a ∷ []) same in
+    let managed3 : sent.managed ≡ settled old.managed = c.send.ensures.managed ∙ c.settle.ensures.managed in
+    let whole3 : sent.log.whole ≡ length calls = (let w = ap (λ (l : LogState). l.whole) c.in-Ok-send.ensures.log in let f = c.in-Ok.ensures.further.whole in let o = c.requires.whole in let l = ap length h.are ∙ length-append calls (ask ∷ []) in omega (arith, w, f, o, l)) in
+    let came3 : sent.log.came ≡ length calls = (let w = ap (λ (l : LogState). l.came) c.in-Ok-send.ensures.log in let f = c.in-Ok.ensures.further.whole in let o = c.requires.whole in let l = ap length h.are ∙ length-append calls (ask ∷ []) in omega (arith, w, f, o, l)) in
+    let b = is_before _ sent.log calls (unit_ask c.args.unit.now true) _ m0 there3 calls3 came3 in
+    let tried = subst (λ (q : Kept). HasTried (g.F.Flights.state sent.flights) sent.log c.args.unit.now q (target_settled (target_of m0.probe) calls old.managed) [] (call_actions (target_settled (target_of m0.probe) calls old.managed) (large_of (settled old.managed) c.args.unit.now) (Access c.args.unit.now)) m0) (sym managed3)
+    (begin_trying _ sent.log old.managed calls c.args.unit.now m0 h.kept_is may calls3 there3) in
+    let table : length sent.managed.ports ≡ 256 = subst (λ (q : Kept). length q.ports ≡ 256) (sym managed3) (settled_table (target_of m0.probe) old.managed calls (unit_ask c.args.unit.now true) h.kept_is b) in
+    let unit_done = c.try_unit.new.self in
+    let word = c.in-Ok-try_unit.tried.word in
+    let done = subst (λ (q : Kept). IsDoneBy c.in-Ok-try_unit.tried.small c.in-Ok-try_unit.tried.word c.in-Ok-try_unit.tried.reads unit_done.managed (g.F.Flights.state unit_done.flights) unit_done.log c.args.unit.now q (target_settled (target_of m0.probe) calls old.managed) m0) managed3
+    (c.in-Ok-try_unit.ensures.on m0 _ _ may table tried) in
+    let outcome = unit_outcome _ unit_done.log old.managed calls c.args.unit.now c.in-Ok-try_unit.tried.small c.in-Ok-try_unit.tried.word c.in-Ok-try_unit.tried.reads unit_done.managed m0 h.kept_is may b done in
+    outcome.small_is ∙ ap (small_now (start_world (target_of m0.probe) None) calls) (sym same)
+
+pub returns-in-Ok-try_unit-clause-needs : goal.returns-in-Ok-try_unit-clause-needs
+returns-in-Ok-try_unit-clause-needs g c = λ m0 calls ask call forgives h.
+    let old = c.args.self.now in
+    let u_is : 0 < length calls → c.max.result ≡ length calls = λ some. (let a = c.max.ensures in let b = c.count-count.ensures in let l = ap length h.are ∙ length-append calls (ask ∷ []) in omega (arith, a, b, l, some)) in
+    let there = begin_settling _ old.log _ old.managed calls ask c.args.unit.now m0 c.max.result h call forgives u_is in
+    let there2 = c.in-Ok.ensures.on m0 _ there in
+    let sent = c.send.new.self in
+    let t0 = target_of m0.probe in
+    let same : ask ≡ unit_ask c.args.unit.now true = ask_is ask c.args.unit.now call forgives h.unmarked in
+    let may = may_is ask c.args.unit.now call forgives in
+    let there3 = c.in-Ok-send.ensures.on m0 _ there2 in
+    let calls3 : sent.log.calls ≡ calls ++ unit_ask c.args.unit.now true ∷ [] = ap (λ (l : LogState). l.calls) c.in-Ok-send.ensures.log ∙ c.in-Ok.ensures.further.calls ∙ h.are ∙ ap (λ (a : Ask). calls ++ a ∷ []) same in
+    let managed3 : sent.managed ≡ settled old.managed = c.send.ensures.managed ∙ c.settle.ensures.managed in
+    let whole3 : sent.log.whole ≡ length calls = (let w = ap (λ (l : LogState). l.whole) c.in-Ok-send.ensures.log in let f = c.in-Ok.ensures.further.whole in let o = c.requires.whole in let l = ap length h.are ∙ length-append calls (ask ∷ []) in omega (arith, w, f, o, l)) in
+    let came3 : sent.log.came ≡ length calls = (let w = ap (λ (l : LogState). l.came) c.in-Ok-send.ensures.log in let f = c.in-Ok.ensures.further.whole in let o = c.requires.whole in let l = ap length h.are ∙ length-append calls (ask ∷ []) in omega (arith, w, f, o, l)) in
+    let b = is_before _ sent.log calls (unit_ask c.args.unit.now true) _ m0 there3 calls3 came3 in
+    let tried = subst (λ (q : Kept). HasTried (g.F.Flights.state sent.flights) sent.log c.args.unit.now q (target_settled (target_of m0.probe) calls old.managed) [] (call_actions (target_settled (target_of m0.probe) calls old.managed) (large_of (settled old.managed) c.args.unit.now) (Access c.args.unit.now)) m0) (sym managed3)
+    (begin_trying _ sent.log old.managed calls c.args.unit.now m0 h.kept_is may calls3 there3) in
+    let table : length sent.managed.ports ≡ 256 = subst (λ (q : Kept). length q.ports ≡ 256) (sym managed3) (settled_table (target_of m0.probe) old.managed calls (unit_ask c.args.unit.now true) h.kept_is b) in
+    let unit_done = c.try_unit.new.self in
+    let word = c.in-Ok-try_unit.tried.word in
+    let done = subst (λ (q : Kept). IsDoneBy c.in-Ok-try_unit.tried.small c.in-Ok-try_unit.tried.word c.in-Ok-try_unit.tried.reads unit_done.managed (g.F.Flights.state unit_done.flights) unit_done.log c.args.unit.now q (target_settled (target_of m0.probe) calls old.managed) m0) managed3
+    (c.in-Ok-try_unit.ensures.on m0 _ _ may table tried) in
+    let calls4 : unit_done.log.calls ≡ calls ++ unit_ask c.args.unit.now true ∷ [] = c.in-Ok-try_unit.ensures.further.calls ∙ calls3 in
+    let new_calls : c.close.new.log.calls ≡ unit_done.log.calls = ap (λ (l : LogState). l.calls) c.close.ensures.answer ∙ ap (λ (a : Asks). a.calls) (closed_asks c.in-Ok-try_unit.tried.word unit_done.log) in
+    let asks : asks_of c.close.new.log ≡ record { calls = calls ++ unit_ask c.args.unit.now true ∷ []; needs = old.log.needs; fence = old.log.fence } =
+    ap asks_of c.close.ensures.answer ∙ closed_asks c.in-Ok-try_unit.tried.word unit_done.log ∙ c.try_unit.ensures.asks ∙ ap asks_of c.in-Ok-send.ensures.log ∙ c.settle.ensures.asks
+    ∙ (λ j. record { calls = (h.are ∙ ap (λ (a : Ask). calls ++ a ∷ []) same) j; needs = old.log.needs; fence = old.log.fence }) in
+    let count : c.count-count.result ≡ length c.close.new.log.calls = c.count-count.ensures ∙ ap length (h.are ∙ ap (λ (a : Ask). calls ++ a ∷ []) same ∙ sym (new_calls ∙ calls4)) in
+    subst (λ (a : Ask). asks_of c.need.new.self ≡ asked (cost_by Managed (target_of m0.probe) calls a) a (record { calls = calls; needs = old.log.needs; fence = old.log.fence })) (sym same)
+    (unit_needs (target_of m0.probe) old.managed calls c.args.unit.now c.in-Ok-try_unit.tried.reads old.log.needs old.log.fence c.close.new.log c.need.new.self _ _ h.kept_is may done.reads_are c.need.ensures.answer refl count asks)

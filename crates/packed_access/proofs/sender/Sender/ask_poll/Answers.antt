@@ -1,0 +1,17 @@
+use Rattle.std.proofs.Common.{rules, ◌≡◌, refl, ap}
+use Rattle.packed_access.specs.Logs.{LogState}
+use Rattle.packed_access.proofs.NeedLemmas.{begun_needs, needs_new}
+use Rattle.packed_access.proofs.PollLemmas.{asked_poll, begun_polled}
+use Rattle.packed_access.proofs.sender.Sender.ask_poll.Goals as goal
+
+pub returns-in-Ok-poll_last-clause-on : goal.returns-in-Ok-poll_last-clause-on
+returns-in-Ok-poll_last-clause-on g c = λ m0 calls ask call h.
+    let old = c.args.self.now in
+    let mid = c.send.new.self in
+    let new = c.poll_last.new.self in
+    let same : mid.log.calls ≡ old.log.calls = ap (λ (l : LogState). l.calls) c.in-Ok.ensures.log in
+    let poll = asked_poll _ _ old.log mid.log _ old.managed mid.managed calls ask c.args.mask c.args.requested c.args.turns m0 call h (c.in-Ok.ensures.on m0 _ h.issued) same c.send.ensures.managed in
+    let same' : new.log.calls ≡ mid.log.calls = search rules in
+    begun_needs _ _ new.log c.need.new.self _ _ _ _ _ _ m0
+    (begun_polled _ _ _ mid.log new.log _ _ mid.managed new.managed _ calls ask c.args.mask c.args.requested c.args.turns m0 poll (c.in-Ok-poll_last.ensures.on m0 calls ask poll) same' c.in-Ok-poll_last.ensures.open c.in-Ok-poll_last.ensures.whole c.poll_last.ensures.managed c.in-Ok-poll_last.ensures.empty)
+    refl refl (needs_new new.log _ c.in-Ok-poll_last.points c.count-count.result c.need.ensures.answer)

@@ -1,0 +1,20 @@
+use Rattle.std.proofs.Common.{◌≡◌, ℕ, ◌+◌, ◌<◌, ◌++◌, List, length, drop}
+use Rattle.probe_core.specs.Bench.{BenchState}
+use Rattle.call_terms.specs.Journal.{Entry}
+use Rattle.access_calls.specs.GoesOn.{GoesOn}
+use Rattle.packed_access.specs.Begun.{HasIssued, entries_of}
+use Rattle.packed_access.specs.Logs.{IsFurther, asks_of, reported_by}
+use Rattle.packed_access.proofs.sender.Sender.issue_all.Given as goal
+
+abbrev pub invariant-loop-access : goal.invariant-loop-access
+invariant-loop-access g l = record {
+  on : (m0 : BenchState) (rest : List Entry) → HasIssued (g.F.Flights.state l.fn.self.flights) l.fn.self.log (g.F.Flights.accesses l.fn.self.flights) (entries_of l.unit l.part l.accesses ++ rest) m0
+      → HasIssued (g.F.Flights.state l.self.flights) l.self.log (g.F.Flights.accesses l.self.flights) (entries_of l.unit l.part (drop l.access-index l.accesses) ++ rest) m0;
+  goes : GoesOn (reported_by (g.F.Flights.reported l.fn.self.flights) (g.F.Flights.state l.fn.self.flights) l.fn.self.log (g.F.Flights.packet l.fn.self.flights) (g.F.Flights.reply l.fn.self.flights))
+      (reported_by (g.F.Flights.reported l.self.flights) (g.F.Flights.state l.self.flights) l.self.log (g.F.Flights.packet l.self.flights) (g.F.Flights.reply l.self.flights));
+  entries : length l.self.log.entries ≡ length l.fn.self.log.entries + l.access-index;
+  further : IsFurther l.fn.self.log l.self.log;
+  pending : 0 < l.access-index → l.self.log.confirmed < length l.self.log.entries;
+  managed : l.self.managed ≡ l.fn.self.managed;
+  identity : g.F.Flights.identity l.self.flights ≡ g.F.Flights.identity l.fn.self.flights;
+}

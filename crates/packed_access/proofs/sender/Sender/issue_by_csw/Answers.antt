@@ -1,0 +1,86 @@
+use Rattle.std.proofs.Common.{rules, ◌≡◌, ◌∙◌, ◌<◌, ◌++◌, [], List, length, true, false, Ok, Err, arith, refl, sym, ap, subst}
+use Rattle.std.specs.Prelude.{IfErr, OnOk}
+use Rattle.call_terms.specs.Journal.{Entry}
+use Rattle.call_terms.specs.declared.calls.Ask.{Ask}
+use Rattle.call_terms.specs.declared.journal.Part.TheVariants.{Leads}
+use Rattle.access_regs.specs.Journal.{by_csw, gives, port_of}
+use Rattle.access_regs.specs.Kept.{Kept}
+use Rattle.access_regs.specs.Plan.{first_plan, learned, made, needs_csw}
+use Rattle.packed_access.specs.Begun.{HasIssued, StopsThere, entries_of, target_issued}
+use Rattle.packed_access.proofs.PlannedLemmas.{csw_left, csw_steps, plain_left, plan_entries, plan_now}
+use Rattle.packed_access.proofs.sender.Sender.issue_by_csw.Goals as goal
+
+pub returns-then-not-needs_csw-clause-broke : goal.returns-then-not-needs_csw-clause-broke
+returns-then-not-needs_csw-clause-broke g c = λ m0 h.
+    let old = c.args.self.now in
+    let some : 0 < length old.log.calls = (let w = c.requires.whole in omega (arith, w)) in
+    let needs : needs_csw old.managed c.args.unit.now ≡ false = search rules in
+    c.issue_unit.ensures.broke m0 [] (subst (λ (l : List Entry). HasIssued (g.F.Flights.state old.flights) old.log (g.F.Flights.accesses old.flights) l m0) (plain_left (length old.log.calls) (target_issued old.log m0) old.managed c.args.unit.now some c.requires.no_poll needs) h)
+
+pub returns-then-not-needs_csw-clause-stops : goal.returns-then-not-needs_csw-clause-stops
+returns-then-not-needs_csw-clause-stops g c = λ m0 answered h left.
+    let old = c.args.self.now in
+    let some : 0 < length old.log.calls = (let w = c.requires.whole in omega (arith, w)) in
+    let needs : needs_csw old.managed c.args.unit.now ≡ false = search rules in
+    c.issue_unit.ensures.stops m0 [] answered (subst (λ (l : List Entry). HasIssued (g.F.Flights.state old.flights) old.log (g.F.Flights.accesses old.flights) l m0) (plain_left (length old.log.calls) (target_issued old.log m0) old.managed c.args.unit.now some c.requires.no_poll needs) h) left
+
+pub returns-in-Err-clause-broke : goal.returns-in-Err-clause-broke
+returns-in-Err-clause-broke g c = λ m0 h.
+    let old = c.args.self.now in
+    let some : 0 < length old.log.calls = (let w = c.requires.whole in omega (arith, w)) in
+    let needs : needs_csw old.managed c.args.unit.now ≡ true = search rules in
+    c.in-Err.ensures.broke m0 _ (subst (λ (l : List Entry). HasIssued (g.F.Flights.state old.flights) old.log (g.F.Flights.accesses old.flights) l m0) (csw_left (length old.log.calls) (target_issued old.log m0) old.managed c.args.unit.now some c.requires.no_poll needs) h)
+
+pub returns-in-Err-clause-stops : goal.returns-in-Err-clause-stops
+returns-in-Err-clause-stops g c = λ m0 answered h left.
+    let old = c.args.self.now in
+    let some : 0 < length old.log.calls = (let w = c.requires.whole in omega (arith, w)) in
+    let needs : needs_csw old.managed c.args.unit.now ≡ true = search rules in
+    c.in-Err.ensures.stops m0 _ answered (subst (λ (l : List Entry). HasIssued (g.F.Flights.state old.flights) old.log (g.F.Flights.accesses old.flights) l m0) (csw_left (length old.log.calls) (target_issued old.log m0) old.managed c.args.unit.now some c.requires.no_poll needs) h) left
+
+pub returns-in-Ok-clause-on : goal.returns-in-Ok-clause-on
+returns-in-Ok-clause-on g c = λ m0 h.
+    let old = c.args.self.now in
+    let mid = c.read_csw.new.self in
+    let some : 0 < length old.log.calls = (let w = c.requires.whole in omega (arith, w)) in
+    let needs : needs_csw old.managed c.args.unit.now ≡ true = search rules in
+    let k : Kept = learned old.managed (port_of c.args.unit.now) (gives (target_issued old.log m0) (first_plan old.managed (port_of c.args.unit.now))) in
+    let first : HasIssued (g.F.Flights.state old.flights) old.log (g.F.Flights.accesses old.flights) (entries_of (length old.log.calls) Leads (first_plan old.managed (port_of c.args.unit.now)) ++ plan_entries (length old.log.calls) k c.args.unit.now) m0 =
+    subst (λ (l : List Entry). HasIssued (g.F.Flights.state old.flights) old.log (g.F.Flights.accesses old.flights) l m0) (csw_left (length old.log.calls) (target_issued old.log m0) old.managed c.args.unit.now some c.requires.no_poll needs) h in
+    c.issue_unit-in-Ok.ensures.on m0 [] (plan_now _ mid.log _ _ k mid.managed c.args.unit.now (length old.log.calls) m0 (c.in-Ok.ensures.on m0 _ first) c.in-Ok.ensures.empty (c.in-Ok.ensures.kept m0 _ first) (ap length c.read_csw.ensures.calls))
+
+pub returns-in-Ok-clause-broke : goal.returns-in-Ok-clause-broke
+returns-in-Ok-clause-broke g c = λ m0 h.
+    let old = c.args.self.now in
+    let mid = c.read_csw.new.self in
+    let some : 0 < length old.log.calls = (let w = c.requires.whole in omega (arith, w)) in
+    let needs : needs_csw old.managed c.args.unit.now ≡ true = search rules in
+    let k : Kept = learned old.managed (port_of c.args.unit.now) (gives (target_issued old.log m0) (first_plan old.managed (port_of c.args.unit.now))) in
+    let first : HasIssued (g.F.Flights.state old.flights) old.log (g.F.Flights.accesses old.flights) (entries_of (length old.log.calls) Leads (first_plan old.managed (port_of c.args.unit.now)) ++ plan_entries (length old.log.calls) k c.args.unit.now) m0 =
+    subst (λ (l : List Entry). HasIssued (g.F.Flights.state old.flights) old.log (g.F.Flights.accesses old.flights) l m0) (csw_left (length old.log.calls) (target_issued old.log m0) old.managed c.args.unit.now some c.requires.no_poll needs) h in
+    c.issue_unit-in-Ok.ensures.broke m0 [] (plan_now _ mid.log _ _ k mid.managed c.args.unit.now (length old.log.calls) m0 (c.in-Ok.ensures.on m0 _ first) c.in-Ok.ensures.empty (c.in-Ok.ensures.kept m0 _ first) (ap length c.read_csw.ensures.calls))
+
+pub returns-in-Ok-clause-stops : goal.returns-in-Ok-clause-stops
+returns-in-Ok-clause-stops g c = λ m0 answered h left.
+    let old = c.args.self.now in
+    let mid = c.read_csw.new.self in
+    let some : 0 < length old.log.calls = (let w = c.requires.whole in omega (arith, w)) in
+    let needs : needs_csw old.managed c.args.unit.now ≡ true = search rules in
+    let k : Kept = learned old.managed (port_of c.args.unit.now) (gives (target_issued old.log m0) (first_plan old.managed (port_of c.args.unit.now))) in
+    let first : HasIssued (g.F.Flights.state old.flights) old.log (g.F.Flights.accesses old.flights) (entries_of (length old.log.calls) Leads (first_plan old.managed (port_of c.args.unit.now)) ++ plan_entries (length old.log.calls) k c.args.unit.now) m0 =
+    subst (λ (l : List Entry). HasIssued (g.F.Flights.state old.flights) old.log (g.F.Flights.accesses old.flights) l m0) (csw_left (length old.log.calls) (target_issued old.log m0) old.managed c.args.unit.now some c.requires.no_poll needs) h in
+    subst (λ (calls : List Ask). IfErr c.issue_unit-in-Ok.result (StopsThere m0 answered calls c.issue_unit-in-Ok.new.self.log.lines)) c.read_csw.ensures.calls
+    (c.issue_unit-in-Ok.ensures.stops m0 [] answered (plan_now _ mid.log _ _ k mid.managed c.args.unit.now (length old.log.calls) m0 (c.in-Ok.ensures.on m0 _ first) c.in-Ok.ensures.empty (c.in-Ok.ensures.kept m0 _ first) (ap length c.read_csw.ensures.calls)) left)
+
+pub returns-in-Ok-clause-kept : goal.returns-in-Ok-clause-kept
+returns-in-Ok-clause-kept g c = λ m0 h.
+    let old = c.args.self.now in
+    let mid = c.read_csw.new.self in
+    let some : 0 < length old.log.calls = (let w = c.requires.whole in omega (arith, w)) in
+    let needs : needs_csw old.managed c.args.unit.now ≡ true = search rules in
+    let k : Kept = learned old.managed (port_of c.args.unit.now) (gives (target_issued old.log m0) (first_plan old.managed (port_of c.args.unit.now))) in
+    let first : HasIssued (g.F.Flights.state old.flights) old.log (g.F.Flights.accesses old.flights) (entries_of (length old.log.calls) Leads (first_plan old.managed (port_of c.args.unit.now)) ++ plan_entries (length old.log.calls) k c.args.unit.now) m0 =
+    subst (λ (l : List Entry). HasIssued (g.F.Flights.state old.flights) old.log (g.F.Flights.accesses old.flights) l m0) (csw_left (length old.log.calls) (target_issued old.log m0) old.managed c.args.unit.now some c.requires.no_poll needs) h in
+    let is : c.issue_unit-in-Ok.new.self.managed ≡ (by_csw (target_issued old.log m0) old.managed c.args.unit.now).kept =
+    c.issue_unit-in-Ok.ensures.managed ∙ ap (λ (q : Kept). made q c.args.unit.now) (c.in-Ok.ensures.kept m0 _ first) ∙ sym (csw_steps 0 (target_issued old.log m0) old.managed c.args.unit.now needs).1 in
+    elim c.issue_unit-in-Ok.result as (λ r. OnOk r (c.issue_unit-in-Ok.new.self.managed ≡ (by_csw (target_issued old.log m0) old.managed c.args.unit.now).kept)) [ Ok done ↦ is | Err s ↦ tt ]

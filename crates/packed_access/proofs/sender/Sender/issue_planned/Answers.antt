@@ -1,0 +1,168 @@
+use Rattle.std.proofs.Common.{rules, ◌≡◌, ◌∙◌, ℕ, ◌-◌, List, length, true, false, arith, refl, sym, ap, subst}
+use Rattle.std.specs.Prelude.{IfErr}
+use Rattle.call_terms.specs.declared.calls.Ask.{Ask}
+use Rattle.access_regs.specs.Plan.{needs_settle}
+use Rattle.packed_access.specs.Begun.{StopsThere}
+use Rattle.packed_access.proofs.AskedLemmas.{at_ok_then, first_calm, kept_is, needs_is, ok_then, plain_ready, planned_left, settle_left, settled_ready, small_is}
+use Rattle.packed_access.proofs.sender.Sender.issue_planned.Goals as goal
+use Rattle.packed_access.proofs.sender.Sender.issue_planned.Goals.{then-before-eq0-via-then-before-eq0, then-before-eq0-via-else-before-eq0+then-not-needs_settle}
+
+pub returns-then-before-eq0-clause-on : goal.returns-then-before-eq0-clause-on
+returns-then-before-eq0-clause-on g c = λ m0 calls ask is mild h.
+    let old = c.args.self.now in
+    let new = c.issue_by_cfg.new.self in
+    let asked = c.args.unit.now in
+    let calm : needs_settle old.managed c.args.unit.now ≡ false = elim c.then-before-eq0.branch [
+      | then-before-eq0-via-then-before-eq0 w ↦ first_calm _ old.log _ old.managed calls ask c.args.unit.now m0 h (let n = c.count-before.ensures in let z = w.if-before-eq0.true in omega (arith, n, z))
+      | then-before-eq0-via-else-before-eq0+then-not-needs_settle w ↦ sym w.needs_settle.ensures ∙ w.if-not-needs_settle.true
+    ] in
+    let r = plain_ready _ old.log _ old.managed c.args.unit.now m0 calm (planned_left _ old.log _ old.managed calls ask c.args.unit.now m0 is mild h) in
+    c.issue_by_cfg.ensures.on m0 r.left
+
+pub returns-then-before-eq0-clause-kept : goal.returns-then-before-eq0-clause-kept
+returns-then-before-eq0-clause-kept g c = λ m0 calls ask is mild h.
+    let old = c.args.self.now in
+    let new = c.issue_by_cfg.new.self in
+    let asked = c.args.unit.now in
+    let calm : needs_settle old.managed c.args.unit.now ≡ false = elim c.then-before-eq0.branch [
+      | then-before-eq0-via-then-before-eq0 w ↦ first_calm _ old.log _ old.managed calls ask c.args.unit.now m0 h (let n = c.count-before.ensures in let z = w.if-before-eq0.true in omega (arith, n, z))
+      | then-before-eq0-via-else-before-eq0+then-not-needs_settle w ↦ sym w.needs_settle.ensures ∙ w.if-not-needs_settle.true
+    ] in
+    let r = plain_ready _ old.log _ old.managed c.args.unit.now m0 calm (planned_left _ old.log _ old.managed calls ask c.args.unit.now m0 is mild h) in
+    ok_then _ _ c.issue_by_cfg.result (kept_is _ _ old.log old.log _ _ old.managed old.managed _ calls ask asked m0 is mild h r) (c.issue_by_cfg.ensures.kept m0 r.left)
+
+pub returns-then-before-eq0-clause-small : goal.returns-then-before-eq0-clause-small
+returns-then-before-eq0-clause-small g c = λ m0 calls ask is mild h.
+    let old = c.args.self.now in
+    let new = c.issue_by_cfg.new.self in
+    let asked = c.args.unit.now in
+    let calm : needs_settle old.managed c.args.unit.now ≡ false = elim c.then-before-eq0.branch [
+      | then-before-eq0-via-then-before-eq0 w ↦ first_calm _ old.log _ old.managed calls ask c.args.unit.now m0 h (let n = c.count-before.ensures in let z = w.if-before-eq0.true in omega (arith, n, z))
+      | then-before-eq0-via-else-before-eq0+then-not-needs_settle w ↦ sym w.needs_settle.ensures ∙ w.if-not-needs_settle.true
+    ] in
+    let r = plain_ready _ old.log _ old.managed c.args.unit.now m0 calm (planned_left _ old.log _ old.managed calls ask c.args.unit.now m0 is mild h) in
+    at_ok_then _ _ c.issue_by_cfg.result (λ v. small_is _ _ old.log old.log _ _ old.managed old.managed calls ask asked v m0 is h r) (c.issue_by_cfg.ensures.small m0 calls ask (h.are) r.left)
+
+pub returns-then-before-eq0-clause-needs : goal.returns-then-before-eq0-clause-needs
+returns-then-before-eq0-clause-needs g c = λ m0 calls ask is mild h.
+    let old = c.args.self.now in
+    let new = c.issue_by_cfg.new.self in
+    let asked = c.args.unit.now in
+    let calm : needs_settle old.managed c.args.unit.now ≡ false = elim c.then-before-eq0.branch [
+      | then-before-eq0-via-then-before-eq0 w ↦ first_calm _ old.log _ old.managed calls ask c.args.unit.now m0 h (let n = c.count-before.ensures in let z = w.if-before-eq0.true in omega (arith, n, z))
+      | then-before-eq0-via-else-before-eq0+then-not-needs_settle w ↦ sym w.needs_settle.ensures ∙ w.if-not-needs_settle.true
+    ] in
+    let r = plain_ready _ old.log _ old.managed c.args.unit.now m0 calm (planned_left _ old.log _ old.managed calls ask c.args.unit.now m0 is mild h) in
+    ok_then _ _ c.issue_by_cfg.result (needs_is _ _ old.log old.log new.log _ _ old.managed old.managed calls ask asked m0 is mild c.requires.no_poll h r refl) (c.issue_by_cfg.ensures.asks m0 r.left)
+
+pub returns-then-before-eq0-clause-broke : goal.returns-then-before-eq0-clause-broke
+returns-then-before-eq0-clause-broke g c = λ m0 calls ask is mild h.
+    let old = c.args.self.now in
+    let new = c.issue_by_cfg.new.self in
+    let asked = c.args.unit.now in
+    let calm : needs_settle old.managed c.args.unit.now ≡ false = elim c.then-before-eq0.branch [
+      | then-before-eq0-via-then-before-eq0 w ↦ first_calm _ old.log _ old.managed calls ask c.args.unit.now m0 h (let n = c.count-before.ensures in let z = w.if-before-eq0.true in omega (arith, n, z))
+      | then-before-eq0-via-else-before-eq0+then-not-needs_settle w ↦ sym w.needs_settle.ensures ∙ w.if-not-needs_settle.true
+    ] in
+    let r = plain_ready _ old.log _ old.managed c.args.unit.now m0 calm (planned_left _ old.log _ old.managed calls ask c.args.unit.now m0 is mild h) in
+    c.issue_by_cfg.ensures.broke m0 r.left
+
+pub returns-then-before-eq0-clause-stops : goal.returns-then-before-eq0-clause-stops
+returns-then-before-eq0-clause-stops g c = λ m0 calls ask answered is mild h left.
+    let old = c.args.self.now in
+    let new = c.issue_by_cfg.new.self in
+    let asked = c.args.unit.now in
+    let calm : needs_settle old.managed c.args.unit.now ≡ false = elim c.then-before-eq0.branch [
+      | then-before-eq0-via-then-before-eq0 w ↦ first_calm _ old.log _ old.managed calls ask c.args.unit.now m0 h (let n = c.count-before.ensures in let z = w.if-before-eq0.true in omega (arith, n, z))
+      | then-before-eq0-via-else-before-eq0+then-not-needs_settle w ↦ sym w.needs_settle.ensures ∙ w.if-not-needs_settle.true
+    ] in
+    let r = plain_ready _ old.log _ old.managed c.args.unit.now m0 calm (planned_left _ old.log _ old.managed calls ask c.args.unit.now m0 is mild h) in
+    c.issue_by_cfg.ensures.stops m0 answered r.left left
+
+pub returns-in-Ok-clause-on : goal.returns-in-Ok-clause-on
+returns-in-Ok-clause-on g c = λ m0 calls ask is mild h.
+    let old = c.args.self.now in
+    let mid = c.settle.new.self in
+    let new = c.issue_by_cfg-in-Ok.new.self in
+    let asked = c.args.unit.now in
+    let needs : needs_settle old.managed c.args.unit.now ≡ true = search rules in
+    let before : c.count-before.result - 1 ≡ length old.log.calls - 1 = ap (λ (n : ℕ). n - 1) c.count-before.ensures in
+    let first = settle_left _ old.log _ _ old.managed c.args.unit.now _ m0 before needs (planned_left _ old.log _ old.managed calls ask c.args.unit.now m0 is mild h) in
+    let r = settled_ready _ _ old.log mid.log _ _ old.managed mid.managed c.args.unit.now _ m0 needs first (c.in-Ok.ensures.on m0 _ first) c.in-Ok.ensures.further.calls c.settle.ensures.managed in
+    c.issue_by_cfg-in-Ok.ensures.on m0 r.left
+
+pub returns-in-Ok-clause-kept : goal.returns-in-Ok-clause-kept
+returns-in-Ok-clause-kept g c = λ m0 calls ask is mild h.
+    let old = c.args.self.now in
+    let mid = c.settle.new.self in
+    let new = c.issue_by_cfg-in-Ok.new.self in
+    let asked = c.args.unit.now in
+    let needs : needs_settle old.managed c.args.unit.now ≡ true = search rules in
+    let before : c.count-before.result - 1 ≡ length old.log.calls - 1 = ap (λ (n : ℕ). n - 1) c.count-before.ensures in
+    let first = settle_left _ old.log _ _ old.managed c.args.unit.now _ m0 before needs (planned_left _ old.log _ old.managed calls ask c.args.unit.now m0 is mild h) in
+    let r = settled_ready _ _ old.log mid.log _ _ old.managed mid.managed c.args.unit.now _ m0 needs first (c.in-Ok.ensures.on m0 _ first) c.in-Ok.ensures.further.calls c.settle.ensures.managed in
+    ok_then _ _ c.issue_by_cfg-in-Ok.result (kept_is _ _ old.log mid.log _ _ old.managed mid.managed _ calls ask asked m0 is mild h r) (c.issue_by_cfg-in-Ok.ensures.kept m0 r.left)
+
+pub returns-in-Ok-clause-small : goal.returns-in-Ok-clause-small
+returns-in-Ok-clause-small g c = λ m0 calls ask is mild h.
+    let old = c.args.self.now in
+    let mid = c.settle.new.self in
+    let new = c.issue_by_cfg-in-Ok.new.self in
+    let asked = c.args.unit.now in
+    let needs : needs_settle old.managed c.args.unit.now ≡ true = search rules in
+    let before : c.count-before.result - 1 ≡ length old.log.calls - 1 = ap (λ (n : ℕ). n - 1) c.count-before.ensures in
+    let first = settle_left _ old.log _ _ old.managed c.args.unit.now _ m0 before needs (planned_left _ old.log _ old.managed calls ask c.args.unit.now m0 is mild h) in
+    let r = settled_ready _ _ old.log mid.log _ _ old.managed mid.managed c.args.unit.now _ m0 needs first (c.in-Ok.ensures.on m0 _ first) c.in-Ok.ensures.further.calls c.settle.ensures.managed in
+    at_ok_then _ _ c.issue_by_cfg-in-Ok.result (λ v. small_is _ _ old.log mid.log _ _ old.managed mid.managed calls ask asked v m0 is h r) (c.issue_by_cfg-in-Ok.ensures.small m0 calls ask (c.in-Ok.ensures.further.calls ∙ h.are) r.left)
+
+pub returns-in-Ok-clause-needs : goal.returns-in-Ok-clause-needs
+returns-in-Ok-clause-needs g c = λ m0 calls ask is mild h.
+    let old = c.args.self.now in
+    let mid = c.settle.new.self in
+    let new = c.issue_by_cfg-in-Ok.new.self in
+    let asked = c.args.unit.now in
+    let needs : needs_settle old.managed c.args.unit.now ≡ true = search rules in
+    let before : c.count-before.result - 1 ≡ length old.log.calls - 1 = ap (λ (n : ℕ). n - 1) c.count-before.ensures in
+    let first = settle_left _ old.log _ _ old.managed c.args.unit.now _ m0 before needs (planned_left _ old.log _ old.managed calls ask c.args.unit.now m0 is mild h) in
+    let r = settled_ready _ _ old.log mid.log _ _ old.managed mid.managed c.args.unit.now _ m0 needs first (c.in-Ok.ensures.on m0 _ first) c.in-Ok.ensures.further.calls c.settle.ensures.managed in
+    ok_then _ _ c.issue_by_cfg-in-Ok.result (needs_is _ _ old.log mid.log new.log _ _ old.managed mid.managed calls ask asked m0 is mild c.requires.no_poll h r c.settle.ensures.asks) (c.issue_by_cfg-in-Ok.ensures.asks m0 r.left)
+
+pub returns-in-Ok-clause-broke : goal.returns-in-Ok-clause-broke
+returns-in-Ok-clause-broke g c = λ m0 calls ask is mild h.
+    let old = c.args.self.now in
+    let mid = c.settle.new.self in
+    let new = c.issue_by_cfg-in-Ok.new.self in
+    let asked = c.args.unit.now in
+    let needs : needs_settle old.managed c.args.unit.now ≡ true = search rules in
+    let before : c.count-before.result - 1 ≡ length old.log.calls - 1 = ap (λ (n : ℕ). n - 1) c.count-before.ensures in
+    let first = settle_left _ old.log _ _ old.managed c.args.unit.now _ m0 before needs (planned_left _ old.log _ old.managed calls ask c.args.unit.now m0 is mild h) in
+    let r = settled_ready _ _ old.log mid.log _ _ old.managed mid.managed c.args.unit.now _ m0 needs first (c.in-Ok.ensures.on m0 _ first) c.in-Ok.ensures.further.calls c.settle.ensures.managed in
+    c.issue_by_cfg-in-Ok.ensures.broke m0 r.left
+
+pub returns-in-Ok-clause-stops : goal.returns-in-Ok-clause-stops
+returns-in-Ok-clause-stops g c = λ m0 calls ask answered is mild h left.
+    let old = c.args.self.now in
+    let mid = c.settle.new.self in
+    let new = c.issue_by_cfg-in-Ok.new.self in
+    let asked = c.args.unit.now in
+    let needs : needs_settle old.managed c.args.unit.now ≡ true = search rules in
+    let before : c.count-before.result - 1 ≡ length old.log.calls - 1 = ap (λ (n : ℕ). n - 1) c.count-before.ensures in
+    let first = settle_left _ old.log _ _ old.managed c.args.unit.now _ m0 before needs (planned_left _ old.log _ old.managed calls ask c.args.unit.now m0 is mild h) in
+    let r = settled_ready _ _ old.log mid.log _ _ old.managed mid.managed c.args.unit.now _ m0 needs first (c.in-Ok.ensures.on m0 _ first) c.in-Ok.ensures.further.calls c.settle.ensures.managed in
+    subst (λ (l : List Ask). IfErr c.issue_by_cfg-in-Ok.result (StopsThere m0 answered l new.log.lines)) c.in-Ok.ensures.further.calls (c.issue_by_cfg-in-Ok.ensures.stops m0 answered r.left left)
+
+pub returns-in-Err-clause-broke : goal.returns-in-Err-clause-broke
+returns-in-Err-clause-broke g c = λ m0 calls ask is mild h.
+    let old = c.args.self.now in
+    let needs : needs_settle old.managed c.args.unit.now ≡ true = search rules in
+    let before : c.count-before.result - 1 ≡ length old.log.calls - 1 = ap (λ (n : ℕ). n - 1) c.count-before.ensures in
+    let first = settle_left _ old.log _ _ old.managed c.args.unit.now _ m0 before needs (planned_left _ old.log _ old.managed calls ask c.args.unit.now m0 is mild h) in
+    c.in-Err.ensures.broke m0 _ first
+
+pub returns-in-Err-clause-stops : goal.returns-in-Err-clause-stops
+returns-in-Err-clause-stops g c = λ m0 calls ask answered is mild h left.
+    let old = c.args.self.now in
+    let needs : needs_settle old.managed c.args.unit.now ≡ true = search rules in
+    let before : c.count-before.result - 1 ≡ length old.log.calls - 1 = ap (λ (n : ℕ). n - 1) c.count-before.ensures in
+    let first = settle_left _ old.log _ _ old.managed c.args.unit.now _ m0 before needs (planned_left _ old.log _ old.managed calls ask c.args.unit.now m0 is mild h) in
+    c.in-Err.ensures.stops m0 _ answered first left

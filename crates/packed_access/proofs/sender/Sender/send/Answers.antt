@@ -1,0 +1,24 @@
+use Rattle.std.proofs.Common.{◌≡◌, ◌∙◌, ◌+◌, ◌*◌, ◌^◌, ◌<◌, [], length, arith, sym, ap, subst}
+use Rattle.packed_access.specs.Begun.{HasIssued}
+use Rattle.packed_access.specs.Logs.{LogState, all_confirmed, all_taken}
+use Rattle.packed_access.proofs.EndLemmas.{has_ended, stops_there}
+use Rattle.packed_access.proofs.ReadLemmas.{last_value}
+use Rattle.packed_access.proofs.WholeLemmas.{has_come}
+use Rattle.packed_access.proofs.sender.Sender.send.Goals as goal
+
+pub returns-in-Ok-clause-on : goal.returns-in-Ok-clause-on
+returns-in-Ok-clause-on g c =
+    let old = c.args.self.now in
+    let few : length old.log.entries < 2 ^ 32 = (let s = old.sound in let b = s.bounded in let f = s.few in omega (arith, b, f)) in
+    let is : c.confirm.new.self ≡ all_confirmed (all_taken (g.F.Flights.values c.send.new.self) old.log) = c.confirm.ensures.answer ∙ ap all_confirmed c.take_values.ensures.answer in
+    λ m0 rest h. subst (λ (l : LogState). HasIssued (g.F.Flights.state c.send.new.self) l [] rest m0) (sym is)
+    (has_come _ _ old.log _ rest _ m0 h c.in-Ok.ensures.came old.sound.results_long few)
+
+pub returns-in-Err-clause-broke : goal.returns-in-Err-clause-broke
+returns-in-Err-clause-broke g c = λ m0 rest h. has_ended _ _ _ _ _ c.args.self.now.log _ rest m0 c.in-Err.end c.stop.result c.stop.new.self h c.in-Err.ensures.broke c.stop.ensures.answer
+
+pub returns-in-Err-clause-stops : goal.returns-in-Err-clause-stops
+returns-in-Err-clause-stops g c = λ m0 rest answered h left. stops_there _ _ _ _ _ c.args.self.now.log _ rest m0 c.in-Err.end c.stop.result c.stop.new.self answered h c.in-Err.ensures.broke c.stop.ensures.answer left
+
+pub returns-in-Ok-clause-last : goal.returns-in-Ok-clause-last
+returns-in-Ok-clause-last g c = λ m0 rest front e more h is at some. last_value _ _ c.args.self.now.log _ rest _ m0 front e more h c.in-Ok.ensures.came is at some

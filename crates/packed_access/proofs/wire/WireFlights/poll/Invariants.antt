@@ -1,0 +1,23 @@
+use Rattle.std.proofs.Common.{◌≡◌, ℕ, ◌+◌, [], None}
+use Rattle.target_machine.specs.Attempt.{bank}
+use Rattle.probe_core.specs.Bench.{StepsTo}
+use Rattle.probe_core.specs.Probe.{target_of}
+use Rattle.batch_packer.specs.Flying.{CanFly}
+use Rattle.packed_access.specs.Flown.{BenchGoesOn}
+use Rattle.packed_access.specs.Wires.{HasLooked}
+use Rattle.packed_access.proofs.wire.WireFlights.poll.Given as goal
+
+abbrev pub invariant-loop-left : goal.invariant-loop-left
+invariant-loop-left g l = record {
+  made : ℕ;
+  is : made + l.left ≡ l.turns;
+  usable : l.self.flight.end ≡ None;
+  empty : l.self.flight.accesses ≡ [];
+  on : StepsTo (λ m o. CanFly m → bank (target_of m.probe) ≡ 0 → HasLooked l.mask l.requested made 0 m o) (g.B.Bench.state l.fn.self.bench) (g.B.Bench.state l.self.bench);
+  goes : BenchGoesOn (g.B.Bench.reported l.fn.self.bench) (g.B.Bench.reported l.self.bench) (g.B.Bench.state l.fn.self.bench) (g.B.Bench.state l.self.bench);
+  faults : (g.B.Bench.reported l.self.bench).faults ≡ (g.B.Bench.reported l.fn.self.bench).faults;
+  identity : g.B.Bench.identity l.self.bench ≡ g.B.Bench.identity l.fn.self.bench;
+}
+
+abbrev pub decreases-loop-left : goal.decreases-loop-left
+decreases-loop-left g l = l.left

@@ -1,0 +1,16 @@
+-- A call that is one action: a poll, or a command of the probe.
+use Rattle.std.specs.Prelude.{ℕ, ◌+◌, false, List, length}
+use Rattle.target_machine.specs.Plain.{Action}
+use Rattle.call_terms.specs.Journal.{Entry}
+use Rattle.call_terms.specs.declared.calls.Ask.{Ask}
+use Rattle.call_terms.specs.declared.journal.Part.TheVariants.{Ends}
+use Rattle.access_calls.specs.declared.issued.Issued.{Issued}
+use Rattle.packed_access.specs.Logs.{LogState, all_confirmed, all_issued, with_entry, with_result}
+
+-- the entry of such a call after these
+abbrev pub entry_of : List Ask → Action → Entry
+entry_of calls x = record { unit = length calls + 1; part = Ends; forgiving = false; action = x }
+
+-- what is kept after it was done
+abbrev pub log_done : LogState → Issued → ℕ → ℕ → LogState
+log_done log entry index result = all_confirmed (with_result (all_issued (with_entry log entry)) index result)

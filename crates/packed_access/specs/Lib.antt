@@ -1,0 +1,13 @@
+pub mod Logs
+pub mod Actions
+pub mod Flown
+pub mod Marks
+pub mod Clearing
+pub mod Begun
+pub mod Settling
+pub mod Polls
+pub mod Forgiving
+pub mod Stands
+pub mod Planned
+pub mod Wires
+pub mod Opening

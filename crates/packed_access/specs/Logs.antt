@@ -1,0 +1,248 @@
+-- What an access keeps of its calls, and what it reports by that.
+use Rattle.std.specs.Prelude.{◌≡◌, ℕ, zero, suc, ◌+◌, ◌-◌, ◌*◌, ◌<◌, ◌≤◌, nat_lt, if◌then◌else◌, List, [], ◌∷◌, ◌++◌, length, drop, slice_get, slice_set, slice_index, Option, Some, None, refl}
+use Rattle.std.specs.List.{AllByRecursion}
+use Rattle.std.specs.Option.{unwrap_or}
+use Rattle.target_machine.specs.Plain.{result_of}
+use Rattle.target_machine.specs.Sound.{IsSoundCall}
+use Rattle.probe_core.specs.Bench.{BenchState}
+use Rattle.probe_core.specs.Bench.{Reported as BenchReported}
+use Rattle.call_terms.specs.Journal.{Entry}
+use Rattle.call_terms.specs.NeedPoints.{Asks, capped_sum}
+use Rattle.call_terms.specs.declared.calls.Ask.{Ask}
+use Rattle.access_calls.specs.Causes.{KeepsReplyAt}
+use Rattle.access_calls.specs.Issued.{AreKeptOf, lines_before_kept}
+use Rattle.access_calls.specs.Numbers.{HasNumbers}
+use Rattle.access_calls.specs.Reported.{Reported}
+use Rattle.access_calls.specs.declared.issued.Issued.{Issued}
+use Rattle.access_calls.specs.declared.stop.Report.{Report}
+use Rattle.access_calls.specs.declared.stop.Stop.{Stop}
+use Rattle.access_calls.specs.declared.stop.Stop.TheVariants.{Cut, BenchFault, ReplyBad, OutOfMemory}
+use Rattle.access_calls.specs.declared.stop.StopCause.{StopCause}
+use Rattle.access_calls.specs.declared.stop.StopCause.TheVariants.{Faulted, NoAnswer}
+use Rattle.batch_packer.specs.SlotList.{slot_at}
+use Rattle.batch_packer.specs.declared.ends.FlightEnd.{FlightEnd}
+use Rattle.batch_packer.specs.declared.ends.FlightEnd.TheVariants as ends
+
+-- The calls that were asked, with a result for each, of which the first `known` have come, and the number of the entry that gives it;
+-- the entries that were issued, for how many there is room, and how many of them are confirmed; how many calls were issued whole, and
+-- how many are known to have been answered; the need points, and how many calls had been asked at the last of them; the end, and how
+-- many units have their lines before it; how many calls were skipped.
+pub record LogState : Type 0 where
+  pub calls : List Ask
+  pub results : List ℕ
+  pub places : List ℕ
+  pub entries : List Issued
+  pub room : ℕ
+  pub confirmed : ℕ
+  pub whole : ℕ
+  pub came : ℕ
+  pub known : ℕ
+  pub needs : ℕ
+  pub fence : ℕ
+  pub end : Option Stop
+  pub lines : ℕ
+  pub skipped : ℕ
+
+-- how many entries of the journal a call has at most, with a settling after it
+abbrev pub most_entries : ℕ
+most_entries = 13
+
+-- the entry is of one of so many calls
+abbrev pub IsOfCall : ℕ → Issued → Type 0
+IsOfCall calls entry = (0 < entry.unit) × (entry.unit ≤ calls)
+
+-- What is kept is within its room: there is a result and a place for each call, the entries have room, each is of one of the calls,
+-- and the calls may be asked.
+pub record IsSoundLog (calls : List Ask) (results places : List ℕ) (room : ℕ) (entries : List Issued) (issued confirmed whole came known fence : ℕ) (end : Option Stop) : Type 0 where
+  pub few : length calls ≤ 10000000
+  pub sound : AllByRecursion (λ ask. IsSoundCall ask.call) calls
+  pub results_long : length results ≡ length calls
+  pub places_long : length places ≡ length calls
+  pub within : issued ≤ room
+  pub bounded : issued ≤ most_entries * length calls
+  pub units : AllByRecursion (IsOfCall (length calls)) entries
+  pub confirmed_within : confirmed ≤ issued
+  pub whole_within : whole ≤ length calls
+  pub came_within : came ≤ length calls
+  pub known_within : known ≤ length calls
+  pub fence_within : fence ≤ length calls
+  pub open_order : end ≡ None → came ≤ whole
+  pub open_known : end ≡ None → known ≡ came
+  pub later : end ≡ None → AllByRecursion (λ e. came ≤ lines_before_kept e) (drop confirmed entries)
+
+-- its numbers, as others see them
+pub record IsSoundState (log : LogState) : Type 0 where
+  pub few : length log.calls ≤ 10000000
+  pub results_long : length log.results ≡ length log.calls
+  pub places_long : length log.places ≡ length log.calls
+  pub within : length log.entries ≤ log.room
+  pub bounded : length log.entries ≤ most_entries * length log.calls
+  pub confirmed_within : log.confirmed ≤ length log.entries
+  pub whole_within : log.whole ≤ length log.calls
+  pub came_within : log.came ≤ length log.calls
+  pub known_within : log.known ≤ length log.calls
+  pub fence_within : log.fence ≤ length log.calls
+  pub open_order : log.end ≡ None → log.came ≤ log.whole
+  pub open_known : log.end ≡ None → log.known ≡ log.came
+
+-- nothing was asked
+abbrev pub nothing_logged : LogState
+nothing_logged = record {
+  calls = [];
+  results = [];
+  places = [];
+  entries = [];
+  room = 0;
+  confirmed = 0;
+  whole = 0;
+  came = 0;
+  known = 0;
+  needs = 0;
+  fence = 0;
+  end = None;
+  lines = 0;
+  skipped = 0;
+}
+
+-- ---- what is reported
+
+-- the packet or the reply of the exchange that ended an access: only a cut and a bad reply have one
+abbrev pub kept_at : Option Stop → List ℕ → List ℕ
+kept_at None bytes = []
+kept_at (Some (Cut r)) bytes = bytes
+kept_at (Some (BenchFault issued confirmed)) bytes = []
+kept_at (Some ReplyBad) bytes = bytes
+kept_at (Some OutOfMemory) bytes = []
+
+-- the calls with their need points
+abbrev pub asks_of : LogState → Asks
+asks_of log = record { calls = log.calls; needs = log.needs; fence = log.fence }
+
+-- What an access reports by what its bench reports, the state of its bench, what it keeps, and the packet and the reply of the exchange
+-- that ended its flights.
+abbrev pub reported_by : BenchReported → Option BenchState → LogState → List ℕ → List ℕ → Reported
+reported_by bench state log sent got = record {
+  bench = bench;
+  state = state;
+  asks = asks_of log;
+  came = log.came;
+  known = log.known;
+  end = log.end;
+  lines = log.lines;
+  skipped = log.skipped;
+  issued = length log.entries;
+  confirmed = log.confirmed;
+  sent = kept_at log.end sent;
+  got = kept_at log.end got;
+}
+
+-- ---- what changes
+
+-- these calls have these need points
+abbrev pub with_asks : LogState → Asks → LogState
+with_asks log asks = record log { calls = asks.calls; needs = asks.needs; fence = asks.fence }
+
+-- so many need points came, where so many calls had been asked
+abbrev pub with_needs : LogState → ℕ → ℕ → LogState
+with_needs log zero calls = log
+with_needs log (suc points) calls = record log { needs = capped_sum log.needs (suc points); fence = calls }
+
+-- one more entry was issued
+abbrev pub with_entry : LogState → Issued → LogState
+with_entry log entry = record log { entries = log.entries ++ entry ∷ [] }
+
+-- one more call was asked, with room for so many entries
+abbrev pub with_call : LogState → Ask → ℕ → LogState
+with_call log ask room = record log { calls = log.calls ++ ask ∷ []; results = log.results ++ 0 ∷ []; places = log.places ++ 0 ∷ []; room = room }
+
+-- all entries of the calls were issued; the last of them gives the result of the last call
+abbrev pub all_issued : LogState → LogState
+all_issued log = record log { whole = length log.calls; places = slice_set log.places (length log.calls - 1) (length log.entries - 1) }
+
+-- the result of a call from the word that its last entry gave
+abbrev pub with_result : LogState → ℕ → ℕ → LogState
+with_result log index result = record log { results = slice_set log.results index result }
+
+-- the result of a call, where there is one, from the word that its last entry gave
+abbrev pub result_for : Option Ask → ℕ → ℕ
+result_for None word = 0
+result_for (Some ask) word = result_of ask.call word
+
+-- the place of the entry that gives the result of a call, among those that are not confirmed
+abbrev pub place_of : LogState → ℕ → ℕ
+place_of log index = slice_index log.places index - log.confirmed
+
+-- what the flight's values give as the result of a call
+abbrev pub result_by : List (Option ℕ) → LogState → ℕ → ℕ
+result_by values log index = result_for (slice_get log.calls index) (unwrap_or (slot_at values (place_of log index)) 0)
+
+-- The results of so many calls from this one on are taken from the values of the flight.
+abbrev pub filled : List (Option ℕ) → LogState → ℕ → ℕ → List ℕ → List ℕ
+filled values log from zero results = results
+filled values log from (suc more) results = slice_set (filled values log from more results) (from + more) (result_by values log (from + more))
+
+-- the flight came whole: the results of the calls that were issued whole are taken
+abbrev pub all_taken : List (Option ℕ) → LogState → LogState
+all_taken values log = record log { results = filled values log log.came (log.whole - log.came) log.results }
+
+-- all entries are confirmed, and the calls that were issued whole have come
+abbrev pub all_confirmed : LogState → LogState
+all_confirmed log = record log { confirmed = length log.entries; came = log.whole; known = log.whole }
+
+-- the result at this place, where it has come
+abbrev pub result_at : LogState → ℕ → ℕ
+result_at log index = if nat_lt index log.known then slice_index log.results index else 0
+
+-- Entries were issued and results came; nothing else changed, and there is no end.
+pub record IsFurther (old new : LogState) : Type 0 where
+  pub calls : new.calls ≡ old.calls
+  pub places : new.places ≡ old.places
+  pub whole : new.whole ≡ old.whole
+  pub room : new.room ≡ old.room
+  pub needs : new.needs ≡ old.needs
+  pub fence : new.fence ≡ old.fence
+  pub skipped : new.skipped ≡ old.skipped
+  pub end : new.end ≡ None
+
+-- the access ended so: nothing else changed but how many units have their lines before the end, and how many were skipped
+abbrev pub ended_by : Stop → LogState → LogState → LogState
+ended_by s old new = record old { end = Some s; came = new.came; lines = new.lines; skipped = new.skipped }
+
+-- how many entries lie in the flight
+abbrev pub pending : LogState → ℕ
+pending log = length log.entries - log.confirmed
+
+-- the cause of a cut by its response: 02, and 04
+abbrev pub IsCause : ℕ → StopCause → Type 0
+IsCause response Faulted = response ≡ 0x02 → ⊥
+IsCause response NoAnswer = response ≡ 0x02
+
+-- At a cut of so many entries after the confirmed ones: the report has its numbers, and what is kept has those beside it.
+pub record IsLogCut (performed confirmed response : ℕ) (old new : LogState) (r : Report) : Type 0 where
+  pub cause : IsCause response r.cause
+  pub accesses : r.accesses ≡ old.confirmed + performed
+  pub confirmed_is : r.confirmed ≡ old.confirmed + confirmed
+  pub numbers : (all : List Entry) → AreKeptOf all old.entries → HasNumbers all old.calls new.skipped new.lines r
+  pub later : old.came ≤ new.lines
+  pub next : new ≡ record old { end = Some (Cut r); came = new.lines; lines = new.lines; skipped = new.skipped }
+
+-- The access ended so, and keeps that.
+abbrev pub IsStopped : FlightEnd → LogState → LogState → Stop → Type 0
+IsStopped (ends.Cut cut) old new (Cut r) = IsLogCut cut.performed cut.confirmed cut.response old new r
+IsStopped (ends.Cut cut) old new other = ⊥
+IsStopped ends.BenchFault old new s = (s ≡ BenchFault (length old.entries) old.confirmed) × (new ≡ record old { end = Some s })
+IsStopped ends.ReplyBad old new s = (s ≡ ReplyBad) × (new ≡ record old { end = Some s })
+
+-- ---- a packet and a reply are kept only where one was the end
+
+keeps_at : (end : Option Stop) (a : Reported) (sent got : List ℕ) → a.sent ≡ kept_at end sent → a.got ≡ kept_at end got → KeepsReplyAt end a
+keeps_at None a sent got s g = record { sent = s; got = g }
+keeps_at (Some (Cut r)) a sent got s g = tt
+keeps_at (Some (BenchFault issued confirmed)) a sent got s g = record { sent = s; got = g }
+keeps_at (Some ReplyBad) a sent got s g = tt
+keeps_at (Some OutOfMemory) a sent got s g = record { sent = s; got = g }
+
+-- the law of the contract
+pub keeps_by : (bench : BenchReported) (state : Option BenchState) (log : LogState) (sent got : List ℕ) →
+    KeepsReplyAt log.end (reported_by bench state log sent got)
+keeps_by bench state log sent got = keeps_at log.end (reported_by bench state log sent got) sent got refl refl

@@ -1,0 +1,260 @@
+//! The calls of the access.
+ghost use Rattle.std.specs.Prelude.{◌≡◌, ◌≤◌, ◌+◌, ◌*◌, ℕ, List, Option, None, Some, length, IfErr, IfOk, OnOk};
+ghost use Rattle.target_machine.specs.Plain.{may_forgive};
+ghost use Rattle.target_machine.specs.Sound.{IsSound};
+ghost use Rattle.target_machine.specs.declared.unit.Call.TheVariants.{Access};
+ghost use Rattle.probe_core.specs.Bench.{BenchState};
+ghost use Rattle.access_calls.specs.Answers.{HasSlot, IsSmallWhere, NoMemory};
+ghost use Rattle.access_calls.specs.GoesOn.{GoesOn};
+ghost use Rattle.access_calls.specs.Left.{IsLeft};
+ghost use Rattle.packed_access.specs.Settling.{CanSettle};
+ghost use Rattle.packed_access.specs.Begun.{HasAsked, HasBegun, HasEnded, StopsThere};
+ghost use Rattle.packed_access.specs.Logs.{asks_of, most_entries, reported_by};
+ghost use Rattle.packed_access.specs.Settling.{CanSettle};
+ghost use Rattle.call_terms.specs.World.{small_now, start_world};
+ghost use Rattle.call_terms.specs.declared.calls.Ask.{Ask};
+ghost use Rattle.call_terms.specs.NeedPoints.{asked};
+ghost use Rattle.call_terms.specs.Asks.{IsProbeInRange, IsUnitInRange, is_wide, unit_ask};
+ghost use Rattle.probe_core.specs.Probe.{target_of};
+ghost use Rattle.access_regs.specs.declared.planner.Planner.TheVariants.{Managed};
+ghost use Rattle.access_regs.specs.Costs.{command_cost, cost_by};
+
+use crate::access::PackedAccess;
+use crate::flights::Flights;
+use crate::sender::Sender;
+use access_calls::{Access, Stop};
+use call_terms::{Ask, Asked, Slot};
+use target_machine::{Call, ProbeCall, Unit};
+
+// Whether a fault of the unit is forgiven: error control counts for memory and AP units alone.
+fn may_forgive(unit: &Unit) -> bool
+    ensures { result ≡ may_forgive (Access unit.now) }
+{
+    matches!(unit, Unit::Memory { .. } | Unit::Ap { .. })
+}
+
+// Whether the unit is a memory access of an address past 32 bits.
+fn is_wide(unit: &Unit) -> bool
+    ensures { result ≡ is_wide unit.now }
+{
+    match *unit {
+        Unit::Memory { address, .. } => address > 0xFFFF_FFFF,
+        _ => false,
+    }
+}
+
+// The call that asks a unit. The unit's numbers are in the ranges of their types.
+fn ask_of(unit: Unit, forgive: bool) -> Ask
+    ensures answer { result ≡ unit_ask unit forgive }
+    ensures range { IsUnitInRange unit }
+{
+    Ask {
+        call: Call::Access(unit),
+        forgive,
+        settled: false,
+    }
+}
+
+// What is answered for the call of this number.
+fn answer(small: bool, index: u32) -> Asked
+    ensures slot { HasSlot index result }
+    ensures small { IsSmallWhere small result }
+{
+    if small {
+        Asked::Small
+    } else {
+        Asked::Slot(Slot { index })
+    }
+}
+
+// How many need points a command makes: one for the send before it, and one for each of its packets. The command's
+// numbers are in the ranges of their types.
+fn points_of(call: ProbeCall) -> u64
+    ensures answer { result ≡ command_cost call }
+    ensures range { IsProbeInRange call }
+{
+    match call {
+        ProbeCall::Delay(micros) => 2 + u64::from(micros / 0xFFFF),
+        ProbeCall::Abort(_) | ProbeCall::Pins { .. } => 2,
+        ProbeCall::Clock(_) | ProbeCall::Line { .. } => 2,
+    }
+}
+
+impl<F: Flights> Sender<F> {
+    // Issues the unit of the last call. Answers whether its access port has no large addresses.
+    pub(crate) fn issue_asked(&mut self, unit: &Unit, forgive: bool) -> Result<bool, Stop>
+        requires open { self.old.log.end ≡ None }
+        requires sound { IsSound unit.now }
+        requires whole { self.old.log.whole + 1 ≡ length self.old.log.calls }
+        requires room { length self.old.log.entries + most_entries ≤ self.old.log.room }
+        requires bounded { length self.old.log.entries + most_entries ≤ most_entries * length self.old.log.calls }
+        ensures on { (m0 : BenchState) (calls : List Ask) (ask : Ask) → ask ≡ unit_ask unit.now forgive → HasAsked (F.state self.old.flights) self.old.log (F.accesses self.old.flights) self.old.managed calls ask m0
+            → OnOk result (HasBegun (F.reported self.new.flights) (F.state self.new.flights) self.new.log (F.packet self.new.flights) (F.reply self.new.flights) self.new.managed (F.accesses self.new.flights) m0) }
+        ensures small { (m0 : BenchState) (calls : List Ask) (ask : Ask) → ask ≡ unit_ask unit.now forgive → HasAsked (F.state self.old.flights) self.old.log (F.accesses self.old.flights) self.old.managed calls ask m0
+            → IfOk result (λ small. small ≡ small_now (start_world (target_of m0.probe) None) calls ask) }
+        ensures needs { (m0 : BenchState) (calls : List Ask) (ask : Ask) → ask ≡ unit_ask unit.now forgive → HasAsked (F.state self.old.flights) self.old.log (F.accesses self.old.flights) self.old.managed calls ask m0
+            → OnOk result (asks_of self.new.log ≡ asked (cost_by Managed (target_of m0.probe) calls ask) ask (record { calls = calls; needs = self.old.log.needs; fence = self.old.log.fence })) }
+        ensures broke { (m0 : BenchState) (calls : List Ask) (ask : Ask) → ask ≡ unit_ask unit.now forgive → HasAsked (F.state self.old.flights) self.old.log (F.accesses self.old.flights) self.old.managed calls ask m0
+            → IfErr result (λ s. HasEnded s (reported_by (F.reported self.new.flights) (F.state self.new.flights) self.new.log (F.packet self.new.flights) (F.reply self.new.flights)) self.new.log m0) }
+        ensures stops { (m0 : BenchState) (calls : List Ask) (ask : Ask) (answered : Option ℕ) → ask ≡ unit_ask unit.now forgive → HasAsked (F.state self.old.flights) self.old.log (F.accesses self.old.flights) self.old.managed calls ask m0
+            → IsLeft (reported_by (F.reported self.new.flights) (F.state self.new.flights) self.new.log (F.packet self.new.flights) (F.reply self.new.flights)) answered
+            → IfErr result (StopsThere m0 answered self.old.log.calls self.new.log.lines) }
+        ensures goes { GoesOn (reported_by (F.reported self.old.flights) (F.state self.old.flights) self.old.log (F.packet self.old.flights) (F.reply self.old.flights))
+            (reported_by (F.reported self.new.flights) (F.state self.new.flights) self.new.log (F.packet self.new.flights) (F.reply self.new.flights)) }
+        ensures calls { self.new.log.calls ≡ self.old.log.calls }
+        ensures whole { OnOk result (self.new.log.whole ≡ length self.new.log.calls) }
+        ensures open { OnOk result (self.new.log.end ≡ None) }
+        ensures ended { IfErr result (λ s. self.new.log.end ≡ Some s) }
+        ensures settles { OnOk result (CanSettle self.new.log self.new.managed) }
+        ensures memory { IfErr result NoMemory }
+        ensures identity { F.identity self.new.flights ≡ F.identity self.old.flights }
+    {
+        match *unit {
+            Unit::Poll { mask, value, turns } => match self.ask_poll(mask, value, turns) {
+                Ok(()) => Ok(false),
+                Err(stop) => Err(stop),
+            },
+            _ => {
+                if forgive && may_forgive(unit) {
+                    self.ask_forgiving(unit)
+                } else {
+                    self.ask_planned(unit)
+                }
+            }
+        }
+    }
+}
+
+impl<F: Flights> Access for PackedAccess<F> {
+    ghost use Rattle.std.specs.Prelude.{false};
+    ghost use Rattle.access_regs.specs.Journal.{issued};
+    ghost use Rattle.packed_access.specs.Begun.{HasBegun};
+    ghost use Rattle.access_regs.specs.Costs.{cost_by};
+    ghost use Rattle.access_regs.specs.declared.planner.Planner.TheVariants.{Managed};
+    ghost use Rattle.packed_access.specs.Logs.{keeps_by, reported_by};
+    ghost use Rattle.packed_access.specs.Stands.{stands_packed};
+
+    ghost reported = { λ s. reported_by (F.reported s.sender.flights) (F.state s.sender.flights) s.sender.log (F.packet s.sender.flights) (F.reply s.sender.flights) };
+
+    ghost identity = { λ s. F.identity s.sender.flights };
+
+    ghost begun = { λ s m. HasBegun (F.reported s.sender.flights) (F.state s.sender.flights) s.sender.log (F.packet s.sender.flights) (F.reply s.sender.flights) s.sender.managed (F.accesses s.sender.flights) m };
+
+    ghost journal = { issued Managed };
+
+    ghost cost = { cost_by Managed };
+
+    ghost is_sparing = { false };
+
+    ghost keeps = { λ s. keeps_by (F.reported s.sender.flights) (F.state s.sender.flights) s.sender.log (F.packet s.sender.flights) (F.reply s.sender.flights) };
+
+    ghost stands = { λ s m answered is left. stands_packed _ _ _ _ _ _ _ m answered is left };
+
+    ghost spares = { λ s m answered is left. tt };
+
+    fn ask(&mut self, unit: Unit, forgive: bool) -> Result<Asked, Stop> {
+        if let Some(stop) = self.sender.log.end() {
+            return Err(stop);
+        }
+        let index = self.sender.log.count();
+        let ask = ask_of(unit, forgive);
+        if self.sender.log.ask(ask).is_err() {
+            return Err(Stop::OutOfMemory);
+        }
+        match self.sender.issue_asked(&unit, forgive) {
+            Ok(small) => Ok(answer(small && is_wide(&unit), index)),
+            Err(stop) => Err(stop),
+        }
+    }
+
+    fn command(&mut self, call: ProbeCall) -> Result<u64, Stop> {
+        if let Some(stop) = self.sender.log.end() {
+            return Err(stop);
+        }
+        let points = points_of(call);
+        let ask = Ask {
+            call: Call::Probe(call),
+            forgive: false,
+            settled: false,
+        };
+        if self.sender.log.ask(ask).is_err() {
+            return Err(Stop::OutOfMemory);
+        }
+        match self.sender.send() {
+            Ok(()) => {}
+            Err(stop) => return Err(stop),
+        }
+        match self.sender.make_last(call) {
+            Err(stop) => Err(stop),
+            Ok(word) => {
+                let count = self.sender.log.count();
+                self.sender.log.need(points, count);
+                Ok(u64::from(word))
+            }
+        }
+    }
+
+    fn value(&mut self, slot: Slot) -> Result<u64, Stop> {
+        if self.sender.log.is_known(slot.index) {
+            return Ok(self.sender.log.used(slot));
+        }
+        if let Some(stop) = self.sender.log.end() {
+            return Err(stop);
+        }
+        match self.sender.send() {
+            Ok(()) => Ok(self.sender.log.used(slot)),
+            Err(stop) => Err(stop),
+        }
+    }
+
+    fn flush(&mut self) -> Result<(), Stop> {
+        if let Some(stop) = self.sender.log.end() {
+            return Err(stop);
+        }
+        match self.sender.send() {
+            Ok(()) => {
+                let count = self.sender.log.count();
+                self.sender.log.need(1, count);
+                Ok(())
+            }
+            Err(stop) => Err(stop),
+        }
+    }
+
+    fn finish(&mut self) -> Result<(), Stop> {
+        if let Some(stop) = self.sender.log.end() {
+            return Err(stop);
+        }
+        self.sender.log.mark();
+        let count = self.sender.log.count();
+        match self.sender.settle(count) {
+            Ok(()) => {}
+            Err(stop) => return Err(stop),
+        }
+        match self.sender.send() {
+            Ok(()) => {
+                self.sender.log.need(1, count);
+                Ok(())
+            }
+            Err(stop) => Err(stop),
+        }
+    }
+
+    fn sent(&self) -> &[u8] {
+        match self.sender.log.end() {
+            Some(Stop::Cut(_) | Stop::ReplyBad) => self.sender.flights.sent(),
+            None | Some(Stop::BenchFault { .. } | Stop::OutOfMemory) => &[],
+        }
+    }
+
+    fn got(&self) -> &[u8] {
+        match self.sender.log.end() {
+            Some(Stop::Cut(_) | Stop::ReplyBad) => self.sender.flights.got(),
+            None | Some(Stop::BenchFault { .. } | Stop::OutOfMemory) => &[],
+        }
+    }
+
+    fn skipped(&self) -> u32 {
+        self.sender.log.skipped()
+    }
+}

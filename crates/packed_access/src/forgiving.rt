@@ -1,0 +1,322 @@
+//! Units that forgive a fault: each access made as by the unit alone, in flights of which only the last access may fault.
+ghost use Rattle.std.specs.Prelude.{◌≡◌, ◌<◌, ◌≤◌, ◌+◌, ◌-◌, ◌*◌, ◌/◌, ◌%◌, [], ℕ, List, Option, None, Some, false, true, length, IfErr, IfOk, OnOk};
+ghost use Rattle.std.specs.List.{list_any};
+ghost use Rattle.target_machine.specs.Lists.{after};
+ghost use Rattle.target_machine.specs.Plain.{Action, may_forgive, memory_actions};
+ghost use Rattle.target_machine.specs.Sound.{IsSound, IsSoundMemory};
+ghost use Rattle.target_machine.specs.State.{TargetState};
+ghost use Rattle.target_machine.specs.declared.access.RegAccess.{RegAccess};
+ghost use Rattle.target_machine.specs.declared.unit.Unit.TheVariants as unit;
+ghost use Rattle.flight_forms.specs.Packing.{IsTaken};
+ghost use Rattle.probe_core.specs.Bench.{BenchState};
+ghost use Rattle.access_calls.specs.Answers.{NoMemory};
+ghost use Rattle.access_calls.specs.GoesOn.{GoesOn};
+ghost use Rattle.access_calls.specs.Left.{IsLeft};
+ghost use Rattle.packed_access.specs.Settling.{CanSettle};
+ghost use Rattle.packed_access.specs.Begun.{HasAsked, HasBegun, HasEnded, StopsThere};
+ghost use Rattle.packed_access.specs.Forgiving.{CameTo, HasBroken, HasTried, IsDoneBy, closed};
+ghost use Rattle.packed_access.specs.Logs.{IsFurther, IsSoundState, asks_of, most_entries, reported_by};
+ghost use Rattle.call_terms.specs.World.{small_now, start_world};
+ghost use Rattle.call_terms.specs.declared.calls.Ask.{Ask};
+ghost use Rattle.call_terms.specs.NeedPoints.{asked};
+ghost use Rattle.call_terms.specs.Asks.{is_forgiving};
+ghost use Rattle.probe_core.specs.Probe.{target_of};
+ghost use Rattle.target_machine.specs.declared.unit.Call.TheVariants.{Access};
+ghost use Rattle.access_regs.specs.Costs.{cost_by};
+ghost use Rattle.access_regs.specs.Journal.{is_end, making};
+ghost use Rattle.access_regs.specs.Kept.{Kept, known, selected};
+ghost use Rattle.access_regs.specs.Plan.{needs_cfg, select_value};
+ghost use Rattle.access_regs.specs.declared.planner.Planner.TheVariants.{Managed};
+
+use crate::accesses::{access_ap, access_drw, high_of, low_of, plain_csw};
+use crate::flights::Flights;
+use crate::log::CallLog;
+use crate::planned::port_of;
+use crate::sender::Sender;
+use access_calls::Stop;
+use target_machine::registers::{CFG, CSW, TAR, TAR_HIGH};
+use target_machine::{RegAccess, Unit};
+
+// How a forgiving unit went.
+#[derive(Drop)]
+struct Tried {
+    // its access port has no large addresses
+    small: bool,
+    // what its last access gave; none where it was skipped
+    word: Option<u32>,
+    // how many reads of CFG and CSW led to it
+    reads: u64,
+}
+
+// The unit was made, or skipped, after so many reads.
+fn went(word: Option<u32>, reads: u64) -> Tried
+    ensures small { result.small ≡ false }
+    ensures word { result.word ≡ word }
+    ensures reads { result.reads ≡ reads }
+{
+    Tried {
+        small: false,
+        word,
+        reads,
+    }
+}
+
+// All that the last call issues was made: it came, and its last access gave this word, or it was skipped.
+fn close(log: &mut CallLog, word: Option<u32>)
+    requires open { log.old.end ≡ None }
+    requires some { 0 < length log.old.calls }
+    ensures answer { log.new ≡ closed word log.old }
+    ensures sound { IsSoundState log.new }
+{
+    let last = log.count() - 1;
+    log.complete();
+    match word {
+        Some(word) => {
+            log.take(last, word);
+            log.confirm();
+        }
+        None => {
+            log.take(last, 0);
+            log.confirm();
+            log.skip();
+        }
+    }
+}
+
+impl<F: Flights> Sender<F> {
+    // Makes a memory access by the access port.
+    fn try_memory(
+        &mut self,
+        large: bool,
+        size: u8,
+        read: bool,
+        ap: u8,
+        address: u64,
+        value: u32,
+    ) -> Result<Option<u32>, Stop>
+        requires open { self.old.log.end ≡ None }
+        requires whole { self.old.log.whole + 1 ≡ length self.old.log.calls }
+        requires came { self.old.log.came ≡ self.old.log.whole }
+        requires empty { F.accesses self.old.flights ≡ [] }
+        requires space { (next : RegAccess) → IsTaken next → F.has_room self.old.flights next ≡ true }
+        requires room { length self.old.log.entries + 8 ≤ self.old.log.room }
+        requires bounded { length self.old.log.entries + 8 ≤ most_entries * length self.old.log.calls }
+        requires calm { self.old.managed.unsettled ≡ None }
+        requires sound { IsSoundMemory size read address value }
+        ensures on { (m0 : BenchState) (k : Kept) (t : TargetState) (made : List RegAccess) (rest : List Action)
+            → HasTried (F.state self.old.flights) self.old.log (unit.Memory size read ap address value) k t made rest m0 → list_any (is_end (unit.Memory size read ap address value)) (making made) ≡ false
+            → rest ≡ memory_actions (after t (making made)) large size read ap address value
+            → IfOk result (λ w. CameTo w (F.state self.new.flights) self.new.log (unit.Memory size read ap address value) k t m0) }
+        ensures broke { (m0 : BenchState) (k : Kept) (t : TargetState) (made : List RegAccess) (rest : List Action)
+            → HasTried (F.state self.old.flights) self.old.log (unit.Memory size read ap address value) k t made rest m0 → list_any (is_end (unit.Memory size read ap address value)) (making made) ≡ false
+            → rest ≡ memory_actions (after t (making made)) large size read ap address value
+            → IfErr result (λ s. HasBroken s (reported_by (F.reported self.new.flights) (F.state self.new.flights) self.new.log (F.packet self.new.flights) (F.reply self.new.flights)) self.new.log self.old.log.calls m0) }
+        ensures goes { GoesOn (reported_by (F.reported self.old.flights) (F.state self.old.flights) self.old.log (F.packet self.old.flights) (F.reply self.old.flights))
+            (reported_by (F.reported self.new.flights) (F.state self.new.flights) self.new.log (F.packet self.new.flights) (F.reply self.new.flights)) }
+        ensures further { OnOk result (IsFurther self.old.log self.new.log) }
+        ensures came { OnOk result (self.new.log.came ≡ self.new.log.whole) }
+        ensures empty { OnOk result (F.accesses self.new.flights ≡ []) }
+        ensures ended { IfErr result (λ s. self.new.log.end ≡ Some s) }
+        ensures asks { asks_of self.new.log ≡ asks_of self.old.log }
+        ensures memory { IfErr result NoMemory }
+        ensures entries { OnOk result (length self.new.log.entries ≤ length self.old.log.entries + 8) }
+        ensures managed { self.new.managed ≡ selected self.old.managed (select_value ap 0) }
+        ensures identity { F.identity self.new.flights ≡ F.identity self.old.flights }
+    {
+        let csw = match self.try_port(ap, 0, access_ap(true, CSW, 0), false) {
+            Ok(Some(csw)) => csw,
+            Ok(None) => return Ok(None),
+            Err(stop) => return Err(stop),
+        };
+        let csw = access_ap(false, CSW, plain_csw(csw, size));
+        let high = access_ap(false, TAR_HIGH, high_of(address));
+        let low = access_ap(false, TAR, low_of(address));
+        let last = access_drw(read, address, value);
+        if large {
+            self.try_flight(&[csw, high, low], last, true)
+        } else {
+            self.try_flight(&[csw, low], last, true)
+        }
+    }
+
+    // Whether the access port is known to have large addresses.
+    pub(crate) fn is_large(&self, ap: u8) -> bool
+        ensures { result ≡ (known self.now.managed ap).large }
+    {
+        !self.managed.needs_cfg(&Unit::Memory {
+            size: 4,
+            read: true,
+            ap,
+            address: 0x1_0000_0000,
+            value: 0,
+        })
+    }
+
+    // Makes a memory access that needs CFG.
+    fn try_wide(
+        &mut self,
+        size: u8,
+        read: bool,
+        ap: u8,
+        address: u64,
+        value: u32,
+    ) -> Result<Tried, Stop>
+        requires open { self.old.log.end ≡ None }
+        requires whole { self.old.log.whole + 1 ≡ length self.old.log.calls }
+        requires came { self.old.log.came ≡ self.old.log.whole }
+        requires empty { F.accesses self.old.flights ≡ [] }
+        requires space { (next : RegAccess) → IsTaken next → F.has_room self.old.flights next ≡ true }
+        requires room { length self.old.log.entries + 11 ≤ self.old.log.room }
+        requires bounded { length self.old.log.entries + 11 ≤ most_entries * length self.old.log.calls }
+        requires calm { self.old.managed.unsettled ≡ None }
+        requires sound { IsSoundMemory size read address value }
+        requires wide { needs_cfg self.old.managed (unit.Memory size read ap address value) ≡ true }
+        ensures on { (m0 : BenchState) (t : TargetState) (rest : List Action) → length self.old.managed.ports ≡ 256
+            → HasTried (F.state self.old.flights) self.old.log (unit.Memory size read ap address value) self.old.managed t [] rest m0
+            → IfOk result (λ r. IsDoneBy r.small r.word r.reads self.new.managed (F.state self.new.flights) self.new.log (unit.Memory size read ap address value) self.old.managed t m0) }
+        ensures broke { (m0 : BenchState) (t : TargetState) (rest : List Action) → length self.old.managed.ports ≡ 256
+            → HasTried (F.state self.old.flights) self.old.log (unit.Memory size read ap address value) self.old.managed t [] rest m0
+            → IfErr result (λ s. HasBroken s (reported_by (F.reported self.new.flights) (F.state self.new.flights) self.new.log (F.packet self.new.flights) (F.reply self.new.flights)) self.new.log self.old.log.calls m0) }
+        ensures reads { IfOk result (λ r. r.reads ≤ 2) }
+        ensures goes { GoesOn (reported_by (F.reported self.old.flights) (F.state self.old.flights) self.old.log (F.packet self.old.flights) (F.reply self.old.flights))
+            (reported_by (F.reported self.new.flights) (F.state self.new.flights) self.new.log (F.packet self.new.flights) (F.reply self.new.flights)) }
+        ensures further { OnOk result (IsFurther self.old.log self.new.log) }
+        ensures came { OnOk result (self.new.log.came ≡ self.new.log.whole) }
+        ensures empty { OnOk result (F.accesses self.new.flights ≡ []) }
+        ensures ended { IfErr result (λ s. self.new.log.end ≡ Some s) }
+        ensures asks { asks_of self.new.log ≡ asks_of self.old.log }
+        ensures memory { IfErr result NoMemory }
+        ensures entries { OnOk result (length self.new.log.entries ≤ length self.old.log.entries + 11) }
+        ensures calm { self.new.managed.unsettled ≡ None }
+        ensures identity { F.identity self.new.flights ≡ F.identity self.old.flights }
+    {
+        let cfg = match self.try_port(ap, CFG / 16, access_ap(true, CFG % 16, 0), false) {
+            Ok(Some(cfg)) => cfg,
+            Ok(None) => return Ok(went(None, 1)),
+            Err(stop) => return Err(stop),
+        };
+        if !self.managed.learn_cfg(ap, cfg) {
+            return Ok(Tried {
+                small: true,
+                word: Some(0),
+                reads: 1,
+            });
+        }
+        match self.try_memory(true, size, read, ap, address, value) {
+            Ok(word) => Ok(went(word, 2)),
+            Err(stop) => Err(stop),
+        }
+    }
+
+    // Makes the accesses of a unit.
+    fn try_unit(&mut self, unit: &Unit) -> Result<Tried, Stop>
+        requires open { self.old.log.end ≡ None }
+        requires whole { self.old.log.whole + 1 ≡ length self.old.log.calls }
+        requires came { self.old.log.came ≡ self.old.log.whole }
+        requires empty { F.accesses self.old.flights ≡ [] }
+        requires space { (next : RegAccess) → IsTaken next → F.has_room self.old.flights next ≡ true }
+        requires room { length self.old.log.entries + 11 ≤ self.old.log.room }
+        requires bounded { length self.old.log.entries + 11 ≤ most_entries * length self.old.log.calls }
+        requires calm { self.old.managed.unsettled ≡ None }
+        requires sound { IsSound unit.now }
+        ensures on { (m0 : BenchState) (t : TargetState) (rest : List Action) → may_forgive (Access unit.now) ≡ true → length self.old.managed.ports ≡ 256
+            → HasTried (F.state self.old.flights) self.old.log unit.now self.old.managed t [] rest m0
+            → IfOk result (λ r. IsDoneBy r.small r.word r.reads self.new.managed (F.state self.new.flights) self.new.log unit.now self.old.managed t m0) }
+        ensures broke { (m0 : BenchState) (t : TargetState) (rest : List Action) → length self.old.managed.ports ≡ 256
+            → HasTried (F.state self.old.flights) self.old.log unit.now self.old.managed t [] rest m0
+            → IfErr result (λ s. HasBroken s (reported_by (F.reported self.new.flights) (F.state self.new.flights) self.new.log (F.packet self.new.flights) (F.reply self.new.flights)) self.new.log self.old.log.calls m0) }
+        ensures reads { IfOk result (λ r. r.reads ≤ 2) }
+        ensures goes { GoesOn (reported_by (F.reported self.old.flights) (F.state self.old.flights) self.old.log (F.packet self.old.flights) (F.reply self.old.flights))
+            (reported_by (F.reported self.new.flights) (F.state self.new.flights) self.new.log (F.packet self.new.flights) (F.reply self.new.flights)) }
+        ensures further { OnOk result (IsFurther self.old.log self.new.log) }
+        ensures came { OnOk result (self.new.log.came ≡ self.new.log.whole) }
+        ensures empty { OnOk result (F.accesses self.new.flights ≡ []) }
+        ensures ended { IfErr result (λ s. self.new.log.end ≡ Some s) }
+        ensures asks { asks_of self.new.log ≡ asks_of self.old.log }
+        ensures memory { IfErr result NoMemory }
+        ensures entries { OnOk result (length self.new.log.entries ≤ length self.old.log.entries + 11) }
+        ensures calm { self.new.managed.unsettled ≡ None }
+        ensures identity { F.identity self.new.flights ≡ F.identity self.old.flights }
+    {
+        match *unit {
+            Unit::Memory {
+                size,
+                read,
+                ap,
+                address,
+                value,
+            } => {
+                if self.managed.needs_cfg(unit) {
+                    return self.try_wide(size, read, ap, address, value);
+                }
+                let large = self.is_large(ap);
+                match self.try_memory(large, size, read, ap, address, value) {
+                    Ok(word) => Ok(went(word, 1)),
+                    Err(stop) => Err(stop),
+                }
+            }
+            Unit::Ap {
+                read,
+                ap,
+                addr,
+                value,
+            } => {
+                let access = access_ap(read, addr % 16, value);
+                match self.try_port(ap, addr / 16, access, true) {
+                    Ok(word) => Ok(went(word, 0)),
+                    Err(stop) => Err(stop),
+                }
+            }
+            Unit::Dp { .. } | Unit::Poll { .. } => Ok(went(Some(0), 0)),
+        }
+    }
+
+    // Asks a unit that forgives a fault. Answers whether its access port has no large addresses.
+    pub(crate) fn ask_forgiving(&mut self, unit: &Unit) -> Result<bool, Stop>
+        requires open { self.old.log.end ≡ None }
+        requires sound { IsSound unit.now }
+        requires whole { self.old.log.whole + 1 ≡ length self.old.log.calls }
+        requires room { length self.old.log.entries + most_entries ≤ self.old.log.room }
+        requires bounded { length self.old.log.entries + most_entries ≤ most_entries * length self.old.log.calls }
+        ensures on { (m0 : BenchState) (calls : List Ask) (ask : Ask) → ask.call ≡ Access unit.now → is_forgiving ask ≡ true → HasAsked (F.state self.old.flights) self.old.log (F.accesses self.old.flights) self.old.managed calls ask m0
+            → OnOk result (HasBegun (F.reported self.new.flights) (F.state self.new.flights) self.new.log (F.packet self.new.flights) (F.reply self.new.flights) self.new.managed (F.accesses self.new.flights) m0) }
+        ensures small { (m0 : BenchState) (calls : List Ask) (ask : Ask) → ask.call ≡ Access unit.now → is_forgiving ask ≡ true → HasAsked (F.state self.old.flights) self.old.log (F.accesses self.old.flights) self.old.managed calls ask m0
+            → IfOk result (λ small. small ≡ small_now (start_world (target_of m0.probe) None) calls ask) }
+        ensures needs { (m0 : BenchState) (calls : List Ask) (ask : Ask) → ask.call ≡ Access unit.now → is_forgiving ask ≡ true → HasAsked (F.state self.old.flights) self.old.log (F.accesses self.old.flights) self.old.managed calls ask m0
+            → OnOk result (asks_of self.new.log ≡ asked (cost_by Managed (target_of m0.probe) calls ask) ask (record { calls = calls; needs = self.old.log.needs; fence = self.old.log.fence })) }
+        ensures broke { (m0 : BenchState) (calls : List Ask) (ask : Ask) → ask.call ≡ Access unit.now → is_forgiving ask ≡ true → HasAsked (F.state self.old.flights) self.old.log (F.accesses self.old.flights) self.old.managed calls ask m0
+            → IfErr result (λ s. HasEnded s (reported_by (F.reported self.new.flights) (F.state self.new.flights) self.new.log (F.packet self.new.flights) (F.reply self.new.flights)) self.new.log m0) }
+        ensures stops { (m0 : BenchState) (calls : List Ask) (ask : Ask) (answered : Option ℕ) → ask.call ≡ Access unit.now → is_forgiving ask ≡ true → HasAsked (F.state self.old.flights) self.old.log (F.accesses self.old.flights) self.old.managed calls ask m0
+            → IsLeft (reported_by (F.reported self.new.flights) (F.state self.new.flights) self.new.log (F.packet self.new.flights) (F.reply self.new.flights)) answered
+            → IfErr result (StopsThere m0 answered self.old.log.calls self.new.log.lines) }
+        ensures goes { GoesOn (reported_by (F.reported self.old.flights) (F.state self.old.flights) self.old.log (F.packet self.old.flights) (F.reply self.old.flights))
+            (reported_by (F.reported self.new.flights) (F.state self.new.flights) self.new.log (F.packet self.new.flights) (F.reply self.new.flights)) }
+        ensures calls { self.new.log.calls ≡ self.old.log.calls }
+        ensures whole { OnOk result (self.new.log.whole ≡ length self.new.log.calls) }
+        ensures open { OnOk result (self.new.log.end ≡ None) }
+        ensures ended { IfErr result (λ s. self.new.log.end ≡ Some s) }
+        ensures settles { OnOk result (CanSettle self.new.log self.new.managed) }
+        ensures memory { IfErr result NoMemory }
+        ensures identity { F.identity self.new.flights ≡ F.identity self.old.flights }
+    {
+        let count = self.log.count();
+        // there is something to settle only after an earlier call
+        match self.settle((count - 1).max(1)) {
+            Ok(()) => {}
+            Err(stop) => return Err(stop),
+        }
+        match self.send() {
+            Ok(()) => {}
+            Err(stop) => return Err(stop),
+        }
+        match self.try_unit(unit) {
+            Err(stop) => Err(stop),
+            Ok(tried) => {
+                self.managed.forget(port_of(unit));
+                close(&mut self.log, tried.word);
+                self.log.need(5 + tried.reads, count);
+                Ok(tried.small)
+            }
+        }
+    }
+}

@@ -1,0 +1,123 @@
+//! Polls of CTRL/STAT.
+ghost use Rattle.std.specs.Prelude.{◌≡◌, ◌<◌, ◌≤◌, ◌+◌, ◌*◌, [], ℕ, List, Option, None, Some, true, length, if◌then◌else◌, IfErr, IfOk, OnOk};
+ghost use Rattle.target_machine.specs.Attempt.{bank};
+ghost use Rattle.target_machine.specs.Plain.{Polls, polled};
+ghost use Rattle.target_machine.specs.Sound.{IsSound};
+ghost use Rattle.target_machine.specs.declared.unit.Unit.TheVariants as unit;
+ghost use Rattle.probe_core.specs.Bench.{BenchState, StepsTo};
+ghost use Rattle.probe_core.specs.Probe.{target_of};
+ghost use Rattle.call_terms.specs.declared.calls.Ask.{Ask};
+ghost use Rattle.access_regs.specs.Costs.{poll_cost, portions};
+ghost use Rattle.access_regs.specs.Entries.{target_by};
+ghost use Rattle.access_regs.specs.declared.planner.Planner.TheVariants.{Managed};
+ghost use Rattle.access_calls.specs.Answers.{NoMemory};
+ghost use Rattle.access_calls.specs.GoesOn.{GoesOn};
+ghost use Rattle.access_calls.specs.Left.{IsLeft};
+ghost use Rattle.batch_packer.specs.Flying.{CanFly};
+ghost use Rattle.packed_access.specs.Begun.{HasEnded, HasIssued, StopsThere};
+ghost use Rattle.packed_access.specs.Flown.{BenchGoesOn, HasDone, HasEndCause, IsCutResponse, LeftOff, NamesNone, matched_word};
+ghost use Rattle.packed_access.specs.Logs.{asks_of, most_entries, reported_by};
+ghost use Rattle.packed_access.specs.Polls.{HasPoll};
+
+use crate::flights::Flights;
+use crate::sender::Sender;
+use access_calls::Stop;
+use batch_packer::FlightEnd;
+use call_terms::Part;
+
+// What a poll came to: whether the value matched, and how many need points it makes.
+#[derive(Clone, Copy)]
+struct Found {
+    matched: bool,
+    points: u64,
+}
+
+// Makes a poll: by value matches of the probe where DPBANKSEL is known to be 0, a need point for each of their
+// portions, and else read by read, a need point for each read. One more comes for the send before it.
+fn make_poll<F: Flights>(
+    flights: &mut F,
+    zero: bool,
+    mask: u32,
+    requested: u32,
+    turns: u32,
+) -> Result<Found, FlightEnd>
+    requires usable { F.ended flights.old ≡ None }
+    requires empty { F.accesses flights.old ≡ [] }
+    requires turns { 1 ≤ turns }
+    ensures done { IfOk result (λ found. StepsTo (λ m o. CanFly m → (zero ≡ true → bank (target_of m.probe) ≡ 0) → HasDone (Polls mask requested turns) (matched_word found.matched) m o) (F.state flights.old) (F.state flights.new)) }
+    ensures points { IfOk result (λ found. StepsTo (λ m o. CanFly m → found.points ≡ 1 + (if zero then portions turns else (polled turns mask requested (target_of m.probe)).reads)) (F.state flights.old) (F.state flights.new)) }
+    ensures left { IfErr result (λ end. StepsTo (λ m o. CanFly m → (zero ≡ true → bank (target_of m.probe) ≡ 0) → LeftOff (Polls mask requested turns) end m o) (F.state flights.old) (F.state flights.new)) }
+    ensures none { IfErr result NamesNone }
+    ensures response { IfErr result IsCutResponse }
+    ensures empty { F.accesses flights.new ≡ [] }
+    ensures ended { OnOk result (F.ended flights.new ≡ None) }
+    ensures faults { OnOk result ((F.reported flights.new).faults ≡ (F.reported flights.old).faults) }
+    ensures cause { IfErr result (λ end. HasEndCause end (F.reported flights.old) (F.reported flights.new) (F.packet flights.new) (F.reply flights.new)) }
+    ensures goes { BenchGoesOn (F.reported flights.old) (F.reported flights.new) (F.state flights.old) (F.state flights.new) }
+    ensures identity { F.identity flights.new ≡ F.identity flights.old }
+{
+    if zero {
+        match flights.poll(mask, requested, turns) {
+            Ok(matched) => Ok(Found {
+                matched,
+                points: 1 + (turns as u64 + 0xFFFF) / 0x1_0000,
+            }),
+            Err(end) => Err(end),
+        }
+    } else {
+        match flights.poll_by_reads(mask, requested, turns) {
+            Ok(polled) => Ok(Found {
+                matched: polled.matched,
+                points: 1 + polled.reads as u64,
+            }),
+            Err(end) => Err(end),
+        }
+    }
+}
+
+impl<F: Flights> Sender<F> {
+    // Makes the last call, which is a poll, where all calls before it came. Answers how many need points it makes.
+    #[tactic(auto, using(access_calls::proofs::KeepLemmas::goes_trans, crate::proofs::GoesLemmas::goes_still))]
+    pub(crate) fn poll_last(&mut self, mask: u32, requested: u32, turns: u32) -> Result<u64, Stop>
+        requires open { self.old.log.end ≡ None }
+        requires sound { IsSound (unit.Poll mask requested turns) }
+        requires rest { F.accesses self.old.flights ≡ [] }
+        requires last { self.old.log.came + 1 ≡ length self.old.log.calls }
+        requires room { length self.old.log.entries < self.old.log.room }
+        requires bounded { length self.old.log.entries < most_entries * length self.old.log.calls }
+        ensures on { (m0 : BenchState) (calls : List Ask) (ask : Ask) → HasPoll (F.state self.old.flights) self.old.log self.old.managed calls ask mask requested turns m0
+            → OnOk result (HasIssued (F.state self.new.flights) self.new.log [] [] m0) }
+        ensures points { (m0 : BenchState) (calls : List Ask) (ask : Ask) → HasPoll (F.state self.old.flights) self.old.log self.old.managed calls ask mask requested turns m0
+            → IfOk result (λ points. points ≡ poll_cost self.old.managed (target_by Managed (target_of m0.probe) calls) mask requested turns) }
+        ensures broke { (m0 : BenchState) (calls : List Ask) (ask : Ask) → HasPoll (F.state self.old.flights) self.old.log self.old.managed calls ask mask requested turns m0
+            → IfErr result (λ s. HasEnded s (reported_by (F.reported self.new.flights) (F.state self.new.flights) self.new.log (F.packet self.new.flights) (F.reply self.new.flights)) self.new.log m0) }
+        ensures stops { (m0 : BenchState) (calls : List Ask) (ask : Ask) (answered : Option ℕ) → HasPoll (F.state self.old.flights) self.old.log self.old.managed calls ask mask requested turns m0
+            → IsLeft (reported_by (F.reported self.new.flights) (F.state self.new.flights) self.new.log (F.packet self.new.flights) (F.reply self.new.flights)) answered
+            → IfErr result (StopsThere m0 answered self.old.log.calls self.new.log.lines) }
+        ensures goes { GoesOn (reported_by (F.reported self.old.flights) (F.state self.old.flights) self.old.log (F.packet self.old.flights) (F.reply self.old.flights))
+            (reported_by (F.reported self.new.flights) (F.state self.new.flights) self.new.log (F.packet self.new.flights) (F.reply self.new.flights)) }
+        ensures whole { OnOk result (self.new.log.whole ≡ length self.new.log.calls) }
+        ensures open { OnOk result (self.new.log.end ≡ None) }
+        ensures entries { OnOk result (length self.new.log.entries ≡ length self.old.log.entries + 1) }
+        ensures room_same { OnOk result (self.new.log.room ≡ self.old.log.room) }
+        ensures empty { OnOk result (F.accesses self.new.flights ≡ []) }
+        ensures ended { IfErr result (λ s. self.new.log.end ≡ Some s) }
+        ensures asks { asks_of self.new.log ≡ asks_of self.old.log }
+        ensures memory { IfErr result NoMemory }
+        ensures managed { self.new.managed ≡ self.old.managed }
+        ensures identity { F.identity self.new.flights ≡ F.identity self.old.flights }
+    {
+        let unit = self.log.count();
+        let zero = self.managed.bank_zero();
+        self.log.issue(unit, Part::Ends);
+        match make_poll(&mut self.flights, zero, mask, requested, turns) {
+            Ok(found) => {
+                self.log.complete();
+                self.log.take(unit - 1, found.matched as u32);
+                self.log.confirm();
+                Ok(found.points)
+            }
+            Err(end) => Err(self.log.stop(end)),
+        }
+    }
+}

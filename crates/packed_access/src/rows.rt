@@ -1,0 +1,441 @@
+//! A row of the tests: what is asked over a bench in memory, and its packets and replies.
+ghost use Rattle.std.specs.Prelude.{◌≡◌, ◌≤◌, ◌↔◌, true, IfOk, IsTrue};
+ghost use Rattle.std.specs.List.{All};
+ghost use Rattle.target_machine.specs.Ranges.{IsTargetJob};
+ghost use Rattle.target_machine.specs.Sound.{IsSound, IsSoundMemory, IsSoundProbe};
+ghost use Rattle.probe_core.specs.Memory.{reported_of};
+ghost use Rattle.probe_core.specs.Ranges.{AreLimits, IsBenchJob};
+ghost use Rattle.bench_access.specs.Opening.{IsIdle};
+
+use crate::{Packed, PackedAccess};
+use access_calls::{Access, Report, Stop, StopCause};
+use bench_access::OverBench;
+use call_terms::{Asked, Slot};
+use dap_base::{ItemList, OutOfMemory};
+use probe_core::{Bench, BenchJob, Config, Limits, MemoryBench, Shown};
+use std::alloc::Global;
+use std::process::Abort;
+use std::test::Fail;
+use target_machine::{ApJob, ProbeCall, RegionJob, ScriptJobs, TargetJob, Unit, WordJob, WordJobs};
+
+// What differs from row to row.
+#[derive(Clone, Copy, Drop)]
+pub(crate) struct Setting<'a> {
+    pub(crate) packet_count: u8,
+    pub(crate) stalls: &'a [u32],
+    pub(crate) powered: bool,
+    pub(crate) power_reads: u32,
+    pub(crate) la: bool,
+    pub(crate) carry: bool,
+    // the words at 0x20000000 and 0x20000004
+    pub(crate) words: [u32; 2],
+}
+
+pub(crate) const BASE: Setting<'static> = Setting {
+    packet_count: 1,
+    stalls: &[],
+    powered: true,
+    power_reads: 0,
+    la: false,
+    carry: false,
+    words: [0, 0],
+};
+
+// What is asked of the access.
+#[derive(Drop)]
+pub(crate) enum Step {
+    Ask(Unit),
+    // so many words from 0x20000000 on, the first of them 1
+    Writes(u32),
+    Forgive(Unit),
+    Make(ProbeCall),
+    // the result of a call
+    Value(u32, u64),
+    Flush,
+    Finish,
+    // the next unit ends so
+    Small(Unit),
+    // a call ends the access
+    Fails(Unit, StopCause),
+    ForgiveFails(Unit, StopCause),
+    FlushFails(Report),
+    FinishFails(Report),
+}
+
+fn list<T: Copy + Drop>(alloc: Global, items: &[T]) -> Result<ItemList<T>, OutOfMemory>
+    ensures { IfOk result (λ list. list ≡ items.now) }
+{
+    let mut list = ItemList::new(alloc);
+    for item in items {
+        list.push(*item)?;
+    }
+    Ok(list)
+}
+
+// A target with AP 0, and 4,096 bytes at 0x20000000 and at 0x100000000.
+fn target(alloc: Global, setting: &Setting<'_>) -> Result<TargetJob, OutOfMemory>
+    requires { setting.now.power_reads ≤ 1000000 }
+    ensures { IfOk result IsTargetJob }
+{
+    Ok(TargetJob {
+        dpidr: 0x2BA0_1477,
+        powered: setting.powered,
+        power_reads: setting.power_reads,
+        pins: 0xA0,
+        carry: setting.carry,
+        aps: list(
+            alloc,
+            &[ApJob {
+                ap: 0,
+                idr: 0x2477_0011,
+                base: 0xE00F_F003,
+                csw: 0x40,
+                la: setting.la,
+            }],
+        )?,
+        memory: list(
+            alloc,
+            &[
+                RegionJob {
+                    address: 0x2000_0000,
+                    length: 4096,
+                    read_only: false,
+                },
+                RegionJob {
+                    address: 0x1_0000_0000,
+                    length: 4096,
+                    read_only: false,
+                },
+            ],
+        )?,
+        words: list(
+            alloc,
+            &[
+                WordJob {
+                    address: 0x2000_0000,
+                    value: setting.words[0],
+                },
+                WordJob {
+                    address: 0x2000_0004,
+                    value: setting.words[1],
+                },
+            ],
+        )?,
+        scripts: ScriptJobs::new(alloc),
+        reset: WordJobs::new(alloc),
+    })
+}
+
+// Whether these may be stalls of a bench.
+fn are_stalls(stalls: &[u32]) -> bool
+    ensures { IsTrue result ↔ All (λ stall. stall ≤ 100000) stalls.now }
+{
+    stalls.iter().all(|stall| *stall <= 100_000)
+}
+
+// The job of a bench so set.
+pub(crate) fn job_of(
+    rt: &impl Abort,
+    alloc: Global,
+    setting: &Setting<'_>,
+    limits: Limits,
+) -> Result<BenchJob, OutOfMemory>
+    requires limits { AreLimits limits }
+    ensures in_range { IfOk result IsBenchJob }
+    ensures limits { IfOk result (λ job. job.limits ≡ limits) }
+{
+    assert!(rt; setting.power_reads <= 1_000_000);
+    assert!(rt; setting.stalls.len() <= 65_536);
+    assert!(rt; are_stalls(setting.stalls));
+    Ok(BenchJob {
+        limits,
+        stalls: list(alloc, setting.stalls)?,
+        target: target(alloc, setting)?,
+    })
+}
+
+// A bench in memory so set.
+fn bench_of(
+    rt: &impl Abort,
+    alloc: Global,
+    setting: &Setting<'_>,
+    limits: Limits,
+) -> Result<MemoryBench, OutOfMemory>
+    requires limits { AreLimits limits }
+    ensures idle { IfOk result (λ bench. IsIdle (reported_of bench)) }
+    ensures limits { IfOk result (λ bench. (reported_of bench).limits ≡ limits) }
+{
+    let job = job_of(rt, alloc, setting, limits)?;
+    let mut bench = MemoryBench::new(alloc);
+    assert_eq!(rt; bench.load(alloc, &job), Ok(()));
+    Ok(bench)
+}
+
+pub(crate) fn word(read: bool, address: u64, value: u32) -> Unit {
+    Unit::Memory {
+        size: 4,
+        read,
+        ap: 0,
+        address,
+        value,
+    }
+}
+
+pub(crate) fn write(address: u64, value: u32) -> Step {
+    Step::Ask(word(false, address, value))
+}
+
+pub(crate) fn read(address: u64) -> Step {
+    Step::Ask(word(true, address, 0))
+}
+
+pub(crate) fn write_dp(addr: u8, value: u32) -> Step {
+    Step::Ask(Unit::Dp {
+        read: false,
+        addr,
+        value,
+    })
+}
+
+// The byte of two hexadecimal digits.
+pub(crate) fn byte_of(high: u8, low: u8) -> u8 {
+    let digit = |d: u8| if d < b'a' {
+        d.wrapping_sub(b'0')
+    } else {
+        d.wrapping_sub(b'a' - 10)
+    };
+    (digit(high) % 16) * 16 + digit(low) % 16
+}
+
+// Whether the bytes are those of a line: `>` or `<`, and the digits.
+pub(crate) fn is_line(mark: u8, bytes: &[u8], line: &str) -> bool {
+    let line = line.as_bytes();
+    if line.len() != bytes.len() * 2 + 1 || line[0] != mark {
+        return false;
+    }
+    for (place, byte) in bytes.iter().enumerate() {
+        if byte_of(line[place * 2 + 1], line[place * 2 + 2]) != *byte {
+            return false;
+        }
+    }
+    true
+}
+
+// The packets and replies that the bench kept are these from this number on. Answers the number after them.
+pub(crate) fn shows(rt: &impl Abort, bench: &mut MemoryBench, first: u32, lines: &[&str]) -> u32 {
+    let mut bytes = [0; 1024];
+    let mut index = first;
+    for line in lines {
+        match bench.show(index, &mut bytes) {
+            Ok(Shown::Sent(len)) => assert!(rt; is_line(b'>', &bytes[..len], line), "{line}"),
+            Ok(Shown::Replied(len)) => assert!(rt; is_line(b'<', &bytes[..len], line), "{line}"),
+            _ => assert!(rt; false, "nothing for {line}"),
+        }
+        index += 1;
+    }
+    index
+}
+
+// The exchanges of the opening: packet size 64, this packet count, and the settings of the transfers.
+pub(crate) fn shows_opening(rt: &impl Abort, bench: &mut MemoryBench, packet_count: u8) -> u32 {
+    let count = if packet_count == 1 {
+        "<000101"
+    } else {
+        "<000104"
+    };
+    shows(
+        rt,
+        bench,
+        0,
+        &[
+            ">00ff",
+            "<00024000",
+            ">00fe",
+            count,
+            ">040064000000",
+            "<0400",
+        ],
+    )
+}
+
+// Whether a memory access may be asked: its size is 1, 2 or 4, and its address and value follow it.
+fn is_sound_memory(size: u8, read: bool, address: u64, value: u32) -> bool
+    ensures { result ≡ true → IsSoundMemory size read address value }
+{
+    match size {
+        1 => read || value < 0x100,
+        2 => address % 2 == 0 && (read || value < 0x1_0000),
+        4 => address % 4 == 0,
+        _ => false,
+    }
+}
+
+// Whether the unit may be asked.
+fn is_sound(unit: &Unit) -> bool
+    ensures { result ≡ true → IsSound unit.now }
+{
+    match *unit {
+        Unit::Memory {
+            size,
+            read,
+            address,
+            value,
+            ..
+        } => is_sound_memory(size, read, address, value),
+        Unit::Ap { addr, .. } => addr % 4 == 0,
+        Unit::Dp {
+            read: true,
+            addr,
+            ..
+        } => addr == 0 || addr == 4,
+        Unit::Dp {
+            read: false,
+            addr,
+            ..
+        } => addr == 0 || addr == 4 || addr == 8,
+        Unit::Poll { turns, .. } => 1 <= turns && turns <= 60_000_000,
+    }
+}
+
+// Whether a command of these tests may be asked.
+fn is_sound_call(call: &ProbeCall) -> bool
+    ensures { result ≡ true → IsSoundProbe call.now }
+{
+    match *call {
+        ProbeCall::Delay(micros) => micros <= 60_000_000,
+        ProbeCall::Line { count, bits } => count == 16 && bits < 0x1_0000,
+        ProbeCall::Pins { .. } => true,
+        _ => false,
+    }
+}
+
+// Asks a unit that may be asked.
+fn ask(
+    rt: &impl Abort,
+    access: &mut Packed<MemoryBench>,
+    unit: &Unit,
+    forgive: bool,
+) -> Result<Asked, Stop> {
+    assert!(rt; is_sound(unit));
+    assert!(rt; access.sender.log.count() < 10_000_000);
+    access.ask(*unit, forgive)
+}
+
+// Asks a command that may be asked.
+fn command(
+    rt: &impl Abort,
+    access: &mut Packed<MemoryBench>,
+    call: &ProbeCall,
+) -> Result<u64, Stop> {
+    assert!(rt; is_sound_call(call));
+    assert!(rt; access.sender.log.count() < 10_000_000);
+    access.command(*call)
+}
+
+// Asks a unit, which has a place.
+fn take_slot(rt: &impl Abort, access: &mut Packed<MemoryBench>, unit: &Unit, forgive: bool) {
+    let asked = ask(rt, access, unit, forgive);
+    assert!(rt; matches!(asked, Ok(Asked::Slot(_))), "{unit:?}");
+}
+
+// Asks a unit, at which the access ends by this cause.
+fn fails(
+    rt: &impl Abort,
+    access: &mut Packed<MemoryBench>,
+    unit: &Unit,
+    forgive: bool,
+    cause: StopCause,
+) {
+    match ask(rt, access, unit, forgive) {
+        Err(Stop::Cut(report)) => assert_eq!(rt; report.cause, cause),
+        _ => assert!(rt; false, "{unit:?}"),
+    }
+}
+
+// Asks for words written from 0x20000000 on.
+fn make_writes(rt: &impl Abort, access: &mut Packed<MemoryBench>, count: u32) {
+    for index in 0..count {
+        let address = 0x2000_0000 + 4 * index as u64;
+        take_slot(rt, access, &word(false, address, index + 1), false);
+    }
+}
+
+// Asks one step.
+fn make(rt: &impl Abort, access: &mut Packed<MemoryBench>, step: &Step) {
+    match step {
+        Step::Ask(unit) => take_slot(rt, access, unit, false),
+        Step::Writes(count) => make_writes(rt, access, *count),
+        Step::Forgive(unit) => take_slot(rt, access, unit, true),
+        Step::Make(call) => assert!(rt; command(rt, access, call).is_ok(), "{call:?}"),
+        Step::Value(index, value) => {
+            assert_eq!(rt; access.value(Slot { index: *index }), Ok(*value));
+        }
+        Step::Flush => assert_eq!(rt; access.flush(), Ok(())),
+        Step::Finish => assert_eq!(rt; access.finish(), Ok(())),
+        Step::Small(unit) => assert_eq!(rt; ask(rt, access, unit, false), Ok(Asked::Small)),
+        Step::Fails(unit, cause) => fails(rt, access, unit, false, *cause),
+        Step::ForgiveFails(unit, cause) => fails(rt, access, unit, true, *cause),
+        Step::FlushFails(report) => assert_eq!(rt; access.flush(), Err(Stop::Cut(*report))),
+        Step::FinishFails(report) => assert_eq!(rt; access.finish(), Err(Stop::Cut(*report))),
+    }
+}
+
+// The packets and replies of the opening are followed by these, and nothing comes after them.
+fn shows_all(rt: &impl Abort, bench: &mut MemoryBench, packet_count: u8, lines: &[&str]) {
+    let first = shows_opening(rt, bench, packet_count);
+    let end = shows(rt, bench, first, lines);
+    assert_eq!(rt; bench.show(end, &mut [0; 1024]), Ok(Shown::Past));
+}
+
+// Begins an access over a bench with these limits.
+fn begun(
+    rt: &impl Abort,
+    alloc: Global,
+    bench: MemoryBench,
+    limits: Limits,
+) -> Option<Packed<MemoryBench>>
+    requires idle { IsIdle (reported_of bench) }
+    requires limits { limits ≡ (reported_of bench).limits }
+{
+    let config = Config {
+        idle: 0,
+        retry: 100,
+    };
+    match PackedAccess::begin(alloc, bench, config, limits) {
+        Ok(access) => Some(access),
+        Err(_) => {
+            assert!(rt; false, "not begun");
+            None
+        }
+    }
+}
+
+// Asks the steps.
+fn make_all(rt: &impl Abort, access: &mut Packed<MemoryBench>, steps: &[Step]) {
+    for step in steps {
+        make(rt, access, step);
+    }
+}
+
+// Runs the steps over a bench so set, and compares its packets and replies.
+pub(crate) fn row(
+    rt: &impl Abort,
+    alloc: Global,
+    setting: &Setting<'_>,
+    steps: &[Step],
+    lines: &[&str],
+) -> Result<(), Fail> {
+    let packet_count = setting.packet_count;
+    assert!(rt; 1 <= packet_count && packet_count <= 64);
+    let limits = Limits {
+        packet_size: 64,
+        packet_count,
+    };
+    let bench = bench_of(rt, alloc, setting, limits)?;
+    if let Some(mut access) = begun(rt, alloc, bench, limits) {
+        make_all(rt, &mut access, steps);
+        let mut bench = access.into_bench();
+        shows_all(rt, &mut bench, packet_count, lines);
+    }
+    Ok(())
+}

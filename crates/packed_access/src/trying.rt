@@ -1,0 +1,159 @@
+//! Flights of a unit that forgives a fault, of which only the last access may fault.
+ghost use Rattle.std.specs.Prelude.{◌≡◌, ◌<◌, ◌≤◌, ◌+◌, ◌-◌, ◌*◌, ◌++◌, ◌∷◌, [], List, Option, None, Some, true, length, IfErr, IfOk, IfSome, OnOk};
+ghost use Rattle.std.specs.List.{AllByRecursion};
+ghost use Rattle.target_machine.specs.Plain.{Action, select_of};
+ghost use Rattle.target_machine.specs.State.{TargetState};
+ghost use Rattle.target_machine.specs.declared.access.RegAccess.{RegAccess};
+ghost use Rattle.target_machine.specs.declared.unit.Unit.{Unit as AccessUnit};
+ghost use Rattle.flight_forms.specs.Packing.{IsTaken};
+ghost use Rattle.probe_core.specs.Bench.{BenchState};
+ghost use Rattle.access_calls.specs.Answers.{NoMemory};
+ghost use Rattle.access_calls.specs.GoesOn.{GoesOn};
+ghost use Rattle.access_calls.specs.Issued.{lines_before_kept};
+ghost use Rattle.packed_access.specs.Clearing.{IsOneTransfer};
+ghost use Rattle.packed_access.specs.Forgiving.{HasBroken, HasTried, IsNext, WentTo, with_accesses};
+ghost use Rattle.packed_access.specs.Logs.{IsFurther, IsOfCall, asks_of, most_entries, reported_by};
+ghost use Rattle.call_terms.specs.declared.journal.Part.TheVariants.{Leads};
+ghost use Rattle.access_regs.specs.Kept.{Kept, selected};
+ghost use Rattle.access_regs.specs.Plan.{select_value};
+
+use crate::accesses::write_select;
+use crate::flights::Flights;
+use crate::sender::Sender;
+use access_calls::Stop;
+use call_terms::Part;
+use target_machine::registers::CLEAR_ALL;
+use target_machine::{ProbeCall, RegAccess};
+
+impl<F: Flights> Sender<F> {
+    // Pushes accesses of the last call, for which there is room, as the same to their unit.
+    fn push_all(&mut self, unit: u32, part: Part, accesses: &[RegAccess])
+        requires open { self.old.log.end ≡ None }
+        requires taken { AllByRecursion IsTaken accesses.now }
+        requires few { length (F.accesses self.old.flights) + length accesses.now ≤ 4 }
+        requires space { (next : RegAccess) → IsTaken next → F.has_room self.old.flights next ≡ true }
+        requires unit { IsOfCall (length self.old.log.calls) (record { unit = unit; part = part }) }
+        requires later { self.old.log.came ≤ lines_before_kept (record { unit = unit; part = part }) }
+        requires room { length self.old.log.entries + length accesses.now ≤ self.old.log.room }
+        requires bounded { length self.old.log.entries + length accesses.now ≤ most_entries * length self.old.log.calls }
+        ensures accesses { F.accesses self.new.flights ≡ F.accesses self.old.flights ++ accesses.now }
+        ensures log { self.new.log ≡ with_accesses self.old.log unit part accesses.now }
+        ensures space { (next : RegAccess) → IsTaken next → length (F.accesses self.new.flights) < 4 → F.has_room self.new.flights next ≡ true }
+        ensures reported { F.reported self.new.flights ≡ F.reported self.old.flights }
+        ensures state { F.state self.new.flights ≡ F.state self.old.flights }
+        ensures managed { self.new.managed ≡ self.old.managed }
+        ensures identity { F.identity self.new.flights ≡ F.identity self.old.flights }
+    {
+        for access in accesses {
+            self.flights.push(*access);
+            self.log.issue(unit, part);
+        }
+    }
+
+    // Makes accesses of the last call as one flight, of which only the last may fault. Answers what the last gave, or
+    // `None` where it faulted and STICKYERR was cleared. Where `ends` it is the access that the unit is for.
+    pub(crate) fn try_flight(
+        &mut self,
+        leads: &[RegAccess],
+        last: RegAccess,
+        ends: bool,
+    ) -> Result<Option<u32>, Stop>
+        requires open { self.old.log.end ≡ None }
+        requires whole { self.old.log.whole + 1 ≡ length self.old.log.calls }
+        requires came { self.old.log.came ≡ self.old.log.whole }
+        requires empty { F.accesses self.old.flights ≡ [] }
+        requires space { (next : RegAccess) → IsTaken next → F.has_room self.old.flights next ≡ true }
+        requires room { length self.old.log.entries + 5 ≤ self.old.log.room }
+        requires bounded { length self.old.log.entries + 5 ≤ most_entries * length self.old.log.calls }
+        requires one { IsOneTransfer (leads.now ++ last ∷ []) }
+        requires taken { AllByRecursion IsTaken leads.now }
+        requires last { IsTaken last }
+        ensures on { (m0 : BenchState) (asked : AccessUnit) (k : Kept) (t : TargetState) (made : List RegAccess) (rest more : List Action)
+            → HasTried (F.state self.old.flights) self.old.log asked k t made rest m0 → IsNext asked t made leads.now last ends rest more
+            → IfOk result (λ w. WentTo w (F.state self.new.flights) self.new.log asked k t made leads.now last more m0) }
+        ensures broke { (m0 : BenchState) (asked : AccessUnit) (k : Kept) (t : TargetState) (made : List RegAccess) (rest more : List Action)
+            → HasTried (F.state self.old.flights) self.old.log asked k t made rest m0 → IsNext asked t made leads.now last ends rest more
+            → IfErr result (λ s. HasBroken s (reported_by (F.reported self.new.flights) (F.state self.new.flights) self.new.log (F.packet self.new.flights) (F.reply self.new.flights)) self.new.log self.old.log.calls m0) }
+        ensures goes { GoesOn (reported_by (F.reported self.old.flights) (F.state self.old.flights) self.old.log (F.packet self.old.flights) (F.reply self.old.flights))
+            (reported_by (F.reported self.new.flights) (F.state self.new.flights) self.new.log (F.packet self.new.flights) (F.reply self.new.flights)) }
+        ensures further { OnOk result (IsFurther self.old.log self.new.log) }
+        ensures came { OnOk result (self.new.log.came ≡ self.new.log.whole) }
+        ensures empty { OnOk result (F.accesses self.new.flights ≡ []) }
+        ensures space { IfOk result (λ w. IfSome w (λ _. (next : RegAccess) → IsTaken next → F.has_room self.new.flights next ≡ true)) }
+        ensures ended { IfErr result (λ s. self.new.log.end ≡ Some s) }
+        ensures asks { asks_of self.new.log ≡ asks_of self.old.log }
+        ensures memory { IfErr result NoMemory }
+        ensures entries { OnOk result (length self.new.log.entries ≤ length self.old.log.entries + (length leads.now + 2)) }
+        ensures managed { self.new.managed ≡ self.old.managed }
+        ensures identity { F.identity self.new.flights ≡ F.identity self.old.flights }
+    {
+        let unit = self.log.count();
+        let place = leads.len() as u32;
+        self.push_all(unit, Part::Leads, leads);
+        self.flights.push(last);
+        self.log
+            .issue(unit, if ends { Part::Ends } else { Part::Leads });
+        match self.flights.send() {
+            Ok(()) => {
+                self.log.confirm();
+                return Ok(Some(self.flights.value(place)));
+            }
+            Err(end) => {
+                if !self.flights.can_resume() {
+                    return Err(self.log.stop(end));
+                }
+            }
+        }
+        self.flights.resume();
+        self.log.issue(unit, Part::Skips { attempted: !ends });
+        match self.flights.command(ProbeCall::Abort(CLEAR_ALL)) {
+            Ok(_) => {
+                self.log.confirm();
+                Ok(None)
+            }
+            Err(end) => Err(self.log.stop(end)),
+        }
+    }
+
+    // Makes an access of this bank of an access port.
+    pub(crate) fn try_port(
+        &mut self,
+        ap: u8,
+        bank: u8,
+        access: RegAccess,
+        ends: bool,
+    ) -> Result<Option<u32>, Stop>
+        requires open { self.old.log.end ≡ None }
+        requires whole { self.old.log.whole + 1 ≡ length self.old.log.calls }
+        requires came { self.old.log.came ≡ self.old.log.whole }
+        requires empty { F.accesses self.old.flights ≡ [] }
+        requires space { (next : RegAccess) → IsTaken next → F.has_room self.old.flights next ≡ true }
+        requires room { length self.old.log.entries + 5 ≤ self.old.log.room }
+        requires bounded { length self.old.log.entries + 5 ≤ most_entries * length self.old.log.calls }
+        requires calm { self.old.managed.unsettled ≡ None }
+        requires bank { bank < 16 }
+        requires taken { IsTaken access }
+        ensures on { (m0 : BenchState) (asked : AccessUnit) (k : Kept) (t : TargetState) (made : List RegAccess) (rest more : List Action)
+            → HasTried (F.state self.old.flights) self.old.log asked k t made rest m0 → IsNext asked t made (select_of ap bank ∷ []) access ends rest more
+            → IfOk result (λ w. WentTo w (F.state self.new.flights) self.new.log asked k t made (select_of ap bank ∷ []) access more m0) }
+        ensures broke { (m0 : BenchState) (asked : AccessUnit) (k : Kept) (t : TargetState) (made : List RegAccess) (rest more : List Action)
+            → HasTried (F.state self.old.flights) self.old.log asked k t made rest m0 → IsNext asked t made (select_of ap bank ∷ []) access ends rest more
+            → IfErr result (λ s. HasBroken s (reported_by (F.reported self.new.flights) (F.state self.new.flights) self.new.log (F.packet self.new.flights) (F.reply self.new.flights)) self.new.log self.old.log.calls m0) }
+        ensures space { IfOk result (λ w. IfSome w (λ _. (next : RegAccess) → IsTaken next → F.has_room self.new.flights next ≡ true)) }
+        ensures goes { GoesOn (reported_by (F.reported self.old.flights) (F.state self.old.flights) self.old.log (F.packet self.old.flights) (F.reply self.old.flights))
+            (reported_by (F.reported self.new.flights) (F.state self.new.flights) self.new.log (F.packet self.new.flights) (F.reply self.new.flights)) }
+        ensures further { OnOk result (IsFurther self.old.log self.new.log) }
+        ensures came { OnOk result (self.new.log.came ≡ self.new.log.whole) }
+        ensures empty { OnOk result (F.accesses self.new.flights ≡ []) }
+        ensures ended { IfErr result (λ s. self.new.log.end ≡ Some s) }
+        ensures asks { asks_of self.new.log ≡ asks_of self.old.log }
+        ensures memory { IfErr result NoMemory }
+        ensures entries { OnOk result (length self.new.log.entries ≤ length self.old.log.entries + 3) }
+        ensures managed { self.new.managed ≡ selected self.old.managed (select_value ap bank) }
+        ensures identity { F.identity self.new.flights ≡ F.identity self.old.flights }
+    {
+        let select = write_select(ap, bank);
+        self.managed.selected(select.value);
+        self.try_flight(&[select], access, ends)
+    }
+}
