@@ -30,9 +30,9 @@ refusal_line (refusals.Check kind spot) = fault_line kind spot
 abbrev pub too_long_line : List ℕ
 too_long_line = codes "refused TooLong\n"
 
--- the line of a job whose form is not built yet
-abbrev pub not_built_line : List ℕ
-not_built_line = codes "refused NotBuilt\n"
+-- the line of a set without a sequence of the name
+abbrev pub no_sequence_line : List ℕ
+no_sequence_line = codes "refused NoSequence\n"
 
 -- the line of words that are no command
 abbrev pub usage_line : List ℕ

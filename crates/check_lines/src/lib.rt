@@ -8,7 +8,7 @@ mod refusals;
 mod words;
 mod writing;
 
-pub use refusals::{write_not_built, write_refusal, write_too_long, write_usage};
+pub use refusals::{write_no_sequence, write_refusal, write_too_long, write_usage};
 pub use writing::{write_check, write_check_fault};
 
 #[cfg(test)]

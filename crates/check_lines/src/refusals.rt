@@ -2,7 +2,7 @@
 ghost use Rattle.std.specs.Prelude.{◌≡◌, IfOk};
 ghost use Rattle.dap_base.specs.Streams.{PutAppends};
 ghost use Rattle.text_lines.specs.Causes.{NamesFault};
-ghost use Rattle.check_lines.specs.RefusalLines.{path_line, job_fault_line, refusal_line, too_long_line, not_built_line, usage_line};
+ghost use Rattle.check_lines.specs.RefusalLines.{path_line, job_fault_line, refusal_line, too_long_line, no_sequence_line, usage_line};
 
 use crate::path::with_path;
 use crate::writing::write_check_fault;
@@ -60,13 +60,13 @@ pub fn write_too_long<K: Sink>(sink: &mut K) -> Result<(), TextError>
     put_text(b"refused TooLong\n", sink)
 }
 
-/// Puts the line of a job whose form is not built yet, `refused NotBuilt`, by one `put`. `Failed` where
-/// the sink failed; a prefix of the line was then appended.
-pub fn write_not_built<K: Sink>(sink: &mut K) -> Result<(), TextError>
-    ensures text { PutAppends (K.written sink.old) (K.written sink.new) result not_built_line }
+/// Puts the line of a set without a sequence of the name, `refused NoSequence`, by one `put`. `Failed`
+/// where the sink failed; a prefix of the line was then appended.
+pub fn write_no_sequence<K: Sink>(sink: &mut K) -> Result<(), TextError>
+    ensures text { PutAppends (K.written sink.old) (K.written sink.new) result no_sequence_line }
     ensures sink { NamesFault TextError.Failed (K.faults sink.old) (K.faults sink.new) result }
 {
-    put_text(b"refused NotBuilt\n", sink)
+    put_text(b"refused NoSequence\n", sink)
 }
 
 const USAGE: &[u8] =

@@ -1,225 +1,219 @@
--- Statements in a row on a bench.
-use Rattle.std.proofs.Common.{◌≡◌, ◌∙◌, ℕ, zero, suc, ◌+◌, ◌-◌, ◌*◌, ◌^◌, ◌<◌, ◌≤◌, Bool, true, false, min, ◌&&◌, ◌==◌, ◌%◌, nat_le, nat_lt, List, [], ◌∷◌, ◌++◌, length, take, drop, map, fold, Option, None, Some, IfSome, slice_get, get_or, refl, sym, ap, subst, arith}
+-- From a run and its text to its status, and what it shows of faults.
+use Rattle.std.proofs.Common.{◌≡◌, ◌∙◌, ◌⊎◌, inl, inr, ℕ, ◌+◌, ◌-◌, ◌^◌, ◌≤◌, min, List, Bool, true, false, Option, None, Some, Result, Ok, Err, refl, sym, ap, subst, arith}
+use Rattle.std.specs.Prelude.{IfSome, IsSome}
 use Rattle.dap_base.specs.Causes.{Rose}
-use Rattle.target_machine.specs.State.{TargetState}
-use Rattle.target_machine.specs.Plain.{Action, acted}
-use Rattle.target_machine.specs.declared.job.RegionJob.{RegionJob}
-use Rattle.target_machine.specs.declared.unit.Variable.{Variable}
-use Rattle.probe_core.specs.Bench.{BenchState, StepsTo}
-use Rattle.probe_core.specs.Probe.{target_of, work_of}
-use Rattle.dapseq_tool.specs.Meaning.{Now, after, now_of, ran, statement_done, value_of, stored}
-use Rattle.dapseq_tool.specs.Progress.{after_actions, IsAmid}
-use Rattle.dapseq_tool.specs.Ready.{IsReady}
-use Rattle.std.specs.List.{All}
-use Rattle.word_job.specs.Region.{lies_in}
-use Rattle.word_job.specs.Sound.{IsLowRegion, IsStatementOf, IsSoundRun}
-use Rattle.dapseq_tool.specs.Units.{address_of, IsPlaced, CanRun, IsStatementDone}
-use Rattle.word_job.specs.declared.job.RunJob.{RunJob}
-use Rattle.word_job.specs.declared.statement.Statement.TheVariants.{Write, Read}
-use Rattle.check_lines.proofs.RowLemmas.{take-at, slice_get-in}
-use Rattle.dapseq_tool.specs.Blocks.{AreDone, HaveRun, IsAmidBlock}
-use Rattle.word_job.specs.declared.statement.Statement.{Statement}
-use Rattle.dapseq_tool.proofs.ChainLemmas.{steps_then}
-use Rattle.dapseq_tool.proofs.FactsLemmas.{UnitFacts, unit_facts}
+use Rattle.dap_base.specs.Streams.{PutAppends}
+use Rattle.text_lines.specs.Causes.{NamesFault}
+use Rattle.probe_core.specs.Bench.{BenchState, IsSame, Reported, Seen, StepsTo, fresh, loaded}
+use Rattle.probe_core.specs.Probe.{fresh_probe}
+use Rattle.probe_core.specs.Runs.{IsWholeRun, KeepsRuns}
+use Rattle.probe_core.specs.declared.job.BenchJob.{BenchJob}
+use Rattle.access_calls.specs.declared.ended.Ending.{Ending}
+use Rattle.access_calls.specs.declared.ended.Ending.TheVariants as e
+use Rattle.control_flow.specs.Answers.{HasSinkCause}
+use Rattle.report_lines.specs.declared.put.TextEnd.{TextEnd}
+use Rattle.report_lines.specs.declared.put.TextEnd.TheVariants as texts
+use Rattle.job_runs.specs.Ends.{HasBenchCause}
+use Rattle.bench_access.specs.Opening.{HasBadReply}
+use Rattle.job_runs.specs.Texts.{has_report}
+use Rattle.dapseq_tool.specs.Answers.{IsRunStatus, run_status, status_after, text_status}
+use Rattle.dapseq_tool.specs.Headline.{FailsWriting, IsWritten}
+use Rattle.dapseq_tool.specs.declared.status.Status.{Status}
+use Rattle.dapseq_tool.specs.declared.status.Status.TheVariants as status
 
-length_both : {A : Type 0} (xs ys : List A) → length (xs ++ ys) ≡ length xs + length ys
-length_both [] ys = omega arith
-length_both (x ∷ xs) ys = let e = length_both xs ys in omega (arith, e)
+abbrev W : Type 0
+W = Result (Unit {0}) TextEnd
 
-fold_both : {A B : Type 0} (f : B → A → B) (b : B) (xs ys : List A) → fold f b (xs ++ ys) ≡ fold f (fold f b xs) ys
-fold_both f b [] ys = refl
-fold_both f b (x ∷ xs) ys = fold_both f (f b x) xs ys
+-- ---- statuses
 
-take_few : {A : Type 0} (k : ℕ) (xs ys : List A) → k ≤ length xs → take k (xs ++ ys) ≡ take k xs
-take_few zero [] [] few = refl
-take_few zero [] (y ∷ ys) few = refl
-take_few zero (x ∷ xs) ys few = refl
-take_few (suc k) [] ys few = let no : ⊥ = omega (arith, few) in absurd no
-take_few (suc k) (x ∷ xs) ys few = ap (λ zs. x ∷ zs) (take_few k xs ys (omega (arith, few)))
+pub text_fails : (t : TextEnd) → FailsWriting (text_status t)
+text_fails texts.BenchFault = tt
+text_fails texts.WriteFault = tt
+text_fails texts.OutOfMemory = tt
 
-take_many : {A : Type 0} (n k : ℕ) (xs ys : List A) → n ≡ length xs + k → take n (xs ++ ys) ≡ xs ++ take k ys
-take_many n k [] ys e = ap (λ m. take m ys) (let f : n ≡ k = omega (arith, e) in f)
-take_many zero k (x ∷ xs) ys e = let no : ⊥ = omega (arith, e) in absurd no
-take_many (suc n) k (x ∷ xs) ys e = ap (λ zs. x ∷ zs) (take_many n k xs ys (omega (arith, e)))
+-- the text was written, or writing it failed
+pub text_written : (w : W) (ending : Ending) (mid new : Option (List ℕ)) (text : List ℕ) (end : Status) → end ≡ status_after w ending → PutAppends mid new w text
+    → IsWritten mid new text (run_status ending) end
+text_written (Ok u) ending mid new text end is put = inl (is, put)
+text_written (Err t) ending mid new text end is put = inr (subst FailsWriting (sym is) (text_fails t), put)
 
-both_of : {A : Type 0} (xs ys zs : List A) → (xs ++ ys) ++ zs ≡ xs ++ (ys ++ zs)
-both_of [] ys zs = refl
-both_of (x ∷ xs) ys zs = ap (λ ws. x ∷ ws) (both_of xs ys zs)
+pub status_is : (w : W) (ending : Ending) (end : Status) → end ≡ status_after w ending → (end ≡ run_status ending) ⊎ FailsWriting end
+status_is (Ok u) ending end is = inl is
+status_is (Err t) ending end is = inr (subst FailsWriting (sym is) (text_fails t))
 
-no_more : {A : Type 0} (xs : List A) → xs ≡ xs ++ []
-no_more [] = refl
-no_more (x ∷ xs) = ap (λ ws. x ∷ ws) (no_more xs)
+run_among : (ending : Ending) → IsRunStatus (run_status ending)
+run_among e.Done = tt
+run_among (e.Halted cause) = tt
+run_among (e.Cut report) = tt
+run_among (e.BenchFault issued confirmed) = tt
+run_among e.ReplyBad = tt
+run_among e.WriteFault = tt
+run_among e.OutOfMemory = tt
 
--- what is issued goes on with what was issued
-grows : (now : Now) (ss : List Statement) → (rest : List Action) × ((fold after now ss).issued ≡ now.issued ++ rest)
-grows now [] = ([], no_more now.issued)
-grows now (s ∷ ss) =
-    let more = grows (after now s) ss in
-    ((statement_done now.target s).actions ++ more.0, more.1 ∙ both_of now.issued (statement_done now.target s).actions more.0)
+text_among : (t : TextEnd) → IsRunStatus (text_status t)
+text_among texts.BenchFault = tt
+text_among texts.WriteFault = tt
+text_among texts.OutOfMemory = tt
 
--- a run of statements is a run of their accesses
-accesses_of : (t : TargetState) (xs ys : List Action) → after_actions t (xs ++ ys) ≡ after_actions (after_actions t xs) ys
-accesses_of t xs ys = fold_both (λ u a. (acted u a).next) t xs ys
+pub among : (w : W) (ending : Ending) (end : Status) → end ≡ status_after w ending → IsRunStatus end
+among (Ok u) ending end is = subst IsRunStatus (sym is) (run_among ending)
+among (Err t) ending end is = subst IsRunStatus (sym is) (text_among t)
 
--- ---- one statement more
+-- ---- faults of the sink
 
-room_for : (count done : ℕ) (region : RegionJob) (ss : List Statement) (before after : List ℕ) (m n : BenchState) → CanRun region count m → AreDone region ss before after m n → 5 * length ss + 5 ≤ count → CanRun region 5 n
-room_for count done region ss before after m n can is few = record {
-  can = record { idle = is.idle; room = let w = is.work in let c = is.count in let r = can.can.room in omega (arith, w, c, r, few) };
-  ready = is.ready;
-}
+rose_here : (a b c : ℕ) → b ≡ a → Rose b c → Rose a c
+rose_here a b c is h = subst (λ n. Rose n c) is h
 
-pub done_more : (region : RegionJob) (count : ℕ) (ss : List Statement) (s : Statement) (v : ℕ) (before later : List ℕ) (m n o : BenchState) → IsPlaced region s → 5 * length ss + 5 ≤ count → CanRun region count m → AreDone region ss before later m n → (CanRun region 5 n → IsStatementDone s v n o) → AreDone region (ss ++ s ∷ []) before (stored s v later) m o
-done_more region count ss s v before later m n o placed few can is more =
-    let t : TargetState = target_of m.probe in
-    let now : Now = ran t before ss in
-    let ready : CanRun region 5 n = room_for count 0 region ss before later m n can is few in
-    let one : IsStatementDone s v n o = more ready in
-    let f : UnitFacts region (target_of n.probe) s = unit_facts region (target_of n.probe) s is.ready placed in
-    let five : length (statement_done (target_of n.probe) s).actions ≡ 5 = ap length f.actions in
-    let same : ran t before (ss ++ s ∷ []) ≡ after now s = fold_both after (now_of t before) ss (s ∷ []) in
-    let at : (statement_done (target_of n.probe) s) ≡ (statement_done now.target s) = ap (λ (u : TargetState). statement_done u s) is.target in
-    let issued : length (ran t before (ss ++ s ∷ [])).issued ≡ length now.issued + 5 =
-    ap (λ (w : Now). length w.issued) same ∙ length_both now.issued (statement_done now.target s).actions ∙ ap (λ k. length now.issued + k) (sym (ap (λ d. length d.actions) at) ∙ five) in
-    record {
-      target = one.target ∙ ap (λ d. d.next) at ∙ sym (ap (λ (w : Now). w.target) same);
-      accesses =
-          one.target ∙ f.next ∙ ap (after_actions (target_of n.probe)) (sym f.actions) ∙ ap (λ u. after_actions u (statement_done (target_of n.probe) s).actions) is.accesses
-          ∙ ap (λ d. after_actions (after_actions t now.issued) d.actions) at ∙ sym (accesses_of t now.issued (statement_done now.target s).actions)
-          ∙ sym (ap (λ (w : Now). after_actions t w.issued) same);
-      values = one.stores later ∙ ap (λ d. stored s (value_of d.end) later) at ∙ ap (λ vs. stored s (value_of (statement_done now.target s).end) vs) is.values ∙ sym (ap (λ (w : Now). w.values) same);
-      work = let a = one.work in let b = is.work in omega (arith, a, b, five, issued);
-      count = let c = is.count in let l = length_both ss (s ∷ []) in omega (arith, c, l, issued);
-      ready = subst (IsReady region) (sym one.target) f.ready;
-      idle = one.idle;
-    }
+rose_on : (a b c : ℕ) → Rose a b → c ≡ b → Rose a c
+rose_on a b c h is = subst (Rose a) (sym is) h
 
-amid_more : (t : TargetState) (now : Now) (s : Statement) (rest : List Statement) (acts : List Action) (m n o : BenchState) → acts ≡ (statement_done now.target s).actions → target_of m.probe ≡ t → target_of n.probe ≡ after_actions t now.issued → work_of n.probe ≡ work_of m.probe + length now.issued → IsAmid acts n o → IsAmid (fold after now (s ∷ rest)).issued m o
-amid_more t now s rest acts m n o same from went work part =
-    let k : ℕ = work_of o.probe - work_of n.probe in
-    let more = grows (after now s) rest in
-    let whole : (fold after now (s ∷ rest)).issued ≡ now.issued ++ (acts ++ more.0) =
-    more.1 ∙ ap (λ (xs : List Action). (now.issued ++ xs) ++ more.0) (sym same) ∙ both_of now.issued acts more.0 in
-    let few : k ≤ length acts = (let q = part.most in omega (arith, q)) in
-    let count : work_of o.probe - work_of m.probe ≡ length now.issued + k = (let l = part.least in omega (arith, work, l)) in
-    let first : take (work_of o.probe - work_of m.probe) (now.issued ++ (acts ++ more.0)) ≡ now.issued ++ take k acts =
-    take_many (work_of o.probe - work_of m.probe) k now.issued (acts ++ more.0) count ∙ ap (λ (xs : List Action). now.issued ++ xs) (take_few k acts more.0 few) in
-    subst (λ (xs : List Action). IsAmid xs m o) (sym whole) (record {
-      least = let l = part.least in omega (arith, work, l);
-      most = let q = part.most in let a = length_both now.issued (acts ++ more.0) in let b = length_both acts more.0 in omega (arith, work, q, a, b);
-      target = part.target ∙ ap (λ u. after_actions u (take k acts)) went ∙ sym (accesses_of t now.issued (take k acts))
-          ∙ ap (λ u. after_actions u (now.issued ++ take k acts)) (sym from)
-          ∙ ap (after_actions (target_of m.probe)) (sym first);
-    })
+rose_after : (a b c : ℕ) → Rose a b → Rose b c → Rose a c
+rose_after a b c first second = omega (arith, first, second)
 
-pub part_more : (region : RegionJob) (count : ℕ) (ss : List Statement) (s : Statement) (rest : List Statement) (before later : List ℕ) (m n o : BenchState) → 5 * length ss + 5 ≤ count → CanRun region count m → AreDone region ss before later m n → (CanRun region 5 n → IsAmid (statement_done (target_of n.probe) s).actions n o) → IsAmid (ran (target_of m.probe) before (ss ++ s ∷ rest)).issued m o
-part_more region count ss s rest before later m n o few can is part =
-    let t : TargetState = target_of m.probe in
-    subst (λ (w : Now). IsAmid w.issued m o) (sym (fold_both after (now_of t before) ss (s ∷ rest)))
-    (amid_more t (ran t before ss) s rest (statement_done (target_of n.probe) s).actions m n o (ap (λ (u : TargetState). (statement_done u s).actions) is.target) refl is.accesses is.work (part (room_for count 0 region ss before later m n can is few)))
+-- the sink failed in the run, or not
+sink_in_run : (ending : Ending) (a b : ℕ) → HasSinkCause ending a b → Rose a b ⊎ (b ≡ a)
+sink_in_run e.Done a b h = inr h
+sink_in_run (e.Halted cause) a b h = inr h
+sink_in_run (e.Cut report) a b h = inr h
+sink_in_run (e.BenchFault issued confirmed) a b h = inr h
+sink_in_run e.ReplyBad a b h = inr h
+sink_in_run e.WriteFault a b h = inl h
+sink_in_run e.OutOfMemory a b h = inr h
 
-pub none_done : (region : RegionJob) (count : ℕ) (before : List ℕ) (m : BenchState) → CanRun region count m → AreDone region [] before before m m
-none_done region count before m can = record {
-  target = refl;
-  accesses = refl;
-  values = refl;
-  work = omega arith;
-  count = refl;
-  ready = can.ready;
-  idle = can.can.idle;
-}
+then_rose : (a b c : ℕ) → Rose a b ⊎ (b ≡ a) → Rose b c → Rose a c
+then_rose a b c (inl first) second = rose_after a b c first second
+then_rose a b c (inr is) second = rose_here a b c is second
 
--- ---- by what a bench tells
+write_by_run : (ending : Ending) (a b : ℕ) → run_status ending ≡ status.WriteFault → HasSinkCause ending a b → Rose a b
+write_by_run e.Done a b is h = absurd (cc is)
+write_by_run (e.Halted cause) a b is h = absurd (cc is)
+write_by_run (e.Cut report) a b is h = absurd (cc is)
+write_by_run (e.BenchFault issued confirmed) a b is h = absurd (cc is)
+write_by_run e.ReplyBad a b is h = absurd (cc is)
+write_by_run e.WriteFault a b is h = h
+write_by_run e.OutOfMemory a b is h = absurd (cc is)
 
-pub begins : (region : RegionJob) (count : ℕ) (before : List ℕ) (a : Option BenchState) → StepsTo (HaveRun region count [] before before) a a
-begins region count before None = tt
-begins region count before (Some m) = λ can. none_done region (5 * count) before m can
+write_by_text : (t : TextEnd) → text_status t ≡ status.WriteFault → t ≡ texts.WriteFault
+write_by_text texts.BenchFault is = absurd (cc is)
+write_by_text texts.WriteFault is = refl
+write_by_text texts.OutOfMemory is = absurd (cc is)
 
-pub goes_on : (region : RegionJob) (count : ℕ) (ss : List Statement) (s : Statement) (v : ℕ) (before after : List ℕ) (a b c : Option BenchState) → IsPlaced region s → length ss < count → StepsTo (HaveRun region count ss before after) a b → StepsTo (λ m n. CanRun region 5 m → IsStatementDone s v m n) b c → StepsTo (HaveRun region count (ss ++ s ∷ []) before (stored s v after)) a c
-goes_on region count ss s v before after a b c placed few x y = steps_then
-    (λ m n o is more can. done_more region (5 * count) ss s v before after m n o placed (omega (arith, few)) can (is can) more)
-    a b c x y
+pub write_cause : (w : W) (ending : Ending) (end : Status) (a b c : ℕ) → end ≡ status_after w ending → HasSinkCause ending a b → NamesFault texts.WriteFault b c w
+    → end ≡ status.WriteFault → Rose a c
+write_cause (Ok u) ending end a b c is in_run in_text fault = rose_on a b c (write_by_run ending a b (sym is ∙ fault) in_run) in_text.else
+write_cause (Err t) ending end a b c is in_run in_text fault =
+    then_rose a b c (sink_in_run ending a b in_run) (in_text.failed (ap Err (write_by_text t (sym is ∙ fault))))
 
-pub stops : (region : RegionJob) (ss : List Statement) (s : Statement) (rest : List Statement) (before after : List ℕ) (a b c : Option BenchState) → StepsTo (HaveRun region (length (ss ++ s ∷ rest)) ss before after) a b → StepsTo (λ m n. CanRun region 5 m → IsAmid (statement_done (target_of m.probe) s).actions m n) b c → StepsTo (IsAmidBlock region (ss ++ s ∷ rest) before) a c
-stops region ss s rest before after a b c x y = steps_then
-    (λ m n o is part can. let l = length_both ss (s ∷ rest) in part_more region (5 * length (ss ++ s ∷ rest)) ss s rest before after m n o (omega (arith, l)) can (is can) part)
-    a b c x y
+silent_ok : (w : W) (t : TextEnd) → w ≡ Err t → w ≡ Ok tt → ⊥
+silent_ok w t is ok = let z : Err t ≡ Ok tt = sym is ∙ ok in cc
 
-pub never_stops : (region : RegionJob) (count : ℕ) (ss : List Statement) (before after : List ℕ) (a b c : Option BenchState) → length ss < count → StepsTo (HaveRun region count ss before after) a b → StepsTo (λ m n. CanRun region 5 m → ⊥) b c → StepsTo (λ m n. CanRun region (5 * count) m → ⊥) a c
-never_stops region count ss before after a b c few x y = steps_then
-    (λ m n o is no can. no (room_for (5 * count) 0 region ss before after m n can (is can) (omega (arith, few))))
-    a b c x y
+sink_after : (w : W) (ending : Ending) (b c : ℕ) → NamesFault texts.WriteFault b c w → (c ≡ b) ⊎ (status_after w ending ≡ status.WriteFault)
+sink_after (Ok u) ending b c h = inl h.else
+sink_after (Err t) ending b c h = by_cause h.else
+  where
+    by_cause : (t ≡ texts.WriteFault) ⊎ (c ≡ b) → (c ≡ b) ⊎ (text_status t ≡ status.WriteFault)
+    by_cause (inl is) = inr (ap text_status is)
+    by_cause (inr same) = inl same
 
-value_next : (variables : List Variable) (place v : ℕ) → place < length variables → IfSome (slice_get variables place) (λ w. v ≡ w.value) → map (λ w. w.value) (take place variables) ++ v ∷ [] ≡ map (λ w. w.value) (take (suc place) variables)
-value_next [] place v few is = let no : ⊥ = omega (arith, few) in absurd no
-value_next (w ∷ ws) zero v few is = ap (λ n. n ∷ []) is
-value_next (w ∷ ws) (suc place) v few is = ap (λ xs. w.value ∷ xs) (value_next ws place v (omega (arith, few)) is)
+joined : (end one : Status) (a b c : ℕ) → end ≡ one → b ≡ a → (c ≡ b) ⊎ (one ≡ status.WriteFault) → (c ≡ a) ⊎ (end ≡ status.WriteFault)
+joined end one a b c is same (inl after) = inl (after ∙ same)
+joined end one a b c is same (inr fault) = inr (is ∙ fault)
 
-pub value_more : (variables : List Variable) (place v : ℕ) → place < length variables → IfSome (slice_get variables place) (λ w. v ≡ w.value) → map (λ w. w.value) (take place variables) ++ v ∷ [] ≡ map (λ w. w.value) (take (place + 1) variables)
-value_more variables place v few is = value_next variables place v few is ∙ ap (λ n. map (λ w. w.value) (take n variables)) (let e : suc place ≡ place + 1 = omega arith in e)
+-- the count of the sink's faults changed only where the status says so
+pub sink_count : (w : W) (ending : Ending) (end : Status) (a b c : ℕ) → end ≡ status_after w ending → HasSinkCause ending a b → NamesFault texts.WriteFault b c w
+    → (has_report ending ≡ false → w ≡ Ok tt) → (c ≡ a) ⊎ (end ≡ status.WriteFault)
+sink_count w e.Done end a b c is in_run in_text silent = joined end _ a b c is in_run (sink_after w e.Done b c in_text)
+sink_count w (e.Halted cause) end a b c is in_run in_text silent = joined end _ a b c is in_run (sink_after w (e.Halted cause) b c in_text)
+sink_count w (e.Cut report) end a b c is in_run in_text silent = joined end _ a b c is in_run (sink_after w (e.Cut report) b c in_text)
+sink_count w (e.BenchFault issued confirmed) end a b c is in_run in_text silent = joined end _ a b c is in_run (sink_after w (e.BenchFault issued confirmed) b c in_text)
+sink_count w e.ReplyBad end a b c is in_run in_text silent = joined end _ a b c is in_run (sink_after w e.ReplyBad b c in_text)
+sink_count w e.WriteFault end a b c is in_run in_text silent = inr (is ∙ ap (λ x. status_after x e.WriteFault) (silent refl))
+sink_count w e.OutOfMemory end a b c is in_run in_text silent = joined end _ a b c is in_run (sink_after w e.OutOfMemory b c in_text)
 
--- ---- by the place of a statement
+-- ---- faults of the bench
 
-within : {A : Type 0} (xs : List A) (i : ℕ) (x : A) → slice_get xs i ≡ Some x → i < length xs
-within [] i x is = cc
-within (y ∷ xs) zero x is = omega arith
-within (y ∷ xs) (suc i) x is = let e = within xs i x is in omega (arith, e)
+bench_in_run : (ending : Ending) (a b : ℕ) → HasBenchCause ending a b → (Rose a b × FailsWriting (run_status ending)) ⊎ (b ≡ a)
+bench_in_run e.Done a b h = inr h
+bench_in_run (e.Halted cause) a b h = inr h
+bench_in_run (e.Cut report) a b h = inr h
+bench_in_run (e.BenchFault issued confirmed) a b h = inl (h, tt)
+bench_in_run e.ReplyBad a b h = inr h
+bench_in_run e.WriteFault a b h = inr h
+bench_in_run e.OutOfMemory a b h = inr h
 
-all_at : {A : Type 0} (P : A → Type 0) (xs : List A) (i : ℕ) (x : A) → All P xs → slice_get xs i ≡ Some x → P x
-all_at P xs i x all is =
-    let inside : i < length xs = within xs i x is in
-    let got : slice_get xs i ≡ Some (get_or xs i x) = slice_get-in xs i x inside in
-    let same : get_or xs i x ≡ x = cc in
-    subst P same (all i x inside)
+fails_after : (w : W) (ending : Ending) → FailsWriting (run_status ending) → FailsWriting (status_after w ending)
+fails_after (Ok u) ending h = h
+fails_after (Err t) ending h = text_fails t
 
-split_at : {A : Type 0} (xs : List A) (i : ℕ) (x : A) → slice_get xs i ≡ Some x → take i xs ++ x ∷ drop (suc i) xs ≡ xs
-split_at [] i x is = cc
-split_at (y ∷ xs) zero x is = let same : x ≡ y = cc in ap (λ z. z ∷ xs) same
-split_at (y ∷ xs) (suc i) x is = ap (λ zs. y ∷ zs) (split_at xs i x is)
+count_in_text : (w : W) (ending : Ending) (a b c : ℕ) → b ≡ a → NamesFault texts.BenchFault b c w → (c ≡ a) ⊎ FailsWriting (status_after w ending)
+count_in_text (Ok u) ending a b c same h = inl (h.else ∙ same)
+count_in_text (Err t) ending a b c same h = inr (text_fails t)
 
-third_of : (a b c : Bool) → (a && b && c) ≡ true → c ≡ true
-third_of true true c is = is
-third_of true false c is = cc
-third_of false b c is = cc
+-- the count of the bench's faults changed only where a call failed
+pub bench_count : (w : W) (ending : Ending) (end : Status) (a b c : ℕ) → end ≡ status_after w ending → HasBenchCause ending a b → NamesFault texts.BenchFault b c w
+    → (c ≡ a) ⊎ FailsWriting end
+bench_count w ending end a b c is in_run in_text = by_run (bench_in_run ending a b in_run)
+  where
+    with_end : (c ≡ a) ⊎ FailsWriting (status_after w ending) → (c ≡ a) ⊎ FailsWriting end
+    with_end (inl same) = inl same
+    with_end (inr fails) = inr (subst FailsWriting (sym is) fails)
 
-placed_by : (region : RegionJob) (s : Statement) → IsLowRegion region → lies_in region (address_of s) ≡ true → IsPlaced region s
-placed_by region s low inside = record {
-  inside = inside;
-  low = let less : nat_lt (address_of s) (region.address + region.length) ≡ true = third_of (address_of s % 4 == 0) (nat_le region.address (address_of s)) (nat_lt (address_of s) (region.address + region.length)) inside in
-      let bound = low.low in grind (arith, less, bound);
-}
+    by_run : (Rose a b × FailsWriting (run_status ending)) ⊎ (b ≡ a) → (c ≡ a) ⊎ FailsWriting end
+    by_run (inl h) = inr (subst FailsWriting (sym is) (fails_after w ending h.1))
+    by_run (inr same) = with_end (count_in_text w ending a b c same in_text)
 
-placed : (region : RegionJob) (k : ℕ) (s : Statement) → IsLowRegion region → IsStatementOf region k s → IsPlaced region s
-placed region k (Write address value) low is = placed_by region (Write address value) low is
-placed region k (Read place address) low is = placed_by region (Read place address) low is.0
+bench_by_run : (ending : Ending) (a b : ℕ) → run_status ending ≡ status.BenchFault → HasBenchCause ending a b → Rose a b
+bench_by_run e.Done a b is h = absurd (cc is)
+bench_by_run (e.Halted cause) a b is h = absurd (cc is)
+bench_by_run (e.Cut report) a b is h = absurd (cc is)
+bench_by_run (e.BenchFault issued confirmed) a b is h = h
+bench_by_run e.ReplyBad a b is h = absurd (cc is)
+bench_by_run e.WriteFault a b is h = absurd (cc is)
+bench_by_run e.OutOfMemory a b is h = absurd (cc is)
 
-take_length : {A : Type 0} (xs : List A) (i : ℕ) (x : A) → slice_get xs i ≡ Some x → length (take i xs) < length xs
-take_length [] i x is = cc
-take_length (y ∷ xs) zero x is = omega arith
-take_length (y ∷ xs) (suc i) x is = let e = take_length xs i x is in omega (arith, e)
+bench_by_text : (t : TextEnd) → text_status t ≡ status.BenchFault → t ≡ texts.BenchFault
+bench_by_text texts.BenchFault is = refl
+bench_by_text texts.WriteFault is = absurd (cc is)
+bench_by_text texts.OutOfMemory is = absurd (cc is)
 
-pub goes_on_at : (job : RunJob) (i : ℕ) (s : Statement) (v : ℕ) (before after : List ℕ) (a b c : Option BenchState) → IsSoundRun job → slice_get job.statements i ≡ Some s → StepsTo (HaveRun job.region (length job.statements) (take i job.statements) before after) a b → ((region : RegionJob) → IsPlaced region s → StepsTo (λ m n. CanRun region 5 m → IsStatementDone s v m n) b c) → StepsTo (HaveRun job.region (length job.statements) (take (i + 1) job.statements) before (stored s v after)) a c
-goes_on_at job i s v before after a b c sound at done more =
-    let ss : List Statement = job.statements in
-    let put : IsPlaced job.region s = placed job.region (length job.variables) s sound.region (all_at (IsStatementOf job.region (length job.variables)) ss i s sound.statements at) in
-    subst (λ xs. StepsTo (HaveRun job.region (length ss) xs before (stored s v after)) a c) (sym (take-at ss i s at))
-    (goes_on job.region (length ss) (take i ss) s v before after a b c put (take_length ss i s at) done (more job.region put))
+rose_in_run : (ending : Ending) (a b : ℕ) → HasBenchCause ending a b → Rose a b ⊎ (b ≡ a)
+rose_in_run ending a b h = elim (bench_in_run ending a b h) [ inl x ↦ inl x.0 | inr same ↦ inr same ]
 
-pub stops_at : (job : RunJob) (i : ℕ) (s : Statement) (before after : List ℕ) (a b c : Option BenchState) → IsSoundRun job → slice_get job.statements i ≡ Some s → StepsTo (HaveRun job.region (length job.statements) (take i job.statements) before after) a b → ((region : RegionJob) → IsPlaced region s → StepsTo (λ m n. CanRun region 5 m → IsAmid (statement_done (target_of m.probe) s).actions m n) b c) → StepsTo (IsAmidBlock job.region job.statements before) a c
-stops_at job i s before after a b c sound at done part =
-    let ss : List Statement = job.statements in
-    let put : IsPlaced job.region s = placed job.region (length job.variables) s sound.region (all_at (IsStatementOf job.region (length job.variables)) ss i s sound.statements at) in
-    let whole : take i ss ++ s ∷ drop (suc i) ss ≡ ss = split_at ss i s at in
-    subst (λ xs. StepsTo (IsAmidBlock job.region xs before) a c) whole
-    (stops job.region (take i ss) s (drop (suc i) ss) before after a b c
-    (subst (λ xs. StepsTo (HaveRun job.region (length xs) (take i ss) before after) a b) (sym whole) done)
-    (part job.region put))
+pub bench_cause : (w : W) (ending : Ending) (end : Status) (a b c : ℕ) → end ≡ status_after w ending → HasBenchCause ending a b → NamesFault texts.BenchFault b c w
+    → end ≡ status.BenchFault → Rose a c
+bench_cause (Ok u) ending end a b c is in_run in_text fault = rose_on a b c (bench_by_run ending a b (sym is ∙ fault) in_run) in_text.else
+bench_cause (Err t) ending end a b c is in_run in_text fault =
+    then_rose a b c (rose_in_run ending a b in_run) (in_text.failed (ap Err (bench_by_text t (sym is ∙ fault))))
 
-pub never_stops_at : (job : RunJob) (i : ℕ) (s : Statement) (before after : List ℕ) (a b c : Option BenchState) → IsSoundRun job → slice_get job.statements i ≡ Some s → StepsTo (HaveRun job.region (length job.statements) (take i job.statements) before after) a b → ((region : RegionJob) → IsPlaced region s → StepsTo (λ m n. CanRun region 5 m → ⊥) b c) → StepsTo (λ m n. CanRun job.region (5 * length job.statements) m → ⊥) a c
-never_stops_at job i s before after a b c sound at done never =
-    let ss : List Statement = job.statements in
-    let put : IsPlaced job.region s = placed job.region (length job.variables) s sound.region (all_at (IsStatementOf job.region (length job.variables)) ss i s sound.statements at) in
-    never_stops job.region (length ss) (take i ss) before after a b c (take_length ss i s at) done (never job.region put)
+-- ---- a bench that is observable
 
-pub kept : (a b c : ℕ) → min a (2 ^ 64 - 1) ≤ b → Rose b c → min a (2 ^ 64 - 1) ≤ c
-kept a b c x y = omega (arith, x, y)
+-- the log of a bench that was just loaded is a run of the job's probe
+fresh_run : (job : BenchJob) → IsWholeRun (fresh_probe job) (fresh job)
+fresh_run job = λ whole. refl
+
+pub kept_run : (job : BenchJob) (old new : Option BenchState) (n : BenchState) → old ≡ Some (fresh job) → new ≡ Some n → KeepsRuns old new → IsWholeRun (fresh_probe job) n
+kept_run job old new n is is_new keeps = by_both (subst (λ (o : Option BenchState). KeepsRuns (Some (fresh job)) o) is_new (subst (λ (o : Option BenchState). KeepsRuns o new) is keeps))
+  where
+    by_both : KeepsRuns (Some (fresh job)) (Some n) → IsWholeRun (fresh_probe job) n
+    by_both h = h (fresh_probe job) (fresh_run job)
+
+pub on_some : (o : Option BenchState) (n : BenchState) (P : BenchState → Type 0) → o ≡ Some n → IfSome o P → P n
+on_some o n P is h = subst (λ (x : Option BenchState). IfSome x P) is h
+
+pub loaded_state : (job : BenchJob) (old new : Option BenchState) → IsSome old → StepsTo (λ m n. n ≡ fresh job) old new → new ≡ Some (fresh job)
+loaded_state job None new some h = absurd (let z : false ≡ true = some in cc)
+loaded_state job (Some m) None some h = absurd h
+loaded_state job (Some m) (Some n) some h = ap Some h
+
+-- ---- a bad reply
+
+-- nothing changed but the count of faults
+pub bad_after : (old mid new : Reported) (sent got : List ℕ) → IsSame mid new → HasBadReply old mid sent got → HasBadReply old new sent got
+bad_after old mid new sent got same h =
+    subst (λ (r : Reported). HasBadReply old r sent got) (sym same) (record { begun = h.begun; place = h.place; packet = h.packet; reply = h.reply; bad = h.bad })
+
+-- a load keeps the number of exchanges
+pub bad_before : (old mid new : Reported) (job : BenchJob) (sent got : List ℕ) → mid ≡ loaded old job → HasBadReply mid new sent got → HasBadReply old new sent got
+bad_before old mid new job sent got is h =
+    let k = subst (λ (r : Reported). HasBadReply r new sent got) is h in
+    record { begun = k.begun; place = k.place; packet = k.packet; reply = k.reply; bad = k.bad }

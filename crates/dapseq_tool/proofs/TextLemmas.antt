@@ -1,16 +1,27 @@
--- The value of a JSON text.
-use Rattle.std.proofs.Common.{◌≡◌, ℕ, List, None, Bool, true, false, refl}
-use Rattle.std.specs.Str.{IsUtf8, is_utf8}
-use Rattle.std.proofs.lemmas.Str.{IsUtf8-from_is_utf8, is_utf8-from_IsUtf8}
-use Rattle.serde_json.specs.Read.{read}
-use Rattle.dapseq_tool.specs.Asked.{text_value}
+-- A line that is made piece by piece.
+use Rattle.std.proofs.Common.{◌≡◌, ◌∙◌, ℕ, List, ◌++◌, Result, Ok, Err, refl, sym, ap, append_assoc}
+use Rattle.std.specs.Prelude.{IfOk}
 
-pub text_read : (bytes : List ℕ) → IsUtf8 bytes → text_value bytes ≡ read bytes
-text_read bytes is = rw (is_utf8-from_IsUtf8 bytes is) refl
+same_ok : {E : Type 0} (r : Result (List ℕ) E) (p q : List ℕ) → p ≡ q → IfOk r (λ x. x ≡ p) → IfOk r (λ x. x ≡ q)
+same_ok (Ok x) p q is h = h ∙ is
+same_ok (Err e) p q is h = tt
 
-none_by : (bytes : List ℕ) (b : Bool) → is_utf8 bytes ≡ b → (IsUtf8 bytes → read bytes ≡ None) → text_value bytes ≡ None
-none_by bytes true is none = rw is (none (IsUtf8-from_is_utf8 bytes is))
-none_by bytes false is none = rw is refl
+four : (l0 a b c d : List ℕ) → (((l0 ++ a) ++ b) ++ c) ++ d ≡ l0 ++ (a ++ b ++ c ++ d)
+four l0 a b c d = simp append_assoc
 
-pub no_text : (bytes : List ℕ) → (IsUtf8 bytes → read bytes ≡ None) → text_value bytes ≡ None
-no_text bytes none = none_by bytes (is_utf8 bytes) refl none
+five : (l0 a b c d e : List ℕ) → ((((l0 ++ a) ++ b) ++ c) ++ d) ++ e ≡ l0 ++ (a ++ b ++ c ++ d ++ e)
+five l0 a b c d e = simp append_assoc
+
+-- four pieces
+pub made_of_four : {E : Type 0} (r : Result (List ℕ) E) (l0 l1 l2 l3 a b c d : List ℕ) → l1 ≡ l0 ++ a → l2 ≡ l1 ++ b → l3 ≡ l2 ++ c → IfOk r (λ x. x ≡ l3 ++ d)
+    → IfOk r (λ x. x ≡ l0 ++ (a ++ b ++ c ++ d))
+made_of_four r l0 l1 l2 l3 a b c d e1 e2 e3 h =
+    same_ok r (l3 ++ d) (l0 ++ (a ++ b ++ c ++ d))
+    (ap (λ l. l ++ d) (e3 ∙ ap (λ l. l ++ c) (e2 ∙ ap (λ l. l ++ b) e1)) ∙ four l0 a b c d) h
+
+-- five pieces
+pub made_of_five : {E : Type 0} (r : Result (List ℕ) E) (l0 l1 l2 l3 l4 a b c d e : List ℕ) → l1 ≡ l0 ++ a → l2 ≡ l1 ++ b → l3 ≡ l2 ++ c → l4 ≡ l3 ++ d → IfOk r (λ x. x ≡ l4 ++ e)
+    → IfOk r (λ x. x ≡ l0 ++ (a ++ b ++ c ++ d ++ e))
+made_of_five r l0 l1 l2 l3 l4 a b c d e e1 e2 e3 e4 h =
+    same_ok r (l4 ++ e) (l0 ++ (a ++ b ++ c ++ d ++ e))
+    (ap (λ l. l ++ e) (e4 ∙ ap (λ l. l ++ d) (e3 ∙ ap (λ l. l ++ c) (e2 ∙ ap (λ l. l ++ b) e1))) ∙ five l0 a b c d e) h

@@ -1,106 +1,135 @@
 -- What the words and the bytes of a source ask for.
-use Rattle.std.specs.Prelude.{◌≡◌, ⊤, ℕ, nat_le, List, length, Option, Some, None, Result, Ok, Err, if◌then◌else◌, MatchBool}
-use Rattle.std.specs.Str.{is_utf8}
-use Rattle.serde_json.specs.Data.{Data}
-use Rattle.serde_json.specs.Read.{read}
+use Rattle.std.specs.Prelude.{◌≡◌, ⊤, ℕ, nat_le, Bool, true, false, List, length, Option, Some, None, Result, Ok, Err, MatchBool}
 use Rattle.command_words.specs.declared.answer.Command.{Command}
 use Rattle.command_words.specs.declared.answer.Command.TheVariants as commands
-use Rattle.sequence_resolve.specs.declared.selection.Selection.{Selection}
 use Rattle.command_words.specs.Table.{IsCommand}
+use Rattle.sequence_resolve.specs.declared.selection.Selection.{Selection}
 use Rattle.sequence_resolve.specs.declared.entry.SeqSet.{SeqSet}
+use Rattle.probe_core.specs.Ranges.{IsBenchJob}
+use Rattle.job_text.specs.Ranges.{AreSettings, AreWatched}
 use Rattle.job_check.specs.declared.answer.Refusal.{Refusal}
-use Rattle.job_check.specs.declared.answer.Refusal.TheVariants as refusals
+use Rattle.job_check.specs.declared.running.RunRefusal.{RunRefusal}
+use Rattle.job_check.specs.declared.running.RunRefusal.TheVariants as refusals
 use Rattle.job_check.specs.Answers.{IsAnswer}
-use Rattle.word_job.specs.declared.job.RunJob.{RunJob}
-use Rattle.word_job.specs.Job.{IsJob}
+use Rattle.job_check.specs.Running.{IsRefusedRun, IsSameRun, IsValidRun}
+use Rattle.dapseq_tool.specs.Generated.{its_device, its_sequence, job_text}
 use Rattle.dapseq_tool.specs.declared.asking.Answer.{Answer}
 use Rattle.dapseq_tool.specs.declared.asking.Answer.TheVariants as answers
 use Rattle.dapseq_tool.specs.declared.asking.Asked.{Asked}
-use Rattle.dapseq_tool.specs.declared.asking.Asked.TheVariants as asked
+use Rattle.dapseq_tool.specs.declared.asking.Run.{Run}
+use Rattle.dapseq_tool.specs.declared.asking.What.{What}
+use Rattle.dapseq_tool.specs.declared.asking.What.TheVariants as whats
 
 -- ---- the words
 
--- the modes that are built
-abbrev pub IsBuilt : Command → Type 0
-IsBuilt (commands.Check s) = ⊤
-IsBuilt (commands.Run s sequence) = ⊤
-IsBuilt (commands.Trace s sequence) = ⊥
-IsBuilt (commands.Gen number) = ⊥
-
--- the words are no command of a mode that is built
+-- the words are no command
 abbrev pub IsUsage : List (List ℕ) → Type 0
-IsUsage words = (c : Command) → IsCommand words c → IsBuilt c → ⊥
+IsUsage words = (c : Command) → IsCommand words c → ⊥
 
--- the command of the mode `run`
+-- the command reads the source
+abbrev pub ReadsSource : Command → Type 0
+ReadsSource (commands.Check s) = ⊤
+ReadsSource (commands.Run s sequence) = ⊤
+ReadsSource (commands.Trace s sequence) = ⊤
+ReadsSource (commands.Gen number) = ⊥
+
+-- the command runs a sequence
 abbrev pub IsRunCommand : Command → Type 0
-IsRunCommand (commands.Run s sequence) = ⊤
 IsRunCommand (commands.Check s) = ⊥
-IsRunCommand (commands.Trace s sequence) = ⊥
-IsRunCommand (commands.Gen number) = ⊥
+IsRunCommand (commands.Run s sequence) = ⊤
+IsRunCommand (commands.Trace s sequence) = ⊤
+IsRunCommand (commands.Gen number) = ⊤
 
--- the words are such a command
+-- the words are a command that reads the source
+abbrev pub IsReadLine : List (List ℕ) → Type 0
+IsReadLine words = (c : Command) × IsCommand words c × ReadsSource c
+
+-- the words are a command that runs a sequence
 abbrev pub IsRunLine : List (List ℕ) → Type 0
 IsRunLine words = (c : Command) × IsCommand words c × IsRunCommand c
 
--- ---- the mode `check`
+-- ---- a check
 
 -- what is asked for by the answer to a check: a valid set, or a refusal
-abbrev pub of_check : Result SeqSet Refusal → Asked
-of_check (Ok set) = asked.Answer (answers.CheckOk set)
-of_check (Err r) = asked.Answer (answers.Refused r)
+abbrev pub of_check : Result SeqSet Refusal → What
+of_check (Ok set) = whats.Answer (answers.CheckOk set)
+of_check (Err r) = whats.Answer (answers.Refused r)
 
-abbrev pub AsksOfCheck : Selection → List ℕ → Asked → Type 0
+abbrev pub AsksOfCheck : Selection → List ℕ → What → Type 0
 AsksOfCheck s bytes what = (answer : Result SeqSet Refusal) × IsAnswer bytes s answer × (what ≡ of_check answer)
 
--- ---- the mode `run`
+-- ---- a run
 
--- the value of a JSON text
-abbrev pub text_value : List ℕ → Option Data
-text_value bytes = if is_utf8 bytes then read bytes else None
+-- the sequence runs, and is traced or not
+pub record IsRunOf (s : Selection) (sequence : List ℕ) (traced : Bool) (bytes : List ℕ) (run : Run) : Type 0 where
+  pub name : run.sequence ≡ sequence
+  pub shown : run.is_traced ≡ traced
+  pub valid : IsValidRun bytes s sequence run.valid
 
--- the value is this job of the device, and neither a variant nor a processor is requested
-pub record IsRunOf (s : Selection) (sequence : List ℕ) (d : Data) (job : RunJob) : Type 0 where
-  pub variant : s.variant ≡ None
-  pub pname : s.pname ≡ None
-  pub holds : IsJob s.device sequence d job
+-- no sequence runs, for this reason
+abbrev pub IsNoRunOf : Selection → List ℕ → List ℕ → Answer → Type 0
+IsNoRunOf s sequence bytes answers.NoSequence = IsRefusedRun bytes s sequence refusals.NoSequence
+IsNoRunOf s sequence bytes (answers.Refused r) = IsRefusedRun bytes s sequence (refusals.Refused r)
+IsNoRunOf s sequence bytes other = ⊥
 
--- what a value asks for, if there is one: the run of its job, or none that is built
-abbrev pub AsksOfRun : Selection → List ℕ → Option Data → Asked → Type 0
-AsksOfRun s sequence None what = what ≡ asked.Answer (answers.Refused refusals.BadJson)
-AsksOfRun s sequence (Some d) (asked.Run job) = IsRunOf s sequence d job
-AsksOfRun s sequence (Some d) (asked.Answer answer) = (answer ≡ answers.NotBuilt) × ((job : RunJob) → IsRunOf s sequence d job → ⊥)
+-- what is asked for where no sequence runs, unless memory ran out
+abbrev pub of_refused : RunRefusal → Option What
+of_refused (refusals.Refused r) = Some (whats.Answer (answers.Refused r))
+of_refused refusals.NoSequence = Some (whats.Answer answers.NoSequence)
+of_refused refusals.OutOfMemory = None
 
--- ---- both
+-- the run of a sequence, or why none runs
+abbrev pub AsksOfRun : Selection → List ℕ → Bool → List ℕ → What → Type 0
+AsksOfRun s sequence traced bytes (whats.Run run) = IsRunOf s sequence traced bytes run
+AsksOfRun s sequence traced bytes (whats.Answer answer) = IsNoRunOf s sequence bytes answer
+
+-- ---- together
 
 -- the most bytes of a job
 abbrev pub limit : ℕ
 limit = 16777216
 
--- what a command asks for of the bytes of a job
-abbrev pub AsksOfBytes : Command → List ℕ → Asked → Type 0
+-- what a command asks for of the bytes of a source
+abbrev pub AsksOfBytes : Command → List ℕ → What → Type 0
 AsksOfBytes (commands.Check s) bytes what = AsksOfCheck s bytes what
-AsksOfBytes (commands.Run s sequence) bytes what = AsksOfRun s sequence (text_value bytes) what
-AsksOfBytes (commands.Trace s sequence) bytes what = ⊥
+AsksOfBytes (commands.Run s sequence) bytes what = AsksOfRun s sequence false bytes what
+AsksOfBytes (commands.Trace s sequence) bytes what = AsksOfRun s sequence true bytes what
 AsksOfBytes (commands.Gen number) bytes what = ⊥
 
 -- the same, of bytes of which there may be too many
-abbrev pub AsksOfCommand : Command → List ℕ → Asked → Type 0
-AsksOfCommand c bytes what = MatchBool (nat_le (length bytes) limit) (AsksOfBytes c bytes what) (what ≡ asked.Answer answers.TooLong)
+abbrev pub AsksOfCommand : Command → List ℕ → What → Type 0
+AsksOfCommand c bytes what = MatchBool (nat_le (length bytes) limit) (AsksOfBytes c bytes what) (what ≡ whats.Answer answers.TooLong)
 
--- This is what the words and all the bytes of the source ask for. There is one such answer at most (`laws::one_answer`).
-pub data Asks (words : List (List ℕ)) (bytes : List ℕ) (what : Asked) : Type 0 where
-  usage : IsUsage words → what ≡ asked.Answer answers.Usage → Asks words bytes what
-  command : (c : Command) → IsCommand words c → IsBuilt c → AsksOfCommand c bytes what → Asks words bytes what
+-- This is what the words and all the bytes of the source ask for. In the mode `gen` the bytes are those of the job of the number.
+pub data Asks (words : List (List ℕ)) (bytes : List ℕ) (asked : Asked) : Type 0 where
+  usage : IsUsage words → asked.number ≡ None → asked.what ≡ whats.Answer answers.Usage → Asks words bytes asked
+  command : (c : Command) → IsCommand words c → ReadsSource c → asked.number ≡ None → AsksOfCommand c bytes asked.what → Asks words bytes asked
+  generated : (n : ℕ) → IsCommand words (commands.Gen n) → asked.number ≡ Some n → AsksOfRun its_device its_sequence false (job_text n) asked.what → Asks words bytes asked
 
--- a fact on the job that is asked for, if a run is
-abbrev pub IfRun : List (List ℕ) → List ℕ → (RunJob → Type 0) → Type 0
-IfRun words bytes P = (job : RunJob) → Asks words bytes (asked.Run job) → P job
+-- ---- a run that is asked for
 
--- a fact on the answer that is asked for, if no run is
-abbrev pub UnlessRun : List (List ℕ) → List ℕ → (Answer → Type 0) → Type 0
-UnlessRun words bytes P = (answer : Answer) → Asks words bytes (asked.Answer answer) → P answer
+-- a fact on the run that is asked for, if one is
+abbrev pub OnRun : What → (Run → Type 0) → Type 0
+OnRun (whats.Run run) P = P run
+OnRun (whats.Answer answer) P = ⊤
 
--- a fact on a job that is to run
-abbrev pub OnRun : Asked → (RunJob → Type 0) → Type 0
-OnRun (asked.Run job) P = P job
-OnRun (asked.Answer answer) P = ⊤
+-- the settings, the bench and the watched words are in their ranges
+pub record IsSoundRun (run : Run) : Type 0 where
+  pub settings : AreSettings run.valid.job.settings
+  pub watch : AreWatched run.valid.job.bench.target.memory run.valid.job.watch
+  pub bench : IsBenchJob run.valid.job.bench
+
+-- ---- one thing
+
+-- two runs of one job with the same set and the same trees, of one sequence, both traced or both not
+pub record IsSameAsked (x y : Run) : Type 0 where
+  pub valid : IsSameRun x.valid y.valid
+  pub name : x.sequence ≡ y.sequence
+  pub shown : x.is_traced ≡ y.is_traced
+
+-- the same answer, or the same run
+abbrev pub IsSameWhat : What → What → Type 0
+IsSameWhat (whats.Answer a) (whats.Answer b) = a ≡ b
+IsSameWhat (whats.Run a) (whats.Run b) = IsSameAsked a b
+IsSameWhat (whats.Answer a) (whats.Run b) = ⊥
+IsSameWhat (whats.Run a) (whats.Answer b) = ⊥

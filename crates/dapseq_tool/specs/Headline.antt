@@ -1,18 +1,27 @@
 -- What a whole call does, by what is known of its objects before and after it.
-use Rattle.std.specs.Prelude.{◌≡◌, ◌≢◌, ◌⊎◌, ℕ, List, drop, Option, Some, IfSome, IsSome}
+use Rattle.std.specs.Prelude.{◌≡◌, ◌⊎◌, ℕ, Bool, false, List, drop, ◌++◌, Option, Some, None, IfSome, IsSome}
 use Rattle.std.specs.Io.KnownBytes.{Appends}
-use Rattle.dap_base.specs.Causes.{IsQuiet}
+use Rattle.dap_base.specs.Causes.{IsQuiet, Rose}
 use Rattle.dap_base.specs.Streams.{AppendsPrefix}
-use Rattle.probe_core.specs.Bench.{Reported, BenchState, StepsTo}
-use Rattle.dapseq_tool.specs.Asked.{Asks, IfRun, UnlessRun}
-use Rattle.dapseq_tool.specs.Blocks.{IsPartDone, IsRunDone}
-use Rattle.dapseq_tool.specs.Report.{report, answer_text, answer_status}
-use Rattle.sequence_resolve.specs.declared.entry.SeqSet.{SeqSet}
+use Rattle.target_machine.specs.State.{TargetState}
+use Rattle.call_terms.specs.Journal.{Entry}
+use Rattle.call_terms.specs.declared.calls.Ask.{Ask}
+use Rattle.probe_core.specs.Bench.{Reported, BenchState, Seen}
+use Rattle.probe_core.specs.Probe.{fresh_probe}
+use Rattle.probe_core.specs.Runs.{IsWholeRun}
+use Rattle.access_calls.specs.declared.ended.Ended.{Ended}
+use Rattle.access_calls.specs.declared.ended.Ending.TheVariants as e
+use Rattle.report_lines.specs.Endings.{ending_lines, shows_target}
+use Rattle.bench_access.specs.Opening.{HasBadReply}
+use Rattle.job_runs.specs.Runs.{ComesTo, known_after, program_in}
+use Rattle.job_runs.specs.Texts.{run_text}
+use Rattle.dapseq_tool.specs.Answers.{answer_status, answer_text, fault_text, head_text, run_status}
+use Rattle.dapseq_tool.specs.Asked.{Asks}
 use Rattle.dapseq_tool.specs.declared.asking.Answer.{Answer}
-use Rattle.dapseq_tool.specs.declared.asking.Answer.TheVariants as answers
 use Rattle.dapseq_tool.specs.declared.asking.Asked.{Asked}
-use Rattle.dapseq_tool.specs.declared.asking.Asked.TheVariants as asked
-use Rattle.word_job.specs.declared.job.RunJob.{RunJob}
+use Rattle.dapseq_tool.specs.declared.asking.Run.{Run}
+use Rattle.dapseq_tool.specs.declared.asking.What.{What}
+use Rattle.dapseq_tool.specs.declared.asking.What.TheVariants as whats
 use Rattle.dapseq_tool.specs.declared.status.Status.{Status}
 use Rattle.dapseq_tool.specs.declared.status.Status.TheVariants as status
 
@@ -54,86 +63,81 @@ AreBytesOf left bytes = IfSome left (λ xs. bytes ≡ xs)
 abbrev pub AreTaken : Option (List ℕ) → Option (List ℕ) → Type 0
 AreTaken old new = IfSome old (λ bytes. new ≡ Some (drop 16777217 bytes))
 
--- the count of the source's faults neither rose nor is at its last value
-abbrev pub SourceIsQuiet : Call → Type 0
-SourceIsQuiet call = IsQuiet call.old.source_faults call.new.source_faults
+-- ---- what is written
 
--- the same of the sink's
-abbrev pub SinkIsQuiet : Call → Type 0
-SinkIsQuiet call = IsQuiet call.old.sink_faults call.new.sink_faults
+-- a call can fail while it writes a text so
+abbrev pub FailsWriting : Status → Type 0
+FailsWriting status.BenchFault = Unit {0}
+FailsWriting status.WriteFault = Unit {0}
+FailsWriting status.OutOfMemory = Unit {0}
+FailsWriting other = ⊥
 
--- nothing outside failed: no count of faults rose or is at its last value, and memory was not refused
-pub record IsQuietCall (call : Call) : Type 0 where
-  pub source : SourceIsQuiet call
-  pub sink : SinkIsQuiet call
-  pub bench : IsQuiet call.old.reported.faults call.new.reported.faults
-  pub memory : call.end ≢ status.OutOfMemory
-
--- ---- where a run is asked for
-
--- the target and the probe's work, the text and the status are those of the run
-pub record Succeeds (call : Call) (job : RunJob) : Type 0 where
-  pub state : StepsTo (λ m n. IsRunDone job n) call.old.state call.new.state
-  pub text : Appends call.old.written call.new.written (report job)
-  pub status : call.end ≡ status.Done
-
--- where nothing outside failed and the bench is observable, the run is done and reported
-abbrev pub Success : Call → List ℕ → Type 0
-Success call bytes = IsQuietCall call → IsSome call.old.state → IfRun call.words bytes (Succeeds call)
-
--- whatever failed, the bench is as it was or after the first accesses of the run, as many as its probe's work
-abbrev pub Outside : Call → List ℕ → Type 0
-Outside call bytes = IfRun call.words bytes (λ job. StepsTo (IsPartDone job) call.old.state call.new.state)
-
--- unless the source failed, nothing is written before the run is done
-abbrev pub ReportAfterRun : Call → List ℕ → Type 0
-ReportAfterRun call bytes =
-    SourceIsQuiet call → IfRun call.words bytes (λ job. (call.new.written ≡ call.old.written) ⊎ StepsTo (λ m n. IsRunDone job n) call.old.state call.new.state)
-
--- unless the source failed, what is written for an observable bench is a part of the report from the front
-abbrev pub ReportPrefix : Call → List ℕ → Type 0
-ReportPrefix call bytes =
-    SourceIsQuiet call → IfRun call.words bytes (λ job. IfSome call.old.state (λ m. AppendsPrefix call.old.written call.new.written (report job)))
+-- The text was appended, and the status is its own; or writing it failed, and a part of it was appended, from its front.
+abbrev pub IsWritten : Option (List ℕ) → Option (List ℕ) → List ℕ → Status → Status → Type 0
+IsWritten old new text own end = ((end ≡ own) × Appends old new text) ⊎ (FailsWriting end × AppendsPrefix old new text)
 
 -- ---- where no run is asked for
 
--- the text and the status are those of the answer
-pub record Answers (call : Call) (answer : Answer) : Type 0 where
-  pub text : Appends call.old.written call.new.written (answer_text answer)
-  pub status : call.end ≡ answer_status answer
+-- the answer is written after the head, and the bench is the one that it was
+pub record Answers (call : Call) (unchanged : Type 0) (number : Option ℕ) (answer : Answer) : Type 0 where
+  pub text : IsWritten call.old.written call.new.written (head_text number ++ answer_text answer) (answer_status answer) call.end
+  pub bench : unchanged
 
--- unless the source or the sink failed or memory was refused, the answer is given
-abbrev pub Answered : Call → List ℕ → Type 0
-Answered call bytes = call.end ≢ status.ReadFault → SinkIsQuiet call → call.end ≢ status.OutOfMemory → UnlessRun call.words bytes (Answers call)
+-- ---- where a run is asked for
 
--- unless the source failed, what is written is a part of the answer from the front
-abbrev pub AnswerPrefix : Call → List ℕ → Type 0
-AnswerPrefix call bytes = SourceIsQuiet call → UnlessRun call.words bytes (λ answer. AppendsPrefix call.old.written call.new.written (answer_text answer))
+-- How a run ended: its answer, the packet and the reply where the reply was bad, and what was written by then.
+pub record RunEnd : Type 0 where
+  pub ended : Ended
+  pub sent : List ℕ
+  pub got : List ℕ
+  pub written : Option (List ℕ)
+
+-- What is known after the report of a run: what was written, the status, and the bench.
+pub record After : Type 0 where
+  pub written : Option (List ℕ)
+  pub end : Status
+  pub bench : Seen
+
+-- What a run came to on an observable bench, and what was written after it: the report and the trace. A log that is kept whole is
+-- a run of the job's probe.
+pub record IsRunTo (journal : TargetState → List Ask → List Entry) (run : Run) (before : Option (List ℕ)) (r : RunEnd) (a : After) (n : BenchState) : Type 0 where
+  pub state : a.bench.state ≡ Some n
+  pub comes : ComesTo journal run.valid.job.bench (program_in run.valid run.sequence) before (record { ended = r.ended; written = known_after before r.written; bench = n })
+  pub text : IsWritten r.written a.written (run_text run.is_traced r.ended r.sent r.got run.valid.job n) (run_status r.ended.ending) a.end
+  pub log : IsWholeRun (fresh_probe run.valid.job.bench) n
+
+-- A run that ended so, from a bench that reported this: what it came to where the bench is observable; its text where the report
+-- does not show the target; and its status. A bad reply is the one that is reported.
+pub record HasRun (journal : TargetState → List Ask → List Entry) (run : Run) (observable : Type 0) (old : Reported) (before : Option (List ℕ)) (r : RunEnd) (a : After) : Type 0 where
+  pub comes : observable → (n : BenchState) × IsRunTo journal run before r a n
+  pub alone : shows_target r.ended.ending ≡ false → IsWritten r.written a.written (ending_lines r.ended.ending r.ended r.sent r.got) (run_status r.ended.ending) a.end
+  pub status : (a.end ≡ run_status r.ended.ending) ⊎ FailsWriting a.end
+  pub bad : r.ended.ending ≡ e.ReplyBad → HasBadReply old a.bench.reported r.sent r.got
+
+-- the same moment without the source
+abbrev pub after_of : Moment → Status → After
+after_of m end = record { written = m.written; end = end; bench = record { reported = m.reported; state = m.state } }
+
+-- What is done of a run: the head is not written whole; or the bench was not loaded, and is as it was; or it ran.
+pub data Runs (journal : TargetState → List Ask → List Entry) (call : Call) (unchanged : Type 0) (number : Option ℕ) (run : Run) : Type 0 where
+  not_headed : FailsWriting call.end → AppendsPrefix call.old.written call.new.written (head_text number) → unchanged → Runs journal call unchanged number run
+  not_loaded : (call.end ≡ status.BenchFault) ⊎ (call.end ≡ status.OutOfMemory) → Appends call.old.written call.new.written (head_text number)
+      → call.new.state ≡ call.old.state → Runs journal call unchanged number run
+  ran : (before : Option (List ℕ)) (r : RunEnd) → Appends call.old.written before (head_text number)
+      → HasRun journal run (IsSome call.old.state) call.old.reported before r (after_of call.new call.end) → Runs journal call unchanged number run
 
 -- ---- both
 
--- unless the source failed or memory was refused, something is asked for
-abbrev pub IsKnown : Call → List ℕ → Type 0
-IsKnown call bytes = SourceIsQuiet call → call.end ≢ status.OutOfMemory → (what : Asked) × Asks call.words bytes what
+-- what is done of what was asked for
+abbrev pub DoesWhat : (TargetState → List Ask → List Entry) → Call → Type 0 → Option ℕ → What → Type 0
+DoesWhat journal call unchanged number (whats.Answer answer) = Answers call unchanged number answer
+DoesWhat journal call unchanged number (whats.Run run) = Runs journal call unchanged number run
 
--- what is done was asked for: the check of a valid set, or a run
-abbrev pub DoneIsAsked : Call → List ℕ → Type 0
-DoneIsAsked call bytes =
-    call.end ≡ status.Done → ((set : SeqSet) × Asks call.words bytes (asked.Answer (answers.CheckOk set))) ⊎ ((job : RunJob) × Asks call.words bytes (asked.Run job))
-
--- a refusal was asked for
-abbrev pub RefusalIsAsked : Call → List ℕ → Type 0
-RefusalIsAsked call bytes = call.end ≡ status.Refused → (answer : Answer) × Asks call.words bytes (asked.Answer answer) × (answer_status answer ≡ status.Refused)
-
--- What a call does with the bytes of the source; `unchanged` says that the bench is the one that it was.
-pub record DoesAsAsked (call : Call) (unchanged : Type 0) (bytes : List ℕ) : Type 0 where
-  pub success : Success call bytes
-  pub outside : Outside call bytes
-  pub report_after_run : ReportAfterRun call bytes
-  pub report_prefix : ReportPrefix call bytes
-  pub answer : Answered call bytes
-  pub answer_prefix : AnswerPrefix call bytes
-  pub answer_keeps_bench : UnlessRun call.words bytes (λ answer. unchanged)
-  pub known : IsKnown call bytes
-  pub done : DoneIsAsked call bytes
-  pub refused : RefusalIsAsked call bytes
+-- What a call does; `unchanged` says that the bench is the one that it was. There are bytes, those of the source where it is
+-- observable, of which the words ask for something, and it was done. Or the source failed, or memory was refused before it was
+-- known what is asked for.
+pub data Does (journal : TargetState → List Ask → List Entry) (call : Call) (unchanged : Type 0) : Type 0 where
+  does : (bytes : List ℕ) (asked : Asked) → AreBytesOf call.old.left bytes → Asks call.words bytes asked
+      → DoesWhat journal call unchanged asked.number asked.what → Does journal call unchanged
+  unread : Rose call.old.source_faults call.new.source_faults → IsWritten call.old.written call.new.written fault_text status.ReadFault call.end → unchanged → Does journal call unchanged
+  no_memory : call.end ≡ status.OutOfMemory → call.new.written ≡ call.old.written → unchanged → Does journal call unchanged

@@ -1,11 +1,7 @@
+pub mod Generated
 pub mod Asked
-pub mod Lines
-pub mod Meaning
-pub mod Report
-pub mod Exchange
-pub mod Progress
-pub mod Ready
-pub mod Units
-pub mod Blocks
+pub mod Answers
 pub mod Headline
+pub mod RunEnds
+pub mod Success
 pub mod InMemory

@@ -1,15 +1,15 @@
-//! What is written where no job runs.
-ghost use Rattle.std.specs.Prelude.{◌≡◌, ◌⊎◌};
+//! What is written where no sequence runs, and before one runs.
+ghost use Rattle.std.specs.Prelude.{◌≡◌, ◌⊎◌, Some, IfOk};
 ghost use Rattle.dap_base.specs.Streams.{PutAppends};
 ghost use Rattle.text_lines.specs.Causes.{NamesFault};
-ghost use Rattle.dapseq_tool.specs.Report.{answer_text, answer_status};
+ghost use Rattle.dapseq_tool.specs.Answers.{answer_text, answer_status, head_text};
 
 use crate::asking::Answer;
 use crate::status::Status;
-use check_lines::{write_check, write_not_built, write_refusal, write_too_long, write_usage};
-use dap_base::Sink;
+use check_lines::{write_check, write_no_sequence, write_refusal, write_too_long, write_usage};
+use dap_base::{OutOfMemory, Sink};
 use std::alloc::Global;
-use text_lines::TextError;
+use text_lines::{Line, TextError, put_line};
 
 /// The status of an answer that is written.
 pub fn status_of(answer: &Answer) -> Status
@@ -18,7 +18,7 @@ pub fn status_of(answer: &Answer) -> Status
 {
     match answer {
         Answer::Usage => Status::Usage,
-        Answer::TooLong | Answer::NotBuilt | Answer::Refused(_) => Status::Refused,
+        Answer::TooLong | Answer::NoSequence | Answer::Refused(_) => Status::Refused,
         Answer::CheckOk(_) => Status::Done,
     }
 }
@@ -31,8 +31,34 @@ pub fn write_answer<K: Sink>(alloc: Global, answer: &Answer, sink: &mut K) -> Re
     match answer {
         Answer::Usage => write_usage(sink),
         Answer::TooLong => write_too_long(sink),
-        Answer::NotBuilt => write_not_built(sink),
+        Answer::NoSequence => write_no_sequence(sink),
         Answer::Refused(refusal) => write_refusal(alloc, refusal, sink),
         Answer::CheckOk(set) => write_check(alloc, set, sink),
+    }
+}
+
+// The first line where a job is made of a number.
+fn head_line(alloc: Global, number: u16) -> Result<Line, OutOfMemory>
+    ensures { IfOk result (λ line. line ≡ head_text (Some number)) }
+{
+    Line::begin(alloc, "gen ")?
+        .decimal(number as u64)?
+        .text("\n")
+}
+
+/// Writes the first line where a job is made of a number, and else nothing. At an error a part of it
+/// was written, from its front.
+#[tactic(auto, using(text_lines::proofs::PutLemmas::nothing))]
+pub fn write_head<K: Sink>(
+    alloc: Global,
+    number: Option<u16>,
+    sink: &mut K,
+) -> Result<(), TextError>
+    ensures text { PutAppends (K.written sink.old) (K.written sink.new) result (head_text number) }
+    ensures sink { NamesFault TextError.Failed (K.faults sink.old) (K.faults sink.new) result }
+{
+    match number {
+        Some(number) => put_line(head_line(alloc, number), sink),
+        None => Ok(()),
     }
 }

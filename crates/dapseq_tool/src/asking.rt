@@ -1,20 +1,19 @@
 //! What a call is asked for.
-ghost use Rattle.std.specs.Prelude.{◌≡◌, ◌⊎◌, ◌≤◌, IsUtf8, ℕ, List, None, Some, length, IfOk, OnOk, IfErr, IfSome, IsErrOf, option_map, MatchBool};
+ghost use Rattle.std.specs.Prelude.{◌≡◌, ◌≢◌, ◌⊎◌, ◌≤◌, ℕ, false, List, None, Some, length, IfOk, OnOk, IfErr, IfSome, IsErrOf, MatchOption};
 ghost use Rattle.dap_base.specs.Causes.{Rose};
-ghost use Rattle.serde_json.specs.View.{view};
 ghost use Rattle.command_words.specs.Table.{IsCommand};
-ghost use Rattle.dapseq_tool.specs.Asked.{limit, text_value, IsBuilt, IsUsage, IsRunCommand, IsRunLine, AsksOfCheck, AsksOfRun, AsksOfBytes, AsksOfCommand, Asks, OnRun};
+ghost use Rattle.command_words.specs.declared.answer.Command.TheVariants as commands;
+ghost use Rattle.dapseq_tool.specs.Asked.{limit, Asks, AsksOfBytes, AsksOfCheck, AsksOfCommand, AsksOfRun, IsReadLine, IsRunCommand, IsRunLine, IsSoundRun, IsUsage, OnRun, ReadsSource, of_refused};
+ghost use Rattle.dapseq_tool.specs.Generated.{its_device, its_sequence, job_text};
 ghost use Rattle.dapseq_tool.specs.Headline.{AreBytesOf, AreTaken};
-ghost use Rattle.word_job.specs.Sound.{IsSoundRun};
 
+use crate::generating::job_of_number;
 use crate::reading::{Unread, read_all};
 use command_words::{Command, WordsError, command_of};
 use dap_base::{NameText, OutOfMemory, Source, Words};
-use job_check::{CheckRefusal, Refusal, ValidSet, valid_set};
+use job_check::{CheckRefusal, Refusal, RunRefusal, ValidRun, ValidSet, valid_run, valid_set};
 use sequence_resolve::{Selection, SeqSet};
-use serde_json::Value;
 use std::alloc::Global;
-use word_job::{RunJob, Unfit, job_of};
 
 /// An answer without a run.
 #[derive(Drop)]
@@ -23,21 +22,38 @@ pub enum Answer {
     Usage,
     /// The source has more bytes than a job may have.
     TooLong,
-    /// The job is not of a form that is built.
-    NotBuilt,
+    /// No sequence of the set has the name.
+    NoSequence,
     /// The job is refused.
     Refused(Refusal),
     /// A check found this set of sequences valid.
     CheckOk(SeqSet),
 }
 
+/// A run that is asked for.
+#[derive(Drop)]
+pub struct Run {
+    /// The job, and the valid set of its device.
+    pub valid: ValidRun,
+    /// The sequence that runs.
+    pub sequence: NameText,
+    /// Whether the packets are shown after the report.
+    pub is_traced: bool,
+}
+
+/// An answer, or a run.
+#[derive(Drop)]
+pub enum What {
+    Answer(Answer),
+    Run(Run),
+}
+
 /// What a call is asked for.
 #[derive(Drop)]
-pub enum Asked {
-    /// An answer, and no run.
-    Answer(Answer),
-    /// A run.
-    Run(RunJob),
+pub struct Asked {
+    /// The number of the job that is made, in the mode `gen`.
+    pub number: Option<u16>,
+    pub what: What,
 }
 
 /// Why it is not known what is asked for.
@@ -49,94 +65,71 @@ pub enum Unasked {
     OutOfMemory,
 }
 
-// The value of a JSON text, where the bytes are one.
-#[tactic(auto, using(crate::proofs::TextLemmas::text_read, crate::proofs::TextLemmas::no_text))]
-fn value_of(alloc: Global, bytes: &[u8]) -> Result<Option<Value>, OutOfMemory>
-    ensures { IfOk result (λ found. option_map view found ≡ text_value bytes.now) }
+// What is asked for where no sequence runs.
+fn no_run(refusal: RunRefusal) -> Result<What, OutOfMemory>
+    ensures { IfOk result (λ what. of_refused refusal ≡ Some what) }
 {
-    match Value::from_slice(alloc, bytes) {
-        Ok(value) => Ok(Some(value)),
-        Err(error) => {
-            if error.is_memory() {
-                return Err(OutOfMemory);
-            }
-            Ok(None)
-        }
+    match refusal {
+        RunRefusal::Refused(refusal) => Ok(What::Answer(Answer::Refused(refusal))),
+        RunRefusal::NoSequence => Ok(What::Answer(Answer::NoSequence)),
+        RunRefusal::OutOfMemory => Err(OutOfMemory),
     }
 }
 
-// What a value asks for in the mode `run`.
-fn asked_of_value(
-    alloc: Global,
-    selection: &Selection,
-    sequence: &NameText,
-    value: &Value,
-) -> Result<Asked, OutOfMemory>
-    ensures asked { IfOk result (AsksOfRun selection.now sequence.now (Some (view value.now))) }
-    ensures sound { IfOk result (λ what. OnRun what IsSoundRun) }
-{
-    if selection.variant.is_some() || selection.pname.is_some() {
-        return Ok(Asked::Answer(Answer::NotBuilt));
-    }
-    match job_of(alloc, selection.device.as_str(), sequence.as_str(), value) {
-        Ok(job) => Ok(Asked::Run(job)),
-        Err(Unfit::NotBuilt) => Ok(Asked::Answer(Answer::NotBuilt)),
-        Err(Unfit::OutOfMemory) => Err(OutOfMemory),
-    }
-}
-
-// What the bytes of a job ask for in the mode `run`.
+// What the bytes of a job ask for in a mode that runs.
 fn asked_of_run(
     alloc: Global,
     selection: &Selection,
-    sequence: &NameText,
+    sequence: &str,
+    is_traced: bool,
     bytes: &[u8],
-) -> Result<Asked, OutOfMemory>
-    ensures asked { IfOk result (AsksOfRun selection.now sequence.now (text_value bytes.now)) }
+) -> Result<What, OutOfMemory>
+    ensures asked { IfOk result (AsksOfRun selection.now sequence.now is_traced bytes.now) }
     ensures sound { IfOk result (λ what. OnRun what IsSoundRun) }
+    ensures used { IfOk result (λ what. what ≢ What.Answer Answer.Usage) }
 {
-    match value_of(alloc, bytes)? {
-        Some(value) => asked_of_value(alloc, selection, sequence, &value),
-        None => Ok(Asked::Answer(Answer::Refused(Refusal::BadJson))),
+    match valid_run(alloc, bytes, selection, sequence) {
+        Ok(valid) => Ok(What::Run(Run {
+            valid,
+            sequence: NameText::new(alloc, sequence)?,
+            is_traced,
+        })),
+        Err(refusal) => no_run(refusal),
     }
 }
 
 // What the bytes of a job ask for in the mode `check`.
-fn asked_of_check(alloc: Global, selection: &Selection, bytes: &[u8]) -> Result<Asked, OutOfMemory>
+fn asked_of_check(alloc: Global, selection: &Selection, bytes: &[u8]) -> Result<What, OutOfMemory>
     ensures asked { IfOk result (AsksOfCheck selection.now bytes.now) }
-    ensures no_run { IfOk result (λ what. OnRun what (λ job. ⊥)) }
+    ensures no_run { IfOk result (λ what. OnRun what (λ run. ⊥)) }
+    ensures used { IfOk result (λ what. what ≢ What.Answer Answer.Usage) }
 {
     match valid_set(alloc, bytes, selection) {
-        Ok(ValidSet { set, .. }) => Ok(Asked::Answer(Answer::CheckOk(set))),
-        Err(CheckRefusal::Refused(refusal)) => Ok(Asked::Answer(Answer::Refused(refusal))),
+        Ok(ValidSet { set, .. }) => Ok(What::Answer(Answer::CheckOk(set))),
+        Err(CheckRefusal::Refused(refusal)) => Ok(What::Answer(Answer::Refused(refusal))),
         Err(CheckRefusal::OutOfMemory) => Err(OutOfMemory),
     }
 }
 
-// Whether the mode of a command is built.
-fn is_built(command: &Command) -> bool
-    ensures { MatchBool result (IsBuilt command.now) (IsBuilt command.now → ⊥) }
-{
-    match command {
-        Command::Check(_) | Command::Run { .. } => true,
-        Command::Trace { .. } | Command::Gen(_) => false,
-    }
-}
-
 // What the bytes of a job ask for.
-fn asked_of_bytes(alloc: Global, command: &Command, bytes: &[u8]) -> Result<Asked, OutOfMemory>
-    requires { IsBuilt command.now }
+fn asked_of_bytes(alloc: Global, command: &Command, bytes: &[u8]) -> Result<What, OutOfMemory>
+    requires { ReadsSource command.now }
     ensures asked { IfOk result (AsksOfBytes command.now bytes.now) }
     ensures sound { IfOk result (λ what. OnRun what IsSoundRun) }
-    ensures run { IfOk result (λ what. OnRun what (λ job. IsRunCommand command.now)) }
+    ensures run { IfOk result (λ what. OnRun what (λ run. IsRunCommand command.now)) }
+    ensures used { IfOk result (λ what. what ≢ What.Answer Answer.Usage) }
 {
     match command {
         Command::Check(selection) => asked_of_check(alloc, selection, bytes),
         Command::Run {
             selection,
             sequence,
-        } => asked_of_run(alloc, selection, sequence, bytes),
-        Command::Trace { .. } | Command::Gen(_) => unreachable!(),
+        } => asked_of_run(alloc, selection, sequence.as_str(), false, bytes),
+        Command::Trace {
+            selection,
+            sequence,
+        } => asked_of_run(alloc, selection, sequence.as_str(), true, bytes),
+        Command::Gen(_) => unreachable!(),
     }
 }
 
@@ -145,20 +138,20 @@ fn asked_of_source<S: Source>(
     alloc: Global,
     command: &Command,
     source: &mut S,
-) -> Result<Asked, Unasked>
-    requires { IsBuilt command.now }
+) -> Result<What, Unasked>
+    requires { ReadsSource command.now }
     ensures asked { IfOk result (λ what. (bytes : List ℕ) × AreBytesOf (S.left source.old) bytes × AsksOfCommand command.now bytes what) }
     ensures taken { OnOk result (AreTaken (S.left source.old) (S.left source.new)) }
     ensures sound { IfOk result (λ what. OnRun what IsSoundRun) }
-    ensures run { IfOk result (λ what. OnRun what (λ job. IsRunCommand command.now)) }
-    ensures used { IfOk result (λ what. what ≡ Asked.Answer Answer.Usage → ⊥) }
+    ensures run { IfOk result (λ what. OnRun what (λ run. IsRunCommand command.now)) }
+    ensures used { IfOk result (λ what. what ≢ What.Answer Answer.Usage) }
     ensures failed { IsErrOf result Unasked.ReadFault → Rose (S.faults source.old) (S.faults source.new) }
     ensures quiet { IfErr result (λ e. (e ≡ Unasked.ReadFault) ⊎ (S.faults source.new ≡ S.faults source.old)) }
     ensures quiet_ok { OnOk result (S.faults source.new ≡ S.faults source.old) }
 {
     let bytes = match read_all(alloc, source) {
         Ok(bytes) => bytes,
-        Err(Unread::TooLong) => return Ok(Asked::Answer(Answer::TooLong)),
+        Err(Unread::TooLong) => return Ok(What::Answer(Answer::TooLong)),
         Err(Unread::Failed) => return Err(Unasked::ReadFault),
         Err(Unread::OutOfMemory) => return Err(Unasked::OutOfMemory),
     };
@@ -168,28 +161,98 @@ fn asked_of_source<S: Source>(
     }
 }
 
-/// What the words and the source ask for. Where the words are no command of a mode that is built, the
+// What the job of a number asks for.
+fn asked_of_number(alloc: Global, number: u16) -> Result<What, OutOfMemory>
+    ensures asked { IfOk result (AsksOfRun its_device its_sequence false (job_text number)) }
+    ensures sound { IfOk result (λ what. OnRun what IsSoundRun) }
+    ensures used { IfOk result (λ what. what ≢ What.Answer Answer.Usage) }
+{
+    let text = job_of_number(alloc, number)?;
+    let selection = Selection {
+        device: NameText::new(alloc, "G")?,
+        variant: None,
+        pname: None,
+    };
+    asked_of_run(alloc, &selection, "Main", false, text.as_bytes())
+}
+
+// The same with the number of the job that is made.
+fn asked_with_number(alloc: Global, number: u16) -> Result<Asked, Unasked>
+    ensures number { IfOk result (λ asked. asked.number ≡ Some number) }
+    ensures asked { IfOk result (λ asked. AsksOfRun its_device its_sequence false (job_text number) asked.what) }
+    ensures sound { IfOk result (λ asked. OnRun asked.what IsSoundRun) }
+    ensures used { IfOk result (λ asked. asked.what ≢ What.Answer Answer.Usage) }
+    ensures memory { IfErr result (λ e. e ≡ Unasked.OutOfMemory) }
+{
+    match asked_of_number(alloc, number) {
+        Ok(what) => Ok(Asked {
+            number: Some(number),
+            what,
+        }),
+        Err(OutOfMemory) => Err(Unasked::OutOfMemory),
+    }
+}
+
+// What the source asks for, where no job is made.
+fn asked_of_words<S: Source>(
+    alloc: Global,
+    command: &Command,
+    source: &mut S,
+) -> Result<Asked, Unasked>
+    requires { ReadsSource command.now }
+    ensures number { IfOk result (λ asked. asked.number ≡ None) }
+    ensures asked { IfOk result (λ asked. (bytes : List ℕ) × AreBytesOf (S.left source.old) bytes × AsksOfCommand command.now bytes asked.what) }
+    ensures taken { OnOk result (AreTaken (S.left source.old) (S.left source.new)) }
+    ensures sound { IfOk result (λ asked. OnRun asked.what IsSoundRun) }
+    ensures run { IfOk result (λ asked. OnRun asked.what (λ run. IsRunCommand command.now)) }
+    ensures used { IfOk result (λ asked. asked.what ≢ What.Answer Answer.Usage) }
+    ensures failed { IsErrOf result Unasked.ReadFault → Rose (S.faults source.old) (S.faults source.new) }
+    ensures quiet { IfErr result (λ e. (e ≡ Unasked.ReadFault) ⊎ (S.faults source.new ≡ S.faults source.old)) }
+    ensures quiet_ok { OnOk result (S.faults source.new ≡ S.faults source.old) }
+{
+    match asked_of_source(alloc, command, source) {
+        Ok(what) => Ok(Asked { number: None, what }),
+        Err(end) => Err(end),
+    }
+}
+
+// The number of the job that a command makes.
+fn number_of(command: &Command) -> Option<u16>
+    ensures { MatchOption result (ReadsSource command.now) (λ n. command.now ≡ commands.Gen n) }
+{
+    match command {
+        Command::Gen(number) => Some(*number),
+        Command::Check(_) | Command::Run { .. } | Command::Trace { .. } => None,
+    }
+}
+
+/// What the words and the source ask for. Where the words are no command, and in the mode `gen`, the
 /// source is not read.
 pub fn ask<S: Source>(alloc: Global, words: &Words, source: &mut S) -> Result<Asked, Unasked>
-    ensures asked { IfOk result (λ what. (bytes : List ℕ) × AreBytesOf (S.left source.old) bytes × Asks words.now bytes what) }
-    ensures taken { OnOk result ((IsUsage words.now → ⊥) → AreTaken (S.left source.old) (S.left source.new)) }
-    ensures usage_only { IfOk result (λ what. IsUsage words.now → what ≡ Asked.Answer Answer.Usage) }
-    ensures usage_unread { IsUsage words.now → source.new ≡ source.old }
-    ensures usage_fault { IsErrOf result Unasked.ReadFault → IsUsage words.now → ⊥ }
-    ensures sound { IfOk result (λ what. OnRun what IsSoundRun) }
-    ensures run { IfOk result (λ what. OnRun what (λ job. IsRunLine words.now)) }
-    ensures usage { IfOk result (λ what. what ≡ Asked.Answer Answer.Usage → IsUsage words.now) }
+    ensures asked { IfOk result (λ asked. (bytes : List ℕ) × AreBytesOf (S.left source.old) bytes × Asks words.now bytes asked) }
+    ensures taken { OnOk result (IsReadLine words.now → AreTaken (S.left source.old) (S.left source.new)) }
+    ensures unread { (IsReadLine words.now → ⊥) → source.new ≡ source.old }
+    ensures fault { IsErrOf result Unasked.ReadFault → IsReadLine words.now }
+    ensures usage_only { IfOk result (λ asked. IsUsage words.now → asked.what ≡ What.Answer Answer.Usage) }
+    ensures usage { IfOk result (λ asked. asked.what ≡ What.Answer Answer.Usage → IsUsage words.now) }
+    ensures sound { IfOk result (λ asked. OnRun asked.what IsSoundRun) }
+    ensures run { IfOk result (λ asked. OnRun asked.what (λ run. IsRunLine words.now)) }
     ensures failed { IsErrOf result Unasked.ReadFault → Rose (S.faults source.old) (S.faults source.new) }
     ensures quiet { IfErr result (λ e. (e ≡ Unasked.ReadFault) ⊎ (S.faults source.new ≡ S.faults source.old)) }
     ensures quiet_ok { OnOk result (S.faults source.new ≡ S.faults source.old) }
 {
     let command = match command_of(alloc, words) {
         Ok(command) => command,
-        Err(WordsError::Usage) => return Ok(Asked::Answer(Answer::Usage)),
+        Err(WordsError::Usage) => {
+            return Ok(Asked {
+                number: None,
+                what: What::Answer(Answer::Usage),
+            });
+        }
         Err(WordsError::OutOfMemory) => return Err(Unasked::OutOfMemory),
     };
-    if !is_built(&command) {
-        return Ok(Asked::Answer(Answer::Usage));
+    match number_of(&command) {
+        Some(number) => asked_with_number(alloc, number),
+        None => asked_of_words(alloc, &command, source),
     }
-    asked_of_source(alloc, &command, source)
 }

@@ -1,23 +1,20 @@
 //! The top call: a check or a run of a debug access sequence over any source, sink and bench.
 #![tactic(auto)]
 
-mod access;
 mod answering;
 mod asking;
 mod call;
-mod chain;
-mod exchange;
+mod generating;
 pub mod laws;
-mod lines;
 mod memory;
+mod packed;
 mod reading;
-mod reporting;
-mod run;
+mod runs;
 mod status;
-mod unit;
 
-pub use call::dapseq;
+pub use call::{Over, dapseq_over};
 pub use memory::{InMemory, dapseq_in_memory};
+pub use packed::dapseq;
 pub use status::Status;
 
 #[cfg(test)]

@@ -1,10 +1,14 @@
 //! A whole call in memory.
 ghost use Rattle.std.specs.Prelude.{◌≡◌, ◌≢◌, IfOk, MatchBool};
 ghost use Rattle.dapseq_tool.specs.Asked.{Asks};
-ghost use Rattle.dapseq_tool.specs.InMemory.{HasDone};
+ghost use Rattle.access_regs.specs.Journal.{issued};
+ghost use Rattle.access_regs.specs.declared.planner.Planner.TheVariants.{Managed};
+ghost use Rattle.dapseq_tool.specs.Headline.{Call};
+ghost use Rattle.dapseq_tool.specs.InMemory.{IsCallInMemory};
+ghost use Rattle.dapseq_tool.specs.Success.{IsDone};
 ghost use Rattle.dapseq_tool.specs.declared.asking.Asked.{Asked};
 
-use crate::call::dapseq;
+use crate::packed::dapseq;
 use crate::status::Status;
 use dap_base::{Failed, MemorySink, MemorySource, OutOfMemory, Source, Words};
 use probe_core::MemoryBench;
@@ -74,10 +78,11 @@ fn is_out_of_room(status: Status) -> bool
 }
 
 /// Calls [`dapseq`](crate::dapseq) with these words over these bytes, a sink in memory and a bench in
-/// memory that was not loaded. It does exactly what is asked for. `OutOfMemory` where memory is
+/// memory that was not loaded. It does exactly what they ask for, to its end. `OutOfMemory` where memory is
 /// refused, or the text has no room in the 64 MiB of the sink.
 pub fn dapseq_in_memory(alloc: Global, words: &Words, bytes: &[u8]) -> Result<InMemory, OutOfMemory>
-    ensures { IfOk result (λ end. (what : Asked) × Asks words.now bytes.now what × HasDone what end) }
+    ensures { IfOk result (λ end. (call : Call) × IsCallInMemory words.now bytes.now end call
+        × (asked : Asked) × Asks words.now bytes.now asked × IsDone (issued Managed) call asked.number asked.what) }
 {
     let mut source = source_of(alloc, bytes)?;
     let mut sink = MemorySink::new(alloc, &[])?;

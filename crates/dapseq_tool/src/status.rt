@@ -1,6 +1,6 @@
 //! How a call ends.
 ghost use Rattle.std.specs.Prelude.{◌≡◌};
-ghost use Rattle.dapseq_tool.specs.Report.{code_of};
+ghost use Rattle.dapseq_tool.specs.Answers.{code_of};
 
 /// How a call of `dapseq` ended.
 #[derive(Clone, Copy, Debug, PartialEq, Eq)]

@@ -1,53 +1,13 @@
 //! Runs each example that standard input names, and compares what is written with what the example says.
 #![tactic(auto)]
 
-use dap_base::{MemorySink, MemorySource, NameText, OutOfMemory, Words};
-use dapseq_tool::{Status, dapseq};
-use probe_core::MemoryBench;
-use std::alloc::Global;
-use std::io::ErrorKind;
-use std::{fs, io};
-
-// The words of a command line, one a line.
-fn words_of(alloc: Global, text: &str) -> Result<Words, OutOfMemory> {
-    let mut words = Words::new(alloc);
-    for line in text.lines() {
-        words.push(NameText::new(alloc, line)?)?;
-    }
-    Ok(words)
-}
-
-// How the program ends with these words and this job, and what it writes.
-fn answer(alloc: Global, words: &str, job: &[u8]) -> Result<(Status, MemorySink), OutOfMemory> {
-    let words = words_of(alloc, words)?;
-    let mut source = MemorySource::new(alloc, job, &[])?;
-    let mut sink = MemorySink::new(alloc, &[])?;
-    let mut bench = MemoryBench::new(alloc);
-    let status = dapseq(alloc, &words, &mut source, &mut sink, &mut bench);
-    Ok((status, sink))
-}
-
-// Runs one example, and prints its name, its exit status, and whether its text is the expected one.
-fn run_example(rt: &HostRuntime, name: &str) -> io::Result<()> {
-    let job = fs::read(rt, format!(in rt.alloc(); "{name}.json")?)?;
-    let words = fs::read_to_string(rt, format!(in rt.alloc(); "{name}.json.args")?)?;
-    let expected = fs::read(rt, format!(in rt.alloc(); "{name}.json.stdout")?)?;
-    let Ok((status, sink)) = answer(rt.alloc(), words.as_str(), &job) else {
-        return Err(io::Error::from(ErrorKind::OutOfMemory));
-    };
-    let code = status.code();
-    if sink.bytes() == expected.as_slice() {
-        println!(rt; "{name} {code} as expected")?;
-    } else {
-        println!(rt; "{name} {code} differs")?;
-    }
-    Ok(())
-}
+use case_runs::run_case;
+use std::io;
 
 fn main(rt: HostRuntime) -> io::Result<()> {
     for line in rt.lines(rt.alloc()) {
         let name = line?;
-        run_example(&rt, name.as_str())?;
+        run_case(&rt, name.as_str())?;
     }
     Ok(())
 }

@@ -1,2 +1,4 @@
 pub mod OneAnswer
+pub mod OneRun
 pub mod AnswerLemmas
+pub mod RunningLemmas

@@ -27,7 +27,7 @@ Answer = Result SeqSet Refusal
 
 -- ---- the set
 
-valid_and_not : (s : SeqSet) (r : Refusal) → IsValid s → NoValid s r → ⊥
+pub valid_and_not : (s : SeqSet) (r : Refusal) → IsValid s → NoValid s r → ⊥
 valid_and_not s (refusals.Check kind spot) is none = valid_or_faulty s kind spot is none
 valid_and_not s refusals.BadJson is none = none
 valid_and_not s (refusals.Job fault) is none = none
@@ -35,7 +35,7 @@ valid_and_not s refusals.NoDevice is none = none
 valid_and_not s refusals.AmbiguousDevice is none = none
 valid_and_not s refusals.NoVariant is none = none
 
-one_not_valid : (s : SeqSet) (a b : Refusal) → NoValid s a → NoValid s b → a ≡ b
+pub one_not_valid : (s : SeqSet) (a b : Refusal) → NoValid s a → NoValid s b → a ≡ b
 one_not_valid s (refusals.Check kind spot) (refusals.Check other there) p q =
     let same = one_first_fault s kind other spot there p q in
     ap₂ refusals.Check same.0 same.1
@@ -58,7 +58,7 @@ of_set s x y p q = elim p [
 
 -- ---- the pack
 
-set_and_none : (pack : Pack) (s : Selection) (found : SeqSet) (r : Refusal) → IsEffectiveSet pack s.device s.variant s.pname found → NoSet pack s r → ⊥
+pub set_and_none : (pack : Pack) (s : Selection) (found : SeqSet) (r : Refusal) → IsEffectiveSet pack s.device s.variant s.pname found → NoSet pack s r → ⊥
 set_and_none pack s found refusals.NoDevice is none = (let e = set_or_refusal pack s.device s.variant s.pname found resolving.NoDevice is none in cc)
 set_and_none pack s found refusals.AmbiguousDevice is none = (let e = set_or_refusal pack s.device s.variant s.pname found resolving.AmbiguousDevice is none in cc)
 set_and_none pack s found refusals.NoVariant is none = (let e = set_or_refusal pack s.device s.variant s.pname found resolving.NoVariant is none in cc)
@@ -79,7 +79,7 @@ several e = cc
 no_variant : resolving.NoVariant ≡ resolving.OutOfMemory → ⊥
 no_variant e = cc
 
-one_none : (pack : Pack) (s : Selection) (a b : Refusal) → NoSet pack s a → NoSet pack s b → a ≡ b
+pub one_none : (pack : Pack) (s : Selection) (a b : Refusal) → NoSet pack s a → NoSet pack s b → a ≡ b
 one_none pack s refusals.NoDevice refusals.NoDevice p q = refl
 one_none pack s refusals.NoDevice refusals.AmbiguousDevice p q = (let e = same_cause pack s resolving.NoDevice resolving.AmbiguousDevice p q no_device several in cc)
 one_none pack s refusals.NoDevice refusals.NoVariant p q = (let e = same_cause pack s resolving.NoDevice resolving.NoVariant p q no_device no_variant in cc)
@@ -129,10 +129,10 @@ no_fault j f e = cc
 reads_as : (bytes : List ℕ) (j : Job) (d : Data) → Describes bytes j → IsTextOf bytes d → job_in d ≡ found j
 reads_as bytes j d p text = ap job_in (one_value bytes d p.0 text p.1) ∙ job_reads.complete p.0 j p.2
 
-one_job : (bytes : List ℕ) (a b : Job) → Describes bytes a → Describes bytes b → a ≡ b
+pub one_job : (bytes : List ℕ) (a b : Job) → Describes bytes a → Describes bytes b → a ≡ b
 one_job bytes a b p q = same_job a b (sym (reads_as bytes a p.0 p p.1) ∙ reads_as bytes b p.0 q p.1)
 
-job_and_none : (bytes : List ℕ) (j : Job) (r : Refusal) → Describes bytes j → NoJob bytes r → ⊥
+pub job_and_none : (bytes : List ℕ) (j : Job) (r : Refusal) → Describes bytes j → NoJob bytes r → ⊥
 job_and_none bytes j refusals.BadJson is none = none is.0 is.1
 job_and_none bytes j (refusals.Job fault) is none = no_fault j fault (sym (reads_as bytes j none.0 is none.1) ∙ none.2)
 job_and_none bytes j refusals.NoDevice is none = none
@@ -140,7 +140,7 @@ job_and_none bytes j refusals.AmbiguousDevice is none = none
 job_and_none bytes j refusals.NoVariant is none = none
 job_and_none bytes j (refusals.Check kind spot) is none = none
 
-one_no_job : (bytes : List ℕ) (a b : Refusal) → NoJob bytes a → NoJob bytes b → a ≡ b
+pub one_no_job : (bytes : List ℕ) (a b : Refusal) → NoJob bytes a → NoJob bytes b → a ≡ b
 one_no_job bytes refusals.BadJson refusals.BadJson p q = refl
 one_no_job bytes refusals.BadJson (refusals.Job fault) p q = absurd (p q.0 q.1)
 one_no_job bytes (refusals.Job fault) refusals.BadJson p q = absurd (q p.0 p.1)

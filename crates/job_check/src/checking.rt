@@ -7,6 +7,8 @@ ghost use Rattle.sequence_resolve.specs.Resolving.{IsEffectiveSet};
 ghost use Rattle.sequence_resolve.specs.declared.entry.SeqSet.{SeqSet};
 ghost use Rattle.seq_check.specs.Valid.{IsValid};
 ghost use Rattle.job_text.specs.Answers.{Describes};
+ghost use Rattle.job_text.specs.Ranges.{AreSettings, AreWatched};
+ghost use Rattle.probe_core.specs.Ranges.{IsBenchJob};
 ghost use Rattle.job_check.specs.declared.answer.Refusal.{Refusal};
 ghost use Rattle.job_check.specs.Answers.{OnRefusal, NoJob, NoSet, NoValid, AreTreesOf, IsAnswer, Gives, AnswersJob};
 
@@ -18,9 +20,12 @@ use seq_check::{CheckFault, check};
 use sequence_resolve::{ResolveFault, Selection, SeqSet, effective};
 use std::alloc::Global;
 
-fn job_in(alloc: Global, bytes: &[u8]) -> Result<Job, CheckRefusal>
+pub(crate) fn job_in(alloc: Global, bytes: &[u8]) -> Result<Job, CheckRefusal>
     ensures found { IfOk result (Describes bytes.now) }
     ensures refused { IfErr result (OnRefusal (NoJob bytes.now)) }
+    ensures settings { IfOk result (λ job. AreSettings job.settings) }
+    ensures watch { IfOk result (λ job. AreWatched job.bench.target.memory job.watch) }
+    ensures ranges { IfOk result (λ job. IsBenchJob job.bench) }
 {
     match job_of(alloc, bytes) {
         Ok(job) => Ok(job),
@@ -39,7 +44,11 @@ fn text_of(name: &Option<NameText>) -> Option<&str>
     }
 }
 
-fn set_in(alloc: Global, pack: &Pack, selection: &Selection) -> Result<SeqSet, CheckRefusal>
+pub(crate) fn set_in(
+    alloc: Global,
+    pack: &Pack,
+    selection: &Selection,
+) -> Result<SeqSet, CheckRefusal>
     ensures set { IfOk result (IsEffectiveSet pack.now selection.now.device selection.now.variant selection.now.pname) }
     ensures refused { IfErr result (OnRefusal (NoSet pack.now selection.now)) }
     ensures distinct { IfOk result (λ set. IsDistinct bytes_eq (map (λ e. e.name) set.entries)) }
@@ -56,7 +65,7 @@ fn set_in(alloc: Global, pack: &Pack, selection: &Selection) -> Result<SeqSet, C
     }
 }
 
-fn checked(alloc: Global, set: SeqSet) -> Result<ValidSet, CheckRefusal>
+pub(crate) fn checked(alloc: Global, set: SeqSet) -> Result<ValidSet, CheckRefusal>
     requires { IsDistinct bytes_eq (map (λ e. e.name) set.entries) }
     ensures same { IfOk result (λ valid. valid.set ≡ set) }
     ensures trees { IfOk result (λ valid. AreTreesOf valid.set valid.trees) }

@@ -4,9 +4,11 @@
 mod answer;
 mod checking;
 pub mod laws;
+mod running;
 
 pub use answer::{CheckRefusal, Refusal, ValidSet};
 pub use checking::valid_set;
+pub use running::{RunRefusal, ValidRun, valid_run};
 
 #[cfg(test)]
 mod tests;

@@ -1,5 +1,5 @@
 //! Each answer once. The texts of many more jobs are tested where they are written, in `check_lines`.
-use crate::{CheckRefusal, Refusal, valid_set};
+use crate::{CheckRefusal, Refusal, RunRefusal, valid_run, valid_set};
 use dap_base::NameText;
 use device_tree::JobFault;
 use seq_check::FaultKind;
@@ -99,5 +99,45 @@ fn a_valid_set(rt: HostRuntime) -> Result<(), Fail> {
     let steps = valid.trees.steps("Main").ok_or("no steps")?;
     assert_eq!(rt; steps.len(), 2);
     assert_eq!(rt; valid.trees.debugvars().len(), 1);
+    Ok(())
+}
+
+// Why no sequence runs.
+fn word_of(refusal: &RunRefusal) -> &'static str {
+    match refusal {
+        RunRefusal::Refused(refusal) => name_of(refusal),
+        RunRefusal::NoSequence => "NoSequence",
+        RunRefusal::OutOfMemory => "OutOfMemory",
+    }
+}
+
+// Why no sequence of the name runs, or that it does.
+fn run_word(alloc: Global, families: &str, name: &str) -> Result<&'static str, Fail> {
+    let job = job_of(alloc, families)?;
+    let selection = selection_of(alloc, false)?;
+    let Err(refusal) = valid_run(alloc, job.as_bytes(), &selection, name) else {
+        return Ok("runs");
+    };
+    Ok(word_of(&refusal))
+}
+
+// A device with a sequence that is valid, and with one that is not.
+const VALID: &str =
+    r#"{"Dfamily":"F","devices":[{"Dname":"D1","sequences":[{"name":"Main","steps":[]},{"name":"Off","disable":true,"steps":[]}]}]}"#;
+
+const FAULTY: &str =
+    r#"{"Dfamily":"F","devices":[{"Dname":"D1","sequences":[{"name":"Main","steps":[{"block":"x;"}]}]}]}"#;
+
+// The name is looked up before the set is checked, and after the device.
+#[test]
+fn runs(rt: HostRuntime) -> Result<(), Fail> {
+    let alloc = rt.alloc();
+    assert_eq!(rt; run_word(alloc, VALID, "Main")?, "runs");
+    assert_eq!(rt; run_word(alloc, VALID, "Off")?, "runs");
+    assert_eq!(rt; run_word(alloc, VALID, "main")?, "NoSequence");
+    assert_eq!(rt; run_word(alloc, FAULTY, "Main")?, "Check UndefinedName");
+    assert_eq!(rt; run_word(alloc, FAULTY, "Other")?, "NoSequence");
+    assert_eq!(rt; run_word(alloc, "", "Main")?, "NoDevice");
+    assert_eq!(rt; run_word(alloc, ",", "Main")?, "BadJson");
     Ok(())
 }

@@ -1,5 +1,5 @@
 //! The lines of sets and faults that are made by hand, and those that no job has.
-use crate::{write_check, write_check_fault, write_not_built, write_too_long, write_usage};
+use crate::{write_check, write_check_fault, write_no_sequence, write_too_long, write_usage};
 use code_check::FaultKind;
 use dap_base::{ItemList, MemorySink, NameText, OutOfMemory, Place};
 use device_tree::{Step, Steps};
@@ -157,11 +157,11 @@ fn lines_without_a_job(rt: HostRuntime) -> Result<(), Fail> {
     let mut sink = MemorySink::new(rt.alloc(), &[4])?;
     assert_eq!(rt; write_usage(&mut sink), Ok(()));
     assert_eq!(rt; write_too_long(&mut sink), Ok(()));
-    assert_eq!(rt; write_not_built(&mut sink), Ok(()));
+    assert_eq!(rt; write_no_sequence(&mut sink), Ok(()));
     let text =
         "usage dapseq MODE [--device NAME] [--variant NAME] [--pname NAME] [--sequence NAME] [--number N]
 refused TooLong
-refused NotBuilt
+refused NoSequence
 ";
     assert_eq!(rt; sink.bytes(), text.as_bytes());
     assert_eq!(rt; write_usage(&mut sink), Err(TextError::Failed));

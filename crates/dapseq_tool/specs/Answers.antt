@@ -1,0 +1,84 @@
+-- What is written besides reports, and the exit statuses.
+use Rattle.std.specs.Prelude.{ℕ, List, [], ◌++◌, codes, decimal, Option, Some, None, Result, Ok, Err}
+use Rattle.access_calls.specs.declared.ended.Ending.{Ending}
+use Rattle.access_calls.specs.declared.ended.Ending.TheVariants as e
+use Rattle.check_lines.specs.CheckLines.{check_text}
+use Rattle.check_lines.specs.RefusalLines.{refusal_line, too_long_line, no_sequence_line, usage_line}
+use Rattle.report_lines.specs.declared.put.TextEnd.{TextEnd}
+use Rattle.report_lines.specs.declared.put.TextEnd.TheVariants as texts
+use Rattle.text_lines.specs.declared.putting.TextError.{TextError}
+use Rattle.text_lines.specs.declared.putting.TextError.TheVariants as errors
+use Rattle.dapseq_tool.specs.declared.asking.Answer.{Answer}
+use Rattle.dapseq_tool.specs.declared.asking.Answer.TheVariants as answers
+use Rattle.dapseq_tool.specs.declared.status.Status.{Status}
+use Rattle.dapseq_tool.specs.declared.status.Status.TheVariants as status
+
+-- the status as the number with which the program ends
+abbrev pub code_of : Status → ℕ
+code_of status.Done = 0
+code_of status.Refused = 1
+code_of status.Usage = 2
+code_of status.Stopped = 3
+code_of status.BenchFault = 4
+code_of status.ReadFault = 5
+code_of status.WriteFault = 6
+code_of status.OutOfMemory = 7
+code_of status.ReplyBad = 8
+
+-- what is written where no sequence runs
+abbrev pub answer_text : Answer → List ℕ
+answer_text answers.Usage = usage_line
+answer_text answers.TooLong = too_long_line
+answer_text answers.NoSequence = no_sequence_line
+answer_text (answers.Refused refusal) = refusal_line refusal
+answer_text (answers.CheckOk set) = check_text set
+
+-- the status where no sequence runs
+abbrev pub answer_status : Answer → Status
+answer_status answers.Usage = status.Usage
+answer_status answers.TooLong = status.Refused
+answer_status answers.NoSequence = status.Refused
+answer_status (answers.Refused refusal) = status.Refused
+answer_status (answers.CheckOk set) = status.Done
+
+-- the status after a run, by how it ended
+abbrev pub run_status : Ending → Status
+run_status e.Done = status.Done
+run_status (e.Halted cause) = status.Stopped
+run_status (e.Cut report) = status.Stopped
+run_status (e.BenchFault issued confirmed) = status.BenchFault
+run_status e.ReplyBad = status.ReplyBad
+run_status e.WriteFault = status.WriteFault
+run_status e.OutOfMemory = status.OutOfMemory
+
+-- the status where a text after a run was not written whole
+abbrev pub text_status : TextEnd → Status
+text_status texts.BenchFault = status.BenchFault
+text_status texts.WriteFault = status.WriteFault
+text_status texts.OutOfMemory = status.OutOfMemory
+
+-- the status where a line was not written
+abbrev pub failed_status : TextError → Status
+failed_status errors.Failed = status.WriteFault
+failed_status errors.OutOfMemory = status.OutOfMemory
+
+-- the status after a run that ended so, by how its text was written
+abbrev pub status_after : Result (Unit {0}) TextEnd → Ending → Status
+status_after (Ok done) ending = run_status ending
+status_after (Err end) ending = text_status end
+
+-- a status that a run can have
+abbrev pub IsRunStatus : Status → Type 0
+IsRunStatus status.Refused = ⊥
+IsRunStatus status.Usage = ⊥
+IsRunStatus status.ReadFault = ⊥
+IsRunStatus other = Unit {0}
+
+-- the line that stands first where a job is made of a number
+abbrev pub head_text : Option ℕ → List ℕ
+head_text None = []
+head_text (Some n) = codes "gen " ++ decimal n ++ codes "\n"
+
+-- what is written where the source failed
+abbrev pub fault_text : List ℕ
+fault_text = codes "end readfault\n"

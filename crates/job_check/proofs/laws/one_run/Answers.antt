@@ -1,0 +1,9 @@
+use Rattle.job_check.proofs.OneRun as one
+use Rattle.job_check.proofs.laws.one_run.Goals as goal
+
+pub returns : goal.returns
+returns c = record {
+  run = λ bytes selection name x y p q. one.one_run bytes selection name x y p q;
+  refusal = λ bytes selection name x y p q. one.one_refusal bytes selection name x y p q;
+  either = λ bytes selection name x y p q. one.run_or_refusal bytes selection name x y p q;
+}

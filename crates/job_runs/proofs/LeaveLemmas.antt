@@ -1,0 +1,212 @@
+-- What an access and a run over it report together is what a run leaves.
+use Rattle.std.proofs.Common.{◌≡◌, ◌∙◌, ℕ, List, Bool, true, false, Option, None, Some, refl, sym, ap, subst}
+use Rattle.target_machine.specs.State.{Agree, TargetState}
+use Rattle.probe_core.specs.Bench.{BenchState, Seen, StepsTo, fresh}
+use Rattle.probe_core.specs.Probe.{target_of}
+use Rattle.probe_core.specs.declared.job.BenchJob.{BenchJob}
+use Rattle.call_terms.specs.Asks.{is_settled, settled_last}
+use Rattle.call_terms.specs.Journal.{Entry}
+use Rattle.call_terms.specs.World.{start_world, world_after}
+use Rattle.call_terms.specs.declared.calls.Ask.{Ask}
+use Rattle.call_terms.proofs.MarkLemmas.{after_marked, marked_settled}
+use Rattle.access_calls.specs.Left.{answered_at, answered_by, answered_cut}
+use Rattle.access_calls.specs.Numbers.{HasNumbers}
+use Rattle.access_calls.specs.Reported.{Reported, began, world_from}
+use Rattle.access_calls.specs.Standing as s
+use Rattle.access_calls.specs.Standing.{Stands, StandsAt, WhereObservable, HasPerformed, IsOpen}
+use Rattle.access_calls.specs.declared.ended.Ended.{Ended}
+use Rattle.access_calls.specs.declared.ended.Ending.{Ending}
+use Rattle.access_calls.specs.declared.ended.Ending.TheVariants as e
+use Rattle.access_calls.specs.declared.stop.Report.{Report}
+use Rattle.access_calls.specs.declared.stop.Stop.{Stop}
+use Rattle.access_calls.specs.declared.stop.Stop.TheVariants as stop
+use Rattle.access_calls.specs.declared.stop.StopCause.{StopCause}
+use Rattle.access_calls.specs.declared.stop.StopCause.TheVariants.{Faulted, NoAnswer}
+use Rattle.sequence_terms.specs.Runs.{Program, Outcome, meaning, outcome, outcome_of}
+use Rattle.sequence_terms.proofs.Made.{are_made}
+use Rattle.control_flow.specs.Answers.{EndBy, EndsAs, IsAll, IsCut, IsPart, Ran, ran}
+use Rattle.late_calls.specs.Held.{Knows, known_part}
+use Rattle.job_runs.specs.Runs.{ComesTo, HasStopped, IsBroken, IsFaultStop, IsLeftOff, IsNotOpened, IsRetryStop, IsStop, IsUnopened, IsWhole, Left, LeavesAs, Run, known_after, not_opened, opened, outcome_with}
+use Rattle.job_runs.specs.Ends.{ending_of}
+use Rattle.bench_access.specs.Opening.{IsLoaded, IsNotBegun, IsOpened, RefusedBy}
+
+-- what an access reports at this end, where its bench is observable
+stands_at : (journal : TargetState → List Ask → List Entry) (a : Reported) (first n : BenchState) (end : Option Stop) → a.end ≡ end → a.state ≡ Some n
+    → Stands journal a (began first (answered_by a)) → StandsAt end (journal (target_of first.probe) a.asks.calls) a (began first (answered_at end a.lines)) n
+stands_at journal a first n end is seen h =
+    subst (λ (x : Option Stop). StandsAt x (journal (target_of first.probe) a.asks.calls) a (began first (answered_at x a.lines)) n) is
+    (subst (λ (o : Option BenchState). WhereObservable o (λ m. StandsAt a.end (journal (target_of first.probe) a.asks.calls) a (began first (answered_by a)) m)) seen h)
+
+-- what a run answers at this end
+ends_at : (ending : Ending) (p : Program) (a : Reported) (first : BenchState) (before : Option (List ℕ)) (r : Ran) (end : Option Stop) → a.end ≡ end
+    → EndsAs ending a.lines (outcome_of (meaning (world_from first (answered_by a)) p before)) r
+    → EndsAs ending a.lines (outcome_of (meaning (world_from first (answered_at end a.lines)) p before)) r
+ends_at ending p a first before r end is h =
+    subst (λ (x : Option Stop). EndsAs ending a.lines (outcome_of (meaning (world_from first (answered_at x a.lines)) p before)) r) is h
+
+module _ (journal : TargetState → List Ask → List Entry) (p : Program) (first : BenchState) (before : Option (List ℕ)) where
+  abbrev run : Run
+  run = record { journal = journal; program = p; first = first; before = before }
+
+  abbrev entries : Reported → List Entry
+  entries a = journal (target_of first.probe) a.asks.calls
+
+  abbrev whole : Outcome
+  whole = outcome p (target_of first.probe) before
+
+  -- the target after all calls, the last of them marked
+  settled_target : (calls : List Ask) → calls ≡ settled_last whole.calls → (world_after (start_world (target_of first.probe) None) calls).target ≡ whole.target
+  settled_target calls is =
+      let w = start_world (target_of first.probe) None in
+      ap (λ (c : List Ask). (world_after w c).target) is ∙ ap (λ x. x.target) (after_marked w whole.calls) ∙ sym (are_made w p before).made.target
+
+  is_whole : (a : Reported) (l : Left) → IsAll whole (ran l.ended a.asks l.written) → IsOpen (entries a) a (began first None) l.bench → IsWhole run l
+  is_whole a l all at = record {
+    variables = all.variables;
+    units = all.units;
+    skipped = all.skipped;
+    written = all.written;
+    target = subst (λ (t : TargetState). Agree (target_of l.bench.probe) t) (settled_target a.asks.calls all.calls)
+        (at.settled (subst (λ (c : List Ask). is_settled c ≡ true) (sym all.calls) (marked_settled whole.calls)));
+    retries = at.retries;
+  }
+
+  is_left_off : (a : Reported) (l : Left) → IsPart whole (ran l.ended a.asks l.written) → IsOpen (entries a) a (began first None) l.bench → IsLeftOff run l
+  is_left_off a l part at = record {
+    asked = a.asks.calls;
+    sent = a.confirmed;
+    front = record { written = part.written; calls = part.calls };
+    performed = at.performed;
+    retries = at.retries;
+  }
+
+  is_broken : (issued confirmed : ℕ) (a : Reported) (l : Left) → IsPart whole (ran l.ended a.asks l.written)
+      → s.IsBenchFault (entries a) issued confirmed (began first None) l.bench → IsBroken run issued confirmed l
+  is_broken issued confirmed a l part fault = record {
+    asked = a.asks.calls;
+    front = record { written = part.written; calls = part.calls };
+    stands = fault;
+  }
+
+  has_stopped : (answered : Option ℕ) (o : Outcome) (a : Reported) (r : Report) (l : Left) → IsCut r.cause a.lines o (ran l.ended a.asks l.written) → l.ended.skipped ≡ a.skipped
+      → HasNumbers (entries a) a.asks.calls a.skipped a.lines r → HasPerformed (entries a) r.accesses (began first answered) l.bench
+      → HasStopped run answered o a.asks.calls a.lines r l
+  has_stopped answered o a r l cut skipped numbers performed = record {
+    stops = cut.stops;
+    written = cut.written;
+    calls = cut.calls;
+    numbers = subst (λ (n : ℕ). HasNumbers (entries a) a.asks.calls n a.lines r) (sym skipped) numbers;
+    performed = performed;
+  }
+
+  is_fault_stop : (a : Reported) (r : Report) (l : Left) → IsCut r.cause a.lines whole (ran l.ended a.asks l.written) → l.ended.skipped ≡ a.skipped
+      → s.IsFaulted (entries a) r a (began first None) l.bench → IsFaultStop run r l
+  is_fault_stop a r l cut skipped at = record {
+    asked = a.asks.calls;
+    lines = a.lines;
+    stopped = has_stopped None whole a r l cut skipped at.numbers at.performed;
+    fault = at.first;
+    confirmed = at.confirmed;
+    retries = at.retries;
+  }
+
+  is_retry_stop : (a : Reported) (r : Report) (l : Left) → IsCut r.cause a.lines (outcome_with run a.lines) (ran l.ended a.asks l.written) → l.ended.skipped ≡ a.skipped
+      → s.IsUnanswered (entries a) r a (began first (Some a.lines)) l.bench → IsRetryStop run r l
+  is_retry_stop a r l cut skipped at = record {
+    asked = a.asks.calls;
+    lines = a.lines;
+    stopped = has_stopped (Some a.lines) (outcome_with run a.lines) a r l cut skipped at.numbers at.performed;
+    confirmed = at.confirmed;
+    retries = at.retries;
+    number = at.number;
+  }
+
+  -- by the cause
+  is_stop : (cause : StopCause) (a : Reported) (r : Report) (l : Left) → cause ≡ r.cause
+      → IsCut r.cause a.lines (outcome_of (meaning (world_from first (answered_cut cause a.lines)) p before)) (ran l.ended a.asks l.written) → l.ended.skipped ≡ a.skipped
+      → s.IsCut cause (entries a) r a (began first (answered_cut cause a.lines)) l.bench → IsStop cause run r l
+  is_stop Faulted a r l is cut skipped at = is_fault_stop a r l cut skipped at
+  is_stop NoAnswer a r l is cut skipped at = is_retry_stop a r l cut skipped at
+
+  -- What a run leaves, by how it ended.
+  pub leaves : (ending : Ending) (a : Reported) (l : Left) → EndBy ending a.end → l.ended.skipped ≡ a.skipped → a.state ≡ Some l.bench
+      → EndsAs ending a.lines (outcome_of (meaning (world_from first (answered_by a)) p before)) (ran l.ended a.asks l.written)
+      → Stands journal a (began first (answered_by a)) → LeavesAs ending run l
+  leaves e.Done a l end skipped seen ends stands =
+      let so = ends_at e.Done p a first before (ran l.ended a.asks l.written) None end ends in
+      (so.0, is_whole a l so.1 (stands_at journal a first l.bench None end seen stands))
+  leaves (e.Halted cause) a l end skipped seen ends stands =
+      let so = ends_at (e.Halted cause) p a first before (ran l.ended a.asks l.written) None end ends in
+      (so.0, is_whole a l so.1 (stands_at journal a first l.bench None end seen stands))
+  leaves (e.Cut r) a l end skipped seen ends stands =
+      is_stop r.cause a r l refl (ends_at (e.Cut r) p a first before (ran l.ended a.asks l.written) (Some (stop.Cut r)) end ends) skipped
+      (stands_at journal a first l.bench (Some (stop.Cut r)) end seen stands)
+  leaves (e.BenchFault issued confirmed) a l end skipped seen ends stands =
+      is_broken issued confirmed a l (ends_at (e.BenchFault issued confirmed) p a first before (ran l.ended a.asks l.written) (Some (stop.BenchFault issued confirmed)) end ends)
+      (stands_at journal a first l.bench (Some (stop.BenchFault issued confirmed)) end seen stands)
+  leaves e.ReplyBad a l end skipped seen ends stands = stands_at journal a first l.bench (Some stop.ReplyBad) end seen stands
+  leaves e.WriteFault a l end skipped seen ends stands =
+      is_left_off a l (ends_at e.WriteFault p a first before (ran l.ended a.asks l.written) None end ends) (stands_at journal a first l.bench None end seen stands)
+  leaves e.OutOfMemory a l end skipped seen ends stands =
+      is_left_off a l (ends_at e.OutOfMemory p a first before (ran l.ended a.asks l.written) None end ends) (stands_at journal a first l.bench None end seen stands)
+
+-- what was known before is known, or nothing is
+pub known_by : (old new : Option (List ℕ)) → (known : Bool) × Knows known old × (known_part known old ≡ old) × (known_part known new ≡ known_after old new)
+known_by None new = (false, tt, refl, refl)
+known_by (Some old) new = (true, refl, refl, refl)
+
+-- an observable bench stays so
+pub still_seen : (step : BenchState → BenchState → Type 0) (m : BenchState) (old new : Option BenchState) → old ≡ Some m → StepsTo step old new → (n : BenchState) × (new ≡ Some n) × step m n
+still_seen step m old new is goes = by_new new (subst (λ (o : Option BenchState). StepsTo step o new) is goes)
+  where
+    by_new : (o : Option BenchState) → StepsTo step (Some m) o → (n : BenchState) × (o ≡ Some n) × step m n
+    by_new None h = absurd h
+    by_new (Some n) h = (n, refl, h)
+
+unopened : (s : Stop) (old new : Seen) (sent got : List ℕ) (job : BenchJob) → IsLoaded job old.state → RefusedBy s old new sent got → IsUnopened (ending_of s)
+unopened (stop.Cut r) old new sent got job is h = absurd h
+unopened (stop.BenchFault issued confirmed) old new sent got job is h = (h.0, h.1)
+unopened stop.ReplyBad old new sent got job is h = absurd (h.2 job is)
+unopened stop.OutOfMemory old new sent got job is h = tt
+
+-- an access that did not begin
+pub not_begun : (journal : TargetState → List Ask → List Entry) (job : BenchJob) (p : Program) (before : Option (List ℕ)) (s : Stop) (old new : Seen) (sent got : List ℕ) (ended : Ended) (after : Option (List ℕ))
+    → IsLoaded job old.state → IsNotBegun old new s sent got → ended.ending ≡ ending_of s → after ≡ before
+    → (n : BenchState) × (new.state ≡ Some n) × ComesTo journal job p before (record { ended = ended; written = after; bench = n })
+not_begun journal job p before s old new sent got ended after loaded h ending same =
+    let seen = still_seen (λ m n. Agree (target_of n.probe) (target_of m.probe)) (fresh job) old.state new.state loaded.is (h.target job loaded) in
+    let so : IsNotOpened job before (record { ended = ended; written = after; bench = seen.0 }) = record {
+      ending = subst (λ (x : Ending). IsUnopened x) (sym ending) (unopened s old new sent got job loaded h.cause);
+      written = same;
+      target = seen.2;
+    } in
+    (seen.0, seen.1, not_opened so)
+
+-- an access that is known to stand somewhere has an observable bench
+where_seen : (o : Option BenchState) (P : BenchState → Type 0) → WhereObservable o P → (n : BenchState) × (o ≡ Some n)
+where_seen None P h = absurd h
+where_seen (Some n) P h = (n, refl)
+
+-- what a run answers, by what was known before
+abbrev EndsOf : Program → BenchState → Reported → Ended → Option (List ℕ) → Option (List ℕ) → Type 0
+EndsOf p first a ended before after = EndsAs ended.ending a.lines (outcome_of (meaning (world_from first (answered_by a)) p before)) (ran ended a.asks after)
+
+-- a run over an access that began
+pub opened_run : (journal : TargetState → List Ask → List Entry) (job : BenchJob) (p : Program) (before mid : Option (List ℕ)) (a : Reported) (ended : Ended)
+    → ((first : BenchState) × IsOpened job first × Stands journal a (began first (answered_by a))
+    × ((known : Bool) → Knows known before → EndsOf p first a ended (known_part known before) (known_part known mid)))
+    → EndBy ended.ending a.end → ended.skipped ≡ a.skipped
+    → (n : BenchState) × (a.state ≡ Some n) × ComesTo journal job p before (record { ended = ended; written = known_after before mid; bench = n })
+opened_run journal job p before mid a ended h end skipped =
+    let first : BenchState = h.0 in
+    let seen = where_seen a.state (λ m. StandsAt a.end (journal (target_of first.probe) a.asks.calls) a (began first (answered_by a)) m) h.2 in
+    let known = known_by before mid in
+    let ends : EndsOf p first a ended before (known_after before mid) =
+    subst (λ (x : Option (List ℕ)). EndsOf p first a ended before x) known.3
+    (subst (λ (x : Option (List ℕ)). EndsOf p first a ended x (known_part known.0 mid)) known.2 (h.3 known.0 known.1)) in
+    (seen.0, seen.1, opened first h.1 (leaves journal p first before ended.ending a (record { ended = ended; written = known_after before mid; bench = seen.0 }) end skipped seen.1 ends h.2))
+
+-- nothing was written
+pub nothing_written : (w : Option (List ℕ)) → known_after w w ≡ w
+nothing_written None = refl
+nothing_written (Some xs) = refl

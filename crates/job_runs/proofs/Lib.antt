@@ -1,0 +1,4 @@
+pub mod EndLemmas
+pub mod LeaveLemmas
+pub mod TextLemmas
+pub mod MeantLemmas

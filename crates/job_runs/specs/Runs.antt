@@ -1,0 +1,172 @@
+-- What a run of a job leaves.
+use Rattle.std.specs.Prelude.{◌≡◌, ℕ, ◌+◌, ◌*◌, ◌≤◌, List, take, Option, Some, None}
+use Rattle.target_machine.specs.Start.{start}
+use Rattle.target_machine.specs.State.{Agree, TargetState}
+use Rattle.probe_core.specs.Bench.{BenchState}
+use Rattle.probe_core.specs.Probe.{ended_retries_of, target_of}
+use Rattle.probe_core.specs.declared.job.BenchJob.{BenchJob}
+use Rattle.call_terms.specs.Journal.{Entry, first_fault, one_if}
+use Rattle.call_terms.specs.Weights.{commands_in}
+use Rattle.call_terms.specs.declared.calls.Ask.{Ask}
+use Rattle.access_calls.specs.Numbers.{HasNumbers}
+use Rattle.access_calls.specs.Reported.{began}
+use Rattle.access_calls.specs.Standing.{HasPerformed, IsBenchFault, grown_since, number_of, pending_of}
+use Rattle.access_calls.specs.declared.ended.Ended.{Ended}
+use Rattle.access_calls.specs.declared.ended.Ending.{Ending}
+use Rattle.access_calls.specs.declared.ended.Ending.TheVariants as e
+use Rattle.access_calls.specs.declared.stop.Report.{Report}
+use Rattle.access_calls.specs.declared.stop.StopCause.{StopCause}
+use Rattle.access_calls.specs.declared.stop.StopCause.TheVariants.{Faulted, NoAnswer}
+use Rattle.control_flow.specs.Answers.{SharesCalls, StopsAfter, program_of, variables_of}
+use Rattle.job_check.specs.declared.running.ValidRun.{ValidRun}
+use Rattle.bench_access.specs.Opening.{IsOpened}
+use Rattle.sequence_terms.specs.Late.{Grows}
+use Rattle.sequence_terms.specs.Runs as runs
+use Rattle.sequence_terms.specs.Runs.{Outcome, Program, outcome, outcome_within, units_of}
+
+-- ---- what is run, and what it leaves
+
+-- A run: the journal of its access, its program, the state of its bench where the access began, and what was written before,
+-- where that is known.
+pub record Run : Type 0 where
+  pub journal : TargetState → List Ask → List Entry
+  pub program : Program
+  pub first : BenchState
+  pub before : Option (List ℕ)
+
+-- What a run left: its answer, what is written, where that is known, and the state of the bench.
+pub record Left : Type 0 where
+  pub ended : Ended
+  pub written : Option (List ℕ)
+  pub bench : BenchState
+
+-- the program of a job and a sequence
+abbrev pub program_in : ValidRun → List ℕ → Program
+program_in r sequence = program_of r.trees sequence r.job.settings
+
+-- what is written, where it was known before
+abbrev pub known_after : Option (List ℕ) → Option (List ℕ) → Option (List ℕ)
+known_after None new = None
+known_after (Some old) new = new
+
+-- the target on which a run begins
+abbrev pub target_in : Run → TargetState
+target_in run = target_of run.first.probe
+
+-- what the run means: each unit made alone and at once, and all are answered
+abbrev pub outcome_in : Run → Outcome
+outcome_in run = outcome run.program (target_in run) run.before
+
+-- the same where only so many units are answered
+abbrev pub outcome_with : Run → ℕ → Outcome
+outcome_with run m = outcome_within m run.program (target_in run) run.before
+
+-- the journal of the calls that were asked
+abbrev pub entries_in : Run → List Ask → List Entry
+entries_in run asked = run.journal (target_in run) asked
+
+-- no retry ended
+abbrev pub NoneEnded : Run → Left → Type 0
+NoneEnded run l = ended_retries_of l.bench.probe ≡ ended_retries_of run.first.probe
+
+-- ---- done or halted
+
+-- The run came to the end of what it means: with the same variables, units, skipped units and lines, and the target agrees.
+pub record IsWhole (run : Run) (l : Left) : Type 0 where
+  pub variables : variables_of l.ended.variables ≡ (outcome_in run).variables
+  pub units : l.ended.units ≡ units_of (outcome_in run)
+  pub skipped : l.ended.skipped ≡ (outcome_in run).skipped
+  pub written : l.written ≡ (outcome_in run).written
+  pub target : Agree (target_of l.bench.probe) (outcome_in run).target
+  pub retries : NoneEnded run l
+
+-- ---- stopped by the target or the probe
+
+-- The numbers of the report are those of a stop in the journal of the calls that were asked: exactly its accesses were performed,
+-- the target agrees with the one after them, and `lines` units have their lines before the stop, which are written. The calls that
+-- were asked and those of the outcome both come first in one list.
+pub record HasStopped (run : Run) (answered : Option ℕ) (o : Outcome) (asked : List Ask) (lines : ℕ) (r : Report) (l : Left) : Type 0 where
+  pub stops : StopsAfter r.cause lines o
+  pub written : l.written ≡ o.written
+  pub calls : SharesCalls asked o.calls
+  pub numbers : HasNumbers (entries_in run asked) asked l.ended.skipped lines r
+  pub performed : HasPerformed (entries_in run asked) r.accesses (began run.first answered) l.bench
+
+-- At a fault: the outcome ends at a fault of the next unit, and the last performed access is the first that gives a fault which
+-- its unit does not forgive. No retry ended.
+pub record IsFaultStop (run : Run) (r : Report) (l : Left) : Type 0 where
+  pub asked : List Ask
+  pub lines : ℕ
+  pub stopped : HasStopped run None (outcome_in run) asked lines r l
+  pub fault : first_fault (target_in run) (entries_in run asked) ≡ Some r.accesses
+  pub confirmed : r.accesses ≡ r.confirmed + 1
+  pub retries : NoneEnded run l
+
+-- Where a retry ended: the outcome is the one with so many units answered. The performed accesses are confirmed, except the last
+-- where a read was outstanding or a write unchecked. Just one retry ended, and the transfer that it ended is one of the run's.
+pub record IsRetryStop (run : Run) (r : Report) (l : Left) : Type 0 where
+  pub asked : List Ask
+  pub lines : ℕ
+  pub stopped : HasStopped run (Some lines) (outcome_with run lines) asked lines r l
+  pub confirmed : r.accesses ≡ r.confirmed + one_if (pending_of l.bench)
+  pub retries : ended_retries_of l.bench.probe ≡ ended_retries_of run.first.probe + 1
+  pub number : number_of l.bench + 2 * commands_in (take r.accesses (entries_in run asked))
+      ≤ number_of run.first + 2 * grown_since (began run.first (Some lines)) l.bench + 1
+
+-- by the cause
+abbrev pub IsStop : StopCause → Run → Report → Left → Type 0
+IsStop Faulted run r l = IsFaultStop run r l
+IsStop NoAnswer run r l = IsRetryStop run r l
+
+-- ---- left off
+
+-- What was written comes first in the lines of the outcome, and the calls that were asked and the outcome's both come first in one
+-- list.
+pub record IsFront (run : Run) (asked : List Ask) (l : Left) : Type 0 where
+  pub written : Grows l.written (outcome_in run).written
+  pub calls : SharesCalls asked (outcome_in run).calls
+
+-- Where the bench failed: at least the confirmed entries were performed and at most those that were issued, and perhaps a part of
+-- the next.
+pub record IsBroken (run : Run) (issued confirmed : ℕ) (l : Left) : Type 0 where
+  pub asked : List Ask
+  pub front : IsFront run asked l
+  pub stands : IsBenchFault (entries_in run asked) issued confirmed (began run.first None) l.bench
+
+-- Where the sink failed or memory was refused: exactly the entries that were sent were performed.
+pub record IsLeftOff (run : Run) (l : Left) : Type 0 where
+  pub asked : List Ask
+  pub sent : ℕ
+  pub front : IsFront run asked l
+  pub performed : HasPerformed (entries_in run asked) sent (began run.first None) l.bench
+  pub retries : NoneEnded run l
+
+-- ---- together
+
+-- What a run leaves, by how it ended. An observable bench gives no bad reply.
+abbrev pub LeavesAs : Ending → Run → Left → Type 0
+LeavesAs e.Done run l = ((outcome_in run).ending ≡ runs.Done) × IsWhole run l
+LeavesAs (e.Halted cause) run l = ((outcome_in run).ending ≡ runs.Halted cause) × IsWhole run l
+LeavesAs (e.Cut r) run l = IsStop r.cause run r l
+LeavesAs (e.BenchFault issued confirmed) run l = IsBroken run issued confirmed l
+LeavesAs e.ReplyBad run l = ⊥
+LeavesAs e.WriteFault run l = IsLeftOff run l
+LeavesAs e.OutOfMemory run l = IsLeftOff run l
+
+-- the access did not begin because the bench failed or memory was refused
+abbrev pub IsUnopened : Ending → Type 0
+IsUnopened (e.BenchFault issued confirmed) = (issued ≡ 0) × (confirmed ≡ 0)
+IsUnopened e.OutOfMemory = Unit {0}
+IsUnopened other = ⊥
+
+-- The access did not begin: nothing was written, and the target is the one after the load.
+pub record IsNotOpened (job : BenchJob) (before : Option (List ℕ)) (l : Left) : Type 0 where
+  pub ending : IsUnopened l.ended.ending
+  pub written : l.written ≡ before
+  pub target : Agree (target_of l.bench.probe) (start job.target)
+
+-- What a run of a job comes to over a bench that was just loaded with it.
+pub data ComesTo (journal : TargetState → List Ask → List Entry) (job : BenchJob) (p : Program) (before : Option (List ℕ)) (l : Left) : Type 0 where
+  not_opened : IsNotOpened job before l → ComesTo journal job p before l
+  opened : (first : BenchState) → IsOpened job first
+      → LeavesAs l.ended.ending (record { journal = journal; program = p; first = first; before = before }) l → ComesTo journal job p before l

@@ -1,0 +1,12 @@
+//! Runs of a job over a bench, by any access.
+#![tactic(auto)]
+
+mod kept;
+pub mod laws;
+mod ranges;
+mod running;
+mod writing;
+
+pub use kept::Kept;
+pub use running::{Ran, run_on};
+pub use writing::write_run;

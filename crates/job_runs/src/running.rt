@@ -1,0 +1,137 @@
+//! A run of a job over a bench.
+ghost use Rattle.std.specs.Prelude.{◌≡◌, ◌≤◌, ℕ, List, Some, take};
+ghost use Rattle.job_text.specs.Ranges.{AreSettings};
+ghost use Rattle.probe_core.specs.Bench.{BenchState, fresh, seen};
+ghost use Rattle.probe_core.specs.Ranges.{IsBenchJob};
+ghost use Rattle.access_calls.specs.declared.ended.Ending.TheVariants as ends;
+ghost use Rattle.control_flow.specs.Answers.{HasSinkCause, variables_of};
+ghost use Rattle.job_runs.specs.Ends.{HasBenchCause, ending_of};
+ghost use Rattle.bench_access.specs.Opening.{GoesOnTo, HasBadReply, IsIdle};
+ghost use Rattle.job_runs.specs.Runs.{ComesTo, known_after, program_in};
+
+use crate::kept::Kept;
+use crate::ranges::numbers_fit;
+use access_calls::{Ended, Ending, NotBegun, Stop};
+use bench_access::OverBench;
+use control_flow::run;
+use dap_base::Sink;
+use job_check::ValidRun;
+use probe_core::{Bench, Config};
+use std::alloc::Global;
+use target_machine::{Settings, Variables};
+
+/// A run that has ended, and its bench.
+#[derive(Drop)]
+pub struct Ran<B> {
+    /// How it ended.
+    pub ended: Ended,
+    /// At `ReplyBad` the packet that the bad reply answers.
+    pub sent: Kept,
+    /// At `ReplyBad` the bad reply.
+    pub got: Kept,
+    /// The bench as the calls left it.
+    pub bench: B,
+}
+
+// What the settings of a run say of the probe.
+fn config_of(settings: &Settings) -> Config {
+    Config {
+        idle: settings.idle,
+        retry: settings.retry,
+    }
+}
+
+// How a run ends whose access did not begin.
+fn ending_of(stop: Stop) -> Ending
+    ensures { result ≡ ending_of stop }
+{
+    match stop {
+        Stop::Cut(report) => Ending::Cut(report),
+        Stop::BenchFault { issued, confirmed } => Ending::BenchFault { issued, confirmed },
+        Stop::ReplyBad => Ending::ReplyBad,
+        Stop::OutOfMemory => Ending::OutOfMemory,
+    }
+}
+
+// A run whose access did not begin.
+fn not_begun<B: Bench>(alloc: Global, refused: NotBegun<B>) -> Ran<B>
+    requires sent { refused.sent_length ≤ 1024 }
+    requires got { refused.got_length ≤ 1024 }
+    ensures ending { result.ended.ending ≡ ending_of refused.stop }
+    ensures sent { result.sent ≡ take refused.sent_length refused.sent }
+    ensures got { result.got ≡ take refused.got_length refused.got }
+    ensures bench { result.bench ≡ refused.bench }
+{
+    let NotBegun {
+        bench,
+        stop,
+        sent,
+        sent_length,
+        got,
+        got_length,
+    } = refused;
+    Ran {
+        ended: Ended {
+            ending: ending_of(stop),
+            units: 0,
+            skipped: 0,
+            variables: Variables::new(alloc),
+        },
+        sent: Kept::new(&sent[..sent_length as usize]),
+        got: Kept::new(&got[..got_length as usize]),
+        bench,
+    }
+}
+
+/// Runs a sequence of a job over its bench, which was just loaded: the access is begun, and hands the
+/// bench back in the end. The lines of the run are written to the sink.
+///
+/// At `ReplyBad` the packet and the bad reply are answered. A run whose access did not begin ends with
+/// `BenchFault` and no entries, with `ReplyBad`, or with `OutOfMemory`.
+pub fn run_on<B: Bench, K: Sink, A: OverBench<B>>(
+    alloc: Global,
+    run_of: &ValidRun,
+    sequence: &str,
+    bench: B,
+    sink: &mut K,
+) -> Ran<B>
+    requires idle { IsIdle (B.reported bench) }
+    requires limits { run_of.now.job.bench.limits ≡ (B.reported bench).limits }
+    requires settings { AreSettings run_of.now.job.settings }
+    requires job { IsBenchJob run_of.now.job.bench }
+    // What it comes to over an observable bench that was just loaded.
+    ensures run { B.state bench ≡ Some (fresh run_of.now.job.bench)
+        → (n : BenchState) × (B.state result.bench ≡ Some n)
+        × ComesTo A.Access.journal run_of.now.job.bench (program_in run_of.now sequence.now) (K.written sink.old)
+        (record { ended = result.ended; written = known_after (K.written sink.old) (K.written sink.new); bench = n }) }
+    // What becomes of any bench.
+    ensures goes { GoesOnTo (seen B.reported B.state bench) (B.reported result.bench) (B.state result.bench) }
+    ensures identity { B.identity result.bench ≡ B.identity bench }
+    // Each fault has its cause.
+    ensures bench { HasBenchCause result.ended.ending (B.reported bench).faults (B.reported result.bench).faults }
+    ensures sink { HasSinkCause result.ended.ending (K.faults sink.old) (K.faults sink.new) }
+    ensures bad { result.ended.ending ≡ ends.ReplyBad → HasBadReply (B.reported bench) (B.reported result.bench) result.sent result.got }
+{
+    numbers_fit(&run_of.job.bench.target);
+    match A::begin(
+        alloc,
+        bench,
+        config_of(&run_of.job.settings),
+        run_of.job.bench.limits,
+    ) {
+        Ok(mut access) => {
+            let settings = &run_of.job.settings;
+            let ended = run(alloc, &run_of.trees, sequence, settings, &mut access, sink);
+            let sent = Kept::new(access.sent());
+            let got = Kept::new(access.got());
+            let bench = access.into_bench();
+            Ran {
+                ended,
+                sent,
+                got,
+                bench,
+            }
+        }
+        Err(refused) => not_begun(alloc, refused),
+    }
+}
