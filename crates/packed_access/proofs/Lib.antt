@@ -46,3 +46,5 @@ pub mod FormLemmas
 pub mod OverLemmas
 pub mod OnceLemmas
 pub mod TurnLemmas
+pub mod SparingLemmas
+pub mod PacketLemmas

@@ -174,3 +174,7 @@ closed_whole None log = (refl, refl)
 pub closed_asks : (word : Option ℕ) (log : LogState) → asks_of (closed word log) ≡ asks_of log
 closed_asks (Some v) log = refl
 closed_asks None log = refl
+
+pub closed_known : (word : Option ℕ) (log : LogState) → (closed word log).known ≡ length log.calls
+closed_known (Some v) log = refl
+closed_known None log = refl

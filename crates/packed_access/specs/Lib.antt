@@ -11,3 +11,4 @@ pub mod Stands
 pub mod Planned
 pub mod Wires
 pub mod Opening
+pub mod Sparing

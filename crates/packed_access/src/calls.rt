@@ -9,6 +9,7 @@ ghost use Rattle.access_calls.specs.GoesOn.{GoesOn};
 ghost use Rattle.access_calls.specs.Left.{IsLeft};
 ghost use Rattle.packed_access.specs.Settling.{CanSettle};
 ghost use Rattle.packed_access.specs.Begun.{HasAsked, HasBegun, HasEnded, StopsThere};
+ghost use Rattle.packed_access.specs.Sparing.{HasPaid};
 ghost use Rattle.packed_access.specs.Logs.{asks_of, most_entries, reported_by};
 ghost use Rattle.packed_access.specs.Settling.{CanSettle};
 ghost use Rattle.call_terms.specs.World.{small_now, start_world};
@@ -90,6 +91,9 @@ impl<F: Flights> Sender<F> {
         requires bounded { length self.old.log.entries + most_entries ≤ most_entries * length self.old.log.calls }
         ensures on { (m0 : BenchState) (calls : List Ask) (ask : Ask) → ask ≡ unit_ask unit.now forgive → HasAsked (F.state self.old.flights) self.old.log (F.accesses self.old.flights) self.old.managed calls ask m0
             → OnOk result (HasBegun (F.reported self.new.flights) (F.state self.new.flights) self.new.log (F.packet self.new.flights) (F.reply self.new.flights) self.new.managed (F.accesses self.new.flights) m0) }
+        ensures spare { (m0 : BenchState) (calls : List Ask) (ask : Ask) (left : ℕ) → ask ≡ unit_ask unit.now forgive → HasAsked (F.state self.old.flights) self.old.log (F.accesses self.old.flights) self.old.managed calls ask m0
+            → HasPaid (F.limits self.old.flights) (F.reported self.old.flights).limits (F.state self.old.flights) self.old.log left m0
+            → OnOk result (HasPaid (F.limits self.new.flights) (F.reported self.new.flights).limits (F.state self.new.flights) self.new.log left m0) }
         ensures small { (m0 : BenchState) (calls : List Ask) (ask : Ask) → ask ≡ unit_ask unit.now forgive → HasAsked (F.state self.old.flights) self.old.log (F.accesses self.old.flights) self.old.managed calls ask m0
             → IfOk result (λ small. small ≡ small_now (start_world (target_of m0.probe) None) calls ask) }
         ensures needs { (m0 : BenchState) (calls : List Ask) (ask : Ask) → ask ≡ unit_ask unit.now forgive → HasAsked (F.state self.old.flights) self.old.log (F.accesses self.old.flights) self.old.managed calls ask m0

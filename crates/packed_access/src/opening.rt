@@ -12,6 +12,7 @@ ghost use Rattle.packed_access.specs.Begun.{HasBegun};
 ghost use Rattle.packed_access.specs.Flown.{BenchGoesOn, HasEndCause};
 ghost use Rattle.packed_access.specs.Logs.{nothing_logged};
 ghost use Rattle.packed_access.specs.Opening.{HasOpened, HasTried, IsRefusal, IsStopFor, LeftOpen, MayBegin};
+ghost use Rattle.packed_access.specs.Sparing.{HasPaid};
 ghost use Rattle.packed_access.specs.Wires.{IsNoCut};
 
 use crate::access::PackedAccess;
@@ -179,6 +180,8 @@ impl<B: Bench> PackedAccess<Wire<B>> {
         ensures begun { IfOk result (λ a. StepsTo (λ m o. MayBegin m → HasBegun (B.reported a.sender.flights.bench) (B.state a.sender.flights.bench) a.sender.log
             (item_at a.sender.flights.flight.packets a.sender.flights.flight.at) (item_at a.sender.flights.flight.replies a.sender.flights.flight.at)
             a.sender.managed a.sender.flights.flight.accesses o) (B.state bench) (B.state a.sender.flights.bench)) }
+        // No starting packet has come since, and the flights are held to the limits of the bench.
+        ensures spared { IfOk result (λ a. StepsTo (λ m o. MayBegin m → HasPaid a.sender.flights.flight.limits (B.reported a.sender.flights.bench).limits (B.state a.sender.flights.bench) a.sender.log 0 o) (B.state bench) (B.state a.sender.flights.bench)) }
         // Nothing is asked yet, and there is no end.
         ensures asked { IfOk result (λ a. a.sender.log ≡ nothing_logged) }
         // Its packets are within the limits; an observable bench answers just these.
