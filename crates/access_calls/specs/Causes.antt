@@ -4,8 +4,8 @@ use Rattle.std.specs.List.{concat, list_any}
 use Rattle.dap_base.specs.Causes.{Rose}
 use Rattle.dap_messages.specs.Commands.{Packet}
 use Rattle.dap_messages.specs.PacketReading.{packet_read}
-use Rattle.dap_messages.specs.Replies.{Shown}
-use Rattle.dap_messages.specs.ReplyReading.{reply_read}
+use Rattle.dap_replies.specs.ReplyViews.{Shown}
+use Rattle.dap_replies.specs.ReplyReading.{reply_read}
 use Rattle.dap_messages.specs.declared.command.PacketKind.{PacketKind}
 use Rattle.dap_messages.specs.declared.command.PacketKind.TheVariants.{Plain, Execute, Queue}
 use Rattle.dap_messages.specs.declared.command_value.CommandValue.{CommandValue}

@@ -3,12 +3,13 @@ use Rattle.std.proofs.Common.{◌≡◌, ℕ, ◌-◌, ◌≤◌, Bool, true, fa
 use Rattle.target_machine.specs.InRange.{IsInRange}
 use Rattle.target_machine.specs.State.{TargetState}
 use Rattle.target_machine.specs.declared.access.RegAccess.{RegAccess}
-use Rattle.dap_messages.proofs.ReplyAgain.{reply_complete}
+use Rattle.dap_replies.proofs.ReplyAgain.{reply_complete}
 use Rattle.dap_messages.specs.declared.command.PacketKind.TheVariants.{Plain}
 use Rattle.dap_messages.specs.declared.request.Response.{Response}
 use Rattle.dap_messages.specs.declared.request.Response.TheVariants.{Good, Wait, Fault, Mismatch}
 use Rattle.dap_messages.specs.Commands.{IsCommand, command_bytes}
-use Rattle.dap_messages.specs.Replies.{Answers, ReplyValue, reply_bytes, shown}
+use Rattle.dap_messages.specs.Replies.{Answers, ReplyValue, reply_bytes}
+use Rattle.dap_replies.specs.ReplyViews.{shown}
 use Rattle.dap_messages.specs.Responses.{code_of, response_of}
 use Rattle.dap_transfer.specs.Block.{blocked}
 use Rattle.dap_transfer.specs.State.{TransferState, Transferred}
@@ -29,7 +30,7 @@ use Rattle.flight_forms.specs.Packing.{AreTaken, AreWords, requests_for}
 use Rattle.batch_packer.proofs.OnceLemmas.{reads_once}
 use Rattle.batch_packer.proofs.PacketLemmas.{answered_one}
 use Rattle.batch_packer.proofs.RangeLemmas.{taken_in_range}
-use Rattle.batch_packer.proofs.StateSteps.{steps_map}
+use Rattle.probe_core.proofs.StateSteps.{steps_map}
 use Rattle.batch_packer.specs.Alone.{IsBlock, one_command, one_form}
 use Rattle.batch_packer.specs.Exchanges.{HasAnswered, IsIdle, MayHaveRun}
 use Rattle.batch_packer.specs.Flying.{HasFlown, HasFlownBy, IsReady, MayHaveFlown, OnceBy, transfers_of}

@@ -23,7 +23,7 @@ use Rattle.flight_forms.specs.declared.form.Form.TheVariants.{Chain}
 use Rattle.batch_packer.proofs.AloneLemmas.{after_in_range, flown_by}
 use Rattle.batch_packer.proofs.ChainLemmas.{chain_flown, chain_ran, chain_taken, served_probe, whole_chain_shows}
 use Rattle.batch_packer.proofs.PacketLemmas.{fits_more}
-use Rattle.batch_packer.proofs.StateSteps.{steps_map, steps_then}
+use Rattle.probe_core.proofs.StateSteps.{steps_map, steps_then}
 use Rattle.batch_packer.specs.ChainReadings.{readings_after}
 use Rattle.batch_packer.specs.Exchanges.{IsOpen}
 use Rattle.batch_packer.specs.Flying.{HasFlown, HasFlownBy, IsReady, MayHaveFlown, transfers_of}

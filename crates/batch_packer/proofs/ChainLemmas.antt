@@ -2,13 +2,14 @@
 use Rattle.std.proofs.Common.{◌≡◌, ℕ, zero, suc, ◌+◌, ◌≤◌, ◌⊎◌, inl, inr, arith, take, drop, length, true, false, Option, Some, List, [], ◌∷◌, ◌++◌, fold, map, refl, ap, sym, ◌∙◌, append_assoc, append-nil}
 use Rattle.std.specs.List.{AllByRecursion}
 use Rattle.target_machine.specs.declared.access.RegAccess.{RegAccess}
-use Rattle.dap_messages.proofs.ReplyAgain.{reply_complete}
+use Rattle.dap_replies.proofs.ReplyAgain.{reply_complete}
 use Rattle.dap_messages.specs.declared.command.PacketKind.{PacketKind}
 use Rattle.dap_messages.specs.declared.command.PacketKind.TheVariants.{Execute, Queue}
 use Rattle.dap_messages.specs.declared.request.Response.{Response}
 use Rattle.dap_messages.specs.declared.request.Response.TheVariants.{Good, Wait, Fault, Mismatch}
 use Rattle.dap_messages.specs.Commands.{IsCommand, bytes_of_kind}
-use Rattle.dap_messages.specs.Replies.{Answers, reply_bytes, shown}
+use Rattle.dap_messages.specs.Replies.{Answers, reply_bytes}
+use Rattle.dap_replies.specs.ReplyViews.{shown}
 use Rattle.dap_transfer.specs.State.{TransferState, Transferred, is_good}
 use Rattle.dap_transfer.specs.Transfer.{transferred}
 use Rattle.probe_core.specs.Bench.{BenchState, counted, handed, served}

@@ -3,7 +3,7 @@ use Rattle.std.proofs.Common.{◌≡◌, inl, inr, ℕ, List, [], ◌∷◌, fal
 use Rattle.probe_core.specs.Bench.{BenchState, StepsTo, served, HandsOut, counted}
 use Rattle.probe_core.specs.Packet.{answered, accepted}
 use Rattle.probe_core.specs.Probe.{ProbeState, is_queued}
-use Rattle.batch_packer.proofs.StateSteps.{steps_map, steps_same, steps_then}
+use Rattle.probe_core.proofs.StateSteps.{steps_map, steps_same, steps_then}
 use Rattle.batch_packer.specs.Exchanges.{IsIdle, HasAnswered, MayHaveRun}
 
 -- an idle probe executes a packet that is not held at once

@@ -19,7 +19,7 @@ use Rattle.flight_forms.specs.Packing.{AreWords}
 use Rattle.flight_forms.specs.declared.form.Form.{Form}
 use Rattle.flight_forms.specs.declared.form.Form.TheVariants.{Block, Transfer, Chain}
 use Rattle.batch_packer.proofs.PacketLemmas.{fits_more}
-use Rattle.batch_packer.proofs.StateSteps.{steps_map}
+use Rattle.probe_core.proofs.StateSteps.{steps_map}
 use Rattle.batch_packer.specs.ChainReadings.{is_mismatch}
 use Rattle.batch_packer.specs.FlightEnds.{EndsBy, Flew, end_at, end_of, flight_reading, form_reading, unless_mismatch, whole_part}
 use Rattle.batch_packer.specs.Flying.{HasFlown, HasFlownBy, IsReady, IsWithin}

@@ -1,4 +1,3 @@
-pub mod StateSteps
 pub mod ExchangeLemmas
 pub mod QueueLemmas
 pub mod PacketLemmas

@@ -6,7 +6,7 @@ use Rattle.target_machine.specs.Attempt.{bank}
 use Rattle.target_machine.specs.InRange.{IsInRange}
 use Rattle.target_machine.specs.Plain.{polled}
 use Rattle.target_machine.specs.State.{TargetState}
-use Rattle.dap_messages.proofs.ReplyAgain.{reply_complete}
+use Rattle.dap_replies.proofs.ReplyAgain.{reply_complete}
 use Rattle.dap_messages.specs.declared.command.PacketKind.TheVariants.{Execute}
 use Rattle.dap_messages.specs.declared.command_value.CommandValue.{CommandValue}
 use Rattle.dap_messages.specs.declared.command_value.CommandValue.TheVariants.{Configure, Transfer}
@@ -14,7 +14,7 @@ use Rattle.dap_messages.specs.declared.request.Response.{Response}
 use Rattle.dap_messages.specs.declared.request.Response.TheVariants.{Good, Mismatch}
 use Rattle.dap_messages.specs.Commands.{IsCommand, packet_bytes}
 use Rattle.dap_messages.specs.Replies.{Answers, ReplyValue, Status, reply_bytes}
-use Rattle.dap_messages.specs.ReplyReading.{reply_read}
+use Rattle.dap_replies.specs.ReplyReading.{reply_read}
 use Rattle.dap_messages.specs.Responses.{code_of}
 use Rattle.dap_transfer.specs.State.{TransferState, Transferred}
 use Rattle.probe_core.specs.Bench.{BenchState, StepsTo}
@@ -25,11 +25,12 @@ use Rattle.probe_core.specs.declared.job.Limits.{Limits}
 use Rattle.flight_forms.proofs.Polls.{poll_fits, polls_at_once}
 use Rattle.flight_forms.specs.Chains.{IsGuardOpen}
 use Rattle.flight_forms.specs.Packets.{transfer_answer}
-use Rattle.flight_forms.specs.Polls.{IsPollPacket, clear_mask, has_matched, poll_after, poll_cleared, poll_commands, poll_matched, poll_requests}
+use Rattle.flight_forms.specs.Polls.{IsPollPacket, clear_mask, poll_after, poll_cleared, poll_commands, poll_matched, poll_requests}
+use Rattle.dap_transfer.specs.ValueMatch.{has_matched}
 use Rattle.batch_packer.proofs.ActionLemmas.{poll_clear}
 use Rattle.batch_packer.proofs.AloneLemmas.{response_known}
 use Rattle.batch_packer.proofs.PacketLemmas.{answered_is}
-use Rattle.batch_packer.proofs.StateSteps.{steps_map}
+use Rattle.probe_core.proofs.StateSteps.{steps_map}
 use Rattle.batch_packer.specs.Actions.{Acts}
 use Rattle.batch_packer.specs.Exchanges.{HasAnswered, IsIdle, MayHaveRun}
 use Rattle.batch_packer.specs.Flying.{IsReady, transfers_of}

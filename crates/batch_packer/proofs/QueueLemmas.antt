@@ -3,7 +3,7 @@ use Rattle.std.proofs.Common.{◌≡◌, ℕ, zero, suc, ◌+◌, ◌<◌, ◌�
 use Rattle.std.specs.Prelude.{slice_get}
 use Rattle.probe_core.specs.Bench.{BenchState, HasReceived, HandsOut, IsAsBefore, Reported, StepsTo, handed, received, sent, served}
 use Rattle.probe_core.proofs.LogLemmas.{some_is}
-use Rattle.batch_packer.proofs.StateSteps.{steps_map, steps_then}
+use Rattle.probe_core.proofs.StateSteps.{steps_map, steps_then}
 use Rattle.batch_packer.specs.Queues.{HandedSome, ServedSome}
 
 -- ---- packet after packet

@@ -1,14 +1,15 @@
 -- At a cut the replies name accesses of the flight, whatever bench gave them.
 use Rattle.std.proofs.Common.{◌≡◌, ℕ, zero, suc, ◌+◌, ◌-◌, ◌<◌, ◌≤◌, Bool, true, false, List, [], ◌∷◌, length, take, drop, length-drop, get_or, Option, Some, None, IfSome, refl, ap, sym, subst, ◌∙◌, arith, slice_get}
 use Rattle.target_machine.specs.declared.access.RegAccess.{RegAccess}
-use Rattle.dap_messages.proofs.ReplyLaws.{response_is}
+use Rattle.dap_replies.proofs.ReplyLaws.{response_is}
 use Rattle.dap_messages.specs.declared.command_value.CommandValue.{CommandValue}
 use Rattle.dap_messages.specs.declared.request.Request.{Request}
 use Rattle.dap_messages.specs.declared.request.Response.{Response}
 use Rattle.dap_messages.specs.declared.request.Response.TheVariants.{Good, Wait, Fault, Mismatch}
-use Rattle.dap_messages.specs.Replies.{Answers, IsReplyTo, ReplyValue, Shown}
+use Rattle.dap_messages.specs.Replies.{Answers, ReplyValue}
+use Rattle.dap_replies.specs.ReplyViews.{IsReplyTo, Shown, shown}
 use Rattle.dap_messages.specs.Replies as reply
-use Rattle.dap_messages.specs.ReplyReading.{reply_read}
+use Rattle.dap_replies.specs.ReplyReading.{reply_read}
 use Rattle.dap_messages.specs.Responses.{code_of, response_of}
 use Rattle.dap_transfer.specs.State.{is_good}
 use Rattle.flight_forms.proofs.GuardedShortness.{guarded_shows, parts_joined}
@@ -49,7 +50,7 @@ less_none n = omega arith
 
 -- of a flight in one packet
 one_part_short : (b : Bool) (accesses : List RegAccess) (answer : ReplyValue) (view : Shown) (progress : Progress) (new : List (Option ℕ)) (x : Option Response) → (b ≡ true → IsBlock accesses) → AreTaken accesses →
-    Answers (one_command b accesses) answer → view ≡ reply.shown answer → response_of view.response ≡ x → IsShown (part_as 0 (requests_for false accesses) view x) (Some progress) [] new →
+    Answers (one_command b accesses) answer → view ≡ shown answer → response_of view.response ≡ x → IsShown (part_as 0 (requests_for false accesses) view x) (Some progress) [] new →
     IsPartOf (length accesses) (part_with progress new)
 one_part_short b accesses answer view progress new None block taken may shows is shown = absurd shown
 one_part_short true accesses (reply.Block n code) view progress new (Some x) block taken may shows is shown =
@@ -86,7 +87,7 @@ alone_short b accesses replied (Some progress) new block taken from =
     one_part_short b accesses answers.answer from.view progress new (response_of (from.view).response) block taken answers.may answers.shows refl from.shown
 
 -- of a part of a chain
-guarded_part_short : (accesses : List RegAccess) (answer : ReplyValue) (view : Shown) (x : Option Response) → AreTaken accesses → 0 < length accesses → Answers (guarded_command accesses) answer → view ≡ reply.shown answer →
+guarded_part_short : (accesses : List RegAccess) (answer : ReplyValue) (view : Shown) (x : Option Response) → AreTaken accesses → 0 < length accesses → Answers (guarded_command accesses) answer → view ≡ shown answer →
     response_of view.response ≡ x → IfSome (part_as 2 (payload accesses) view x) (IsPartOf (length accesses))
 guarded_part_short accesses answer view None taken some may shows is = tt
 guarded_part_short accesses (reply.Transfer n code words) view (Some x) taken some may shows is =

@@ -8,13 +8,14 @@ use Rattle.target_machine.proofs.ActionRanges.{acted_in_range}
 use Rattle.target_machine.specs.InRange.{IsInRange}
 use Rattle.target_machine.specs.Plain.{Commands}
 use Rattle.target_machine.specs.declared.unit.ProbeCall.TheVariants as probe
-use Rattle.dap_messages.proofs.ReplyAgain.{reply_complete}
+use Rattle.dap_replies.proofs.ReplyAgain.{reply_complete}
 use Rattle.dap_messages.specs.declared.command.PacketKind.TheVariants.{Plain}
 use Rattle.dap_messages.specs.declared.command_value.CommandValue.{CommandValue}
 use Rattle.dap_messages.specs.declared.command_value.CommandValue.TheVariants as command
 use Rattle.dap_messages.specs.Commands.{IsCommand, bytes_for, command_bytes, longest_reply}
-use Rattle.dap_messages.specs.Replies.{Answers, reply_bytes, shown}
-use Rattle.dap_messages.specs.ReplyReading.{reply_read}
+use Rattle.dap_messages.specs.Replies.{Answers, reply_bytes}
+use Rattle.dap_replies.specs.ReplyViews.{shown}
+use Rattle.dap_replies.specs.ReplyReading.{reply_read}
 use Rattle.probe_core.specs.Bench.{BenchState, StepsTo}
 use Rattle.probe_core.specs.Commands.{done}
 use Rattle.probe_core.specs.Packet.{Answered, answered}
@@ -23,7 +24,7 @@ use Rattle.probe_core.specs.Ranges.{AreLimits}
 use Rattle.probe_core.specs.declared.job.Limits.{Limits}
 use Rattle.flight_forms.specs.Packets.{FitsPacket}
 use Rattle.batch_packer.proofs.PacketLemmas.{answered_one}
-use Rattle.batch_packer.proofs.StateSteps.{steps_map}
+use Rattle.probe_core.proofs.StateSteps.{steps_map}
 use Rattle.batch_packer.specs.Commands.{DoneBy, MayHaveDone, is_single, number_by, number_given, number_in, number_read}
 use Rattle.batch_packer.specs.Exchanges.{HasAnswered, IsIdle, MayHaveRun}
 use Rattle.batch_packer.specs.Flying.{HasLimits}

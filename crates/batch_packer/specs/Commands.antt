@@ -2,8 +2,8 @@
 use Rattle.std.specs.Prelude.{◌≡◌, ◌⊎◌, ℕ, ◌+◌, ◌*◌, ◌==◌, Bool, true, false, if◌then◌else◌, List, [], ◌∷◌, Option, Some, None, Result, Ok, Err, slice_index}
 use Rattle.dap_messages.specs.declared.command_value.CommandValue.{CommandValue}
 use Rattle.dap_messages.specs.declared.command_value.CommandValue.TheVariants as command
-use Rattle.dap_messages.specs.Replies.{Shown}
-use Rattle.dap_messages.specs.ReplyReading.{reply_read}
+use Rattle.dap_replies.specs.ReplyViews.{Shown}
+use Rattle.dap_replies.specs.ReplyReading.{reply_read}
 use Rattle.dap_transfer.specs.Lines.{pins_set}
 use Rattle.dap_transfer.specs.State.{TransferState}
 use Rattle.probe_core.specs.Bench.{BenchState, counted}

@@ -6,12 +6,13 @@ use Rattle.dap_messages.specs.declared.command_value.CommandValue.TheVariants.{C
 use Rattle.dap_messages.specs.declared.request.Response.{Response}
 use Rattle.dap_messages.specs.declared.request.Response.TheVariants.{Good, Wait, Fault, Mismatch}
 use Rattle.dap_messages.specs.Commands.{Packet}
-use Rattle.dap_messages.specs.Replies.{Shown}
-use Rattle.dap_messages.specs.ReplyReading.{reply_read}
+use Rattle.dap_replies.specs.ReplyViews.{Shown}
+use Rattle.dap_replies.specs.ReplyReading.{reply_read}
 use Rattle.dap_messages.specs.Responses.{response_of}
 use Rattle.probe_core.specs.Bench.{BenchState}
 use Rattle.probe_core.specs.Probe.{target_of}
-use Rattle.flight_forms.specs.Polls.{clear_mask, has_matched, poll_packet, poll_requests}
+use Rattle.flight_forms.specs.Polls.{clear_mask, poll_packet, poll_requests}
+use Rattle.dap_transfer.specs.ValueMatch.{has_matched}
 use Rattle.batch_packer.specs.Actions.{Acts, HasActed}
 use Rattle.batch_packer.specs.Flying.{transfers_of}
 use Rattle.batch_packer.specs.Readings.{shown_in}

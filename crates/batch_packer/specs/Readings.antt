@@ -7,8 +7,8 @@ use Rattle.dap_messages.specs.declared.error.MessageError.{MessageError}
 use Rattle.dap_messages.specs.declared.request.Request.{Request}
 use Rattle.dap_messages.specs.declared.request.Response.{Response}
 use Rattle.dap_messages.specs.Commands.{IsCommand, IsCount, bytes_of_kind}
-use Rattle.dap_messages.specs.Replies.{IsReplyTo, Shown}
-use Rattle.dap_messages.specs.ReplyReading.{reply_read}
+use Rattle.dap_replies.specs.ReplyViews.{IsReplyTo, Shown}
+use Rattle.dap_replies.specs.ReplyReading.{reply_read}
 use Rattle.dap_messages.specs.Responses.{response_of}
 use Rattle.flight_forms.specs.Flights.{Part, part_of}
 use Rattle.batch_packer.specs.declared.part.Progress.{Progress}

@@ -10,7 +10,7 @@ use dap_base::Failed;
 use probe_core::Bench;
 
 /// Sends a packet that is not held, and takes its reply. At `Failed` the packet was executed or not.
-#[tactic(auto, using(crate::proofs::ExchangeLemmas::answers, crate::proofs::ExchangeLemmas::taken, crate::proofs::ExchangeLemmas::not_taken, crate::proofs::StateSteps::runs_then, crate::proofs::GoingOn::goes_failed, crate::proofs::GoingOn::goes_sent, crate::proofs::GoingOn::goes_stays, crate::proofs::GoingOn::stays_received, crate::proofs::GoingOn::stays_failed))]
+#[tactic(auto, using(crate::proofs::ExchangeLemmas::answers, crate::proofs::ExchangeLemmas::taken, crate::proofs::ExchangeLemmas::not_taken, probe_core::proofs::StateSteps::runs_then, crate::proofs::GoingOn::goes_failed, crate::proofs::GoingOn::goes_sent, crate::proofs::GoingOn::goes_stays, crate::proofs::GoingOn::stays_received, crate::proofs::GoingOn::stays_failed))]
 pub fn exchange<B: Bench>(packet: &[u8], out: &mut [u8], bench: &mut B) -> Result<usize, Failed>
     requires open { IsOpen (B.reported bench.old) }
     requires some { 0 < length packet.now }

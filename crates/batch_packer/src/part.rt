@@ -11,7 +11,8 @@ ghost use Rattle.batch_packer.specs.Readings.{IsFew};
 ghost use Rattle.batch_packer.specs.SlotList.{SlotList};
 
 use crate::slots::Slots;
-use dap_messages::{ADDRESS_BITS, APNDP, RNW, ReplyView, Request, RequestKind, Response};
+use dap_messages::{ADDRESS_BITS, APNDP, RNW, Request, RequestKind, Response};
+use dap_replies::ReplyView;
 
 /// How far the accesses of a flight, or of one of its commands, came.
 #[derive(Clone, Copy, Debug, PartialEq, Eq)]

@@ -1,7 +1,7 @@
 //! A portion of a poll of CTRL/STAT in one packet, over a bench.
 ghost use Rattle.std.specs.Prelude.{◌≡◌, ◌&&◌, ◌+◌, ◌-◌, ◌<◌, ◌≤◌, ◌++◌, [], ◌∷◌, true, length, slice_get, take, Some, List};
 ghost use Rattle.dap_messages.specs.Commands.{IsCommand, command_bytes, command_value, packet_bytes};
-ghost use Rattle.dap_messages.specs.ReplyReading.{reply_read};
+ghost use Rattle.dap_replies.specs.ReplyReading.{reply_read};
 ghost use Rattle.dap_messages.specs.declared.command.PacketKind.{PacketKind};
 ghost use Rattle.dap_messages.specs.declared.command_value.CommandValue.{CommandValue};
 ghost use Rattle.target_machine.specs.Attempt.{bank};

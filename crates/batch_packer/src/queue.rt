@@ -11,7 +11,7 @@ use probe_core::{Bench, PacketList};
 
 /// Sends the packets of a chain in order. All but the last are held, and the last lets all run. At
 /// `Failed` the first of them were received, or none.
-#[tactic(auto, using(crate::proofs::StateSteps::runs_then, crate::proofs::StateSteps::runs_self))]
+#[tactic(auto, using(probe_core::proofs::StateSteps::runs_then, probe_core::proofs::StateSteps::runs_self))]
 pub fn send_all<B: Bench>(packets: &PacketList, bench: &mut B) -> Result<(), Failed>
     requires open { IsOpen (B.reported bench.old) }
     requires chain { IsQueue (B.reported bench.old).limits packets.now.items }
@@ -33,7 +33,7 @@ pub fn send_all<B: Bench>(packets: &PacketList, bench: &mut B) -> Result<(), Fai
 }
 
 /// Takes so many replies in order, in the room of `out`.
-#[tactic(auto, using(crate::proofs::QueueLemmas::none_handed, crate::proofs::QueueLemmas::handed_same, crate::proofs::StateSteps::runs_then, crate::proofs::StateSteps::runs_self))]
+#[tactic(auto, using(crate::proofs::QueueLemmas::none_handed, crate::proofs::QueueLemmas::handed_same, probe_core::proofs::StateSteps::runs_then, probe_core::proofs::StateSteps::runs_self))]
 pub fn receive_all<B: Bench>(
     count: usize,
     replies: &mut PacketList,

@@ -2,15 +2,16 @@
 ghost use Rattle.std.specs.Prelude.{◌≡◌, ◌+◌, ◌≤◌, List, [], ◌∷◌, length, slice_get, IfSome, Some};
 ghost use Rattle.dap_messages.specs.declared.command.PacketKind.{PacketKind};
 ghost use Rattle.dap_messages.specs.declared.command_value.CommandValue.{CommandValue};
-ghost use Rattle.dap_messages.specs.ReplyReading.{reply_read};
-ghost use Rattle.dap_messages.specs.Replies.{IsReplyTo};
+ghost use Rattle.dap_replies.specs.ReplyReading.{reply_read};
+ghost use Rattle.dap_replies.specs.ReplyViews.{IsReplyTo};
 ghost use Rattle.dap_messages.specs.Responses.{response_of};
 ghost use Rattle.dap_transfer.specs.Laws.{AreNormal};
 ghost use Rattle.batch_packer.specs.Readings.{IsFew, IsPacketOf, IsReadFrom, IsShown, part_as, reading, shown_in};
 
 use crate::part::{Progress, progress_by};
 use crate::slots::Slots;
-use dap_messages::{CommandView, ReplyView, Request, Response, packet_view, reply_view};
+use dap_messages::{CommandView, Request, Response, packet_view};
+use dap_replies::{ReplyView, reply_view};
 
 // The command of a packet at this index.
 fn command_in<'a>(packet: &'a [u8], index: u8) -> Option<CommandView<'a>>

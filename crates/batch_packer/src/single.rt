@@ -1,7 +1,7 @@
 //! A command of the probe in one packet, over a bench.
 ghost use Rattle.std.specs.Prelude.{◌≡◌, ◌+◌, ◌*◌, ◌<◌, ◌≤◌, [], ◌∷◌, true, length, slice_get, slice_index, take, Some, List};
 ghost use Rattle.dap_messages.specs.Commands.{IsCommand, command_bytes, command_value};
-ghost use Rattle.dap_messages.specs.ReplyReading.{reply_read};
+ghost use Rattle.dap_replies.specs.ReplyReading.{reply_read};
 ghost use Rattle.dap_messages.specs.declared.command.PacketKind.{PacketKind};
 ghost use Rattle.dap_messages.specs.declared.command_value.CommandValue.{CommandValue};
 ghost use Rattle.target_machine.specs.InRange.{IsInRange};
@@ -21,7 +21,8 @@ use crate::exchange::exchange;
 use crate::packing::write_single;
 use crate::reply::view_at;
 use dap_base::Failed;
-use dap_messages::{Command, ReplyView};
+use dap_messages::Command;
+use dap_replies::ReplyView;
 use probe_core::{Bench, PacketList};
 
 // The byte at an index, and 0 where there is none.

@@ -1,12 +1,12 @@
 -- The bits of the requests by name.
-use Rattle.std.proofs.Common.{◌≡◌, ℕ, ◌+◌, ◌*◌, ◌/◌, ◌%◌, ◌^◌, ◌<◌, ◌≤◌, Bool, true, false, cond, IsTrue, refl, ap, sym, ◌∙◌, arith, suc, zero, subst, ◌⊎◌, inl, inr}
+use Rattle.std.proofs.Common.{◌≡◌, ℕ, ◌+◌, ◌*◌, ◌/◌, ◌%◌, ◌^◌, ◌<◌, ◌≤◌, Bool, true, false, cond, IsTrue, refl, sym, ◌∙◌, arith, suc, zero, subst, ◌⊎◌, inl, inr}
 use Rattle.std.specs.Prelude.{bit_and}
 use Rattle.std.specs.Int.Bits.{and_zero_r}
 use Rattle.std.proofs.lemmas.Nat.{and_le_r, and_mod}
 use Rattle.dap_base.specs.Bits.{has_bit}
 use Rattle.dap_messages.specs.declared.request.RequestKind.{RequestKind}
 use Rattle.dap_messages.specs.declared.request.RequestKind.TheVariants.{Posted, Read, Match, Write}
-use Rattle.dap_messages.specs.Requests.{IsRequest, IsWordFor, Says, access_byte, is_block_byte, is_request_byte, kind_of, mask_request, match_request, read_request, takes_word, write_request}
+use Rattle.dap_messages.specs.Requests.{IsRequest, IsWordFor, Says, is_block_byte, is_request_byte, kind_of, mask_request, match_request, read_request, takes_word, write_request}
 
 -- two bits of a number, at 4 and 8
 abbrev Quarter : ℕ → Type 0

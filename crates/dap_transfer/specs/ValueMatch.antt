@@ -1,5 +1,6 @@
 -- A value match: reads until the value under the mask is the one that is requested.
 use Rattle.std.specs.Prelude.{ℕ, zero, suc, ◌+◌, Bool, true, false, not, ◌&&◌, ◌==◌, bit_and}
+use Rattle.target_machine.specs.Plain.{Polled, given}
 use Rattle.target_machine.specs.declared.access.RegAccess.{RegAccess}
 use Rattle.dap_messages.specs.declared.request.Response.{Response}
 use Rattle.dap_messages.specs.declared.request.Response.TheVariants.{Good, Mismatch}
@@ -25,3 +26,7 @@ match_ending s mask requested a (suc n) l =
 -- whether a read of a value match is work: those of RDBUFF and DPIDR are not
 abbrev pub is_match_work : RegAccess → Bool
 is_match_work a = not (reads_rdbuff_itself a) && not (reads_dpidr a)
+
+-- whether a poll matched
+abbrev pub has_matched : Polled → Bool
+has_matched x = given x.outcome == 1

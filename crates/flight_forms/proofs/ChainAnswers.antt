@@ -22,8 +22,9 @@ use Rattle.flight_forms.proofs.AskedRequests.{are_guarded, payload_checked, payl
 use Rattle.flight_forms.proofs.Chains.{shut_now}
 use Rattle.flight_forms.proofs.Guarded.{DoesGuarded, does_guarded, guarded_is}
 use Rattle.flight_forms.proofs.GuardedAnswers.{answers_cut, answers_shut, answers_whole}
-use Rattle.flight_forms.proofs.Ranges.{payload_words, stays_in_range, words_in_range}
-use Rattle.flight_forms.proofs.TransferAnswers.{take_length}
+use Rattle.flight_forms.proofs.Ranges.{payload_words, stays_in_range}
+use Rattle.dap_transfer.proofs.WordRanges.{words_in_range}
+use Rattle.dap_transfer.proofs.NormalAnswers.{take_length}
 
 abbrev AnswersBy : List Request → Transferred → Type 0
 AnswersBy rs d = AnswersTransfer rs d.executed (code_of d.response) d.words

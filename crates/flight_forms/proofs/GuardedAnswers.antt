@@ -14,7 +14,7 @@ use Rattle.dap_transfer.specs.Private.{word_of}
 use Rattle.dap_transfer.proofs.Words.{reads_first}
 use Rattle.dap_transfer.specs.CommandEnds.{EndsAt, posted_last, doubted}
 use Rattle.flight_forms.specs.Packing.{guarded}
-use Rattle.flight_forms.proofs.TransferAnswers.{count_missing, missing_posted, next_waits, or_first, take_length}
+use Rattle.dap_transfer.proofs.NormalAnswers.{count_missing, missing_posted, next_waits, or_first, take_length}
 
 pub reads_masked : (rs : List Request) (v : ℕ) → reads_in (rs ++ mask_request v ∷ []) ≡ reads_in rs
 reads_masked [] v = reads_first (mask_request v ∷ []) [] (mask_request v) refl

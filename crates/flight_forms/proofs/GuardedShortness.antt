@@ -23,7 +23,7 @@ use Rattle.flight_forms.proofs.RequestSizes.{few_for}
 use Rattle.flight_forms.proofs.AskedRequests.{accesses_asked, checks_follow, length_asked, payload_checked, payload_normal}
 use Rattle.flight_forms.proofs.OwnAccesses.{ChecksFollow}
 use Rattle.flight_forms.proofs.Rows.{take_past}
-use Rattle.flight_forms.proofs.TransferAnswers.{take_length}
+use Rattle.dap_transfer.proofs.NormalAnswers.{take_length}
 use Rattle.flight_forms.proofs.Shortness.{Stopped, both_true, clash, count_is, normal_kind, posted_is, says_part, three_or}
 
 masked_kind : (test : RequestKind → Bool) (n : ℕ) (rs : List Request) → length rs ≤ n → test Mask ≡ false → passes test (kind_at (rs ++ mask_request 0 ∷ []) n) ≡ false

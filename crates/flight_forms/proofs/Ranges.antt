@@ -1,69 +1,20 @@
--- The words of a reply are of 32 bits where the target's numbers are in range.
-use Rattle.std.proofs.Common.{◌≡◌, ℕ, ◌&&◌, Bool, true, false, cond, List, [], ◌∷◌, ◌++◌, take, refl, ap, sym, arith, suc, zero, subst}
-use Rattle.std.specs.List.{AllByRecursion}
+-- The words that the requests of accesses write are of 32 bits, and the target after them is in range.
+use Rattle.std.proofs.Common.{◌≡◌, ◌&&◌, Bool, true, false, cond, List, [], ◌∷◌, ◌++◌, refl, ap, arith, subst}
 use Rattle.target_machine.specs.Attempt.{attempt}
-use Rattle.target_machine.specs.InRange.{IsAttemptInRange, IsInRange, IsWord}
-use Rattle.target_machine.specs.Plain.{Makes, given}
+use Rattle.target_machine.specs.InRange.{IsInRange, IsWord}
 use Rattle.target_machine.specs.State.{TargetState}
-use Rattle.target_machine.specs.declared.access.Outcome.{Outcome}
-use Rattle.target_machine.specs.declared.access.Outcome.TheVariants.{Value, Done, Fault}
 use Rattle.target_machine.specs.declared.access.RegAccess.{RegAccess}
-use Rattle.target_machine.proofs.ActionRanges.{acted_in_range}
 use Rattle.dap_messages.specs.declared.request.Request.{Request}
-use Rattle.dap_messages.specs.Requests.{kind, read_request, write_request}
+use Rattle.dap_messages.specs.Requests.{read_request, write_request}
 use Rattle.dap_transfer.specs.CommandEnds.{may_be_free, writes_ap}
-use Rattle.dap_transfer.specs.Laws.{AreNormal, one_at_a_time, read_values, reads_value, value_now}
-use Rattle.dap_transfer.specs.State.{TransferState}
-use Rattle.dap_transfer.specs.Transfer.{transferred}
-use Rattle.dap_transfer.specs.WireTransfer.{value_of}
-use Rattle.dap_transfer.specs.Wires.{access_of}
-use Rattle.dap_transfer.proofs.ReadWords.{has_words}
+use Rattle.dap_transfer.specs.Laws.{one_at_a_time}
+use Rattle.dap_transfer.proofs.WordRanges.{Words, one_in_range}
 use Rattle.flight_forms.specs.Packing.{AreWords, check_when, payload, request_of, requests_for, write_at_end}
-
-same_value : (o : Outcome) → given o ≡ value_of o
-same_value (Value n) = refl
-same_value Done = refl
-same_value Fault = refl
-
-one_in_range : (t : TargetState) (a : RegAccess) → IsInRange t → IsWord a.value → IsAttemptInRange (attempt t a)
-one_in_range t a h v = acted_in_range t (Makes a) h v
-
-pub value_in_range : (t : TargetState) (a : RegAccess) → IsInRange t → IsWord a.value → IsWord (value_now t a)
-value_in_range t a h v = let x = one_in_range t a h v in subst IsWord (same_value (attempt t a).outcome) x.value
 
 -- the target after accesses is in range too
 pub stays_in_range : (t : TargetState) (accesses : List RegAccess) → IsInRange t → AreWords accesses → IsInRange (one_at_a_time t accesses)
 stays_in_range t [] h v = h
 stays_in_range t (a ∷ rest) h v = let x = one_in_range t a h v.0 in stays_in_range (attempt t a).next rest x.next v.1
-
-abbrev Words : List Request → Type 0
-Words rs = AllByRecursion (λ r. IsWord r.word) rs
-
-values_in_range : (t : TargetState) (rs : List Request) → IsInRange t → Words rs → AllByRecursion IsWord (read_values t rs)
-values_in_range t [] h v = tt
-values_in_range t (r ∷ rs) h v =
-    let x = one_in_range t (access_of r) h v.0 in
-    by_read (reads_value (kind r)) (value_in_range t (access_of r) h v.0) (values_in_range (attempt t (access_of r)).next rs x.next v.1)
-  where
-    by_read : (b : Bool) → IsWord (value_now t (access_of r)) → AllByRecursion IsWord (read_values (attempt t (access_of r)).next rs) →
-        AllByRecursion IsWord (cond b (value_now t (access_of r) ∷ []) [] ++ read_values (attempt t (access_of r)).next rs)
-    by_read true one more = (one, more)
-    by_read false one more = more
-
-taken_words : (n : ℕ) (rs : List Request) → Words rs → Words (take n rs)
-taken_words zero rs v = tt
-taken_words (suc n) [] v = tt
-taken_words (suc n) (r ∷ rs) v = (v.0, taken_words n rs v.1)
-
-front_words : (xs ys : List ℕ) → AllByRecursion IsWord (xs ++ ys) → AllByRecursion IsWord xs
-front_words [] ys h = tt
-front_words (x ∷ xs) ys h = (h.0, front_words xs ys h.1)
-
-pub words_in_range : (p : TransferState) (rs : List Request) → AreNormal rs → IsInRange p.line.target → Words rs → AllByRecursion IsWord (transferred p rs).words
-words_in_range p rs normal h v =
-    let has = has_words p rs normal in
-    front_words (transferred p rs).words has.0
-    (subst (AllByRecursion IsWord) (sym has.3) (values_in_range p.line.target (take (transferred p rs).executed rs) h (taken_words (transferred p rs).executed rs v)))
 
 -- ---- the requests of accesses
 

@@ -26,7 +26,7 @@ use Rattle.flight_forms.proofs.RequestSizes.{three_parts}
 use Rattle.flight_forms.proofs.AskedRequests.{accesses_asked, are_normal, checks_follow, length_asked}
 use Rattle.flight_forms.proofs.OwnAccesses.{ChecksFollow, last_own, next_or_write, own_count, own_most}
 use Rattle.flight_forms.proofs.SeenValues.{length_seen}
-use Rattle.flight_forms.proofs.TransferAnswers.{posted_at, take_length}
+use Rattle.dap_transfer.proofs.NormalAnswers.{posted_at, take_length}
 
 -- ---- requests of which the first were executed
 

@@ -1,6 +1,6 @@
 -- A portion of a poll of CTRL/STAT, as one packet of four commands.
-use Rattle.std.specs.Prelude.{◌≡◌, ℕ, ◌-◌, false, Bool, ◌==◌, if◌then◌else◌, List, [], ◌∷◌, length}
-use Rattle.target_machine.specs.Plain.{Polled, given, is_fault, polled}
+use Rattle.std.specs.Prelude.{◌≡◌, ℕ, ◌-◌, false, if◌then◌else◌, List, [], ◌∷◌, length}
+use Rattle.target_machine.specs.Plain.{Polled, is_fault, polled}
 use Rattle.dap_messages.specs.declared.request.Request.{Request}
 use Rattle.dap_messages.specs.declared.request.Response.TheVariants.{Good, Mismatch}
 use Rattle.dap_messages.specs.declared.command_value.CommandValue.{CommandValue}
@@ -12,6 +12,7 @@ use Rattle.dap_messages.specs.Replies.{Answers}
 use Rattle.dap_transfer.specs.Lines.{configured}
 use Rattle.dap_transfer.specs.State.{TransferState, Transferred, grown}
 use Rattle.dap_transfer.specs.Transfer.{transferred}
+use Rattle.dap_transfer.specs.ValueMatch.{has_matched}
 use Rattle.flight_forms.specs.Packets.{transfer_answer}
 
 -- the mask, and a value match of CTRL/STAT (0x4) with the value
@@ -42,10 +43,6 @@ poll_cleared p retry mask requested turns = transferred (poll_matched p retry ma
 -- the state after the four commands
 abbrev pub poll_after : TransferState → ℕ → ℕ → ℕ → ℕ → TransferState
 poll_after p retry mask requested turns = configured (poll_cleared p retry mask requested turns).next retry 0
-
--- whether the register matched
-abbrev pub has_matched : Polled → Bool
-has_matched x = given x.outcome == 1
 
 -- A portion of a poll reads CTRL/STAT one read at a time until it matches. Its replies say whether it did. After it the target is
 -- that after these reads, the match mask and match retry are 0, and each read is one of the work; nothing else changed.

@@ -1,7 +1,5 @@
 -- Lines that are put in a row, each of what a bench shows.
-use Rattle.std.proofs.Common.{◌≡◌, ◌∙◌, ◌+◌, ◌-◌, ◌<◌, ℕ, zero, suc, List, [], ◌∷◌, ◌++◌, Option, None, Some, Result, Err, IfSome, length, take, drop, slice_get, get_or, subst, ap, refl, sym, arith, append_assoc, append-nil}
-use Rattle.std.proofs.lemmas.Grind.{flat_map-append}
-use Rattle.std.proofs.lemmas.List.{take-append-drop}
+use Rattle.std.proofs.Common.{◌≡◌, ◌∙◌, ◌+◌, ◌-◌, ◌<◌, ℕ, zero, suc, List, ◌++◌, Option, None, Some, Result, Err, IfSome, take, slice_get, subst, refl, arith}
 use Rattle.std.proofs.KnownBytes.{Appends-trans}
 use Rattle.std.specs.Io.KnownBytes.{Appends}
 use Rattle.std.specs.List.{flat_map}
@@ -11,6 +9,7 @@ use Rattle.probe_core.specs.Bench.{BenchState, IsAsBefore, Seen}
 use Rattle.probe_core.specs.Probe.{target_of}
 use Rattle.report_lines.specs.Target.{lines_below}
 use Rattle.text_lines.proofs.PutLemmas.{prefix_first, put_after}
+use Rattle.text_lines.proofs.RowLemmas.{row_cut, row_more}
 
 -- a bench that is twice as it was before
 pub before-trans : (a b c : Seen) → IsAsBefore a b → IsAsBefore b c → IsAsBefore a c
@@ -61,37 +60,6 @@ below_cut (Some m) a b c line i n below first second =
     subst (λ k. AppendsPrefix a c (lines_below g k)) all (below_front g (i + 1) (n - (i + 1)) a c so_far)
 
 -- ---- the lines of a list
-
--- the first items and the one after them
-take-at : {X : Type 0} (xs : List X) (i : ℕ) (x : X) → slice_get xs i ≡ Some x → take (i + 1) xs ≡ take i xs ++ x ∷ []
-take-at [] zero x at = cc
-take-at [] (suc i) x at = cc
-take-at (y ∷ ys) zero x at = let same : y ≡ x = cc in rw same refl
-take-at (y ∷ ys) (suc i) x at =
-    let more : suc i + 1 ≡ suc (i + 1) = omega arith in
-    rw more (ap (λ zs. y ∷ zs) (take-at ys i x at))
-
--- the item at a place within
-pub slice_get-in : {X : Type 0} (xs : List X) (i : ℕ) (d : X) → i < length xs → slice_get xs i ≡ Some (get_or xs i d)
-slice_get-in [] i d inside = let no : ⊥ = omega arith in absurd no
-slice_get-in (x ∷ xs) zero d inside = refl
-slice_get-in (x ∷ xs) (suc i) d inside = slice_get-in xs i d (omega arith)
-
-pub item_at : {X : Type 0} (xs : List X) (i : ℕ) (x : X) → i < length xs → x ≡ get_or xs i x → slice_get xs i ≡ Some x
-item_at xs i x inside at = slice_get-in xs i x inside ∙ ap (λ y. Some y) (sym at)
-
--- one item more
-pub row_more : {X : Type 0} (a b c : Option (List ℕ)) (g : X → List ℕ) (xs : List X) (i : ℕ) (x : X) → slice_get xs i ≡ Some x → Appends a b (flat_map g (take i xs)) → Appends b c (g x) → Appends a c (flat_map g (take (i + 1) xs))
-row_more a b c g xs i x at first second =
-    rw (take-at xs i x at, flat_map-append g (take i xs) (x ∷ []), append-nil (g x)) (Appends-trans a b c (flat_map g (take i xs)) (g x) first second)
-
--- the items before one, and a part of its lines
-pub row_cut : {X : Type 0} (a b c : Option (List ℕ)) (g : X → List ℕ) (xs : List X) (i : ℕ) (x : X) → slice_get xs i ≡ Some x → Appends a b (flat_map g (take i xs)) → AppendsPrefix b c (g x) → AppendsPrefix a c (flat_map g xs)
-row_cut a b c g xs i x at first second =
-    let so_far : AppendsPrefix a c (flat_map g (take (i + 1) xs)) =
-    rw (take-at xs i x at, flat_map-append g (take i xs) (x ∷ []), append-nil (g x)) (put_after {E = Unit {0}} a b c (Err tt) (flat_map g (take i xs)) (g x) first second) in
-    subst (λ ys. AppendsPrefix a c (flat_map g ys)) (take-append-drop (i + 1) xs)
-    (rw (flat_map-append g (take (i + 1) xs) (drop (i + 1) xs)) (prefix_first a c (flat_map g (take (i + 1) xs)) (flat_map g (drop (i + 1) xs)) so_far))
 
 pub rows_more : {X : Type 0} (s : Option BenchState) (a b c : Option (List ℕ)) (g : TargetState → X → List ℕ) (xs : List X) (i : ℕ) (x : X) → slice_get xs i ≡ Some x → Wrote s (λ t. flat_map (g t) (take i xs)) a b → Wrote s (λ t. g t x) b c → Wrote s (λ t. flat_map (g t) (take (i + 1) xs)) a c
 rows_more None a b c g xs i x at first second = tt

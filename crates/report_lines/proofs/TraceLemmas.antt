@@ -14,7 +14,7 @@ use Rattle.report_lines.specs.Trace.{EntriesPut, EntryPut, LinePut, StepPut, ent
 use Rattle.report_lines.specs.declared.put.TextEnd.{TextEnd}
 use Rattle.report_lines.specs.declared.trace.Seen.{Seen}
 use Rattle.report_lines.specs.declared.trace.Seen.TheVariants as seen
-use Rattle.report_lines.proofs.RowLemmas.{row_cut, row_more}
+use Rattle.text_lines.proofs.RowLemmas.{row_cut, row_more}
 use Rattle.text_lines.proofs.PutLemmas.{prefix_first, put_after}
 
 -- ---- one entry

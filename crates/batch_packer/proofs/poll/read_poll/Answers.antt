@@ -2,7 +2,7 @@ use Rattle.std.proofs.Common.{◌≡◌, ◌∙◌, Bool, true, cond, ℕ, List,
 use Rattle.std.specs.Prelude.{Err, slice_range}
 use Rattle.dap_messages.specs.declared.command_value.CommandValue.{CommandValue}
 use Rattle.dap_messages.specs.declared.command_value.CommandValue.TheVariants.{Transfer}
-use Rattle.dap_messages.specs.ReplyReading.{reply_read}
+use Rattle.dap_replies.specs.ReplyReading.{reply_read}
 use Rattle.dap_messages.specs.Responses.{response_of}
 use Rattle.flight_forms.specs.Polls.{poll_commands, poll_requests}
 use Rattle.batch_packer.specs.Polling.{is_framed, match_by, match_end}

@@ -2,7 +2,7 @@ use Rattle.std.proofs.Common.{◌≡◌, ◌<◌, ◌++◌, ◌∷◌, [], List,
 use Rattle.probe_core.specs.Bench.{Reported}
 use Rattle.probe_core.specs.Packets.{Packets}
 use Rattle.batch_packer.proofs.GoingOn.{stays_failed, stays_received, stays_then}
-use Rattle.batch_packer.proofs.StateSteps.{runs_then}
+use Rattle.probe_core.proofs.StateSteps.{runs_then}
 use Rattle.batch_packer.proofs.QueueLemmas.{handed_next, one_fewer, one_longer, received_next}
 use Rattle.batch_packer.proofs.queue.receive_all.Goals as goal
 

@@ -2,7 +2,7 @@ use Rattle.std.proofs.Common.{◌≡◌, ◌+◌, ◌<◌, length, ap, ◌∙◌
 use Rattle.probe_core.specs.Bench.{Reported}
 use Rattle.probe_core.specs.Probe.{is_queued}
 use Rattle.batch_packer.proofs.GoingOn.{goes_broken, goes_counted, sent_count}
-use Rattle.batch_packer.proofs.StateSteps.{runs_then}
+use Rattle.probe_core.proofs.StateSteps.{runs_then}
 use Rattle.batch_packer.proofs.QueueLemmas.{sent_next, served_next, served_some}
 use Rattle.batch_packer.proofs.queue.send_all.Goals as goal
 

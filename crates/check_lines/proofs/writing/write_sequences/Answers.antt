@@ -1,6 +1,6 @@
 use Rattle.std.proofs.Common.{◌∙◌}
 use Rattle.check_lines.specs.CheckLines.{sequence_line}
-use Rattle.check_lines.proofs.RowLemmas.{item_at, row_more, row_cut}
+use Rattle.text_lines.proofs.RowLemmas.{item_at, row_more, row_cut}
 use Rattle.check_lines.proofs.writing.write_sequences.Goals as goal
 
 pub returns-in-Err-clause-text : goal.returns-in-Err-clause-text

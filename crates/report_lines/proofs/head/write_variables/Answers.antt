@@ -1,6 +1,6 @@
 use Rattle.target_machine.specs.declared.unit.Variable.{Variable}
 use Rattle.report_lines.specs.Lines.{variable_line}
-use Rattle.report_lines.proofs.RowLemmas.{item_at, row_cut}
+use Rattle.text_lines.proofs.RowLemmas.{item_at, row_cut}
 use Rattle.report_lines.proofs.head.write_variables.Goals as goal
 
 pub returns-in-Err-clause-text : goal.returns-in-Err-clause-text

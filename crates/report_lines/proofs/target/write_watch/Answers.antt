@@ -1,7 +1,8 @@
 use Rattle.std.proofs.Common.{get_or}
 use Rattle.job_text.specs.declared.job.WatchItem.{WatchItem}
 use Rattle.report_lines.specs.Target.{word_lines}
-use Rattle.report_lines.proofs.RowLemmas.{began_same, rows_cut, slice_get-in}
+use Rattle.report_lines.proofs.RowLemmas.{began_same, rows_cut}
+use Rattle.text_lines.proofs.RowLemmas.{slice_get-in}
 use Rattle.report_lines.proofs.target.write_watch.Goals as goal
 
 pub returns-in-Err-clause-text : goal.returns-in-Err-clause-text

@@ -1,4 +1,4 @@
-use Rattle.std.proofs.Common.{◌+◌, arith, sym, subst, ℕ}
+use Rattle.std.proofs.Common.{arith, sym, subst, ℕ}
 use Rattle.dap_messages.specs.Requests.{IsRequest}
 use Rattle.dap_messages.proofs.RequestBits.{write_is_request}
 use Rattle.dap_messages.proofs.request.Request.write.Goals as goal

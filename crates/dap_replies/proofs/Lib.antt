@@ -1,0 +1,3 @@
+pub mod ProgressLemmas
+pub mod ReplyLaws
+pub mod ReplyAgain

@@ -1,0 +1,2 @@
+pub mod ReplyViews
+pub mod ReplyReading

@@ -1,0 +1,33 @@
+-- What a view of a reply shows.
+use Rattle.std.specs.Prelude.{◌≡◌, ℕ, List, [], ◌∷◌, length}
+use Rattle.dap_messages.specs.declared.command_value.CommandValue.{CommandValue}
+use Rattle.dap_messages.specs.Words.{word_bytes, words_in}
+use Rattle.dap_messages.specs.Replies.{ReplyValue, Info, Status, Pins, Transfer, Block, Answers, IsReply, reply_bytes}
+
+-- what a view of a reply shows: the executed number and the response of a transfer or a block, else 0; the bytes of the
+-- words of a transfer, none of a block, else all bytes after the id; and the words that these bytes make
+pub record Shown : Type 0 where
+  pub count : ℕ
+  pub response : ℕ
+  pub bytes : List ℕ
+  pub words : List ℕ
+
+-- the view of a reply other than to a transfer or a block
+abbrev pub shown_plain : List ℕ → Shown
+shown_plain bytes = record { count = 0; response = 0; bytes = bytes; words = words_in bytes }
+
+-- the view of a reply
+abbrev pub shown : ReplyValue → Shown
+shown (Info bytes) = shown_plain (length bytes ∷ bytes)
+shown (Status id status) = shown_plain (status ∷ [])
+shown (Pins pins) = shown_plain (pins ∷ [])
+shown (Transfer count response words) = record { count = count; response = response; bytes = word_bytes words; words = words }
+shown (Block count response) = record { count = count; response = response; bytes = []; words = [] }
+
+-- The bytes are those of a reply that the command may get, it is in the ranges of a reply, and the view shows it.
+pub record IsReplyTo (command : CommandValue) (bytes : List ℕ) (view : Shown) : Type 0 where
+  pub answer : ReplyValue
+  pub may : Answers command answer
+  pub in_range : IsReply answer
+  pub bytes_are : bytes ≡ reply_bytes answer
+  pub shows : view ≡ shown answer

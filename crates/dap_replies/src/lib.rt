@@ -1,0 +1,11 @@
+//! Replies to the commands of CMSIS-DAP, read in place.
+#![tactic(auto)]
+
+pub mod laws;
+mod progress;
+mod replies;
+
+pub use replies::{ReplyView, reply_view};
+
+#[cfg(test)]
+mod tests;
