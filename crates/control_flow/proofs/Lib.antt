@@ -1,4 +1,3 @@
-pub mod Sizes
 pub mod Exits
 pub mod Loops
 pub mod Parts

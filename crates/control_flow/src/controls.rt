@@ -11,7 +11,8 @@ ghost use Rattle.access_calls.specs.GoesOn.{GoesOn};
 ghost use Rattle.access_calls.specs.Left.{IsLeft};
 ghost use Rattle.access_calls.specs.Reported.{world_from};
 ghost use Rattle.sequence_terms.specs.Late.{late};
-ghost use Rattle.late_calls.specs.Held.{Knows, seen};
+ghost use Rattle.sequence_terms.specs.Known.{Knows};
+ghost use Rattle.late_calls.specs.Held.{seen};
 ghost use Rattle.control_flow.specs.Calls.{calls_of};
 
 use crate::polling::polled;

@@ -9,7 +9,8 @@ ghost use Rattle.seq_check.specs.Answers.{checked_trees};
 ghost use Rattle.sequence_terms.specs.Late.{late};
 ghost use Rattle.sequence_terms.specs.Steps as st;
 ghost use Rattle.late_calls.specs.Ends.{Counted, EndIs, Gives, HasSinkCause};
-ghost use Rattle.late_calls.specs.Held.{Knows, seen};
+ghost use Rattle.sequence_terms.specs.Known.{Knows};
+ghost use Rattle.late_calls.specs.Held.{seen};
 ghost use Rattle.control_flow.specs.Calls.{debugged_one, defined};
 
 use crate::runner::Runner;

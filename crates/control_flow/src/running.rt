@@ -7,7 +7,7 @@ ghost use Rattle.access_calls.specs.GoesOn.{GoesOn};
 ghost use Rattle.access_calls.specs.Left.{answered_by};
 ghost use Rattle.access_calls.specs.Reported.{world_from};
 ghost use Rattle.sequence_terms.specs.Runs.{late_meaning, meaning, outcome_of};
-ghost use Rattle.late_calls.specs.Held.{Knows, known_part};
+ghost use Rattle.sequence_terms.specs.Known.{Knows, known_part};
 ghost use Rattle.control_flow.specs.Answers.{EndBy, EndsAs, HasNeeds, HasSinkCause, program_of, ran};
 
 use crate::closing::{ending_of, finished, left};

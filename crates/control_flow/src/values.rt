@@ -8,7 +8,8 @@ ghost use Rattle.access_calls.specs.Reported.{world_from};
 ghost use Rattle.sequence_terms.specs.Late.{late};
 ghost use Rattle.sequence_terms.specs.Values as v;
 ghost use Rattle.late_calls.specs.Ends.{Counted, EndIs, Gives, HasSinkCause};
-ghost use Rattle.late_calls.specs.Held.{Knows, seen};
+ghost use Rattle.sequence_terms.specs.Known.{Knows};
+ghost use Rattle.late_calls.specs.Held.{seen};
 ghost use Rattle.control_flow.specs.Calls.{calls_of};
 
 use crate::runner::Runner;

@@ -16,7 +16,7 @@ use Rattle.sequence_terms.proofs.Goes as g
 use Rattle.sequence_terms.proofs.LateLemmas.{steady_late}
 use Rattle.late_calls.specs.declared.end.End.{End}
 use Rattle.late_calls.specs.Ends.{Left, Ends, IsStopAt}
-use Rattle.late_calls.specs.Held.{known_part, Knows}
+use Rattle.sequence_terms.specs.Known.{known_part, Knows}
 use Rattle.late_calls.proofs.Leaves.{After, left_on, stops_before}
 use Rattle.access_calls.proofs.KeepLemmas.{goes_same, goes_trans}
 

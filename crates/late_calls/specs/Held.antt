@@ -1,21 +1,13 @@
 -- What a run holds, as a state of the meaning with results that come later.
-use Rattle.std.specs.Prelude.{ℕ, Bool, true, false, List, Option, None, IsSome, if◌then◌else◌}
+use Rattle.std.specs.Prelude.{ℕ, Bool, List, Option}
 use Rattle.call_terms.specs.declared.calls.Value.{Value}
 use Rattle.call_terms.specs.NeedPoints.{Asks}
 use Rattle.sequence_terms.specs.declared.bindings.Binding.{Binding}
+use Rattle.sequence_terms.specs.Known.{known_part}
 use Rattle.sequence_terms.specs.Late.{Late, late_of}
 use Rattle.sequence_terms.specs.Machine.{State}
 use Rattle.sequence_terms.specs.Shared.{bindings_of}
 use Rattle.late_calls.specs.declared.held.Held.{Held}
-
--- what was written, where it is asked for
-abbrev pub known_part : Bool → Option (List ℕ) → Option (List ℕ)
-known_part known written = if known then written else None
-
--- where it is asked for, contracts know what was written
-abbrev pub Knows : Bool → Option (List ℕ) → Type 0
-Knows true written = IsSome written
-Knows false written = Unit {0}
 
 -- a state with these variables and counts, of which this was asked and written
 abbrev pub state_with : List (Binding Value) → List (Binding Value) → ℕ → ℕ → ℕ → Asks → Option (List ℕ) → State Value Late

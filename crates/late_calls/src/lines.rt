@@ -8,7 +8,8 @@ ghost use Rattle.sequence_terms.specs.Calls as c;
 ghost use Rattle.sequence_terms.specs.Late.{late};
 ghost use Rattle.sequence_terms.specs.Lines.{message_line};
 ghost use Rattle.late_calls.specs.Ends.{Counted, EndIs, Gives, HasSinkCause};
-ghost use Rattle.late_calls.specs.Held.{Knows, seen};
+ghost use Rattle.sequence_terms.specs.Known.{Knows};
+ghost use Rattle.late_calls.specs.Held.{seen};
 ghost use Rattle.late_calls.specs.Kinds.{line_done};
 
 use crate::end::End;

@@ -7,7 +7,8 @@ ghost use Rattle.access_calls.specs.Reported.{world_from};
 ghost use Rattle.sequence_terms.specs.Calls as c;
 ghost use Rattle.sequence_terms.specs.Late.{late};
 ghost use Rattle.late_calls.specs.Ends.{Counted, EndIs, Gives, HasSinkCause, NoWriteFault};
-ghost use Rattle.late_calls.specs.Held.{Knows, seen, state_of};
+ghost use Rattle.sequence_terms.specs.Known.{Knows};
+ghost use Rattle.late_calls.specs.Held.{seen, state_of};
 ghost use Rattle.late_calls.specs.Kinds.{IsSized, kind_done, probe_done, written_value};
 
 use crate::end::End;

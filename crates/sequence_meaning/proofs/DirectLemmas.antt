@@ -8,7 +8,7 @@ use Rattle.dap_base.specs.Outcome.{◌>>=◌}
 use Rattle.sequence_terms.specs.Calls.{use_now, missing, given, global, port_with, port_from, port}
 use Rattle.std.specs.Io.KnownBytes.{Appends}
 use Rattle.dap_base.specs.Streams.{AppendsPrefix}
-use Rattle.sequence_meaning.specs.Held.{known_part, Knows}
+use Rattle.sequence_terms.specs.Known.{known_part, Knows}
 use Rattle.sequence_terms.specs.Values.{all_used, numbers_of}
 
 given_is : (o : Option ℕ) (s : State ℕ Now) → (given (direct false) 0 o s >>= λ v. use_now (direct false) v.0 v.1) ≡ Ok (unwrap_or o 0, s)

@@ -10,7 +10,6 @@ pub mod FineRuns
 pub mod HeldLemmas
 pub mod Loops
 pub mod NeverLost
-pub mod Sizes
 pub mod StartLemmas
 pub mod UnitLemmas
 pub mod StopLemmas

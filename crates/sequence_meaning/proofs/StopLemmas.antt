@@ -1,5 +1,5 @@
 -- Where the code ends in the middle of what the meaning does: an end goes on outwards.
-use Rattle.std.proofs.Common.{◌≡◌, ℕ, ◌+◌, ◌^◌, ◌/◌, Bool, true, false, cond, nat_eq, List, [], ◌∷◌, ◌++◌, Option, None, Some, Ok, Err, codes, refl, sym, ap, subst, ◌∙◌, ◌<◌, nat_lt, arith, take, drop, length, option_map}
+use Rattle.std.proofs.Common.{◌≡◌, ℕ, ◌+◌, ◌^◌, ◌/◌, Bool, true, false, cond, nat_eq, List, [], ◌∷◌, ◌++◌, Option, None, Some, Ok, Err, codes, refl, sym, ap, subst, ◌∙◌, ◌<◌, nat_lt, arith, take, drop, option_map}
 use Rattle.std.proofs.lemmas.List.{append_assoc, append-nil, take-append-drop}
 use Rattle.call_terms.specs.World.{World, next_world}
 use Rattle.call_terms.specs.declared.calls.Ask.{Ask}
@@ -19,9 +19,7 @@ use Rattle.function_table.specs.declared.function.Function.TheVariants.{Sequence
 use Rattle.function_table.specs.Lookup.{function_named}
 use Rattle.seq_check.specs.Answers.{checked_trees}
 use Rattle.sequence_code.specs.Trees.{CodeSteps}
-use Rattle.target_machine.specs.declared.unit.ProbeCall.{ProbeCall}
-use Rattle.target_machine.specs.declared.unit.Unit.{Unit as AccessUnit}
-use Rattle.sequence_terms.specs.Calls.{Port, lined, global, use_now, ask, command, zero_of, if_read, second_half, two_units, memory_unit}
+use Rattle.sequence_terms.specs.Calls.{Port, lined, global, use_now, ask, zero_of, if_read, second_half, two_units, memory_unit}
 use Rattle.sequence_terms.specs.Direct.{Now, direct, line_after}
 use Rattle.sequence_terms.specs.Laws.{Adds}
 use Rattle.sequence_terms.specs.Machine.{State, Out, end_state, with_locals}
@@ -34,7 +32,8 @@ use Rattle.sequence_terms.proofs.Goes as g
 use Rattle.sequence_meaning.specs.declared.end.End.{End}
 use Rattle.sequence_meaning.specs.declared.end.End.TheVariants as end
 use Rattle.sequence_meaning.specs.declared.runner.Runner.{Runner}
-use Rattle.sequence_meaning.specs.Held.{Ends, IsEndCaused, Knows, calls_of, known_part, made_all, seen, world_at}
+use Rattle.sequence_terms.specs.Known.{Knows, known_part}
+use Rattle.sequence_meaning.specs.Held.{Ends, IsEndCaused, calls_of, made_all, seen, world_at}
 
 abbrev S : Type 0
 S = State ℕ Now
@@ -110,13 +109,6 @@ pub ends_two_units : (e : End) (now s : S) (read : Bool) (p : Port) (address n :
 unfolding two_units
 ends_two_units e now s read p address n h =
     ends_on e now _ _ (λ x. g.goes_second_half (direct false) Adds (adds_direct false) read p address n x.0 x.1) h
-
--- memory is refused before an access or a command is made
-pub ask_refused : (unit : AccessUnit) (forgive : Bool) (s r : S) → r ≡ s → Adds r.rest (end_state (ask (direct false) unit forgive s)).rest
-ask_refused unit forgive s r same = rw same ((g.goes_ask (direct false) Adds (adds_direct false) unit forgive s).so)
-
-pub command_refused : (c : ProbeCall) (s r : S) → r ≡ s → Adds r.rest (end_state (command (direct false) c s)).rest
-command_refused c s r same = rw same ((g.goes_command (direct false) Adds (adds_direct false) c s).so)
 
 -- ---- expressions
 
@@ -296,10 +288,6 @@ poll_ask e now s r form n d is dp zero h = rw (is, dp, zero) (ends_on e now _ _ 
 
 -- ---- lines
 
--- memory is refused for a line
-pub line_refused : (text : List ℕ) (value : ℕ) (s : S) → Adds s.rest (end_state (lined (direct false) text value s)).rest
-line_refused text value s = (g.goes_lined (direct false) Adds (adds_direct false) text value s).so
-
 broken : (known : Bool) (old new : Option (List ℕ)) (text : List ℕ) → AppendsPrefix old new text → Knows known old → Grows (known_part known new) (option_map (line_after text) (known_part known old))
 broken false old new text h k = record { part = []; same = refl }
 broken true None new text h k = absurd cc
@@ -334,15 +322,3 @@ pub one_made : (w : World) (calls calls2 : List Ask) (t u : TargetState) (large 
     → made_all w calls2 ≡ world_at u large2
 one_made w calls calls2 t u large large2 ask e was more d =
     ap (made_all w) more ∙ made_more w calls (ask ∷ []) ∙ ap (λ x. next_world x ask) was ∙ ap (λ x. world_at x (call_done t large ask.forgive ask.call).large) d.next_is ∙ ap (world_at u) d.large_is
-
--- a call that was not made
-pub none_made : (w : World) (calls calls2 : List Ask) (t u : TargetState) (large large2 : List ℕ) → made_all w calls ≡ world_at t large → calls2 ≡ calls → u ≡ t → large2 ≡ large → made_all w calls2 ≡ world_at u large2
-none_made w calls calls2 t u large large2 was same ht hl = ap (made_all w) same ∙ was ∙ ap (λ x. world_at x large) (sym ht) ∙ ap (world_at u) (sym hl)
-
--- the calls without the last one
-pub cut_calls : (calls more cut : List Ask) (ask : Ask) (n : ℕ) → more ≡ calls ++ ask ∷ [] → n ≡ length calls → cut ≡ take n more → cut ≡ calls
-cut_calls calls more cut ask n hm hn hc = hc ∙ ap (take n) hm ∙ ap (λ k. take k (calls ++ ask ∷ [])) hn ∙ all calls
-  where
-    all : (zs : List Ask) → take (length zs) (zs ++ ask ∷ []) ≡ zs
-    all [] = refl
-    all (z ∷ zs) = ap (λ r. z ∷ r) (all zs)

@@ -1,5 +1,5 @@
 -- What the direct runner holds, as a state of the meaning; and how what it answers is that of the meaning.
-use Rattle.std.specs.Prelude.{◌≡◌, ℕ, Bool, true, false, List, [], ◌∷◌, Option, None, Result, Ok, Err, IsSome, if◌then◌else◌}
+use Rattle.std.specs.Prelude.{◌≡◌, ℕ, Bool, false, List, [], ◌∷◌, Option, None, Result, Ok, Err}
 use Rattle.call_terms.specs.World.{World, next_world}
 use Rattle.call_terms.specs.declared.calls.Ask.{Ask}
 use Rattle.dap_base.specs.Causes.{Rose}
@@ -7,6 +7,7 @@ use Rattle.seq_check.specs.Answers.{checked_trees}
 use Rattle.target_machine.specs.State.{TargetState}
 use Rattle.target_machine.specs.declared.unit.Call.TheVariants.{Access}
 use Rattle.sequence_terms.specs.Direct.{Now, direct}
+use Rattle.sequence_terms.specs.Known.{known_part}
 use Rattle.sequence_terms.specs.Machine as machine
 use Rattle.sequence_terms.specs.Laws.{Adds}
 use Rattle.sequence_terms.specs.Machine.{State, Out, end_state}
@@ -16,15 +17,6 @@ use Rattle.sequence_meaning.specs.declared.end.End.{End}
 use Rattle.sequence_meaning.specs.declared.end.End.TheVariants as end
 use Rattle.sequence_meaning.specs.declared.held.Held.{Held}
 use Rattle.sequence_meaning.specs.declared.runner.Runner.{Runner}
-
--- what was written, where it is asked for
-abbrev pub known_part : Bool → Option (List ℕ) → Option (List ℕ)
-known_part known written = if known then written else None
-
--- where it is asked for, contracts know what was written
-abbrev pub Knows : Bool → Option (List ℕ) → Type 0
-Knows true written = IsSome written
-Knows false written = Unit {0}
 
 -- the state of a run, in which all calls are answered
 abbrev pub state_of : Held → TargetState → Option (List ℕ) → State ℕ Now

@@ -28,9 +28,9 @@ pub(crate) fn port_of(held: &Held) -> Port
         → c.port (direct false) s ≡ Ok (record { ap = result.ap; forgive = result.forgive; dp = result.dp }, s) }
 {
     Port {
-        ap: held.global("__ap"),
-        forgive: held.global("__errorcontrol") % 2 == 1,
-        dp: held.global("__dp"),
+        ap: held.predefined(3, "__ap"),
+        forgive: held.predefined(5, "__errorcontrol") % 2 == 1,
+        dp: held.predefined(2, "__dp"),
     }
 }
 
@@ -38,7 +38,7 @@ pub(crate) fn port_of(held: &Held) -> Port
 pub(crate) fn debug_port(held: &Held) -> u64
     ensures { (s : State ℕ Now) → s.globals ≡ bindings_of held.now.globals → c.global (direct false) (codes "__dp") s ≡ Ok (result, s) }
 {
-    held.global("__dp")
+    held.predefined(2, "__dp")
 }
 
 // An access as a unit, made at once, unless it would be number 1,000,001.

@@ -8,7 +8,8 @@ ghost use Rattle.function_table.specs.declared.function.Function.{Function};
 ghost use Rattle.sequence_terms.specs.Direct.{direct};
 ghost use Rattle.sequence_terms.specs.Steps as m;
 ghost use Rattle.sequence_terms.specs.Values as v;
-ghost use Rattle.sequence_meaning.specs.Held.{IsCaused, IsMade, Gives, GivesAs, Knows, calls_of, seen, state_of};
+ghost use Rattle.sequence_terms.specs.Known.{Knows};
+ghost use Rattle.sequence_meaning.specs.Held.{IsCaused, IsMade, Gives, GivesAs, calls_of, seen, state_of};
 
 use crate::end::End;
 use crate::functions::performed;
@@ -95,9 +96,39 @@ impl Runner<'_> {
         Ok(())
     }
 
-    // A call: its arguments, and then the function.
+    // A call: its arguments, and then the function. The numbers among them go into an empty list.
     #[cycle(eval)]
     #[tactic(auto, unfolding(sequence_terms::specs::Values::call_of, sequence_terms::specs::Calls::guarded, sequence_terms::specs::Values::numbers_of, sequence_terms::specs::Direct::direct), using(crate::proofs::StopLemmas::ends_call, crate::proofs::DirectLemmas::numbers_used, crate::proofs::StopLemmas::cause_on))]
+    fn call_with<K: Sink>(
+        &self,
+        name: &Name,
+        args: &[Arg],
+        numbers: &mut Vec<u64>,
+        depth: u32,
+        held: &mut Held,
+        target: &mut Target,
+        sink: &mut K,
+    ) -> Result<u64, End>
+        requires { numbers.old.items ≡ [] }
+        ensures gives { (known : Bool) → Knows known (K.written sink.old) → Gives result (seen known held.new target.new (K.written sink.new)) (v.call_of (direct false) (calls_of self.now depth) name.now (arg_trees args.now) (v.arguments (direct false) (calls_of self.now depth) (arg_trees args.now) [] (seen known held.old target.old (K.written sink.old)))) }
+        ensures knows { (known : Bool) → Knows known (K.written sink.old) → Knows known (K.written sink.new) }
+        ensures made { (w : World) → IsMade w held.old target.old → IsMade w held.new target.new }
+        ensures cause { IsCaused result (K.faults sink.old) (K.faults sink.new) }
+    {
+        self.arguments(args, numbers, depth, held, target, sink)?;
+        self.called(
+            function_of(name.text.as_str()),
+            text_of(args),
+            numbers.as_slice(),
+            depth,
+            held,
+            target,
+            sink,
+        )
+    }
+
+    // A call. The list for its numbers is the one of the call before, so that no memory is taken and given back for each call.
+    #[cycle(eval)]
     pub(crate) fn call<K: Sink>(
         &self,
         name: &Name,
@@ -112,17 +143,10 @@ impl Runner<'_> {
         ensures made { (w : World) → IsMade w held.old target.old → IsMade w held.new target.new }
         ensures cause { IsCaused result (K.faults sink.old) (K.faults sink.new) }
     {
-        let mut numbers = Vec::new(self.alloc);
-        self.arguments(args, &mut numbers, depth, held, target, sink)?;
-        self.called(
-            function_of(name.text.as_str()),
-            text_of(args),
-            &numbers,
-            depth,
-            held,
-            target,
-            sink,
-        )
+        let mut numbers = held.take_numbers(self.alloc);
+        let answer = self.call_with(name, args, &mut numbers, depth, held, target, sink);
+        held.keep_numbers(numbers);
+        answer
     }
 
     // The function of a call.

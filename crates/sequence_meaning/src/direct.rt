@@ -8,7 +8,8 @@ ghost use Rattle.sequence_terms.specs.Laws.{IsMadeIn};
 ghost use Rattle.sequence_terms.specs.Machine.{Out, end_state};
 ghost use Rattle.sequence_terms.specs.Runs.{outcome, outcome_of, units_of};
 ghost use Rattle.sequence_meaning.specs.Answers.{Answers, AnswersDirect, IsDirectCaused, IsRecordedCaused, Leaves, LeavesSome, Records};
-ghost use Rattle.sequence_meaning.specs.Held.{Gives, IsCaused, IsMade, Knows, known_part, state_of};
+ghost use Rattle.sequence_terms.specs.Known.{Knows, known_part};
+ghost use Rattle.sequence_meaning.specs.Held.{Gives, IsCaused, IsMade, state_of};
 ghost use Rattle.sequence_meaning.specs.Starting.{program_of};
 
 use crate::end::End;

@@ -5,7 +5,8 @@ ghost use Rattle.call_terms.specs.World.{World};
 ghost use Rattle.sequence_terms.specs.Calls as c;
 ghost use Rattle.sequence_terms.specs.Lines.{message_line};
 ghost use Rattle.sequence_terms.specs.Direct.{direct};
-ghost use Rattle.sequence_meaning.specs.Held.{IsCaused, IsMade, Gives, Knows, seen};
+ghost use Rattle.sequence_terms.specs.Known.{Knows};
+ghost use Rattle.sequence_meaning.specs.Held.{IsCaused, IsMade, Gives, seen};
 
 use crate::end::End;
 use crate::held::Held;

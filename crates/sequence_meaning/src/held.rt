@@ -25,6 +25,8 @@ pub(crate) struct Held {
     pub calls: Vec<Ask>,
     pub large: Vec<u8>,
     pub skipped: u32,
+    /// Where the numbers among the arguments of a call may stand: its content counts for nothing.
+    pub numbers: Vec<u64>,
 }
 
 impl Held {
@@ -42,6 +44,7 @@ impl Held {
             calls: Vec::new(alloc),
             large: Vec::new(alloc),
             skipped: 0,
+            numbers: Vec::new(alloc),
         }
     }
 
@@ -50,6 +53,16 @@ impl Held {
         ensures { result ≡ unwrap_or (value_in (bindings_of self.now.globals) name.now) 0 }
     {
         match self.globals.get(name) {
+            Some(value) => value,
+            None => 0,
+        }
+    }
+
+    /// The same of a variable that is at `index` among those that all sequences share, where it is there.
+    pub fn predefined(&self, index: usize, name: &str) -> u64
+        ensures { result ≡ unwrap_or (value_in (bindings_of self.now.globals) name.now) 0 }
+    {
+        match self.globals.get_near(index, name) {
             Some(value) => value,
             None => 0,
         }
@@ -77,6 +90,25 @@ impl Held {
         } else {
             self.globals.set(name, value);
         }
+    }
+
+    /// Takes an empty list for numbers out.
+    pub fn take_numbers(&mut self, alloc: Global) -> Vec<u64>
+        ensures none { result.items ≡ [] }
+        ensures state { (target : TargetState) (written : Option (List ℕ)) → state_of self.new target written ≡ state_of self.old target written }
+        ensures made { (w : World) (target : TargetState) → IsMade w self.old target → IsMade w self.new target }
+    {
+        let mut numbers = mem::replace(&mut self.numbers, Vec::new(alloc));
+        numbers.clear();
+        numbers
+    }
+
+    /// Keeps a list for the numbers of later calls.
+    pub fn keep_numbers(&mut self, numbers: Vec<u64>)
+        ensures state { (target : TargetState) (written : Option (List ℕ)) → state_of self.new target written ≡ state_of self.old target written }
+        ensures made { (w : World) (target : TargetState) → IsMade w self.old target → IsMade w self.new target }
+    {
+        self.numbers = numbers;
     }
 
     /// Declares a variable of the running sequence.

@@ -5,7 +5,8 @@ ghost use Rattle.seq_check.specs.Answers.{checked_trees};
 ghost use Rattle.call_terms.specs.World.{World};
 ghost use Rattle.sequence_terms.specs.Direct.{direct};
 ghost use Rattle.sequence_terms.specs.Steps as m;
-ghost use Rattle.sequence_meaning.specs.Held.{IsCaused, IsMade, Gives, Knows, seen};
+ghost use Rattle.sequence_terms.specs.Known.{Knows};
+ghost use Rattle.sequence_meaning.specs.Held.{IsCaused, IsMade, Gives, seen};
 ghost use Rattle.sequence_meaning.specs.Starting.{debugged_one, defined};
 
 use crate::end::End;

@@ -17,3 +17,4 @@ pub mod PollLemmas
 pub mod VariableLemmas
 pub mod GlobalLemmas
 pub mod Rows
+pub mod Sizes

@@ -7,6 +7,7 @@ pub mod Values
 pub mod Polls
 pub mod Steps
 pub mod Direct
+pub mod Known
 pub mod Late
 pub mod Steady
 pub mod Alike

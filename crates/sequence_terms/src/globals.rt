@@ -1,6 +1,6 @@
 //! The variables that all sequences share.
 
-ghost use Rattle.std.specs.Prelude.{◌≡◌, [], OnOk, OnErr, length, option_map, slice_get};
+ghost use Rattle.std.specs.Prelude.{◌≡◌, [], IfSome, OnOk, OnErr, Some, length, option_map, slice_get};
 ghost use Rattle.sequence_terms.specs.Shared.{bindings_of, pair_of};
 ghost use Rattle.sequence_terms.specs.Variables.{has_in, value_in, set_in, with_new};
 
@@ -49,11 +49,58 @@ impl<V: Copy> Globals<V> {
         self.values.contains_key(name)
     }
 
-    /// The value of the variable with the name. `None` exactly where none has it.
-    pub fn get(&self, name: &str) -> Option<V>
+    // The value of the variable at the index, where it has the name.
+    fn value_at(&self, index: usize, name: &str) -> Option<V>
+        ensures { IfSome result (λ value. value_in (bindings_of self.now) name.now ≡ Some value) }
+    {
+        match self.values.get_index(index) {
+            Some((known, value)) if known.as_str() == name => Some(*value),
+            _ => None,
+        }
+    }
+
+    // The value of the variable with the name, where it is one of the last eight.
+    fn last_value(&self, name: &str) -> Option<V>
+        ensures { IfSome result (λ value. value_in (bindings_of self.now) name.now ≡ Some value) }
+    {
+        let len = self.values.len();
+        let mut index = len;
+        while index > len.saturating_sub(8) {
+            index -= 1;
+            if let Some(value) = self.value_at(index, name) {
+                return Some(value);
+            }
+        }
+        None
+    }
+
+    // The value of the variable with the name, found without a look at the others.
+    fn stored(&self, name: &str) -> Option<V>
         ensures { result ≡ value_in (bindings_of self.now) name.now }
     {
         self.values.get(name).copied()
+    }
+
+    /// The value of the variable with the name. `None` exactly where none has it. It takes the least time where the variable is one of the
+    /// last eight.
+    pub fn get(&self, name: &str) -> Option<V>
+        ensures { result ≡ value_in (bindings_of self.now) name.now }
+    {
+        match self.last_value(name) {
+            Some(value) => Some(value),
+            None => self.stored(name),
+        }
+    }
+
+    /// The value of the variable with the name, as [`Globals::get`] answers it. It takes the least time where the variable is the one at
+    /// `index`, counted from 0.
+    pub fn get_near(&self, index: usize, name: &str) -> Option<V>
+        ensures { result ≡ value_in (bindings_of self.now) name.now }
+    {
+        match self.value_at(index, name) {
+            Some(value) => Some(value),
+            None => self.stored(name),
+        }
     }
 
     /// Gives the variable with the name this value. Where none has it, nothing changes.

@@ -4,7 +4,8 @@ use Rattle.access_calls.specs.Reported.{world_from}
 use Rattle.access_calls.proofs.KeepLemmas.{left_by}
 use Rattle.sequence_terms.specs.Runs.{late_meaning, meaning, outcome_of}
 use Rattle.sequence_terms.proofs.Made.{late_pair}
-use Rattle.late_calls.specs.Held.{known_part, state_of}
+use Rattle.sequence_terms.specs.Known.{known_part}
+use Rattle.late_calls.specs.Held.{state_of}
 use Rattle.control_flow.specs.Answers.{EndsAs, program_of, ran}
 use Rattle.access_calls.specs.declared.ended.Ending.TheVariants as ending
 use Rattle.control_flow.proofs.EndRules.{answered_as, quiet_ending}

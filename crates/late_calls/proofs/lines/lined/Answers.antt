@@ -1,7 +1,8 @@
 use Rattle.std.proofs.Common.{◌≡◌, ◌∙◌, true, nat_lt, take, subst, arith}
 use Rattle.std.specs.Io.KnownBytes.{Appends}
 use Rattle.access_calls.specs.Reported.{world_from}
-use Rattle.late_calls.specs.Held.{seen, known_part}
+use Rattle.sequence_terms.specs.Known.{known_part}
+use Rattle.late_calls.specs.Held.{seen}
 use Rattle.late_calls.proofs.LineLemmas.{line_on, line_fails, line_stops, line_refused, known_more}
 use Rattle.late_calls.proofs.lines.lined.Goals as goal
 

@@ -9,7 +9,8 @@ use Rattle.sequence_terms.specs.Direct.{direct}
 use Rattle.sequence_terms.specs.Runs.{meaning}
 use Rattle.sequence_terms.specs.Steps as m
 use Rattle.sequence_terms.specs.Variables.{with_all_new}
-use Rattle.sequence_meaning.specs.Held.{Gives, known_part, seen}
+use Rattle.sequence_terms.specs.Known.{known_part}
+use Rattle.sequence_meaning.specs.Held.{Gives, seen}
 use Rattle.sequence_meaning.specs.Starting.{program_of, variables_of}
 use Rattle.sequence_meaning.proofs.PartLemmas.{no_part, start_made}
 use Rattle.sequence_meaning.proofs.StartLemmas.{start_is}

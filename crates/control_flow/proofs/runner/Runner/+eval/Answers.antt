@@ -11,13 +11,14 @@ use Rattle.function_table.specs.Lookup.{function_named}
 use Rattle.sequence_terms.specs.Shared.{bindings_of}
 use Rattle.sequence_terms.proofs.LoopLemmas as loop
 use Rattle.sequence_terms.specs.Values as v
-use Rattle.late_calls.specs.Held.{known_part, seen}
+use Rattle.sequence_terms.specs.Known.{known_part}
+use Rattle.late_calls.specs.Held.{seen}
 use Rattle.code_check.proofs.TreeLemmas.{tree-Number, tree-Name}
 use Rattle.control_flow.specs.Calls.{calls_of}
 use Rattle.control_flow.proofs.Exits.{later_sequence, later_value, later_inside, later_done, operands_first, call_first, turn_test}
 use Rattle.control_flow.proofs.Parts.{used_first, assigned_first, assigned_on, operands_second, strict_first, push_refused, controlled_first, called_none, choice_test, and_first, or_first, repeated_on, sequence_none, call_on, call_second, number_on, name_on}
 use Rattle.control_flow.proofs.Loops.{declare_refused, args_next, args_fail, block_next, block_fail, done_next, done_fail, turns_fail, entered_fail, entered_as, sequence_on}
-use Rattle.control_flow.proofs.Sizes.{arg_size, args_size, stmt_size, block_size, step_size, steps_size, all_size, arg_within, stmt_within, step_within, named_within, less_budget}
+use Rattle.sequence_terms.proofs.Sizes.{arg_size, args_size, stmt_size, block_size, step_size, steps_size, all_size, arg_within, stmt_within, step_within, named_within, less_budget}
 use Rattle.control_flow.proofs.runner.Runner.+eval.Goals as goal
 
 pub arguments-argument-requires : goal.arguments-argument-requires

@@ -7,11 +7,12 @@ use Rattle.expr_grammar.specs.Tree.{tree, arg_tree, arg_trees, stmt_tree, code_t
 use Rattle.seq_check.specs.Answers.{checked_trees}
 use Rattle.sequence_code.specs.Trees.{step_tree, steps_tree}
 use Rattle.sequence_terms.specs.Late.{late}
-use Rattle.late_calls.specs.Held.{seen, Knows}
+use Rattle.sequence_terms.specs.Known.{Knows}
+use Rattle.late_calls.specs.Held.{seen}
 use Rattle.control_flow.specs.Calls.{calls_of}
 use Rattle.sequence_terms.specs.Steps as st
 use Rattle.sequence_terms.specs.Values as v
-use Rattle.control_flow.proofs.Sizes.{size, arg_size, args_size, stmt_size, block_size, cond_size, step_size, steps_size, all_size, budget}
+use Rattle.sequence_terms.proofs.Sizes.{size, arg_size, args_size, stmt_size, block_size, cond_size, step_size, steps_size, all_size, budget}
 use Rattle.control_flow.proofs.runner.Runner.+eval.Given as goal
 
 abbrev pub decreases-value : goal.decreases-value

@@ -7,7 +7,8 @@ use Rattle.access_calls.specs.Reported.{world_from}
 use Rattle.seq_check.specs.Answers.{checked_trees}
 use Rattle.sequence_terms.specs.Late.{late}
 use Rattle.sequence_terms.specs.Steps.{debugged}
-use Rattle.late_calls.specs.Held.{seen, Knows}
+use Rattle.sequence_terms.specs.Known.{Knows}
+use Rattle.late_calls.specs.Held.{seen}
 use Rattle.control_flow.proofs.runner.Runner.debug.Given as goal
 
 abbrev pub invariant-loop-one : goal.invariant-loop-one

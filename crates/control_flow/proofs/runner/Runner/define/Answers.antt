@@ -1,6 +1,6 @@
 use Rattle.expr_grammar.specs.Tree.{tree}
 use Rattle.access_calls.specs.Reported.{world_from}
-use Rattle.late_calls.specs.Held.{known_part}
+use Rattle.sequence_terms.specs.Known.{known_part}
 use Rattle.seq_check.specs.Answers.{checked_trees}
 use Rattle.control_flow.proofs.DebugLemmas.{defined_on, defined_first}
 use Rattle.control_flow.proofs.runner.Runner.define.Goals as goal

@@ -1,12 +1,14 @@
-use Rattle.std.proofs.Common.{◌≡◌, false, ◌<◌, ◌≤◌, ◌+◌, ◌*◌, ap, ◌∙◌, unwrap_or, rules, arith}
+use Rattle.std.proofs.Common.{◌≡◌, false, [], Ok, subst, ◌<◌, ◌≤◌, ◌+◌, ◌*◌, ap, ◌∙◌, unwrap_or, rules, arith}
 use Rattle.expr_grammar.specs.Tree.{tree, arg_tree, arg_trees, stmt_tree, code_trees}
 use Rattle.seq_check.specs.Answers.{checked_trees}
 use Rattle.sequence_code.specs.Trees.{NoSteps, step_tree, steps_tree, steps_named}
 use Rattle.sequence_terms.specs.Direct.{direct}
-use Rattle.sequence_meaning.specs.Held.{calls_of, known_part}
+use Rattle.sequence_terms.specs.Known.{known_part}
+use Rattle.sequence_meaning.specs.Held.{calls_of, seen}
 use Rattle.sequence_terms.specs.Values as v
-use Rattle.sequence_meaning.proofs.Loops.{declared_on, inside_on, entered_on, entered_fail, sequence_on, turns_on, turns_over, turns_fail}
-use Rattle.sequence_meaning.proofs.Sizes.{arg_size, args_size, stmt_size, block_size, step_size, steps_size, all_size, arg_within, stmt_within, step_within, named_within, less_budget}
+use Rattle.sequence_meaning.proofs.Loops.{args_on, declared_on, inside_on, entered_on, entered_fail, sequence_on, turns_on, turns_over, turns_fail}
+use Rattle.sequence_terms.proofs.Sizes.{arg_size, args_size, stmt_size, block_size, step_size, steps_size, all_size, arg_within, stmt_within, step_within, named_within, less_budget}
+use Rattle.sequence_meaning.proofs.HeldLemmas.{between}
 use Rattle.sequence_meaning.proofs.StopLemmas.{adds_value, adds_inside, declare_first, declare_refused, declare_value, ends_test, ends_turn, plain_first, plain_value}
 use Rattle.sequence_meaning.proofs.runner.Runner.+eval.Goals as goal
 
@@ -14,6 +16,26 @@ pub arguments-argument-requires : goal.arguments-argument-requires
 arguments-argument-requires g t c =
     let less : arg_size (arg_tree c.arg-item.result) < args_size (arg_trees c.args.args.now) = arg_within c.args.args.now c.loop-arg.arg-index _ c.arg-item.result c.loop-arg-test.true c.arg-item.is in
     λ κs met. (omega (arith, less), Prim.search rules)
+
+pub arguments-loop-arg-preserved : goal.arguments-loop-arg-preserved
+arguments-loop-arg-preserved g t c = record {
+  same = λ known knows.
+      let first = seen known c.loop-arg.held c.loop-arg.target (g.K.Sink.written c.loop-arg.sink) in
+      let next = seen known c.argument.new.held c.argument.new.target (g.K.Sink.written c.argument.new.sink) in
+      args_on c.args.self.now c.args.depth _ c.args.args.now c.loop-arg.arg-index _ c.loop-arg.numbers.items c.argument.new.numbers.items first next (c.loop-arg.invariant.same known knows) c.loop-arg-test.true
+      (subst (λ a. v.argument (direct false) (calls_of c.args.self.now c.args.depth) (arg_tree a) c.loop-arg.numbers.items first ≡ Ok (c.argument.new.numbers.items, next)) c.arg-item.is (c.in-Ok.ensures.gives known (c.loop-arg.invariant.knows known knows)));
+  knows = λ known knows. c.argument.ensures.knows known (c.loop-arg.invariant.knows known knows);
+  made = λ w made. c.argument.ensures.made w (c.loop-arg.invariant.made w made);
+  faults = c.in-Ok.ensures.cause ∙ c.loop-arg.invariant.faults;
+}
+
+pub call-returns-clause-gives : goal.call-returns-clause-gives
+call-returns-clause-gives g t c = λ known knows.
+    between (λ s. v.call_of (direct false) (calls_of c.args.self.now c.args.depth) c.args.name.now (arg_trees c.args.args.now) (v.arguments (direct false) (calls_of c.args.self.now c.args.depth) (arg_trees c.args.args.now) [] s))
+    c.call_with-answer.result _ _ _ _ (c.take_numbers-numbers.ensures.state c.args.target.now (known_part known (g.K.Sink.written c.args.sink.now))) (c.keep_numbers.ensures.state c.call_with-answer.new.target (known_part known (g.K.Sink.written c.call_with-answer.new.sink))) (c.call_with-answer.ensures.gives known knows)
+
+pub call-returns-clause-made : goal.call-returns-clause-made
+call-returns-clause-made g t c = λ w made. c.keep_numbers.ensures.made w _ (c.call_with-answer.ensures.made w (c.take_numbers-numbers.ensures.made w _ made))
 
 pub block-statement-requires : goal.block-statement-requires
 block-statement-requires g t c =

@@ -4,10 +4,11 @@ use Rattle.seq_check.specs.Answers.{checked_trees}
 use Rattle.sequence_code.specs.Trees.{step_tree, steps_tree}
 use Rattle.sequence_terms.specs.Direct.{direct}
 use Rattle.call_terms.specs.World.{World}
-use Rattle.sequence_meaning.specs.Held.{IsMade, seen, Knows, calls_of}
+use Rattle.sequence_terms.specs.Known.{Knows}
+use Rattle.sequence_meaning.specs.Held.{IsMade, seen, calls_of}
 use Rattle.sequence_terms.specs.Steps as m
 use Rattle.sequence_terms.specs.Values as v
-use Rattle.sequence_meaning.proofs.Sizes.{size, arg_size, args_size, stmt_size, block_size, cond_size, step_size, steps_size, all_size, budget}
+use Rattle.sequence_terms.proofs.Sizes.{size, arg_size, args_size, stmt_size, block_size, cond_size, step_size, steps_size, all_size, budget}
 use Rattle.sequence_meaning.proofs.runner.Runner.+eval.Given as goal
 
 abbrev pub decreases-value : goal.decreases-value
@@ -43,8 +44,11 @@ decreases-push_value g l = budget l.depth (10 * all_size (checked_trees l.self.n
 abbrev pub decreases-arguments : goal.decreases-arguments
 decreases-arguments g l = budget l.depth (10 * all_size (checked_trees l.self.now.set.now).sequences + 20) + 10 * args_size (arg_trees l.args.now) + 2
 
+abbrev pub decreases-call_with : goal.decreases-call_with
+decreases-call_with g l = budget l.depth (10 * all_size (checked_trees l.self.now.set.now).sequences + 20) + 10 * args_size (arg_trees l.args.now) + 5
+
 abbrev pub decreases-call : goal.decreases-call
-decreases-call g l = budget l.depth (10 * all_size (checked_trees l.self.now.set.now).sequences + 20) + 10 * args_size (arg_trees l.args.now) + 5
+decreases-call g l = budget l.depth (10 * all_size (checked_trees l.self.now.set.now).sequences + 20) + 10 * args_size (arg_trees l.args.now) + 6
 
 abbrev pub decreases-called : goal.decreases-called
 decreases-called g l = budget l.depth (10 * all_size (checked_trees l.self.now.set.now).sequences + 20) + 4

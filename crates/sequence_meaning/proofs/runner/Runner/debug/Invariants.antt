@@ -4,7 +4,8 @@ use Rattle.seq_check.specs.Answers.{checked_trees}
 use Rattle.sequence_terms.specs.Direct.{direct}
 use Rattle.sequence_terms.specs.Steps as m
 use Rattle.call_terms.specs.World.{World}
-use Rattle.sequence_meaning.specs.Held.{IsMade, seen, Knows}
+use Rattle.sequence_terms.specs.Known.{Knows}
+use Rattle.sequence_meaning.specs.Held.{IsMade, seen}
 use Rattle.sequence_meaning.proofs.runner.Runner.debug.Given as goal
 
 abbrev pub invariant-loop-one : goal.invariant-loop-one
