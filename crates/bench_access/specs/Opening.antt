@@ -26,13 +26,13 @@ pub record IsNew (a : Reported) : Type 0 where
   pub asks : a.asks ≡ nothing_asked
   pub unended : a.end ≡ None
 
--- The state of a job's bench after the opening exchanges: the target and the counts are those after its load, except that at most
--- three starting packets were received.
+-- The state from which an access counts over the bench of a job: the target and the counts are those after its load. The opening
+-- exchanges change none of them but the starting packets, which are counted.
 pub record IsOpened (job : BenchJob) (m : BenchState) : Type 0 where
   pub target : target_of m.probe ≡ start job.target
   pub work : work_of m.probe ≡ 0
   pub retries : ended_retries_of m.probe ≡ 0
-  pub starting : m.starting ≤ 3
+  pub starting : m.starting ≡ 0
 
 -- The bench of this job, whose numbers fit their registers, was just loaded.
 pub record IsLoaded (job : BenchJob) (state : Option BenchState) : Type 0 where

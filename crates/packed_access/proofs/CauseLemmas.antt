@@ -3,9 +3,9 @@ use Rattle.std.proofs.Common.{◌≡◌, inl, ◌∙◌, ℕ, Bool, true, List, 
 use Rattle.std.specs.Prelude.{slice_get}
 use Rattle.std.specs.List.{concat}
 use Rattle.dap_messages.specs.Commands.{IsCommand, alone, command_bytes}
-use Rattle.dap_messages.specs.Replies.{Shown}
+use Rattle.dap_replies.specs.ReplyViews.{Shown}
 use Rattle.dap_messages.specs.PacketReading.{packet_read}
-use Rattle.dap_messages.specs.ReplyReading.{reply_read}
+use Rattle.dap_replies.specs.ReplyReading.{reply_read}
 use Rattle.dap_messages.specs.declared.command_value.CommandValue.{CommandValue}
 use Rattle.dap_messages.proofs.PacketLaws.{alone_is_read}
 use Rattle.probe_core.specs.Bench.{Exchange, counted}

@@ -17,7 +17,7 @@ use Rattle.batch_packer.specs.Flying.{CanFly, transfers_of}
 use Rattle.batch_packer.specs.declared.ends.FlightEnd.{FlightEnd}
 use Rattle.batch_packer.specs.declared.ends.FlightEnd.TheVariants as ends
 use Rattle.batch_packer.proofs.CallLemmas.{abort_clears, flies_after, last_delayed, next_delayed, none_delayed}
-use Rattle.batch_packer.proofs.StateSteps.{runs_self, runs_then}
+use Rattle.probe_core.proofs.StateSteps.{runs_self, runs_then}
 use Rattle.packed_access.specs.Flown.{BenchGoesOn, CanCommand, DidLess, HasDone, HasEndCause, IsCutResponse, LeftOff, MayClear, NamesNone}
 use Rattle.packed_access.specs.Wires.{HasDelayed, HasMade, IsNoCut, MadeOrNot}
 use Rattle.packed_access.proofs.WireLemmas.{steps_join, steps_map}

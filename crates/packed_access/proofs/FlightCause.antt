@@ -7,8 +7,9 @@ use Rattle.std.proofs.lemmas.Bool.Decides.{nat_tests}
 use Rattle.target_machine.specs.declared.access.RegAccess.{RegAccess}
 use Rattle.dap_messages.specs.Commands.{Packet, alone, bytes_of_kind, command_bytes}
 use Rattle.dap_messages.specs.PacketReading.{packet_read}
-use Rattle.dap_messages.specs.Replies.{Shown, kind_at, may_end, may_end_block, passes, progress_at}
-use Rattle.dap_messages.specs.ReplyReading.{is_missing, reply_read}
+use Rattle.dap_messages.specs.Replies.{kind_at, may_end, may_end_block, passes, progress_at}
+use Rattle.dap_replies.specs.ReplyViews.{Shown}
+use Rattle.dap_replies.specs.ReplyReading.{is_missing, reply_read}
 use Rattle.dap_messages.specs.Requests.{is_match, kind, mask_request, reads_in}
 use Rattle.dap_messages.specs.Responses.{code_of, response_of}
 use Rattle.dap_messages.specs.declared.command.PacketKind.{PacketKind}
@@ -21,7 +22,7 @@ use Rattle.dap_messages.specs.declared.request.RequestKind.TheVariants.{Posted, 
 use Rattle.dap_messages.specs.declared.request.Response.{Response}
 use Rattle.dap_messages.specs.declared.request.Response.TheVariants.{Good, Wait, Fault, Mismatch}
 use Rattle.dap_messages.proofs.PacketLaws.{alone_is_read}
-use Rattle.dap_messages.proofs.ReplyLaws.{response-code, response_is}
+use Rattle.dap_replies.proofs.ReplyLaws.{response-code, response_is}
 use Rattle.dap_transfer.specs.Laws.{AreNormal, IsNormalKind}
 use Rattle.dap_transfer.specs.State.{is_good}
 use Rattle.flight_forms.specs.Chains.{joined_as, nothing_yet}

@@ -114,3 +114,16 @@ goes_still b x old new packet reply packet' reply' none none' came known = recor
   ended = subst (λ (e : Option Stop). StaysEnded (reported_by b x old packet reply) (reported_by b x new packet' reply') e) (sym none)
       (subst (λ (e : Option Stop). EndedBy (reported_by b x old packet reply) (reported_by b x new packet' reply') e) (sym none') refl);
 }
+
+-- where calls came while there is no end
+pub goes_later : (b : BenchReported) (x : Option BenchState) (old new : LogState) (packet reply packet' reply' : List ℕ) → old.end ≡ None → new.end ≡ None → old.came ≤ new.came → old.known ≤ new.known → GoesOn (reported_by b x old packet reply) (reported_by b x new packet' reply')
+goes_later b x old new packet reply packet' reply' none none' came known = record {
+  limits = refl;
+  faults = omega arith;
+  exchanges = omega arith;
+  runs = keeps_own_runs x;
+  known = known;
+  left = λ n left. record { so = left_open old.end old.lines old.came n none (least_less n old.came new.came came (subst (λ (e : Option Stop). IsLeftAt e new.lines new.came n) none' left.so)) };
+  ended = subst (λ (e : Option Stop). StaysEnded (reported_by b x old packet reply) (reported_by b x new packet' reply') e) (sym none)
+      (subst (λ (e : Option Stop). EndedBy (reported_by b x old packet reply) (reported_by b x new packet' reply') e) (sym none') refl);
+}

@@ -46,3 +46,8 @@ pub mod FormLemmas
 pub mod OverLemmas
 pub mod OnceLemmas
 pub mod TurnLemmas
+pub mod SparingLemmas
+pub mod PacketLemmas
+pub mod NeededLemmas
+pub mod PaidLemmas
+pub mod BlockLemmas

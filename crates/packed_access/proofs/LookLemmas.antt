@@ -246,7 +246,7 @@ looked_less mask requested turns made m k o less h same =
 
 -- ---- portions of a poll
 
-bank_kept : (mask requested n word : ℕ) (m o : BenchState) → HasLooked mask requested n word m o → bank (target_of m.probe) ≡ 0 → bank (target_of o.probe) ≡ 0
+pub bank_kept : (mask requested n word : ℕ) (m o : BenchState) → HasLooked mask requested n word m o → bank (target_of m.probe) ≡ 0 → bank (target_of o.probe) ≡ 0
 bank_kept mask requested n word m o h zero_bank =
     ap (λ (t : TargetState). bank t) h.target ∙ ap (λ (s : ℕ). bit_and s 0xF) (polled_select n mask requested (target_of m.probe)) ∙ zero_bank
 

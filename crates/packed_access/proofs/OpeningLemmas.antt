@@ -10,8 +10,8 @@ use Rattle.target_machine.proofs.StartRanges.{start_in_range}
 use Rattle.target_machine.specs.InRange.{IsInRange}
 use Rattle.dap_messages.specs.declared.command_value.CommandValue.{CommandValue}
 use Rattle.dap_messages.specs.declared.command_value.CommandValue.TheVariants as command
-use Rattle.dap_messages.specs.Replies.{Shown}
-use Rattle.dap_messages.specs.ReplyReading.{reply_read}
+use Rattle.dap_replies.specs.ReplyViews.{Shown}
+use Rattle.dap_replies.specs.ReplyReading.{reply_read}
 use Rattle.probe_core.specs.Bench.{BenchState, StepsTo, fresh}
 use Rattle.probe_core.specs.Ranges.{IsBenchJob}
 use Rattle.probe_core.specs.declared.job.BenchJob.{BenchJob}
@@ -69,7 +69,7 @@ opened_flies config m o b h = record {
   in_range = subst IsInRange (sym (opened_target config m o h)) b.in_range;
 }
 
-issuing_at : (config : Config) (m o : BenchState) → MayBegin m → HasOpened config m o → IsIssuing nothing_logged [] [] o o
+issuing_at : (config : Config) (m o : BenchState) → MayBegin m → HasOpened config m o → IsIssuing nothing_logged [] [] m o
 issuing_at config m o b h =
     let flies : CanFly o = opened_flies config m o b h in
     let work : work_of o.probe ≡ work_of m.probe = ap (λ (e : ExecutorState). e.transfers.work) h.executor in
@@ -77,7 +77,7 @@ issuing_at config m o b h =
     record {
       flying = [];
       sending = record {
-        fresh = subst IsFresh (sym (opened_target config m o h)) b.fresh;
+        fresh = b.fresh;
         askable = tt;
         made = [];
         on = record {
@@ -85,13 +85,13 @@ issuing_at config m o b h =
           weighty = tt;
           flight = refl;
           passes = tt;
-          target = refl;
+          target = opened_target config m o h;
           clear = flies.guard.clear;
-          work = omega arith;
+          work = omega (arith, work);
           room = (let w = b.work in omega (arith, w, work));
-          retries = refl;
+          retries = ended;
           few = (let r = b.retries in omega (arith, r, ended));
-          number = omega arith;
+          number = (let n = ap (λ (e : ExecutorState). e.transfers.line.number) h.executor in omega (arith, n));
         };
         confirmed_is = refl;
         length_is = refl;
@@ -114,7 +114,7 @@ issuing_at config m o b h =
       few = (let w = b.work in omega (arith, w, work));
     }
 
-begun_at : (bench : BenchReported) (config : Config) (m o : BenchState) (sent got : List ℕ) → MayBegin m → HasOpened config m o → HasBegun bench (Some o) nothing_logged sent got nothing_kept [] o
+begun_at : (bench : BenchReported) (config : Config) (m o : BenchState) (sent got : List ℕ) → MayBegin m → HasOpened config m o → HasBegun bench (Some o) nothing_logged sent got nothing_kept [] m
 begun_at bench config m o sent got b h = record {
   so = record {
     issuing = issuing_at config m o b h;
@@ -124,18 +124,18 @@ begun_at bench config m o sent got b h = record {
   };
 }
 
-begun_where : (x y : Option BenchState) (bench : BenchReported) (config : Config) (sent got : List ℕ) → StepsTo (λ m o. IsInRange (target_of m.probe) → HasOpened config m o) x y → StepsTo (λ m o. MayBegin m → HasBegun bench y nothing_logged sent got nothing_kept [] o) x y
+begun_where : (x y : Option BenchState) (bench : BenchReported) (config : Config) (sent got : List ℕ) → StepsTo (λ m o. IsInRange (target_of m.probe) → HasOpened config m o) x y → StepsTo (λ m o. MayBegin m → HasBegun bench y nothing_logged sent got nothing_kept [] m) x y
 begun_where None None bench config sent got h = tt
 begun_where None (Some o) bench config sent got h = absurd h
 begun_where (Some m) None bench config sent got h = absurd h
 begun_where (Some m) (Some o) bench config sent got h = λ b. begun_at bench config m o sent got b (h b.in_range)
 
 pub has_begun : (x y : Option BenchState) (bench : BenchReported) (config : Config) (log : LogState) (sent got : List ℕ) (kept : Kept) (accesses : List RegAccess) → log ≡ nothing_logged → kept ≡ nothing_kept → accesses ≡ [] →
-    StepsTo (λ m o. IsInRange (target_of m.probe) → HasOpened config m o) x y → StepsTo (λ m o. MayBegin m → HasBegun bench y log sent got kept accesses o) x y
+    StepsTo (λ m o. IsInRange (target_of m.probe) → HasOpened config m o) x y → StepsTo (λ m o. MayBegin m → HasBegun bench y log sent got kept accesses m) x y
 has_begun x y bench config log sent got kept accesses none nothing empty h =
-    subst (λ (l : LogState). StepsTo (λ m o. MayBegin m → HasBegun bench y l sent got kept accesses o) x y) (sym none)
-    (subst (λ (k : Kept). StepsTo (λ m o. MayBegin m → HasBegun bench y nothing_logged sent got k accesses o) x y) (sym nothing)
-    (subst (λ (a : List RegAccess). StepsTo (λ m o. MayBegin m → HasBegun bench y nothing_logged sent got nothing_kept a o) x y) (sym empty) (begun_where x y bench config sent got h)))
+    subst (λ (l : LogState). StepsTo (λ m o. MayBegin m → HasBegun bench y l sent got kept accesses m) x y) (sym none)
+    (subst (λ (k : Kept). StepsTo (λ m o. MayBegin m → HasBegun bench y nothing_logged sent got k accesses m) x y) (sym nothing)
+    (subst (λ (a : List RegAccess). StepsTo (λ m o. MayBegin m → HasBegun bench y nothing_logged sent got nothing_kept a m) x y) (sym empty) (begun_where x y bench config sent got h)))
 
 -- the same from an equal state
 pub steps_from : (P : BenchState → BenchState → Type 0) (x w y : Option BenchState) → x ≡ w → StepsTo P x y → StepsTo P w y

@@ -16,26 +16,21 @@ use Rattle.packed_access.proofs.OpeningLemmas.{loaded_may_begin}
 may_begin : (job : BenchJob) (x : Option BenchState) → IsLoaded job x → MayBegin (fresh job)
 may_begin job x h = loaded_may_begin job h.sound h.in_range
 
--- the state after the opening
-opened_job : (job : BenchJob) (config : Config) (o : BenchState) → HasOpened config (fresh job) o → IsOpened job o
-opened_job job config o h = record {
-  target = ap (λ (e : ExecutorState). e.transfers.line.target) h.executor;
-  work = ap (λ (e : ExecutorState). e.transfers.work) h.executor;
-  retries = ap (λ (e : ExecutorState). e.transfers.ended_retries) h.executor;
-  starting = (let s = h.starting in omega (arith, s));
-}
+-- the state that was loaded
+loaded_job : (job : BenchJob) → IsOpened job (fresh job)
+loaded_job job = record { target = refl; work = refl; retries = refl; starting = omega arith }
 
 -- where the access began
 pub begun_loaded : {A E : Type 0} (r : Result A E) (x : Option BenchState) (y : A → Option BenchState) (P : A → BenchState → Type 0) (config : Config) (job : BenchJob) → IsLoaded job x →
-    IfOk r (λ a. StepsTo (λ m o. MayBegin m → HasOpened config m o) x (y a)) → IfOk r (λ a. StepsTo (λ m o. MayBegin m → P a o) x (y a)) →
+    IfOk r (λ a. StepsTo (λ m o. MayBegin m → HasOpened config m o) x (y a)) → IfOk r (λ a. StepsTo (λ m o. MayBegin m → P a m) x (y a)) →
     IfOk r (λ a. (m : BenchState) × P a m × IsOpened job m)
 begun_loaded (Err e) x y P config job loaded on begun = tt
 begun_loaded (Ok a) x y P config job loaded on begun =
-    by_state (y a) (subst (λ (s : Option BenchState). StepsTo (λ m o. MayBegin m → HasOpened config m o) s (y a)) loaded.is on) (subst (λ (s : Option BenchState). StepsTo (λ m o. MayBegin m → P a o) s (y a)) loaded.is begun)
+    by_state (y a) (subst (λ (s : Option BenchState). StepsTo (λ m o. MayBegin m → P a m) s (y a)) loaded.is begun)
   where
-    by_state : (z : Option BenchState) → StepsTo (λ m o. MayBegin m → HasOpened config m o) (Some (fresh job)) z → StepsTo (λ m o. MayBegin m → P a o) (Some (fresh job)) z → (m : BenchState) × P a m × IsOpened job m
-    by_state None h k = absurd h
-    by_state (Some o) h k = (o, k (may_begin job x loaded), opened_job job config o (h (may_begin job x loaded)))
+    by_state : (z : Option BenchState) → StepsTo (λ m o. MayBegin m → P a m) (Some (fresh job)) z → (m : BenchState) × P a m × IsOpened job m
+    by_state None k = absurd k
+    by_state (Some o) k = (fresh job, k (may_begin job x loaded), loaded_job job)
 
 -- ---- an access that did not begin
 

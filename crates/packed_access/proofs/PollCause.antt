@@ -5,9 +5,10 @@ use Rattle.std.specs.List.{concat, list_any}
 use Rattle.std.proofs.lemmas.Bool.{eq-eqb, eqb-true}
 use Rattle.dap_messages.specs.Commands.{Packet, packet_bytes}
 use Rattle.dap_messages.specs.PacketReading.{packet_read}
-use Rattle.dap_messages.specs.Replies.{Shown, TransferProgress, progress_at}
+use Rattle.dap_messages.specs.Replies.{TransferProgress, progress_at}
+use Rattle.dap_replies.specs.ReplyViews.{Shown}
 use Rattle.dap_messages.specs.Requests.{reads_in}
-use Rattle.dap_messages.specs.ReplyReading.{is_missing, reply_read, words_given}
+use Rattle.dap_replies.specs.ReplyReading.{is_missing, reply_read, words_given}
 use Rattle.dap_messages.specs.declared.error.MessageError.{MessageError}
 use Rattle.dap_messages.specs.Responses.{code_of, response_of}
 use Rattle.dap_messages.specs.declared.command.PacketKind.TheVariants.{Execute}
@@ -28,7 +29,7 @@ use Rattle.batch_packer.specs.declared.ends.FlightEnd.TheVariants as ends
 use Rattle.batch_packer.specs.declared.poll.Config.{Config}
 use Rattle.batch_packer.specs.declared.poll.PollAsk.{PollAsk}
 use Rattle.dap_messages.proofs.CommandLaws.{and_first, and_second}
-use Rattle.dap_messages.proofs.ReplyLaws.{response_is}
+use Rattle.dap_replies.proofs.ReplyLaws.{response_is}
 use Rattle.batch_packer.proofs.PacketLemmas.{reads_packet}
 use Rattle.batch_packer.proofs.PollLemmas.{IsPoll, poll_is_packet}
 use Rattle.packed_access.specs.Flown.{HasEndCause, IsCutResponse, NamesNone}

@@ -16,11 +16,12 @@ use Rattle.dap_messages.specs.declared.request.Response.{Response}
 use Rattle.dap_messages.specs.Responses.{code_of, response_of}
 use Rattle.dap_messages.specs.Rest.{Rest, after, byte_at, bytes_at, end_of, ended, first_byte, number_at, whole}
 use Rattle.dap_messages.specs.Words.{words_in}
-use Rattle.dap_messages.specs.Replies.{Shown, TransferProgress, info_least, info_size, may_end, may_end_block, progress_at, shown_plain}
-use Rattle.dap_messages.specs.ReplyReading.{answer_at, answered_at, block_reply_at, id_byte, info_reply_at, is_missing, judged_at, refused, refused_block, reply_read, reply_words_at, status_at, transfer_reply_at, words_given}
+use Rattle.dap_messages.specs.Replies.{TransferProgress, info_least, info_size, may_end, may_end_block, progress_at}
+use Rattle.dap_replies.specs.ReplyViews.{Shown, shown_plain}
+use Rattle.dap_replies.specs.ReplyReading.{answer_at, answered_at, block_reply_at, id_byte, info_reply_at, is_missing, judged_at, refused, refused_block, reply_read, reply_words_at, status_at, transfer_reply_at, words_given}
 use Rattle.dap_messages.proofs.Fields.{bind_ok, not_refused, ok_is, passed}
 use Rattle.dap_messages.proofs.PacketLaws.{ended_ok_at}
-use Rattle.dap_messages.proofs.ReplyLaws.{response_is}
+use Rattle.dap_replies.proofs.ReplyLaws.{response_is}
 
 -- the first byte was there
 byte_there_from : (place : ℕ) (bytes : List ℕ) (x : ℕ × Rest) → first_byte place bytes ≡ Ok x → bytes ≡ x.0 ∷ x.1.bytes

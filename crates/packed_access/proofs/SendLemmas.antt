@@ -5,13 +5,13 @@ use Rattle.target_machine.specs.declared.access.RegAccess.{RegAccess}
 use Rattle.dap_messages.specs.Responses.{code_of, response_of}
 use Rattle.dap_messages.specs.declared.request.Response.{Response}
 use Rattle.dap_messages.specs.declared.request.Response.TheVariants.{Good, Wait, Fault, Mismatch}
-use Rattle.dap_messages.proofs.ReplyLaws.{response_is}
+use Rattle.dap_replies.proofs.ReplyLaws.{response_is}
 use Rattle.dap_transfer.specs.State.{TransferState}
 use Rattle.flight_forms.specs.Flights.{DoesPart}
 use Rattle.flight_forms.proofs.Capacity.{one_fits}
 use Rattle.flight_forms.specs.Packing.{AreWords, IsTaken}
 use Rattle.flight_forms.specs.declared.form.Form.{Form}
-use Rattle.probe_core.specs.Bench.{BenchState, StepsTo}
+use Rattle.probe_core.specs.Bench.{BenchState, StepsTo, counted}
 use Rattle.probe_core.specs.Ranges.{AreLimits}
 use Rattle.probe_core.specs.declared.job.Limits.{Limits}
 use Rattle.batch_packer.specs.FlightEnds.{FlewCut, cut_part, whole_part}
@@ -23,6 +23,7 @@ use Rattle.batch_packer.specs.declared.ends.FlightEnd.{FlightEnd}
 use Rattle.batch_packer.specs.declared.ends.FlightEnd.TheVariants as ends
 use Rattle.batch_packer.proofs.NextFlight.{flies_again}
 use Rattle.packed_access.specs.Flown.{BrokeOff, HasCome, MayHaveFlown, WasCut}
+use Rattle.packed_access.specs.Sparing.{SendsFew}
 use Rattle.packed_access.specs.Wires.{AreHeld, AreSmall}
 use Rattle.packed_access.proofs.WireLemmas.{steps_map}
 
@@ -49,6 +50,9 @@ nothing_flies p clear = record {
   number = omega arith;
 }
 
+pub counted_few : (m o : BenchState) → o.starting ≡ counted m.starting → SendsFew 1 m o
+counted_few m o is = record { few = omega (arith, is); counts = λ few. omega (arith, is) }
+
 came_by : (form : Option Form) (accesses : List RegAccess) (values : List (Option ℕ)) (m o : BenchState) → (form ≡ None → accesses ≡ []) → SentBy form accesses None values m o → CanFly m → HasCome accesses values m o
 came_by None accesses values m o empty sent flies =
     let none : accesses ≡ [] = empty refl in
@@ -58,7 +62,7 @@ came_by None accesses values m o empty sent flies =
       good = refl;
       values_are = refl;
       next = flies;
-      starting = omega arith;
+      starting = record { few = omega arith; counts = λ few. few };
     } in
     subst (λ (n : BenchState). HasCome accesses values m n) (sym sent.0)
     (subst (λ (l : List RegAccess). HasCome l values m m) (sym none) (subst (λ (v : List (Option ℕ)). HasCome [] v m m) (sym sent.2) start))
@@ -68,7 +72,7 @@ came_by (Some form) accesses values m o empty sent flies = record {
   good = refl;
   values_are = refl;
   next = flies_again form accesses values m o flies sent;
-  starting = (let s = sent.starting in omega (arith, s));
+  starting = counted_few m o sent.starting;
 }
 
 -- a flight that has accesses has a form

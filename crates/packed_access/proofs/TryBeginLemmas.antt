@@ -34,6 +34,7 @@ use Rattle.packed_access.specs.Begun.{HasAsked, HasIssued, IsIssuing, entries_of
 use Rattle.packed_access.specs.Forgiving.{HasTried, IsTrying}
 use Rattle.packed_access.specs.Logs.{LogState}
 use Rattle.packed_access.proofs.ActionLemmas.{at_rest}
+use Rattle.packed_access.proofs.BegunLemmas.{fact_of, where_same}
 use Rattle.packed_access.specs.Marks.{unmarked_last}
 use Rattle.packed_access.proofs.CameLemmas.{HaveCome, have_come_own}
 use Rattle.packed_access.proofs.TryStepLemmas.{numbered_both}
@@ -92,14 +93,6 @@ begin_settling x log accesses kept calls ask asked m0 u h call forgives is =
     h.issued
 
 -- ---- where the calls before it are
-
-pub fact_of : (x : Option BenchState) (P : BenchState → Type 0) (A : Type 0) → ((m : BenchState) → P m → A) → WhereObservable x P → A
-fact_of None P A f h = absurd h
-fact_of (Some m) P A f h = f m h
-
-pub where_same : (x : Option BenchState) (P Q : BenchState → Type 0) → ((m : BenchState) → P m → Q m) → WhereObservable x P → WhereObservable x Q
-where_same None P Q f h = h
-where_same (Some m) P Q f h = f m h
 
 -- the calls before this one do not stop, and may be asked with it
 pub record IsBefore (t : TargetState) (calls : List Ask) (ask : Ask) : Type 0 where

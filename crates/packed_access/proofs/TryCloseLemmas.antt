@@ -19,7 +19,8 @@ use Rattle.packed_access.specs.Marks.{unmarked_append, unmarked_last}
 use Rattle.packed_access.proofs.ActionLemmas.{at_rest, at_rest_count}
 use Rattle.packed_access.proofs.CameLemmas.{HaveCome, have_come}
 use Rattle.packed_access.proofs.CommandLemmas.{last_there}
-use Rattle.packed_access.proofs.TryBeginLemmas.{fact_of, first_before, where_same}
+use Rattle.packed_access.proofs.BegunLemmas.{fact_of, where_same}
+use Rattle.packed_access.proofs.TryBeginLemmas.{first_before}
 
 -- ---- what is kept of the last call
 
@@ -174,3 +175,7 @@ closed_whole None log = (refl, refl)
 pub closed_asks : (word : Option ℕ) (log : LogState) → asks_of (closed word log) ≡ asks_of log
 closed_asks (Some v) log = refl
 closed_asks None log = refl
+
+pub closed_known : (word : Option ℕ) (log : LogState) → (closed word log).known ≡ length log.calls
+closed_known (Some v) log = refl
+closed_known None log = refl

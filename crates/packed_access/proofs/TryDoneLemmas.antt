@@ -26,9 +26,9 @@ use Rattle.calls_in_flight.specs.Forgiving.{abort_after, steps_of_unit}
 use Rattle.packed_access.specs.Begun.{HasBegun, HasIssued, IsIssuing}
 use Rattle.packed_access.specs.Forgiving.{EndsTo, HasForgiven, HasTried, IsDoneBy, IsForgiven, IsSmallBy, IsTrying}
 use Rattle.packed_access.specs.Logs.{LogState, asks_of, with_needs}
-use Rattle.packed_access.proofs.BegunLemmas.{issued_begun}
+use Rattle.packed_access.proofs.BegunLemmas.{fact_of, issued_begun, where_same}
 use Rattle.packed_access.proofs.NeedLemmas.{needs_more}
-use Rattle.packed_access.proofs.TryBeginLemmas.{IsBefore, alone_issue, fact_of, issue_is, target_settled, where_same}
+use Rattle.packed_access.proofs.TryBeginLemmas.{IsBefore, alone_issue, issue_is, target_settled}
 use Rattle.packed_access.proofs.TryCloseLemmas.{skipped_by}
 use Rattle.packed_access.proofs.TryOutcomeLemmas.{no_reads, pass_results, pass_skips, skip_not_small, skip_outcome, small_outcome, small_shown, small_unread}
 

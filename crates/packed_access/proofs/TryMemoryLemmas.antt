@@ -23,7 +23,7 @@ use Rattle.access_calls.specs.declared.stop.Stop.{Stop}
 use Rattle.calls_in_flight.proofs.PushLemmas.{plan_gives}
 use Rattle.packed_access.specs.Forgiving.{CameTo, HasBroken, HasTried, IsNext, IsTrying, WentTo}
 use Rattle.packed_access.specs.Logs.{LogState}
-use Rattle.packed_access.proofs.TryBeginLemmas.{fact_of}
+use Rattle.packed_access.proofs.BegunLemmas.{fact_of}
 use Rattle.packed_access.proofs.TryStepLemmas.{after_making}
 
 -- STICKYERR is clear, and none of the accesses faulted

@@ -27,7 +27,7 @@ use Rattle.access_regs.proofs.LeadLemmas.{select_is_good}
 use Rattle.calls_in_flight.proofs.PushLemmas.{pass_makes}
 use Rattle.packed_access.specs.Forgiving.{CameTo, CfgShows, HasForgiven, HasTried, IsDoneBy, IsForgiven, IsNext, IsSmallBy, IsTrying, WentTo}
 use Rattle.packed_access.specs.Logs.{LogState}
-use Rattle.packed_access.proofs.TryBeginLemmas.{fact_of}
+use Rattle.packed_access.proofs.BegunLemmas.{fact_of}
 use Rattle.packed_access.proofs.TryMemoryLemmas.{tried_clear, tried_good, went_came}
 
 tried_actions : (x : Option BenchState) (log : LogState) (asked : AccessUnit) (k : Kept) (t : TargetState) (made : List RegAccess) (rest : List Action) (m0 : BenchState) → HasTried x log asked k t made rest m0 → call_actions t (large_of k asked) (Access asked) ≡ making made ++ rest

@@ -24,6 +24,7 @@ use Rattle.batch_packer.specs.declared.ends.FlightEnd.{FlightEnd}
 use Rattle.batch_packer.specs.declared.ends.FlightEnd.TheVariants as ends
 use Rattle.calls_in_flight.specs.Actions.{DoesAction}
 use Rattle.calls_in_flight.specs.Flights.{Flies, transfers_of}
+use Rattle.packed_access.specs.Sparing.{SendsFew}
 
 -- ---- flights
 
@@ -34,7 +35,7 @@ pub record HasCome (accesses : List RegAccess) (values : List (Option ℕ)) (m o
   pub good : part.response ≡ Good
   pub values_are : values ≡ part.values
   pub next : CanFly o
-  pub starting : o.starting ≤ m.starting + 1
+  pub starting : SendsFew 1 m o
 
 -- The flight was cut.
 pub record WasCut (cut : Cut) (accesses : List RegAccess) (m o : BenchState) : Type 0 where

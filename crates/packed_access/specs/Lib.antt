@@ -11,3 +11,7 @@ pub mod Stands
 pub mod Planned
 pub mod Wires
 pub mod Opening
+pub mod Sparing
+pub mod Spares
+pub mod Blocks
+pub mod NextWrites

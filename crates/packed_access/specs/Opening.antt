@@ -38,10 +38,12 @@ pub record MayBegin (m : BenchState) : Type 0 where
 abbrev pub opened : Config → ExecutorState → ExecutorState
 opened config e = record e { idle = config.idle; transfers = configured e.transfers config.retry 0 }
 
--- After the opening only the settings have changed, and three starting packets were received. The target is the one before it.
+-- After the opening only the settings have changed, and three starting packets were received, whose count stops before 2^64. The target is the
+-- one before it.
 pub record HasOpened (config : Config) (m o : BenchState) : Type 0 where
   pub executor : o.probe.executor ≡ opened config m.probe.executor
   pub starting : o.starting ≤ m.starting + 3
+  pub counts : o.starting < 2 ^ 64
 
 -- Where the opening did not come to its end, the settings were made or not.
 abbrev pub HasTried : Config → BenchState → BenchState → Type 0

@@ -5,6 +5,7 @@ ghost use Rattle.probe_core.specs.Bench.{BenchState};
 ghost use Rattle.access_regs.specs.Entries.{target_by};
 ghost use Rattle.access_regs.specs.Journal.{by_cfg, issue_of};
 ghost use Rattle.packed_access.specs.Settling.{CanSettle};
+ghost use Rattle.packed_access.specs.Sparing.{HasPaid};
 ghost use Rattle.packed_access.specs.Planned.{HasShown, reads_before};
 ghost use Rattle.access_calls.specs.Answers.{NoMemory};
 ghost use Rattle.access_calls.specs.GoesOn.{GoesOn};
@@ -39,6 +40,10 @@ impl<F: Flights> Sender<F> {
         ensures on { (m0 : BenchState) → HasIssued (F.state self.old.flights) self.old.log (F.accesses self.old.flights)
             (steps_left self.old.log (by_cfg (target_issued self.old.log m0) self.old.managed unit.now).steps) m0
             → OnOk result (HasIssued (F.state self.new.flights) self.new.log (F.accesses self.new.flights) [] m0) }
+        ensures spare { (m0 : BenchState) (left : ℕ) → HasIssued (F.state self.old.flights) self.old.log (F.accesses self.old.flights)
+            (steps_left self.old.log (by_cfg (target_issued self.old.log m0) self.old.managed unit.now).steps) m0
+            → HasPaid (F.limits self.old.flights) (F.reported self.old.flights).limits (F.state self.old.flights) self.old.log left m0
+            → OnOk result (HasPaid (F.limits self.new.flights) (F.reported self.new.flights).limits (F.state self.new.flights) self.new.log left m0) }
         ensures kept { (m0 : BenchState) → HasIssued (F.state self.old.flights) self.old.log (F.accesses self.old.flights)
             (steps_left self.old.log (by_cfg (target_issued self.old.log m0) self.old.managed unit.now).steps) m0
             → OnOk result (self.new.managed ≡ (by_cfg (target_issued self.old.log m0) self.old.managed unit.now).kept) }
@@ -64,6 +69,7 @@ impl<F: Flights> Sender<F> {
         ensures room_same { OnOk result (self.new.log.room ≡ self.old.log.room) }
         ensures open { OnOk result (self.new.log.end ≡ None) }
         ensures calls { self.new.log.calls ≡ self.old.log.calls }
+        ensures fenced { OnOk result (self.new.log.known < self.new.log.fence → self.old.log.known < self.old.log.fence) }
         ensures ended { IfErr result (λ s. self.new.log.end ≡ Some s) }
         ensures memory { IfErr result NoMemory }
         ensures identity { F.identity self.new.flights ≡ F.identity self.old.flights }
@@ -99,6 +105,9 @@ impl<F: Flights> Sender<F> {
         requires bounded { length self.old.log.entries + 11 ≤ most_entries * length self.old.log.calls }
         ensures on { (m0 : BenchState) (calls : List Ask) (ask : Ask) → ask.call ≡ Access unit.now → is_forgiving ask ≡ false → HasAsked (F.state self.old.flights) self.old.log (F.accesses self.old.flights) self.old.managed calls ask m0
             → OnOk result (HasIssued (F.state self.new.flights) self.new.log (F.accesses self.new.flights) [] m0) }
+        ensures spare { (m0 : BenchState) (calls : List Ask) (ask : Ask) (left : ℕ) → ask.call ≡ Access unit.now → is_forgiving ask ≡ false → HasAsked (F.state self.old.flights) self.old.log (F.accesses self.old.flights) self.old.managed calls ask m0
+            → HasPaid (F.limits self.old.flights) (F.reported self.old.flights).limits (F.state self.old.flights) self.old.log left m0
+            → OnOk result (HasPaid (F.limits self.new.flights) (F.reported self.new.flights).limits (F.state self.new.flights) self.new.log left m0) }
         ensures kept { (m0 : BenchState) (calls : List Ask) (ask : Ask) → ask.call ≡ Access unit.now → is_forgiving ask ≡ false → HasAsked (F.state self.old.flights) self.old.log (F.accesses self.old.flights) self.old.managed calls ask m0
             → OnOk result (self.new.managed ≡ (issue_of Managed (target_by Managed (target_of m0.probe) calls) self.old.managed ask).kept) }
         ensures small { (m0 : BenchState) (calls : List Ask) (ask : Ask) → ask.call ≡ Access unit.now → is_forgiving ask ≡ false → HasAsked (F.state self.old.flights) self.old.log (F.accesses self.old.flights) self.old.managed calls ask m0
@@ -119,6 +128,7 @@ impl<F: Flights> Sender<F> {
         ensures room_same { OnOk result (self.new.log.room ≡ self.old.log.room) }
         ensures open { OnOk result (self.new.log.end ≡ None) }
         ensures calls { self.new.log.calls ≡ self.old.log.calls }
+        ensures fenced { OnOk result (self.new.log.known < self.new.log.fence → self.old.log.known < self.old.log.fence) }
         ensures ended { IfErr result (λ s. self.new.log.end ≡ Some s) }
         ensures memory { IfErr result NoMemory }
         ensures identity { F.identity self.new.flights ≡ F.identity self.old.flights }
@@ -145,6 +155,9 @@ impl<F: Flights> Sender<F> {
         requires bounded { length self.old.log.entries + most_entries ≤ most_entries * length self.old.log.calls }
         ensures on { (m0 : BenchState) (calls : List Ask) (ask : Ask) → ask.call ≡ Access unit.now → is_forgiving ask ≡ false → HasAsked (F.state self.old.flights) self.old.log (F.accesses self.old.flights) self.old.managed calls ask m0
             → OnOk result (HasBegun (F.reported self.new.flights) (F.state self.new.flights) self.new.log (F.packet self.new.flights) (F.reply self.new.flights) self.new.managed (F.accesses self.new.flights) m0) }
+        ensures spare { (m0 : BenchState) (calls : List Ask) (ask : Ask) (left : ℕ) → ask.call ≡ Access unit.now → is_forgiving ask ≡ false → HasAsked (F.state self.old.flights) self.old.log (F.accesses self.old.flights) self.old.managed calls ask m0
+            → HasPaid (F.limits self.old.flights) (F.reported self.old.flights).limits (F.state self.old.flights) self.old.log left m0
+            → OnOk result (HasPaid (F.limits self.new.flights) (F.reported self.new.flights).limits (F.state self.new.flights) self.new.log left m0) }
         ensures small { (m0 : BenchState) (calls : List Ask) (ask : Ask) → ask.call ≡ Access unit.now → is_forgiving ask ≡ false → HasAsked (F.state self.old.flights) self.old.log (F.accesses self.old.flights) self.old.managed calls ask m0
             → IfOk result (λ small. small ≡ small_now (start_world (target_of m0.probe) None) calls ask) }
         ensures needs { (m0 : BenchState) (calls : List Ask) (ask : Ask) → ask.call ≡ Access unit.now → is_forgiving ask ≡ false → HasAsked (F.state self.old.flights) self.old.log (F.accesses self.old.flights) self.old.managed calls ask m0
@@ -159,6 +172,7 @@ impl<F: Flights> Sender<F> {
         ensures calls { self.new.log.calls ≡ self.old.log.calls }
         ensures whole { OnOk result (self.new.log.whole ≡ length self.new.log.calls) }
         ensures open { OnOk result (self.new.log.end ≡ None) }
+        ensures fenced { OnOk result (self.new.log.known < self.new.log.fence → self.old.log.known < self.old.log.fence) }
         ensures ended { IfErr result (λ s. self.new.log.end ≡ Some s) }
         ensures settles { OnOk result (CanSettle self.new.log self.new.managed) }
         ensures memory { IfErr result NoMemory }

@@ -1,5 +1,5 @@
 //! The calls of the access.
-ghost use Rattle.std.specs.Prelude.{◌≡◌, ◌≤◌, ◌+◌, ◌*◌, ℕ, List, Option, None, Some, length, IfErr, IfOk, OnOk};
+ghost use Rattle.std.specs.Prelude.{◌<◌, ◌≡◌, ◌≤◌, ◌+◌, ◌*◌, ℕ, List, Option, None, Some, length, IfErr, IfOk, OnOk};
 ghost use Rattle.target_machine.specs.Plain.{may_forgive};
 ghost use Rattle.target_machine.specs.Sound.{IsSound};
 ghost use Rattle.target_machine.specs.declared.unit.Call.TheVariants.{Access};
@@ -9,6 +9,7 @@ ghost use Rattle.access_calls.specs.GoesOn.{GoesOn};
 ghost use Rattle.access_calls.specs.Left.{IsLeft};
 ghost use Rattle.packed_access.specs.Settling.{CanSettle};
 ghost use Rattle.packed_access.specs.Begun.{HasAsked, HasBegun, HasEnded, StopsThere};
+ghost use Rattle.packed_access.specs.Sparing.{HasPaid};
 ghost use Rattle.packed_access.specs.Logs.{asks_of, most_entries, reported_by};
 ghost use Rattle.packed_access.specs.Settling.{CanSettle};
 ghost use Rattle.call_terms.specs.World.{small_now, start_world};
@@ -90,6 +91,9 @@ impl<F: Flights> Sender<F> {
         requires bounded { length self.old.log.entries + most_entries ≤ most_entries * length self.old.log.calls }
         ensures on { (m0 : BenchState) (calls : List Ask) (ask : Ask) → ask ≡ unit_ask unit.now forgive → HasAsked (F.state self.old.flights) self.old.log (F.accesses self.old.flights) self.old.managed calls ask m0
             → OnOk result (HasBegun (F.reported self.new.flights) (F.state self.new.flights) self.new.log (F.packet self.new.flights) (F.reply self.new.flights) self.new.managed (F.accesses self.new.flights) m0) }
+        ensures spare { (m0 : BenchState) (calls : List Ask) (ask : Ask) (left : ℕ) → ask ≡ unit_ask unit.now forgive → HasAsked (F.state self.old.flights) self.old.log (F.accesses self.old.flights) self.old.managed calls ask m0
+            → HasPaid (F.limits self.old.flights) (F.reported self.old.flights).limits (F.state self.old.flights) self.old.log left m0
+            → OnOk result (HasPaid (F.limits self.new.flights) (F.reported self.new.flights).limits (F.state self.new.flights) self.new.log left m0) }
         ensures small { (m0 : BenchState) (calls : List Ask) (ask : Ask) → ask ≡ unit_ask unit.now forgive → HasAsked (F.state self.old.flights) self.old.log (F.accesses self.old.flights) self.old.managed calls ask m0
             → IfOk result (λ small. small ≡ small_now (start_world (target_of m0.probe) None) calls ask) }
         ensures needs { (m0 : BenchState) (calls : List Ask) (ask : Ask) → ask ≡ unit_ask unit.now forgive → HasAsked (F.state self.old.flights) self.old.log (F.accesses self.old.flights) self.old.managed calls ask m0
@@ -104,6 +108,7 @@ impl<F: Flights> Sender<F> {
         ensures calls { self.new.log.calls ≡ self.old.log.calls }
         ensures whole { OnOk result (self.new.log.whole ≡ length self.new.log.calls) }
         ensures open { OnOk result (self.new.log.end ≡ None) }
+        ensures fenced { OnOk result (self.new.log.known < self.new.log.fence → self.old.log.known < self.old.log.fence) }
         ensures ended { IfErr result (λ s. self.new.log.end ≡ Some s) }
         ensures settles { OnOk result (CanSettle self.new.log self.new.managed) }
         ensures memory { IfErr result NoMemory }
@@ -126,31 +131,32 @@ impl<F: Flights> Sender<F> {
 }
 
 impl<F: Flights> Access for PackedAccess<F> {
-    ghost use Rattle.std.specs.Prelude.{false};
+    ghost use Rattle.std.specs.Prelude.{true};
     ghost use Rattle.access_regs.specs.Journal.{issued};
-    ghost use Rattle.packed_access.specs.Begun.{HasBegun};
+    ghost use Rattle.packed_access.specs.Sparing.{HasBegunSparing};
     ghost use Rattle.access_regs.specs.Costs.{cost_by};
     ghost use Rattle.access_regs.specs.declared.planner.Planner.TheVariants.{Managed};
     ghost use Rattle.packed_access.specs.Logs.{keeps_by, reported_by};
+    ghost use Rattle.packed_access.specs.Spares.{spares_packed};
     ghost use Rattle.packed_access.specs.Stands.{stands_packed};
 
     ghost reported = { λ s. reported_by (F.reported s.sender.flights) (F.state s.sender.flights) s.sender.log (F.packet s.sender.flights) (F.reply s.sender.flights) };
 
     ghost identity = { λ s. F.identity s.sender.flights };
 
-    ghost begun = { λ s m. HasBegun (F.reported s.sender.flights) (F.state s.sender.flights) s.sender.log (F.packet s.sender.flights) (F.reply s.sender.flights) s.sender.managed (F.accesses s.sender.flights) m };
+    ghost begun = { λ s m. HasBegunSparing (F.limits s.sender.flights) (F.reported s.sender.flights) (F.state s.sender.flights) s.sender.log (F.packet s.sender.flights) (F.reply s.sender.flights) s.sender.managed (F.accesses s.sender.flights) m };
 
     ghost journal = { issued Managed };
 
     ghost cost = { cost_by Managed };
 
-    ghost is_sparing = { false };
+    ghost is_sparing = { true };
 
     ghost keeps = { λ s. keeps_by (F.reported s.sender.flights) (F.state s.sender.flights) s.sender.log (F.packet s.sender.flights) (F.reply s.sender.flights) };
 
-    ghost stands = { λ s m answered is left. stands_packed _ _ _ _ _ _ _ m answered is left };
+    ghost stands = { λ s m answered is left. stands_packed _ _ _ _ _ _ _ m answered is.begun left };
 
-    ghost spares = { λ s m answered is left. tt };
+    ghost spares = { λ s m answered is left. spares_packed _ _ _ _ _ _ _ _ m answered is };
 
     fn ask(&mut self, unit: Unit, forgive: bool) -> Result<Asked, Stop> {
         if let Some(stop) = self.sender.log.end() {

@@ -8,13 +8,15 @@ ghost use Rattle.target_machine.specs.State.{TargetState};
 ghost use Rattle.target_machine.specs.declared.access.RegAccess.{RegAccess};
 ghost use Rattle.target_machine.specs.declared.unit.Unit.TheVariants as unit;
 ghost use Rattle.flight_forms.specs.Packing.{IsTaken};
-ghost use Rattle.probe_core.specs.Bench.{BenchState};
+ghost use Rattle.probe_core.specs.Bench.{BenchState, StepsTo};
 ghost use Rattle.access_calls.specs.Answers.{NoMemory};
 ghost use Rattle.access_calls.specs.GoesOn.{GoesOn};
 ghost use Rattle.access_calls.specs.Left.{IsLeft};
 ghost use Rattle.packed_access.specs.Settling.{CanSettle};
 ghost use Rattle.packed_access.specs.Begun.{HasAsked, HasBegun, HasEnded, StopsThere};
 ghost use Rattle.packed_access.specs.Forgiving.{CameTo, HasBroken, HasTried, IsDoneBy, closed};
+ghost use Rattle.packed_access.specs.Sparing.{HasPaid, SendsFew};
+ghost use Rattle.batch_packer.specs.Flying.{CanFly};
 ghost use Rattle.packed_access.specs.Logs.{IsFurther, IsSoundState, asks_of, most_entries, reported_by};
 ghost use Rattle.call_terms.specs.World.{small_now, start_world};
 ghost use Rattle.call_terms.specs.declared.calls.Ask.{Ask};
@@ -113,6 +115,9 @@ impl<F: Flights> Sender<F> {
             → IfErr result (λ s. HasBroken s (reported_by (F.reported self.new.flights) (F.state self.new.flights) self.new.log (F.packet self.new.flights) (F.reply self.new.flights)) self.new.log self.old.log.calls m0) }
         ensures goes { GoesOn (reported_by (F.reported self.old.flights) (F.state self.old.flights) self.old.log (F.packet self.old.flights) (F.reply self.old.flights))
             (reported_by (F.reported self.new.flights) (F.state self.new.flights) self.new.log (F.packet self.new.flights) (F.reply self.new.flights)) }
+        ensures packets { OnOk result (StepsTo (λ m o. CanFly m → SendsFew 3 m o) (F.state self.old.flights) (F.state self.new.flights)) }
+        ensures later { OnOk result (self.old.log.confirmed ≤ self.new.log.confirmed) }
+        ensures limits { F.limits self.new.flights ≡ F.limits self.old.flights }
         ensures further { OnOk result (IsFurther self.old.log self.new.log) }
         ensures came { OnOk result (self.new.log.came ≡ self.new.log.whole) }
         ensures empty { OnOk result (F.accesses self.new.flights ≡ []) }
@@ -180,6 +185,9 @@ impl<F: Flights> Sender<F> {
         ensures reads { IfOk result (λ r. r.reads ≤ 2) }
         ensures goes { GoesOn (reported_by (F.reported self.old.flights) (F.state self.old.flights) self.old.log (F.packet self.old.flights) (F.reply self.old.flights))
             (reported_by (F.reported self.new.flights) (F.state self.new.flights) self.new.log (F.packet self.new.flights) (F.reply self.new.flights)) }
+        ensures packets { OnOk result (StepsTo (λ m o. CanFly m → SendsFew 4 m o) (F.state self.old.flights) (F.state self.new.flights)) }
+        ensures later { OnOk result (self.old.log.confirmed ≤ self.new.log.confirmed) }
+        ensures limits { F.limits self.new.flights ≡ F.limits self.old.flights }
         ensures further { OnOk result (IsFurther self.old.log self.new.log) }
         ensures came { OnOk result (self.new.log.came ≡ self.new.log.whole) }
         ensures empty { OnOk result (F.accesses self.new.flights ≡ []) }
@@ -228,6 +236,9 @@ impl<F: Flights> Sender<F> {
         ensures reads { IfOk result (λ r. r.reads ≤ 2) }
         ensures goes { GoesOn (reported_by (F.reported self.old.flights) (F.state self.old.flights) self.old.log (F.packet self.old.flights) (F.reply self.old.flights))
             (reported_by (F.reported self.new.flights) (F.state self.new.flights) self.new.log (F.packet self.new.flights) (F.reply self.new.flights)) }
+        ensures packets { OnOk result (StepsTo (λ m o. CanFly m → SendsFew 4 m o) (F.state self.old.flights) (F.state self.new.flights)) }
+        ensures later { OnOk result (self.old.log.confirmed ≤ self.new.log.confirmed) }
+        ensures limits { F.limits self.new.flights ≡ F.limits self.old.flights }
         ensures further { OnOk result (IsFurther self.old.log self.new.log) }
         ensures came { OnOk result (self.new.log.came ≡ self.new.log.whole) }
         ensures empty { OnOk result (F.accesses self.new.flights ≡ []) }
@@ -280,6 +291,9 @@ impl<F: Flights> Sender<F> {
         requires bounded { length self.old.log.entries + most_entries ≤ most_entries * length self.old.log.calls }
         ensures on { (m0 : BenchState) (calls : List Ask) (ask : Ask) → ask.call ≡ Access unit.now → is_forgiving ask ≡ true → HasAsked (F.state self.old.flights) self.old.log (F.accesses self.old.flights) self.old.managed calls ask m0
             → OnOk result (HasBegun (F.reported self.new.flights) (F.state self.new.flights) self.new.log (F.packet self.new.flights) (F.reply self.new.flights) self.new.managed (F.accesses self.new.flights) m0) }
+        ensures spare { (m0 : BenchState) (calls : List Ask) (ask : Ask) (left : ℕ) → ask.call ≡ Access unit.now → is_forgiving ask ≡ true → HasAsked (F.state self.old.flights) self.old.log (F.accesses self.old.flights) self.old.managed calls ask m0
+            → HasPaid (F.limits self.old.flights) (F.reported self.old.flights).limits (F.state self.old.flights) self.old.log left m0
+            → OnOk result (HasPaid (F.limits self.new.flights) (F.reported self.new.flights).limits (F.state self.new.flights) self.new.log left m0) }
         ensures small { (m0 : BenchState) (calls : List Ask) (ask : Ask) → ask.call ≡ Access unit.now → is_forgiving ask ≡ true → HasAsked (F.state self.old.flights) self.old.log (F.accesses self.old.flights) self.old.managed calls ask m0
             → IfOk result (λ small. small ≡ small_now (start_world (target_of m0.probe) None) calls ask) }
         ensures needs { (m0 : BenchState) (calls : List Ask) (ask : Ask) → ask.call ≡ Access unit.now → is_forgiving ask ≡ true → HasAsked (F.state self.old.flights) self.old.log (F.accesses self.old.flights) self.old.managed calls ask m0
@@ -294,6 +308,7 @@ impl<F: Flights> Sender<F> {
         ensures calls { self.new.log.calls ≡ self.old.log.calls }
         ensures whole { OnOk result (self.new.log.whole ≡ length self.new.log.calls) }
         ensures open { OnOk result (self.new.log.end ≡ None) }
+        ensures fenced { OnOk result (self.new.log.known < self.new.log.fence → self.old.log.known < self.old.log.fence) }
         ensures ended { IfErr result (λ s. self.new.log.end ≡ Some s) }
         ensures settles { OnOk result (CanSettle self.new.log self.new.managed) }
         ensures memory { IfErr result NoMemory }

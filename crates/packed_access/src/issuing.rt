@@ -2,9 +2,11 @@
 ghost use Rattle.std.specs.Prelude.{◌≡◌, ◌<◌, ◌≤◌, ◌+◌, ◌-◌, ◌*◌, ◌++◌, ◌∷◌, [], ℕ, List, Option, None, Some, false, true, length, slice_get, IfErr, IfOk, OnOk};
 ghost use Rattle.std.specs.List.{AllByRecursion};
 ghost use Rattle.target_machine.specs.Plain.{Commands, Makes, acted, given};
+ghost use Rattle.target_machine.specs.declared.access.RegAccess.{RegAccess};
 ghost use Rattle.std.specs.Option.{unwrap_or};
 ghost use Rattle.probe_core.specs.Probe.{target_of};
 ghost use Rattle.batch_packer.specs.SlotList.{slot_at};
+ghost use Rattle.access_regs.specs.Costs.{command_cost};
 ghost use Rattle.access_regs.specs.Journal.{gives, issued};
 ghost use Rattle.target_machine.specs.Sound.{IsSoundProbe};
 ghost use Rattle.call_terms.specs.Asks.{probe_ask};
@@ -13,6 +15,8 @@ ghost use Rattle.flight_forms.specs.Packing.{IsTaken};
 ghost use Rattle.probe_core.specs.Bench.{BenchState};
 ghost use Rattle.call_terms.specs.Journal.{Entry, target_after};
 ghost use Rattle.access_calls.specs.Answers.{AtCut, NoMemory};
+ghost use Rattle.packed_access.specs.Blocks.{IsFull};
+ghost use Rattle.packed_access.specs.Sparing.{HasSpared};
 ghost use Rattle.access_calls.specs.GoesOn.{GoesOn};
 ghost use Rattle.access_calls.specs.Issued.{kept_of, lines_before_kept};
 ghost use Rattle.access_calls.specs.Left.{IsLeft};
@@ -70,6 +74,12 @@ impl<F: Flights> Sender<F> {
             → OnOk result (unwrap_or (slot_at (F.values self.new.flights) (length self.old.log.entries - self.old.log.confirmed - 1)) 0 ≡ given (acted (target_after (target_of m0.probe) front) e.action).outcome) }
         ensures goes { GoesOn (reported_by (F.reported self.old.flights) (F.state self.old.flights) self.old.log (F.packet self.old.flights) (F.reply self.old.flights))
             (reported_by (F.reported self.new.flights) (F.state self.new.flights) self.new.log (F.packet self.new.flights) (F.reply self.new.flights)) }
+        ensures spare { (m0 : BenchState) (rest : List Entry) (points : ℕ) → HasIssued (F.state self.old.flights) self.old.log (F.accesses self.old.flights) rest m0
+            → HasSpared (F.limits self.old.flights) (F.reported self.old.flights).limits (F.state self.old.flights) self.old.log points m0
+            → OnOk result (HasSpared (F.limits self.new.flights) (F.reported self.new.flights).limits (F.state self.new.flights) self.new.log (points + 1) m0) }
+        ensures full { (m0 : BenchState) (e : Entry) (rest : List Entry) (next : RegAccess) (points : ℕ) → HasIssued (F.state self.old.flights) self.old.log (F.accesses self.old.flights) (e ∷ rest) m0 → e.action ≡ Makes next
+            → HasSpared (F.limits self.old.flights) (F.reported self.old.flights).limits (F.state self.old.flights) self.old.log points m0 → IsFull (F.limits self.old.flights) (F.accesses self.old.flights) next
+            → OnOk result (HasSpared (F.limits self.new.flights) (F.reported self.new.flights).limits (F.state self.new.flights) self.new.log points m0) }
         ensures log { OnOk result (self.new.log ≡ all_confirmed (all_taken (F.values self.new.flights) self.old.log)) }
         ensures ended { IfErr result (λ s. self.new.log ≡ ended_by s self.old.log self.new.log) }
         ensures empty { F.accesses self.new.flights ≡ [] }
@@ -102,6 +112,9 @@ impl<F: Flights> Sender<F> {
         ensures on { (m0 : BenchState) (e : Entry) (rest : List Entry) → HasIssued (F.state self.old.flights) self.old.log (F.accesses self.old.flights) (e ∷ rest) m0
             → e.action ≡ Makes access → e.forgiving ≡ false → kept_of e ≡ record { unit = unit; part = part }
             → OnOk result (HasIssued (F.state self.new.flights) self.new.log (F.accesses self.new.flights) rest m0) }
+        ensures spare { (m0 : BenchState) (e : Entry) (rest : List Entry) (points : ℕ) → HasIssued (F.state self.old.flights) self.old.log (F.accesses self.old.flights) (e ∷ rest) m0 → e.action ≡ Makes access
+            → HasSpared (F.limits self.old.flights) (F.reported self.old.flights).limits (F.state self.old.flights) self.old.log points m0
+            → OnOk result (HasSpared (F.limits self.new.flights) (F.reported self.new.flights).limits (F.state self.new.flights) self.new.log points m0) }
         ensures broke { (m0 : BenchState) (rest : List Entry) → HasIssued (F.state self.old.flights) self.old.log (F.accesses self.old.flights) rest m0
             → IfErr result (λ s. HasEnded s (reported_by (F.reported self.new.flights) (F.state self.new.flights) self.new.log (F.packet self.new.flights) (F.reply self.new.flights)) self.new.log m0) }
         ensures stops { (m0 : BenchState) (rest : List Entry) (answered : Option ℕ) → HasIssued (F.state self.old.flights) self.old.log (F.accesses self.old.flights) rest m0
@@ -145,6 +158,9 @@ impl<F: Flights> Sender<F> {
         requires bounded { length self.old.log.entries + length accesses.now ≤ most_entries * length self.old.log.calls }
         ensures on { (m0 : BenchState) (rest : List Entry) → HasIssued (F.state self.old.flights) self.old.log (F.accesses self.old.flights) (entries_of unit part accesses.now ++ rest) m0
             → OnOk result (HasIssued (F.state self.new.flights) self.new.log (F.accesses self.new.flights) rest m0) }
+        ensures spare { (m0 : BenchState) (rest : List Entry) (points : ℕ) → HasIssued (F.state self.old.flights) self.old.log (F.accesses self.old.flights) (entries_of unit part accesses.now ++ rest) m0
+            → HasSpared (F.limits self.old.flights) (F.reported self.old.flights).limits (F.state self.old.flights) self.old.log points m0
+            → OnOk result (HasSpared (F.limits self.new.flights) (F.reported self.new.flights).limits (F.state self.new.flights) self.new.log points m0) }
         ensures broke { (m0 : BenchState) (rest : List Entry) → HasIssued (F.state self.old.flights) self.old.log (F.accesses self.old.flights) (entries_of unit part accesses.now ++ rest) m0
             → IfErr result (λ s. HasEnded s (reported_by (F.reported self.new.flights) (F.state self.new.flights) self.new.log (F.packet self.new.flights) (F.reply self.new.flights)) self.new.log m0) }
         ensures stops { (m0 : BenchState) (rest : List Entry) (answered : Option ℕ) → HasIssued (F.state self.old.flights) self.old.log (F.accesses self.old.flights) (entries_of unit part accesses.now ++ rest) m0
@@ -182,6 +198,9 @@ impl<F: Flights> Sender<F> {
         requires bounded { length self.old.log.entries + length accesses.now ≤ most_entries * length self.old.log.calls }
         ensures on { (m0 : BenchState) (rest : List Entry) → HasIssued (F.state self.old.flights) self.old.log (F.accesses self.old.flights) (entries_of unit Leads accesses.now ++ rest) m0
             → OnOk result (HasIssued (F.state self.new.flights) self.new.log [] rest m0) }
+        ensures spare { (m0 : BenchState) (rest : List Entry) (points : ℕ) → HasIssued (F.state self.old.flights) self.old.log (F.accesses self.old.flights) (entries_of unit Leads accesses.now ++ rest) m0
+            → HasSpared (F.limits self.old.flights) (F.reported self.old.flights).limits (F.state self.old.flights) self.old.log points m0
+            → OnOk result (HasSpared (F.limits self.new.flights) (F.reported self.new.flights).limits (F.state self.new.flights) self.new.log (points + 1) m0) }
         ensures value { (m0 : BenchState) (lead : List RegAccess) (a : RegAccess) (rest : List Entry) → accesses.now ≡ lead ++ a ∷ []
             → HasIssued (F.state self.old.flights) self.old.log (F.accesses self.old.flights) (entries_of unit Leads accesses.now ++ rest) m0
             → IfOk result (λ v. v ≡ gives (target_issued self.old.log m0) accesses.now) }
@@ -194,6 +213,7 @@ impl<F: Flights> Sender<F> {
             (reported_by (F.reported self.new.flights) (F.state self.new.flights) self.new.log (F.packet self.new.flights) (F.reply self.new.flights)) }
         ensures entries { OnOk result (length self.new.log.entries ≡ length self.old.log.entries + length accesses.now) }
         ensures further { OnOk result (IsFurther self.old.log self.new.log) }
+        ensures came { OnOk result (self.new.log.known ≡ self.new.log.whole) }
         ensures empty { OnOk result (F.accesses self.new.flights ≡ []) }
         ensures ended { IfErr result (λ s. self.new.log.end ≡ Some s) }
         ensures asks { asks_of self.new.log ≡ asks_of self.old.log }
@@ -222,6 +242,9 @@ impl<F: Flights> Sender<F> {
         requires bounded { length self.old.log.entries + length (settle self.old.managed) ≤ most_entries * length self.old.log.calls }
         ensures on { (m0 : BenchState) (rest : List Entry) → HasIssued (F.state self.old.flights) self.old.log (F.accesses self.old.flights) (entries_of unit Settles (settle self.old.managed) ++ rest) m0
             → OnOk result (HasIssued (F.state self.new.flights) self.new.log (F.accesses self.new.flights) rest m0) }
+        ensures spare { (m0 : BenchState) (rest : List Entry) (points : ℕ) → HasIssued (F.state self.old.flights) self.old.log (F.accesses self.old.flights) (entries_of unit Settles (settle self.old.managed) ++ rest) m0
+            → HasSpared (F.limits self.old.flights) (F.reported self.old.flights).limits (F.state self.old.flights) self.old.log points m0
+            → OnOk result (HasSpared (F.limits self.new.flights) (F.reported self.new.flights).limits (F.state self.new.flights) self.new.log points m0) }
         ensures broke { (m0 : BenchState) (rest : List Entry) → HasIssued (F.state self.old.flights) self.old.log (F.accesses self.old.flights) (entries_of unit Settles (settle self.old.managed) ++ rest) m0
             → IfErr result (λ s. HasEnded s (reported_by (F.reported self.new.flights) (F.state self.new.flights) self.new.log (F.packet self.new.flights) (F.reply self.new.flights)) self.new.log m0) }
         ensures stops { (m0 : BenchState) (rest : List Entry) (answered : Option ℕ) → HasIssued (F.state self.old.flights) self.old.log (F.accesses self.old.flights) (entries_of unit Settles (settle self.old.managed) ++ rest) m0
@@ -253,6 +276,9 @@ impl<F: Flights> Sender<F> {
         requires bounded { length self.old.log.entries < most_entries * length self.old.log.calls }
         ensures on { (m0 : BenchState) (calls : List Ask) → self.old.log.calls ≡ calls ++ probe_ask call ∷ [] → HasIssued (F.state self.old.flights) self.old.log [] (entry_of calls (Commands call) ∷ []) m0
             → OnOk result (HasIssued (F.state self.new.flights) self.new.log [] [] m0) }
+        ensures spare { (m0 : BenchState) (calls : List Ask) (points : ℕ) → self.old.log.calls ≡ calls ++ probe_ask call ∷ [] → HasIssued (F.state self.old.flights) self.old.log [] (entry_of calls (Commands call) ∷ []) m0
+            → HasSpared (F.limits self.old.flights) (F.reported self.old.flights).limits (F.state self.old.flights) self.old.log (points + 1) m0
+            → OnOk result (HasSpared (F.limits self.new.flights) (F.reported self.new.flights).limits (F.state self.new.flights) self.new.log (points + command_cost call) m0) }
         ensures broke { (m0 : BenchState) (calls : List Ask) → self.old.log.calls ≡ calls ++ probe_ask call ∷ [] → HasIssued (F.state self.old.flights) self.old.log [] (entry_of calls (Commands call) ∷ []) m0
             → IfErr result (λ s. HasEnded s (reported_by (F.reported self.new.flights) (F.state self.new.flights) self.new.log (F.packet self.new.flights) (F.reply self.new.flights)) self.new.log m0) }
         ensures stops { (m0 : BenchState) (calls : List Ask) (answered : Option ℕ) → self.old.log.calls ≡ calls ++ probe_ask call ∷ [] → HasIssued (F.state self.old.flights) self.old.log [] (entry_of calls (Commands call) ∷ []) m0

@@ -8,10 +8,10 @@ ghost use Rattle.probe_core.specs.Ranges.{AreLimits};
 ghost use Rattle.batch_packer.specs.Exchanges.{IsOpen};
 ghost use Rattle.batch_packer.specs.FlightStates.{item_at};
 ghost use Rattle.batch_packer.specs.Flying.{IsWithin};
-ghost use Rattle.packed_access.specs.Begun.{HasBegun};
 ghost use Rattle.packed_access.specs.Flown.{BenchGoesOn, HasEndCause};
 ghost use Rattle.packed_access.specs.Logs.{nothing_logged};
 ghost use Rattle.packed_access.specs.Opening.{HasOpened, HasTried, IsRefusal, IsStopFor, LeftOpen, MayBegin};
+ghost use Rattle.packed_access.specs.Sparing.{HasBegunSparing};
 ghost use Rattle.packed_access.specs.Wires.{IsNoCut};
 
 use crate::access::PackedAccess;
@@ -175,10 +175,10 @@ impl<B: Bench> PackedAccess<Wire<B>> {
         requires open { IsOpen (B.reported bench) }
         // Where the bench is observable, only the settings have changed, and three starting packets were received.
         ensures on { IfOk result (λ a. StepsTo (λ m o. MayBegin m → HasOpened config m o) (B.state bench) (B.state a.sender.flights.bench)) }
-        // The access began where that left the bench.
-        ensures begun { IfOk result (λ a. StepsTo (λ m o. MayBegin m → HasBegun (B.reported a.sender.flights.bench) (B.state a.sender.flights.bench) a.sender.log
+        // The access began there, before these exchanges.
+        ensures begun { IfOk result (λ a. StepsTo (λ m o. MayBegin m → HasBegunSparing a.sender.flights.flight.limits (B.reported a.sender.flights.bench) (B.state a.sender.flights.bench) a.sender.log
             (item_at a.sender.flights.flight.packets a.sender.flights.flight.at) (item_at a.sender.flights.flight.replies a.sender.flights.flight.at)
-            a.sender.managed a.sender.flights.flight.accesses o) (B.state bench) (B.state a.sender.flights.bench)) }
+            a.sender.managed a.sender.flights.flight.accesses m) (B.state bench) (B.state a.sender.flights.bench)) }
         // Nothing is asked yet, and there is no end.
         ensures asked { IfOk result (λ a. a.sender.log ≡ nothing_logged) }
         // Its packets are within the limits; an observable bench answers just these.

@@ -16,6 +16,7 @@ ghost use Rattle.access_calls.specs.Left.{IsLeft};
 ghost use Rattle.packed_access.specs.Begun.{HasAsked, HasBegun, HasEnded, HasIssued, IsNoPoll, StopsThere, entries_of, steps_left, target_issued};
 ghost use Rattle.packed_access.specs.Logs.{IsFurther, asks_of, most_entries, reported_by, with_needs};
 ghost use Rattle.packed_access.specs.Settling.{CanSettle};
+ghost use Rattle.packed_access.specs.Sparing.{HasPaid, HasSpared};
 ghost use Rattle.call_terms.specs.declared.calls.Ask.{Ask};
 ghost use Rattle.call_terms.specs.NeedPoints.{asked};
 ghost use Rattle.probe_core.specs.Probe.{target_of};
@@ -53,6 +54,10 @@ impl<F: Flights> Sender<F> {
         ensures on { (m0 : BenchState) (rest : List Entry) → HasIssued (F.state self.old.flights) self.old.log (F.accesses self.old.flights)
             (entries_of (length self.old.log.calls) Leads (cfg_plan self.old.managed (port_of unit.now)) ++ rest) m0
             → OnOk result (HasIssued (F.state self.new.flights) self.new.log [] rest m0) }
+        ensures spare { (m0 : BenchState) (rest : List Entry) (left : ℕ) → HasIssued (F.state self.old.flights) self.old.log (F.accesses self.old.flights)
+            (entries_of (length self.old.log.calls) Leads (cfg_plan self.old.managed (port_of unit.now)) ++ rest) m0
+            → HasPaid (F.limits self.old.flights) (F.reported self.old.flights).limits (F.state self.old.flights) self.old.log left m0
+            → OnOk result (HasPaid (F.limits self.new.flights) (F.reported self.new.flights).limits (F.state self.new.flights) self.new.log left m0) }
         ensures kept { (m0 : BenchState) (rest : List Entry) → HasIssued (F.state self.old.flights) self.old.log (F.accesses self.old.flights)
             (entries_of (length self.old.log.calls) Leads (cfg_plan self.old.managed (port_of unit.now)) ++ rest) m0
             → OnOk result (self.new.managed ≡ learned_cfg self.old.managed (port_of unit.now) (gives (target_issued self.old.log m0) (cfg_plan self.old.managed (port_of unit.now)))) }
@@ -76,6 +81,7 @@ impl<F: Flights> Sender<F> {
         ensures open { OnOk result (self.new.log.end ≡ None) }
         ensures asks { OnOk result (asks_of (self.new.log) ≡ record { calls = self.old.log.calls; needs = capped_sum self.old.log.needs 1; fence = length self.old.log.calls - 1 }) }
         ensures calls { self.new.log.calls ≡ self.old.log.calls }
+        ensures fenced { OnOk result (self.new.log.fence ≤ self.new.log.known) }
         ensures ended { IfErr result (λ s. self.new.log.end ≡ Some s) }
         ensures memory { IfErr result NoMemory }
         ensures identity { F.identity self.new.flights ≡ F.identity self.old.flights }
@@ -102,6 +108,10 @@ impl<F: Flights> Sender<F> {
         ensures on { (m0 : BenchState) (rest : List Entry) → HasIssued (F.state self.old.flights) self.old.log (F.accesses self.old.flights)
             (entries_of (length self.old.log.calls) Leads (first_plan self.old.managed (port_of unit.now)) ++ rest) m0
             → OnOk result (HasIssued (F.state self.new.flights) self.new.log [] rest m0) }
+        ensures spare { (m0 : BenchState) (rest : List Entry) (left : ℕ) → HasIssued (F.state self.old.flights) self.old.log (F.accesses self.old.flights)
+            (entries_of (length self.old.log.calls) Leads (first_plan self.old.managed (port_of unit.now)) ++ rest) m0
+            → HasPaid (F.limits self.old.flights) (F.reported self.old.flights).limits (F.state self.old.flights) self.old.log left m0
+            → OnOk result (HasPaid (F.limits self.new.flights) (F.reported self.new.flights).limits (F.state self.new.flights) self.new.log left m0) }
         ensures kept { (m0 : BenchState) (rest : List Entry) → HasIssued (F.state self.old.flights) self.old.log (F.accesses self.old.flights)
             (entries_of (length self.old.log.calls) Leads (first_plan self.old.managed (port_of unit.now)) ++ rest) m0
             → OnOk result (self.new.managed ≡ learned self.old.managed (port_of unit.now) (gives (target_issued self.old.log m0) (first_plan self.old.managed (port_of unit.now)))) }
@@ -122,6 +132,7 @@ impl<F: Flights> Sender<F> {
         ensures open { OnOk result (self.new.log.end ≡ None) }
         ensures asks { OnOk result (asks_of (self.new.log) ≡ record { calls = self.old.log.calls; needs = capped_sum self.old.log.needs 1; fence = length self.old.log.calls - 1 }) }
         ensures calls { self.new.log.calls ≡ self.old.log.calls }
+        ensures fenced { OnOk result (self.new.log.fence ≤ self.new.log.known) }
         ensures ended { IfErr result (λ s. self.new.log.end ≡ Some s) }
         ensures memory { IfErr result NoMemory }
         ensures identity { F.identity self.new.flights ≡ F.identity self.old.flights }
@@ -149,6 +160,10 @@ impl<F: Flights> Sender<F> {
         ensures on { (m0 : BenchState) (rest : List Entry) → HasIssued (F.state self.old.flights) self.old.log (F.accesses self.old.flights)
             (entries_of (length self.old.log.calls) Leads (leads self.old.managed unit.now) ++ (entries_of (length self.old.log.calls) Ends (last_access unit.now ∷ []) ++ rest)) m0
             → OnOk result (HasIssued (F.state self.new.flights) self.new.log (F.accesses self.new.flights) rest m0) }
+        ensures spare { (m0 : BenchState) (rest : List Entry) (points : ℕ) → HasIssued (F.state self.old.flights) self.old.log (F.accesses self.old.flights)
+            (entries_of (length self.old.log.calls) Leads (leads self.old.managed unit.now) ++ (entries_of (length self.old.log.calls) Ends (last_access unit.now ∷ []) ++ rest)) m0
+            → HasSpared (F.limits self.old.flights) (F.reported self.old.flights).limits (F.state self.old.flights) self.old.log points m0
+            → OnOk result (HasSpared (F.limits self.new.flights) (F.reported self.new.flights).limits (F.state self.new.flights) self.new.log points m0) }
         ensures broke { (m0 : BenchState) (rest : List Entry) → HasIssued (F.state self.old.flights) self.old.log (F.accesses self.old.flights)
             (entries_of (length self.old.log.calls) Leads (leads self.old.managed unit.now) ++ (entries_of (length self.old.log.calls) Ends (last_access unit.now ∷ []) ++ rest)) m0
             → IfErr result (λ s. HasEnded s (reported_by (F.reported self.new.flights) (F.state self.new.flights) self.new.log (F.packet self.new.flights) (F.reply self.new.flights)) self.new.log m0) }
@@ -191,6 +206,10 @@ impl<F: Flights> Sender<F> {
         ensures on { (m0 : BenchState) → HasIssued (F.state self.old.flights) self.old.log (F.accesses self.old.flights)
             (steps_left self.old.log (by_csw (target_issued self.old.log m0) self.old.managed unit.now).steps) m0
             → OnOk result (HasIssued (F.state self.new.flights) self.new.log (F.accesses self.new.flights) [] m0) }
+        ensures spare { (m0 : BenchState) (left : ℕ) → HasIssued (F.state self.old.flights) self.old.log (F.accesses self.old.flights)
+            (steps_left self.old.log (by_csw (target_issued self.old.log m0) self.old.managed unit.now).steps) m0
+            → HasPaid (F.limits self.old.flights) (F.reported self.old.flights).limits (F.state self.old.flights) self.old.log left m0
+            → OnOk result (HasPaid (F.limits self.new.flights) (F.reported self.new.flights).limits (F.state self.new.flights) self.new.log left m0) }
         ensures kept { (m0 : BenchState) → HasIssued (F.state self.old.flights) self.old.log (F.accesses self.old.flights)
             (steps_left self.old.log (by_csw (target_issued self.old.log m0) self.old.managed unit.now).steps) m0
             → OnOk result (self.new.managed ≡ (by_csw (target_issued self.old.log m0) self.old.managed unit.now).kept) }
@@ -210,6 +229,7 @@ impl<F: Flights> Sender<F> {
         ensures pending { OnOk result (self.new.log.confirmed < length self.new.log.entries) }
         ensures asks { OnOk result (asks_of self.new.log ≡ asks_of (with_needs self.old.log (one_if (needs_csw self.old.managed unit.now)) (length self.old.log.calls - 1))) }
         ensures calls { self.new.log.calls ≡ self.old.log.calls }
+        ensures fenced { OnOk result (self.new.log.known < self.new.log.fence → self.old.log.known < self.old.log.fence) }
         ensures ended { IfErr result (λ s. self.new.log.end ≡ Some s) }
         ensures memory { IfErr result NoMemory }
         ensures identity { F.identity self.new.flights ≡ F.identity self.old.flights }
@@ -233,6 +253,9 @@ impl<F: Flights> Sender<F> {
         requires bounded { length self.old.log.entries + most_entries ≤ most_entries * length self.old.log.calls }
         ensures on { (m0 : BenchState) (calls : List Ask) (ask : Ask) → ask.call ≡ Access (unit.Poll mask requested turns) → HasAsked (F.state self.old.flights) self.old.log (F.accesses self.old.flights) self.old.managed calls ask m0
             → OnOk result (HasBegun (F.reported self.new.flights) (F.state self.new.flights) self.new.log (F.packet self.new.flights) (F.reply self.new.flights) self.new.managed (F.accesses self.new.flights) m0) }
+        ensures spare { (m0 : BenchState) (calls : List Ask) (ask : Ask) (left : ℕ) → ask.call ≡ Access (unit.Poll mask requested turns) → HasAsked (F.state self.old.flights) self.old.log (F.accesses self.old.flights) self.old.managed calls ask m0
+            → HasPaid (F.limits self.old.flights) (F.reported self.old.flights).limits (F.state self.old.flights) self.old.log left m0
+            → OnOk result (HasPaid (F.limits self.new.flights) (F.reported self.new.flights).limits (F.state self.new.flights) self.new.log left m0) }
         ensures needs { (m0 : BenchState) (calls : List Ask) (ask : Ask) → ask.call ≡ Access (unit.Poll mask requested turns) → HasAsked (F.state self.old.flights) self.old.log (F.accesses self.old.flights) self.old.managed calls ask m0
             → OnOk result (asks_of self.new.log ≡ asked (cost_by Managed (target_of m0.probe) calls ask) ask (record { calls = calls; needs = self.old.log.needs; fence = self.old.log.fence })) }
         ensures broke { (m0 : BenchState) (calls : List Ask) (ask : Ask) → ask.call ≡ Access (unit.Poll mask requested turns) → HasAsked (F.state self.old.flights) self.old.log (F.accesses self.old.flights) self.old.managed calls ask m0
@@ -245,6 +268,7 @@ impl<F: Flights> Sender<F> {
         ensures calls { self.new.log.calls ≡ self.old.log.calls }
         ensures whole { OnOk result (self.new.log.whole ≡ length self.new.log.calls) }
         ensures open { OnOk result (self.new.log.end ≡ None) }
+        ensures fenced { OnOk result (self.new.log.known < self.new.log.fence → self.old.log.known < self.old.log.fence) }
         ensures ended { IfErr result (λ s. self.new.log.end ≡ Some s) }
         ensures settles { OnOk result (CanSettle self.new.log self.new.managed) }
         ensures memory { IfErr result NoMemory }

@@ -1,5 +1,5 @@
 //! Polls of CTRL/STAT.
-ghost use Rattle.std.specs.Prelude.{◌≡◌, ◌<◌, ◌≤◌, ◌+◌, ◌*◌, [], ℕ, List, Option, None, Some, true, length, if◌then◌else◌, IfErr, IfOk, OnOk};
+ghost use Rattle.std.specs.Prelude.{◌≡◌, ◌<◌, ◌≤◌, ◌+◌, ◌-◌, ◌*◌, [], ℕ, List, Option, None, Some, true, length, if◌then◌else◌, IfErr, IfOk, OnOk};
 ghost use Rattle.target_machine.specs.Attempt.{bank};
 ghost use Rattle.target_machine.specs.Plain.{Polls, polled};
 ghost use Rattle.target_machine.specs.Sound.{IsSound};
@@ -18,6 +18,7 @@ ghost use Rattle.packed_access.specs.Begun.{HasEnded, HasIssued, StopsThere};
 ghost use Rattle.packed_access.specs.Flown.{BenchGoesOn, HasDone, HasEndCause, IsCutResponse, LeftOff, NamesNone, matched_word};
 ghost use Rattle.packed_access.specs.Logs.{asks_of, most_entries, reported_by};
 ghost use Rattle.packed_access.specs.Polls.{HasPoll};
+ghost use Rattle.packed_access.specs.Sparing.{HasSpared, SendsFew};
 
 use crate::flights::Flights;
 use crate::sender::Sender;
@@ -45,11 +46,14 @@ fn make_poll<F: Flights>(
     requires empty { F.accesses flights.old ≡ [] }
     requires turns { 1 ≤ turns }
     ensures done { IfOk result (λ found. StepsTo (λ m o. CanFly m → (zero ≡ true → bank (target_of m.probe) ≡ 0) → HasDone (Polls mask requested turns) (matched_word found.matched) m o) (F.state flights.old) (F.state flights.new)) }
+    ensures packets { IfOk result (λ found. StepsTo (λ m o. CanFly m → (zero ≡ true → bank (target_of m.probe) ≡ 0) → SendsFew (found.points - 1) m o) (F.state flights.old) (F.state flights.new)) }
+    ensures some { IfOk result (λ found. 1 ≤ found.points) }
     ensures points { IfOk result (λ found. StepsTo (λ m o. CanFly m → found.points ≡ 1 + (if zero then portions turns else (polled turns mask requested (target_of m.probe)).reads)) (F.state flights.old) (F.state flights.new)) }
     ensures left { IfErr result (λ end. StepsTo (λ m o. CanFly m → (zero ≡ true → bank (target_of m.probe) ≡ 0) → LeftOff (Polls mask requested turns) end m o) (F.state flights.old) (F.state flights.new)) }
     ensures none { IfErr result NamesNone }
     ensures response { IfErr result IsCutResponse }
     ensures empty { F.accesses flights.new ≡ [] }
+    ensures limits { F.limits flights.new ≡ F.limits flights.old }
     ensures ended { OnOk result (F.ended flights.new ≡ None) }
     ensures faults { OnOk result ((F.reported flights.new).faults ≡ (F.reported flights.old).faults) }
     ensures cause { IfErr result (λ end. HasEndCause end (F.reported flights.old) (F.reported flights.new) (F.packet flights.new) (F.reply flights.new)) }
@@ -87,6 +91,9 @@ impl<F: Flights> Sender<F> {
         requires bounded { length self.old.log.entries < most_entries * length self.old.log.calls }
         ensures on { (m0 : BenchState) (calls : List Ask) (ask : Ask) → HasPoll (F.state self.old.flights) self.old.log self.old.managed calls ask mask requested turns m0
             → OnOk result (HasIssued (F.state self.new.flights) self.new.log [] [] m0) }
+        ensures spare { (m0 : BenchState) (calls : List Ask) (ask : Ask) (paid : ℕ) → HasPoll (F.state self.old.flights) self.old.log self.old.managed calls ask mask requested turns m0
+            → HasSpared (F.limits self.old.flights) (F.reported self.old.flights).limits (F.state self.old.flights) self.old.log (paid + 1) m0
+            → IfOk result (λ points. HasSpared (F.limits self.new.flights) (F.reported self.new.flights).limits (F.state self.new.flights) self.new.log (paid + points) m0) }
         ensures points { (m0 : BenchState) (calls : List Ask) (ask : Ask) → HasPoll (F.state self.old.flights) self.old.log self.old.managed calls ask mask requested turns m0
             → IfOk result (λ points. points ≡ poll_cost self.old.managed (target_by Managed (target_of m0.probe) calls) mask requested turns) }
         ensures broke { (m0 : BenchState) (calls : List Ask) (ask : Ask) → HasPoll (F.state self.old.flights) self.old.log self.old.managed calls ask mask requested turns m0
@@ -96,6 +103,7 @@ impl<F: Flights> Sender<F> {
             → IfErr result (StopsThere m0 answered self.old.log.calls self.new.log.lines) }
         ensures goes { GoesOn (reported_by (F.reported self.old.flights) (F.state self.old.flights) self.old.log (F.packet self.old.flights) (F.reply self.old.flights))
             (reported_by (F.reported self.new.flights) (F.state self.new.flights) self.new.log (F.packet self.new.flights) (F.reply self.new.flights)) }
+        ensures known { OnOk result (self.new.log.known ≡ length self.new.log.calls) }
         ensures whole { OnOk result (self.new.log.whole ≡ length self.new.log.calls) }
         ensures open { OnOk result (self.new.log.end ≡ None) }
         ensures entries { OnOk result (length self.new.log.entries ≡ length self.old.log.entries + 1) }

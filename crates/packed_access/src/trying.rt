@@ -6,12 +6,14 @@ ghost use Rattle.target_machine.specs.State.{TargetState};
 ghost use Rattle.target_machine.specs.declared.access.RegAccess.{RegAccess};
 ghost use Rattle.target_machine.specs.declared.unit.Unit.{Unit as AccessUnit};
 ghost use Rattle.flight_forms.specs.Packing.{IsTaken};
-ghost use Rattle.probe_core.specs.Bench.{BenchState};
+ghost use Rattle.probe_core.specs.Bench.{BenchState, StepsTo};
 ghost use Rattle.access_calls.specs.Answers.{NoMemory};
 ghost use Rattle.access_calls.specs.GoesOn.{GoesOn};
 ghost use Rattle.access_calls.specs.Issued.{lines_before_kept};
 ghost use Rattle.packed_access.specs.Clearing.{IsOneTransfer};
 ghost use Rattle.packed_access.specs.Forgiving.{HasBroken, HasTried, IsNext, WentTo, with_accesses};
+ghost use Rattle.packed_access.specs.Sparing.{WentFew};
+ghost use Rattle.batch_packer.specs.Flying.{CanFly};
 ghost use Rattle.packed_access.specs.Logs.{IsFurther, IsOfCall, asks_of, most_entries, reported_by};
 ghost use Rattle.call_terms.specs.declared.journal.Part.TheVariants.{Leads};
 ghost use Rattle.access_regs.specs.Kept.{Kept, selected};
@@ -41,6 +43,7 @@ impl<F: Flights> Sender<F> {
         ensures space { (next : RegAccess) → IsTaken next → length (F.accesses self.new.flights) < 4 → F.has_room self.new.flights next ≡ true }
         ensures reported { F.reported self.new.flights ≡ F.reported self.old.flights }
         ensures state { F.state self.new.flights ≡ F.state self.old.flights }
+        ensures limits { F.limits self.new.flights ≡ F.limits self.old.flights }
         ensures managed { self.new.managed ≡ self.old.managed }
         ensures identity { F.identity self.new.flights ≡ F.identity self.old.flights }
     {
@@ -76,6 +79,9 @@ impl<F: Flights> Sender<F> {
             → IfErr result (λ s. HasBroken s (reported_by (F.reported self.new.flights) (F.state self.new.flights) self.new.log (F.packet self.new.flights) (F.reply self.new.flights)) self.new.log self.old.log.calls m0) }
         ensures goes { GoesOn (reported_by (F.reported self.old.flights) (F.state self.old.flights) self.old.log (F.packet self.old.flights) (F.reply self.old.flights))
             (reported_by (F.reported self.new.flights) (F.state self.new.flights) self.new.log (F.packet self.new.flights) (F.reply self.new.flights)) }
+        ensures packets { IfOk result (λ w. StepsTo (λ m o. CanFly m → WentFew w m o) (F.state self.old.flights) (F.state self.new.flights)) }
+        ensures later { OnOk result (self.old.log.confirmed ≤ self.new.log.confirmed) }
+        ensures limits { F.limits self.new.flights ≡ F.limits self.old.flights }
         ensures further { OnOk result (IsFurther self.old.log self.new.log) }
         ensures came { OnOk result (self.new.log.came ≡ self.new.log.whole) }
         ensures empty { OnOk result (F.accesses self.new.flights ≡ []) }
@@ -142,6 +148,9 @@ impl<F: Flights> Sender<F> {
         ensures space { IfOk result (λ w. IfSome w (λ _. (next : RegAccess) → IsTaken next → F.has_room self.new.flights next ≡ true)) }
         ensures goes { GoesOn (reported_by (F.reported self.old.flights) (F.state self.old.flights) self.old.log (F.packet self.old.flights) (F.reply self.old.flights))
             (reported_by (F.reported self.new.flights) (F.state self.new.flights) self.new.log (F.packet self.new.flights) (F.reply self.new.flights)) }
+        ensures packets { IfOk result (λ w. StepsTo (λ m o. CanFly m → WentFew w m o) (F.state self.old.flights) (F.state self.new.flights)) }
+        ensures later { OnOk result (self.old.log.confirmed ≤ self.new.log.confirmed) }
+        ensures limits { F.limits self.new.flights ≡ F.limits self.old.flights }
         ensures further { OnOk result (IsFurther self.old.log self.new.log) }
         ensures came { OnOk result (self.new.log.came ≡ self.new.log.whole) }
         ensures empty { OnOk result (F.accesses self.new.flights ≡ []) }

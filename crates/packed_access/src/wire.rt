@@ -1,5 +1,5 @@
 //! Flights, polls and commands over a bench.
-ghost use Rattle.std.specs.Prelude.{◌≡◌, ◌≤◌, [], true, None, IfErr, IfOk, OnOk};
+ghost use Rattle.std.specs.Prelude.{◌≡◌, ◌≤◌, ◌+◌, ◌/◌, [], true, None, IfErr, IfOk, OnOk};
 ghost use Rattle.target_machine.specs.Attempt.{bank};
 ghost use Rattle.target_machine.specs.InRange.{IsInRange};
 ghost use Rattle.target_machine.specs.Plain.{Commands, Polls};
@@ -17,6 +17,7 @@ ghost use Rattle.batch_packer.specs.Flying.{CanFly, IsWithin};
 ghost use Rattle.batch_packer.specs.SlotList.{slot_room};
 ghost use Rattle.packed_access.specs.Flown.{BenchGoesOn, HasEndCause, IsCutResponse, LeftOff, NamesNone, matched_word};
 ghost use Rattle.packed_access.specs.Opening.{least_of};
+ghost use Rattle.packed_access.specs.Sparing.{SendsFew};
 ghost use Rattle.packed_access.specs.Wires.{AreHeld, AreSmall, HasMade, HasRead, IsNoCut, MadeOrNot, ReadOrNot, unnamed};
 
 use crate::flights::{Flights, Polled};
@@ -145,8 +146,10 @@ impl<B: Bench> Wire<B> {
         requires sound { IsSoundProbe call }
         requires one { is_one call ≡ true }
         ensures done { IfOk result (λ word. StepsTo (λ m o. IsInRange (target_of m.probe) → HasMade (Commands call) word m o) (B.state self.old.bench) (B.state self.new.bench)) }
+        ensures packets { OnOk result (StepsTo (λ m o. IsInRange (target_of m.probe) → SendsFew 1 m o) (B.state self.old.bench) (B.state self.new.bench)) }
         ensures left { IfErr result (λ end. StepsTo (λ m o. IsInRange (target_of m.probe) → MadeOrNot (Commands call) end m o) (B.state self.old.bench) (B.state self.new.bench)) }
         ensures uncut { IfErr result IsNoCut }
+        ensures limits { self.new.flight.limits ≡ self.old.flight.limits }
         ensures empty { self.new.flight.accesses ≡ [] }
         ensures ended { OnOk result (self.new.flight.end ≡ None) }
         ensures faults { OnOk result ((B.reported self.new.bench).faults ≡ (B.reported self.old.bench).faults) }
@@ -163,8 +166,10 @@ impl<B: Bench> Wire<B> {
         requires empty { self.old.flight.accesses ≡ [] }
         requires sound { IsSoundProbe (probe.Delay micros) }
         ensures done { IfOk result (λ word. StepsTo (λ m o. IsInRange (target_of m.probe) → HasMade (Commands (probe.Delay micros)) word m o) (B.state self.old.bench) (B.state self.new.bench)) }
+        ensures packets { OnOk result (StepsTo (λ m o. IsInRange (target_of m.probe) → SendsFew (1 + micros / 65535) m o) (B.state self.old.bench) (B.state self.new.bench)) }
         ensures left { IfErr result (λ end. StepsTo (λ m o. CanFly m → LeftOff (Commands (probe.Delay micros)) end m o) (B.state self.old.bench) (B.state self.new.bench)) }
         ensures uncut { IfErr result IsNoCut }
+        ensures limits { self.new.flight.limits ≡ self.old.flight.limits }
         ensures empty { self.new.flight.accesses ≡ [] }
         ensures ended { OnOk result (self.new.flight.end ≡ None) }
         ensures faults { OnOk result ((B.reported self.new.bench).faults ≡ (B.reported self.old.bench).faults) }
@@ -190,9 +195,11 @@ impl<B: Bench> Wire<B> {
         requires low { 1 ≤ ask.turns }
         requires high { ask.turns ≤ 65536 }
         ensures done { IfOk result (λ matched. StepsTo (λ m o. CanFly m → bank (target_of m.probe) ≡ 0 → HasMade (Polls ask.mask ask.value ask.turns) (matched_word matched) m o) (B.state self.old.bench) (B.state self.new.bench)) }
+        ensures packets { OnOk result (StepsTo (λ m o. CanFly m → bank (target_of m.probe) ≡ 0 → SendsFew 1 m o) (B.state self.old.bench) (B.state self.new.bench)) }
         ensures left { IfErr result (λ end. StepsTo (λ m o. CanFly m → bank (target_of m.probe) ≡ 0 → MadeOrNot (Polls ask.mask ask.value ask.turns) end m o) (B.state self.old.bench) (B.state self.new.bench)) }
         ensures none { IfErr result NamesNone }
         ensures response { IfErr result IsCutResponse }
+        ensures limits { self.new.flight.limits ≡ self.old.flight.limits }
         ensures empty { self.new.flight.accesses ≡ [] }
         ensures ended { OnOk result (self.new.flight.end ≡ None) }
         ensures faults { OnOk result ((B.reported self.new.bench).faults ≡ (B.reported self.old.bench).faults) }
@@ -208,9 +215,11 @@ impl<B: Bench> Wire<B> {
         requires usable { self.old.flight.end ≡ None }
         requires empty { self.old.flight.accesses ≡ [] }
         ensures done { IfOk result (λ value. StepsTo (λ m o. CanFly m → HasRead value m o) (B.state self.old.bench) (B.state self.new.bench)) }
+        ensures packets { OnOk result (StepsTo (λ m o. CanFly m → SendsFew 1 m o) (B.state self.old.bench) (B.state self.new.bench)) }
         ensures left { IfErr result (λ end. StepsTo (λ m o. CanFly m → ReadOrNot end m o) (B.state self.old.bench) (B.state self.new.bench)) }
         ensures none { IfErr result NamesNone }
         ensures response { IfErr result IsCutResponse }
+        ensures limits { self.new.flight.limits ≡ self.old.flight.limits }
         ensures empty { self.new.flight.accesses ≡ [] }
         ensures ended { OnOk result (self.new.flight.end ≡ None) }
         ensures faults { OnOk result ((B.reported self.new.bench).faults ≡ (B.reported self.old.bench).faults) }
@@ -245,6 +254,8 @@ impl<B: Bench> Flights for Wire<B> {
     ghost values = { λ w. w.slots.values };
 
     ghost ended = { λ w. w.flight.end };
+
+    ghost limits = { λ w. w.flight.limits };
 
     ghost has_room = { λ w next. has_room w.flight.limits w.flight.accesses next };
 

@@ -1,26 +1,30 @@
 use Rattle.std.proofs.Common.{rules, ◌≡◌, ◌∙◌, ℕ, ◌+◌, ◌<◌, ◌≤◌, ◌++◌, ◌∷◌, [], inl, inr, List, length, None, Some, false, arith, refl, sym, ap, subst, length-append}
 use Rattle.std.specs.Prelude.{slice_get, slice_index}
+use Rattle.probe_core.specs.Probe.{target_of}
 use Rattle.call_terms.specs.Asks.{IsAskable, probe_ask}
 use Rattle.call_terms.specs.World.{results, stop}
 use Rattle.call_terms.specs.declared.calls.Ask.{Ask}
 use Rattle.access_calls.specs.Reported.{world_from}
 use Rattle.packed_access.specs.Begun.{StopsThere}
-use Rattle.packed_access.specs.Logs.{LogState, result_at, result_for, with_call}
+use Rattle.packed_access.specs.Logs.{LogState, asks_of, result_at, result_for, with_call}
 use Rattle.packed_access.proofs.AskLemmas.{begun_asked, begun_made, stops_asked}
-use Rattle.packed_access.proofs.BegunLemmas.{ended_begun, known_result, none_stopped}
+use Rattle.packed_access.proofs.BegunLemmas.{known_result, none_stopped}
 use Rattle.packed_access.proofs.CommandLemmas.{done_result, last_there}
-use Rattle.packed_access.proofs.NeedLemmas.{begun_needs, left_needs, needs_new, refused_new}
+use Rattle.packed_access.proofs.NeedLemmas.{begun_needs, left_needs, needs_new}
+use Rattle.packed_access.proofs.NeededLemmas.{needed_command}
+use Rattle.packed_access.proofs.PaidLemmas.{paid_asked, paid_flushed, sparing_ended, sparing_refused}
+use Rattle.packed_access.specs.Sparing.{HasSpared, left_of}
 use Rattle.packed_access.proofs.calls.PackedAccessAccess.command.Goals as goal
 
 pub returns-then-is_err-clause-on : goal.returns-then-is_err-clause-on
-returns-then-is_err-clause-on g c = λ m h. begun_needs _ _ c.args.self.now.sender.log c.ask.new.self _ _ _ _ _ _ m h refl refl (refused_new c.args.self.now.sender.log c.ask.new.self (search rules))
+returns-then-is_err-clause-on g c = λ m h. sparing_refused _ _ _ c.args.self.now.sender.log c.ask.new.self _ _ _ _ m h (search rules)
 
 pub returns-in-Err-clause-stops : goal.returns-in-Err-clause-stops
 returns-in-Err-clause-stops g c = λ m answered h left none.
     let old = c.args.self.now.sender in
     let asked : c.ask.new.self ≡ with_call old.log (probe_ask c.args.call) c.ask.new.self.room = search rules in
     let ok : IsAskable (probe_ask c.args.call) = record { sound = c.requires.sound; range = c.points_of-points.ensures.range } in
-    let there = begun_asked _ _ old.log c.ask.new.self _ _ _ _ (probe_ask c.args.call) m h none ok refl old.sound.results_long old.sound.places_long asked in
+    let there = begun_asked _ _ old.log c.ask.new.self _ _ _ _ (probe_ask c.args.call) m h.begun none ok refl old.sound.results_long old.sound.places_long asked in
     stops_asked m answered old.log.calls (probe_ask c.args.call) _ c.in-Err.stop refl
     (subst (λ (calls : List Ask). StopsThere m answered calls c.send.new.self.log.lines c.in-Err.stop) (ap (λ (l : LogState). l.calls) asked) (c.in-Err.ensures.stops m _ answered there left))
 
@@ -30,15 +34,15 @@ returns-in-Err-clause-on g c = λ m h.
     let none : old.log.end ≡ None = search rules in
     let asked : c.ask.new.self ≡ with_call old.log (probe_ask c.args.call) c.ask.new.self.room = search rules in
     let ok : IsAskable (probe_ask c.args.call) = record { sound = c.requires.sound; range = c.points_of-points.ensures.range } in
-    let there = begun_asked _ _ old.log c.ask.new.self _ _ _ _ (probe_ask c.args.call) m h none ok refl old.sound.results_long old.sound.places_long asked in
-    ended_begun _ _ c.send.new.self.log _ _ _ _ m c.in-Err.stop (c.in-Err.ensures.broke m _ there) (ap (λ (l : LogState). l.end) c.in-Err.ensures.ended)
+    let there = begun_asked _ _ old.log c.ask.new.self _ _ _ _ (probe_ask c.args.call) m h.begun none ok refl old.sound.results_long old.sound.places_long asked in
+    sparing_ended _ _ _ c.send.new.self.log _ _ _ _ m c.in-Err.stop (c.in-Err.ensures.broke m _ there) (ap (λ (l : LogState). l.end) c.in-Err.ensures.ended)
 
 pub returns-in-Err-make_last-clause-stops : goal.returns-in-Err-make_last-clause-stops
 returns-in-Err-make_last-clause-stops g c = λ m answered h left none.
     let old = c.args.self.now.sender in
     let asked : c.ask.new.self ≡ with_call old.log (probe_ask c.args.call) c.ask.new.self.room = search rules in
     let ok : IsAskable (probe_ask c.args.call) = record { sound = c.requires.sound; range = c.points_of-points.ensures.range } in
-    let there = begun_asked _ _ old.log c.ask.new.self _ _ _ _ (probe_ask c.args.call) m h none ok refl old.sound.results_long old.sound.places_long asked in
+    let there = begun_asked _ _ old.log c.ask.new.self _ _ _ _ (probe_ask c.args.call) m h.begun none ok refl old.sound.results_long old.sound.places_long asked in
     let sent = c.in-Ok.ensures.on m _ there in
     let calls : c.send.new.self.log.calls ≡ old.log.calls ++ probe_ask c.args.call ∷ [] = ap (λ (l : LogState). l.calls) c.in-Ok.ensures.log ∙ ap (λ (l : LogState). l.calls) asked in
     stops_asked m answered old.log.calls (probe_ask c.args.call) _ c.in-Err-make_last.stop refl
@@ -50,10 +54,10 @@ returns-in-Err-make_last-clause-on g c = λ m h.
     let none : old.log.end ≡ None = search rules in
     let asked : c.ask.new.self ≡ with_call old.log (probe_ask c.args.call) c.ask.new.self.room = search rules in
     let ok : IsAskable (probe_ask c.args.call) = record { sound = c.requires.sound; range = c.points_of-points.ensures.range } in
-    let there = begun_asked _ _ old.log c.ask.new.self _ _ _ _ (probe_ask c.args.call) m h none ok refl old.sound.results_long old.sound.places_long asked in
+    let there = begun_asked _ _ old.log c.ask.new.self _ _ _ _ (probe_ask c.args.call) m h.begun none ok refl old.sound.results_long old.sound.places_long asked in
     let sent = c.in-Ok.ensures.on m _ there in
     let calls : c.send.new.self.log.calls ≡ old.log.calls ++ probe_ask c.args.call ∷ [] = ap (λ (l : LogState). l.calls) c.in-Ok.ensures.log ∙ ap (λ (l : LogState). l.calls) asked in
-    ended_begun _ _ c.make_last.new.self.log _ _ _ _ m _ (c.in-Err-make_last.ensures.broke m old.log.calls calls sent) c.in-Err-make_last.ensures.ended
+    sparing_ended _ _ _ c.make_last.new.self.log _ _ _ _ m _ (c.in-Err-make_last.ensures.broke m old.log.calls calls sent) c.in-Err-make_last.ensures.ended
 
 pub returns-in-Ok-make_last-clause-on : goal.returns-in-Ok-make_last-clause-on
 returns-in-Ok-make_last-clause-on g c = λ m h.
@@ -63,16 +67,27 @@ returns-in-Ok-make_last-clause-on g c = λ m h.
     let none : old.log.end ≡ None = search rules in
     let asked : c.ask.new.self ≡ with_call old.log (probe_ask c.args.call) c.ask.new.self.room = search rules in
     let ok : IsAskable (probe_ask c.args.call) = record { sound = c.requires.sound; range = c.points_of-points.ensures.range } in
-    let there = begun_asked _ _ old.log c.ask.new.self _ _ _ _ (probe_ask c.args.call) m h none ok refl old.sound.results_long old.sound.places_long asked in
+    let there = begun_asked _ _ old.log c.ask.new.self _ _ _ _ (probe_ask c.args.call) m h.begun none ok refl old.sound.results_long old.sound.places_long asked in
     let sent = c.in-Ok.ensures.on m _ there in
     let calls : mid.log.calls ≡ old.log.calls ++ probe_ask c.args.call ∷ [] = ap (λ (l : LogState). l.calls) c.in-Ok.ensures.log ∙ ap (λ (l : LogState). l.calls) asked in
     let done = c.in-Ok-make_last.ensures.on m old.log.calls calls sent in
     let same : new.log.calls ≡ mid.log.calls = ap (λ (l : LogState). l.calls) c.in-Ok-make_last.ensures.log in
     let end : new.log.end ≡ None = ap (λ (l : LogState). l.end) c.in-Ok-make_last.ensures.log ∙ ap (λ (l : LogState). l.end) c.in-Ok.ensures.log ∙ ap (λ (l : LogState). l.end) asked ∙ none in
     let whole : new.log.whole ≡ length new.log.calls = ap (λ (l : LogState). l.whole) c.in-Ok-make_last.ensures.log ∙ ap length (sym same) in
-    begun_needs _ _ new.log c.need.new.self _ _ _ _ _ _ m
-    (begun_made _ _ _ _ old.log new.log _ _ _ _ _ _ _ _ (probe_ask c.args.call) m h none refl done end (same ∙ calls) whole (c.make_last.ensures.managed ∙ c.send.ensures.managed) c.in-Ok-make_last.ensures.empty)
-    refl refl (needs_new new.log _ c.points_of-points.result c.count-count.result c.need.ensures.answer)
+    let paid = paid_asked _ _ _ old.log c.ask.new.self (probe_ask c.args.call) (left_of old.log) m (h.paid none) asked in
+    let made = c.in-Ok-make_last.ensures.spare m old.log.calls paid.paid calls sent (c.in-Ok.ensures.spare m _ paid.paid there paid.spared) in
+    let needs : new.log.needs ≡ c.ask.new.self.needs = ap (λ (l : LogState). l.needs) c.in-Ok-make_last.ensures.log ∙ ap (λ (l : LogState). l.needs) c.in-Ok.ensures.log in
+    let noted = needs_new new.log c.need.new.self c.points_of-points.result c.count-count.result c.need.ensures.answer in
+    let known : new.log.known ≡ length c.need.new.self.calls = ap (λ (l : LogState). l.known) c.in-Ok-make_last.ensures.log ∙ ap length (sym same) ∙ sym (ap (λ (l : LogState). length l.calls) noted) in
+    record {
+      begun = begun_needs _ _ new.log c.need.new.self _ _ _ _ _ _ m
+          (begun_made _ _ _ _ old.log new.log _ _ _ _ _ _ _ _ (probe_ask c.args.call) m h.begun none refl done end (same ∙ calls) whole (c.make_last.ensures.managed ∙ c.send.ensures.managed) c.in-Ok-make_last.ensures.empty)
+          refl refl noted;
+      paid = λ open_. paid_flushed _ _ _ new.log c.need.new.self c.ask.new.self.needs paid.paid c.points_of-points.result c.count-count.result (left_of old.log) m
+          (subst (λ (n : ℕ). HasSpared (g.F.Flights.limits new.flights) (g.F.Flights.reported new.flights).limits (g.F.Flights.state new.flights) new.log (paid.paid + n) m) (sym c.points_of-points.ensures.answer) made)
+          paid.covers needs c.need.ensures.answer known c.need.ensures.sound.fence_within (ap (λ (l : LogState). l.known) noted);
+      needed = λ open_. needed_command (target_of m.probe) (asks_of old.log) new.log c.need.new.self c.args.call c.points_of-points.result c.count-count.result (h.needed none) (same ∙ calls) (needs ∙ ap (λ (l : LogState). l.needs) asked) c.need.ensures.answer;
+    }
 
 pub returns-in-Ok-make_last-clause-whole : goal.returns-in-Ok-make_last-clause-whole
 returns-in-Ok-make_last-clause-whole g c = λ m answered h left.
@@ -82,7 +97,7 @@ returns-in-Ok-make_last-clause-whole g c = λ m answered h left.
     let none : old.log.end ≡ None = search rules in
     let asked : c.ask.new.self ≡ with_call old.log (probe_ask c.args.call) c.ask.new.self.room = search rules in
     let ok : IsAskable (probe_ask c.args.call) = record { sound = c.requires.sound; range = c.points_of-points.ensures.range } in
-    let there = begun_asked _ _ old.log c.ask.new.self _ _ _ _ (probe_ask c.args.call) m h none ok refl old.sound.results_long old.sound.places_long asked in
+    let there = begun_asked _ _ old.log c.ask.new.self _ _ _ _ (probe_ask c.args.call) m h.begun none ok refl old.sound.results_long old.sound.places_long asked in
     let sent = c.in-Ok.ensures.on m _ there in
     let calls : mid.log.calls ≡ old.log.calls ++ probe_ask c.args.call ∷ [] = ap (λ (l : LogState). l.calls) c.in-Ok.ensures.log ∙ ap (λ (l : LogState). l.calls) asked in
     let done = c.in-Ok-make_last.ensures.on m old.log.calls calls sent in
@@ -100,14 +115,14 @@ returns-in-Ok-make_last-clause-value g c = λ m answered h left.
     let none : old.log.end ≡ None = search rules in
     let asked : c.ask.new.self ≡ with_call old.log (probe_ask c.args.call) c.ask.new.self.room = search rules in
     let ok : IsAskable (probe_ask c.args.call) = record { sound = c.requires.sound; range = c.points_of-points.ensures.range } in
-    let there = begun_asked _ _ old.log c.ask.new.self _ _ _ _ (probe_ask c.args.call) m h none ok refl old.sound.results_long old.sound.places_long asked in
+    let there = begun_asked _ _ old.log c.ask.new.self _ _ _ _ (probe_ask c.args.call) m h.begun none ok refl old.sound.results_long old.sound.places_long asked in
     let sent = c.in-Ok.ensures.on m _ there in
     let calls : mid.log.calls ≡ old.log.calls ++ probe_ask c.args.call ∷ [] = ap (λ (l : LogState). l.calls) c.in-Ok.ensures.log ∙ ap (λ (l : LogState). l.calls) asked in
     let done = c.in-Ok-make_last.ensures.on m old.log.calls calls sent in
     let same : new.log.calls ≡ mid.log.calls = ap (λ (l : LogState). l.calls) c.in-Ok-make_last.ensures.log in
     let end : new.log.end ≡ None = ap (λ (l : LogState). l.end) c.in-Ok-make_last.ensures.log ∙ ap (λ (l : LogState). l.end) c.in-Ok.ensures.log ∙ ap (λ (l : LogState). l.end) asked ∙ none in
     let whole : new.log.whole ≡ length new.log.calls = ap (λ (l : LogState). l.whole) c.in-Ok-make_last.ensures.log ∙ ap length (sym same) in
-    let begun = begun_made _ (g.F.Flights.reported new.flights) _ _ old.log new.log _ _ [] [] _ _ _ _ (probe_ask c.args.call) m h none refl done end (same ∙ calls) whole (c.make_last.ensures.managed ∙ c.send.ensures.managed) c.in-Ok-make_last.ensures.empty in
+    let begun = begun_made _ (g.F.Flights.reported new.flights) _ _ old.log new.log _ _ [] [] _ _ _ _ (probe_ask c.args.call) m h.begun none refl done end (same ∙ calls) whole (c.make_last.ensures.managed ∙ c.send.ensures.managed) c.in-Ok-make_last.ensures.empty in
     let all_before : old.log.whole ≡ length old.log.calls = c.args.self.now.whole none in
     let came : mid.log.came ≡ length old.log.calls = ap (λ (l : LogState). l.came) c.in-Ok.ensures.log ∙ ap (λ (l : LogState). l.whole) asked ∙ all_before in
     let count : length mid.log.calls ≡ length old.log.calls + 1 = ap length calls ∙ length-append old.log.calls (probe_ask c.args.call ∷ []) in

@@ -3,38 +3,54 @@ use Rattle.std.specs.Prelude.{slice_index}
 use Rattle.call_terms.specs.World.{results}
 use Rattle.call_terms.specs.declared.calls.Ask.{Ask}
 use Rattle.access_calls.specs.Reported.{world_from}
-use Rattle.packed_access.specs.Logs.{LogState}
-use Rattle.packed_access.proofs.BegunLemmas.{begun_flushed, begun_issued, ended_begun, known_result, stops_flushed}
+use Rattle.probe_core.specs.Probe.{target_of}
+use Rattle.packed_access.specs.Logs.{LogState, asks_of}
+use Rattle.packed_access.proofs.BegunLemmas.{begun_flushed, begun_issued, known_result, stops_flushed}
 use Rattle.packed_access.proofs.NeedLemmas.{begun_needs, left_needs, used_new}
+use Rattle.packed_access.proofs.NeededLemmas.{needed_used}
+use Rattle.packed_access.proofs.PaidLemmas.{is_past, is_under, paid_known, paid_sent, sparing_ended}
 use Rattle.packed_access.proofs.calls.PackedAccessAccess.value.Goals as goal
 
 pub returns-then-is_known-clause-value : goal.returns-then-is_known-clause-value
 returns-then-is_known-clause-value g c = λ m answered h left.
     let old = c.args.self.now.sender in
-    let known : c.args.slot.index < old.log.known = grind (arith, c.is_known.ensures, c.if-is_known.true) in
+    let known : c.args.slot.index < old.log.known = is_under c.args.slot.index old.log.known c.is_known.result c.is_known.ensures c.if-is_known.true in
     let within : old.log.known ≤ length old.log.results = (let s = old.sound in let k = s.known_within in let l = s.results_long in omega (arith, k, l)) in
-    c.used.ensures.value ∙ known_result _ _ old.log _ _ _ _ m answered c.args.slot.index h (left_needs _ _ old.log c.used.new.self _ _ _ _ answered (used_new old.log _ c.args.slot c.used.ensures.answer) left) within (inl known)
+    c.used.ensures.value ∙ known_result _ _ old.log _ _ _ _ m answered c.args.slot.index h.begun (left_needs _ _ old.log c.used.new.self _ _ _ _ answered (used_new old.log _ c.args.slot c.used.ensures.answer) left) within (inl known)
 
 pub returns-then-is_known-clause-on : goal.returns-then-is_known-clause-on
 returns-then-is_known-clause-on g c = λ m h.
-    begun_needs _ _ c.args.self.now.sender.log c.used.new.self _ _ _ _ _ _ m h (search rules) (search rules) (used_new c.args.self.now.sender.log _ c.args.slot c.used.ensures.answer)
+    let old = c.args.self.now.sender in
+    let known : c.args.slot.index < old.log.known = is_under c.args.slot.index old.log.known c.is_known.result c.is_known.ensures c.if-is_known.true in
+    let noted = used_new old.log c.used.new.self c.args.slot c.used.ensures.answer in
+    record {
+      begun = begun_needs _ _ old.log c.used.new.self _ _ _ _ _ _ m h.begun (search rules) (search rules) noted;
+      paid = λ open_. paid_known _ _ _ old.log c.used.new.self c.args.slot m (h.paid (ap (λ (l : LogState). l.end) (sym noted) ∙ open_)) c.used.ensures.answer known;
+      needed = λ open_. needed_used (target_of m.probe) (asks_of old.log) old.log c.used.new.self c.args.slot (h.needed (ap (λ (l : LogState). l.end) (sym noted) ∙ open_)) refl refl c.used.ensures.answer;
+    }
 
 pub returns-in-Ok-clause-on : goal.returns-in-Ok-clause-on
 returns-in-Ok-clause-on g c = λ m h.
     let old = c.args.self.now.sender in
     let none : old.log.end ≡ None = search rules in
-    let there = c.in-Ok.ensures.on m [] (begun_issued _ _ old.log _ _ _ _ m h none) in
-    begun_needs _ _ c.send.new.self.log c.used-in-Ok.new.self _ _ _ _ _ _ m
-    (begun_flushed _ _ _ _ old.log c.send.new.self.log _ _ _ _ _ _ _ _ _ m h none (c.args.self.now.whole none) there c.in-Ok.ensures.log c.send.ensures.empty c.send.ensures.managed)
-    refl refl (used_new c.send.new.self.log _ c.args.slot c.used-in-Ok.ensures.answer)
+    let there = c.in-Ok.ensures.on m [] (begun_issued _ _ old.log _ _ _ _ m h.begun none) in
+    let not : old.log.known ≤ c.args.slot.index = is_past c.args.slot.index old.log.known c.is_known.result c.is_known.ensures c.if-is_known.false in
+    record {
+      begun = begun_needs _ _ c.send.new.self.log c.used-in-Ok.new.self _ _ _ _ _ _ m
+          (begun_flushed _ _ _ _ old.log c.send.new.self.log _ _ _ _ _ _ _ _ _ m h.begun none (c.args.self.now.whole none) there c.in-Ok.ensures.log c.send.ensures.empty c.send.ensures.managed)
+          refl refl (used_new c.send.new.self.log _ c.args.slot c.used-in-Ok.ensures.answer);
+      paid = λ open_. paid_sent _ _ _ _ _ _ old.log c.send.new.self.log c.used-in-Ok.new.self _ c.args.slot m (h.paid none) (λ points s. c.in-Ok.ensures.spare m [] points (begun_issued _ _ old.log _ _ _ _ m h.begun none) s)
+          c.in-Ok.ensures.log (c.args.self.now.whole none) old.sound.fence_within not c.used-in-Ok.ensures.answer;
+      needed = λ open_. needed_used (target_of m.probe) (asks_of old.log) c.send.new.self.log c.used-in-Ok.new.self c.args.slot (h.needed none) (ap (λ (l : LogState). l.calls) c.in-Ok.ensures.log) (ap (λ (l : LogState). l.needs) c.in-Ok.ensures.log) c.used-in-Ok.ensures.answer;
+    }
 
 pub returns-in-Ok-clause-value : goal.returns-in-Ok-clause-value
 returns-in-Ok-clause-value g c = λ m answered h left.
     let old = c.args.self.now.sender in
     let mid = c.send.new.self in
     let none : old.log.end ≡ None = search rules in
-    let there = c.in-Ok.ensures.on m [] (begun_issued _ _ old.log _ _ _ _ m h none) in
-    let begun = begun_flushed _ (g.F.Flights.reported mid.flights) _ _ old.log mid.log _ _ [] [] _ _ _ _ _ m h none (c.args.self.now.whole none) there c.in-Ok.ensures.log c.send.ensures.empty c.send.ensures.managed in
+    let there = c.in-Ok.ensures.on m [] (begun_issued _ _ old.log _ _ _ _ m h.begun none) in
+    let begun = begun_flushed _ (g.F.Flights.reported mid.flights) _ _ old.log mid.log _ _ [] [] _ _ _ _ _ m h.begun none (c.args.self.now.whole none) there c.in-Ok.ensures.log c.send.ensures.empty c.send.ensures.managed in
     let calls : mid.log.calls ≡ old.log.calls = ap (λ (l : LogState). l.calls) c.in-Ok.ensures.log in
     let known : mid.log.known ≡ old.log.whole = ap (λ (l : LogState). l.known) c.in-Ok.ensures.log in
     let whole : old.log.whole ≡ length old.log.calls = c.args.self.now.whole none in
@@ -47,10 +63,10 @@ returns-in-Ok-clause-value g c = λ m answered h left.
 pub returns-in-Err-clause-stops : goal.returns-in-Err-clause-stops
 returns-in-Err-clause-stops g c = λ m answered h left none.
     let old = c.args.self.now.sender in
-    stops_flushed _ _ old.log _ _ _ _ m answered _ c.in-Err.stop h none c.in-Err.ensures.some (c.in-Err.ensures.stops m [] answered (begun_issued _ _ old.log _ _ _ _ m h none) left)
+    stops_flushed _ _ old.log _ _ _ _ m answered _ c.in-Err.stop h.begun none c.in-Err.ensures.some (c.in-Err.ensures.stops m [] answered (begun_issued _ _ old.log _ _ _ _ m h.begun none) left)
 
 pub returns-in-Err-clause-on : goal.returns-in-Err-clause-on
 returns-in-Err-clause-on g c = λ m h.
     let old = c.args.self.now.sender in
     let none : old.log.end ≡ None = search rules in
-    ended_begun _ _ c.send.new.self.log _ _ _ _ m c.in-Err.stop (c.in-Err.ensures.broke m [] (begun_issued _ _ old.log _ _ _ _ m h none)) (ap (λ (l : LogState). l.end) c.in-Err.ensures.ended)
+    sparing_ended _ _ _ c.send.new.self.log _ _ _ _ m c.in-Err.stop (c.in-Err.ensures.broke m [] (begun_issued _ _ old.log _ _ _ _ m h.begun none)) (ap (λ (l : LogState). l.end) c.in-Err.ensures.ended)

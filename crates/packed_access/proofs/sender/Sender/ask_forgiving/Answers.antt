@@ -1,4 +1,4 @@
-use Rattle.std.proofs.Common.{◌≡◌, ◌∙◌, ◌<◌, ◌++◌, ◌∷◌, [], true, List, length, None, arith, refl, sym, ap, subst, length-append}
+use Rattle.std.proofs.Common.{◌≡◌, ◌∙◌, ◌+◌, ◌<◌, ◌≤◌, ◌++◌, ◌∷◌, [], true, List, length, None, arith, refl, sym, ap, subst, length-append}
 use Rattle.target_machine.specs.Plain.{call_actions}
 use Rattle.target_machine.specs.declared.unit.Call.TheVariants.{Access}
 use Rattle.probe_core.specs.Probe.{target_of}
@@ -16,8 +16,11 @@ use Rattle.packed_access.specs.Forgiving.{HasTried, IsDoneBy}
 use Rattle.packed_access.specs.Logs.{LogState, asks_of}
 use Rattle.packed_access.proofs.NeedLemmas.{begun_needs, needs_new}
 use Rattle.packed_access.proofs.TryBeginLemmas.{ask_is, begin_settling, begin_trying, is_before, may_is, settled_table, target_settled}
-use Rattle.packed_access.proofs.TryCloseLemmas.{closed_asks, closed_end, closed_whole, has_closed}
+use Rattle.packed_access.proofs.TryCloseLemmas.{closed_asks, closed_end, closed_known, closed_whole, has_closed}
 use Rattle.packed_access.proofs.TryDoneLemmas.{unit_begun, unit_kept, unit_needs, unit_outcome}
+use Rattle.packed_access.proofs.SparingLemmas.{has_grown, has_paid, spared_closed}
+use Rattle.access_calls.proofs.KeepLemmas.{goes_trans}
+use Rattle.packed_access.proofs.GoesLemmas.{goes_later}
 use Rattle.packed_access.proofs.sender.Sender.ask_forgiving.Goals as goal
 
 pub returns-in-Err-clause-broke : goal.returns-in-Err-clause-broke
@@ -186,3 +189,39 @@ returns-in-Ok-try_unit-clause-needs g c = λ m0 calls ask call forgives h.
     let count : c.count-count.result ≡ length c.close.new.log.calls = c.count-count.ensures ∙ ap length (h.are ∙ ap (λ (a : Ask). calls ++ a ∷ []) same ∙ sym (new_calls ∙ calls4)) in
     subst (λ (a : Ask). asks_of c.need.new.self ≡ asked (cost_by Managed (target_of m0.probe) calls a) a (record { calls = calls; needs = old.log.needs; fence = old.log.fence })) (sym same)
     (unit_needs (target_of m0.probe) old.managed calls c.args.unit.now c.in-Ok-try_unit.tried.reads old.log.needs old.log.fence c.close.new.log c.need.new.self _ _ h.kept_is may done.reads_are c.need.ensures.answer refl count asks)
+
+pub returns-in-Ok-try_unit-clause-spare : goal.returns-in-Ok-try_unit-clause-spare
+returns-in-Ok-try_unit-clause-spare g c = λ m0 calls ask left call forgives h s.
+    let old = c.args.self.now in
+    let u_is : 0 < length calls → c.max.result ≡ length calls = λ some. (let a = c.max.ensures in let b = c.count-count.ensures in let l = ap length h.are ∙ length-append calls (ask ∷ []) in omega (arith, a, b, l, some)) in
+    let there = begin_settling _ old.log _ old.managed calls ask c.args.unit.now m0 c.max.result h call forgives u_is in
+    let there2 = c.in-Ok.ensures.on m0 _ there in
+    let sent = c.send.new.self in
+    let there3 = c.in-Ok-send.ensures.on m0 _ there2 in
+    let unit_done = c.try_unit.new.self in
+    let word = c.in-Ok-try_unit.tried.word in
+    let spared = c.in-Ok-send.ensures.spare m0 _ s.paid there2 (c.in-Ok.ensures.spare m0 _ s.paid there s.spared) in
+    let tried = has_grown _ _ _ _ _ _ sent.log unit_done.log _ _ (s.paid + 1) 4 m0 there3 spared c.in-Ok-try_unit.ensures.packets c.in-Ok-try_unit.ensures.further.calls c.in-Ok-try_unit.ensures.later c.try_unit.ensures.limits c.try_unit.ensures.goes.limits in
+    let closed_all = spared_closed _ _ _ c.in-Ok-try_unit.tried.word unit_done.log c.close.new.log ((s.paid + 1) + 4) (s.paid + (5 + c.in-Ok-try_unit.tried.reads)) m0 tried c.close.ensures.answer unit_done.sound.confirmed_within (omega arith) in
+    let needs : c.close.new.log.needs ≡ old.log.needs = ap (λ (l : LogState). l.needs) c.close.ensures.answer ∙ ap (λ (a : Asks). a.needs) (closed_asks c.in-Ok-try_unit.tried.word unit_done.log) ∙ c.in-Ok-try_unit.ensures.further.needs ∙ ap (λ (l : LogState). l.needs) c.in-Ok-send.ensures.log ∙ c.in-Ok.ensures.further.needs in
+    has_paid _ _ _ c.close.new.log c.need.new.self old.log.needs s.paid (5 + c.in-Ok-try_unit.tried.reads) _ left m0 closed_all s.covers needs c.need.ensures.answer
+
+pub returns-in-Ok-try_unit-clause-goes : goal.returns-in-Ok-try_unit-clause-goes
+returns-in-Ok-try_unit-clause-goes g c =
+    let unit_done = c.try_unit.new.self in
+    let word = c.in-Ok-try_unit.tried.word in
+    let noted : c.need.new.self ≡ record c.close.new.log { needs = c.need.new.self.needs; fence = c.need.new.self.fence; room = c.need.new.self.room } = needs_new c.close.new.log c.need.new.self _ _ c.need.ensures.answer in
+    let end : c.need.new.self.end ≡ None = ap (λ (l : LogState). l.end) noted ∙ ap (λ (l : LogState). l.end) c.close.ensures.answer ∙ closed_end c.in-Ok-try_unit.tried.word unit_done.log ∙ c.in-Ok-try_unit.ensures.further.end in
+    let came : c.need.new.self.came ≡ length unit_done.log.calls = ap (λ (l : LogState). l.came) noted ∙ ap (λ (l : LogState). l.came) c.close.ensures.answer ∙ (closed_whole c.in-Ok-try_unit.tried.word unit_done.log).1 in
+    let known : c.need.new.self.known ≡ length unit_done.log.calls = ap (λ (l : LogState). l.known) noted ∙ ap (λ (l : LogState). l.known) c.close.ensures.answer ∙ closed_known c.in-Ok-try_unit.tried.word unit_done.log in
+    goes_trans _ _ _ c.settle.ensures.goes (goes_trans _ _ _ c.send.ensures.goes (goes_trans _ _ _ c.try_unit.ensures.goes
+    (goes_later _ _ unit_done.log c.need.new.self _ _ _ _ c.in-Ok-try_unit.ensures.further.end end
+    (let w = unit_done.sound.came_within in omega (arith, w, came)) (let w = unit_done.sound.known_within in omega (arith, w, known)))))
+
+pub returns-in-Ok-try_unit-clause-fenced : goal.returns-in-Ok-try_unit-clause-fenced
+returns-in-Ok-try_unit-clause-fenced g c =
+    let unit_done = c.try_unit.new.self in
+    let noted : c.need.new.self ≡ record c.close.new.log { needs = c.need.new.self.needs; fence = c.need.new.self.fence; room = c.need.new.self.room } = needs_new c.close.new.log c.need.new.self _ _ c.need.ensures.answer in
+    let known : c.need.new.self.known ≡ length unit_done.log.calls = ap (λ (l : LogState). l.known) noted ∙ ap (λ (l : LogState). l.known) c.close.ensures.answer ∙ closed_known c.in-Ok-try_unit.tried.word unit_done.log in
+    let calls : length c.need.new.self.calls ≡ length unit_done.log.calls = ap (λ (l : LogState). length l.calls) noted ∙ ap (λ (l : LogState). length l.calls) c.close.ensures.answer ∙ ap (λ (a : Asks). length a.calls) (closed_asks c.in-Ok-try_unit.tried.word unit_done.log) in
+    λ past. absurd (let w = c.need.ensures.sound.fence_within in omega (arith, known, calls, w, past))

@@ -1,7 +1,8 @@
-use Rattle.std.proofs.Common.{rules, ◌≡◌, ◌∙◌, ◌+◌, ◌-◌, length, arith, sym, ap}
+use Rattle.std.proofs.Common.{rules, ◌≡◌, ◌∙◌, ◌+◌, ◌-◌, ◌<◌, ◌≤◌, length, arith, sym, ap}
 use Rattle.std.specs.Prelude.{slice_get}
-use Rattle.packed_access.specs.Logs.{all_confirmed, all_issued, result_for, with_result}
+use Rattle.packed_access.specs.Logs.{LogState, all_confirmed, all_issued, result_for, with_result}
 use Rattle.packed_access.proofs.WholeCallLemmas.{small_begun, whole_begun}
+use Rattle.packed_access.proofs.SparingLemmas.{has_more}
 use Rattle.packed_access.proofs.sender.Sender.ask_planned.Goals as goal
 
 pub returns-in-Ok-true-clause-on : goal.returns-in-Ok-true-clause-on
@@ -19,3 +20,27 @@ returns-in-Ok-false-clause-on g c = λ m0 calls ask is mild h.
     let whole : mid.log.whole + 1 ≡ length mid.log.calls = (let w = c.requires.whole in let s = c.in-Ok-false.ensures.whole_same in let l = ap length c.issue_planned.ensures.calls in omega (arith, w, s, l)) in
     whole_begun _ _ _ c.args.self.now.log mid.log c.complete-in-Ok-false.new.self _ _ c.args.self.now.managed mid.managed _ _ calls ask m0 h (c.in-Ok-false.ensures.on m0 calls ask is mild h) c.issue_planned.ensures.calls whole (c.in-Ok-false.ensures.kept m0 calls ask is mild h) mild
     (sym c.in-Ok-false.field-0-test ∙ c.in-Ok-false.ensures.small m0 calls ask is mild h) (c.in-Ok-false.ensures.pending c.in-Ok-false.field-0-test) mid.sound.places_long c.in-Ok-false.ensures.open c.complete-in-Ok-false.ensures.answer
+
+pub returns-in-Ok-true-clause-spare : goal.returns-in-Ok-true-clause-spare
+returns-in-Ok-true-clause-spare g c = λ m0 calls ask left is mild h s.
+    let mid = c.issue_planned.new.self in
+    let new : c.confirm.new.self ≡ all_confirmed (with_result (all_issued mid.log) (c.count-count.result - 1) (result_for (slice_get mid.log.calls (c.count-count.result - 1)) 0)) = search rules in
+    has_more _ _ _ mid.log c.confirm.new.self left m0 (c.in-Ok-true.ensures.spare m0 calls ask left is mild h s) (ap (λ (l : LogState). l.calls) new) (let k = ap (λ (l : LogState). l.confirmed) new in let w = mid.sound.confirmed_within in omega (arith, k, w)) (ap (λ (l : LogState). l.needs) new)
+
+pub returns-in-Ok-false-clause-spare : goal.returns-in-Ok-false-clause-spare
+returns-in-Ok-false-clause-spare g c = λ m0 calls ask left is mild h s.
+    let mid = c.issue_planned.new.self in
+    let new : c.complete-in-Ok-false.new.self ≡ all_issued mid.log = c.complete-in-Ok-false.ensures.answer in
+    has_more _ _ _ mid.log c.complete-in-Ok-false.new.self left m0 (c.in-Ok-false.ensures.spare m0 calls ask left is mild h s) (ap (λ (l : LogState). l.calls) new) (let k = ap (λ (l : LogState). l.confirmed) new in omega (arith, k)) (ap (λ (l : LogState). l.needs) new)
+
+pub returns-in-Ok-true-clause-fenced : goal.returns-in-Ok-true-clause-fenced
+returns-in-Ok-true-clause-fenced g c =
+    let mid = c.issue_planned.new.self in
+    let new : c.confirm.new.self ≡ all_confirmed (with_result (all_issued mid.log) (c.count-count.result - 1) (result_for (slice_get mid.log.calls (c.count-count.result - 1)) 0)) = search rules in
+    λ past. c.in-Ok-true.ensures.fenced (let f = ap (λ (l : LogState). l.fence) new in let k = ap (λ (l : LogState). l.known) new in let w = mid.sound.known_within in omega (arith, f, k, w, past))
+
+pub returns-in-Ok-false-clause-fenced : goal.returns-in-Ok-false-clause-fenced
+returns-in-Ok-false-clause-fenced g c =
+    let mid = c.issue_planned.new.self in
+    let new : c.complete-in-Ok-false.new.self ≡ all_issued mid.log = c.complete-in-Ok-false.ensures.answer in
+    λ past. c.in-Ok-false.ensures.fenced (let f = ap (λ (l : LogState). l.fence) new in let k = ap (λ (l : LogState). l.known) new in omega (arith, f, k, past))

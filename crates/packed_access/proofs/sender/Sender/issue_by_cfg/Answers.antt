@@ -118,3 +118,25 @@ returns-in-Err-issue_by_csw-clause-stops g c = λ m0 answered h left.
     let bit : has_bit (gives (target_issued old.log m0) (cfg_plan old.managed (port_of c.args.unit.now))) 2 ≡ true = sym (c.in-Ok-read_cfg.ensures.large m0 _ first) ∙ c.if-not-large.false in
     let l = large_left _ _ old.log mid.log _ _ old.managed mid.managed c.args.unit.now m0 needs bit first (c.in-Ok-read_cfg.ensures.on m0 _ first) c.in-Ok-read_cfg.ensures.calls c.in-Ok-read_cfg.ensures.empty (c.in-Ok-read_cfg.ensures.kept m0 _ first) in
     subst (λ (calls : List Ask). StopsThere m0 answered calls c.issue_by_csw-2.new.self.log.lines c.in-Err-issue_by_csw.stop) c.in-Ok-read_cfg.ensures.calls (c.in-Err-issue_by_csw.ensures.stops m0 answered l.left left)
+
+pub returns-then-not-large-clause-spare : goal.returns-then-not-large-clause-spare
+returns-then-not-large-clause-spare g c = λ m0 left h s.
+    let old = c.args.self.now in
+    let needs : needs_cfg old.managed c.args.unit.now ≡ true = search rules in
+    c.in-Ok-read_cfg.ensures.spare m0 _ left (cfg_left _ old.log _ (target_issued old.log m0) old.managed c.args.unit.now m0 c.requires.whole needs h) s
+
+pub returns-in-Ok-issue_by_csw-clause-spare : goal.returns-in-Ok-issue_by_csw-clause-spare
+returns-in-Ok-issue_by_csw-clause-spare g c = λ m0 left h s.
+    let old = c.args.self.now in
+    let mid = c.read_cfg.new.self in
+    let needs : needs_cfg old.managed c.args.unit.now ≡ true = search rules in
+    let first = cfg_left _ old.log _ (target_issued old.log m0) old.managed c.args.unit.now m0 c.requires.whole needs h in
+    let bit : has_bit (gives (target_issued old.log m0) (cfg_plan old.managed (port_of c.args.unit.now))) 2 ≡ true = sym (c.in-Ok-read_cfg.ensures.large m0 _ first) ∙ c.if-not-large.false in
+    let l = large_left _ _ old.log mid.log _ _ old.managed mid.managed c.args.unit.now m0 needs bit first (c.in-Ok-read_cfg.ensures.on m0 _ first) c.in-Ok-read_cfg.ensures.calls c.in-Ok-read_cfg.ensures.empty (c.in-Ok-read_cfg.ensures.kept m0 _ first) in
+    c.in-Ok-issue_by_csw.ensures.spare m0 left l.left (c.in-Ok-read_cfg.ensures.spare m0 _ left first s)
+
+pub returns-then-not-large-clause-fenced : goal.returns-then-not-large-clause-fenced
+returns-then-not-large-clause-fenced g c = λ past. absurd (let f = c.in-Ok-read_cfg.ensures.fenced in omega (arith, f, past))
+
+pub returns-in-Ok-issue_by_csw-clause-fenced : goal.returns-in-Ok-issue_by_csw-clause-fenced
+returns-in-Ok-issue_by_csw-clause-fenced g c = λ past. absurd (let f = c.in-Ok-read_cfg.ensures.fenced in let p = c.in-Ok-issue_by_csw.ensures.fenced past in omega (arith, f, p))

@@ -8,6 +8,7 @@ use Rattle.access_regs.specs.Kept.{Kept}
 use Rattle.access_regs.specs.Plan.{first_plan, learned, made, needs_csw}
 use Rattle.packed_access.specs.Begun.{HasIssued, StopsThere, entries_of, target_issued}
 use Rattle.packed_access.proofs.PlannedLemmas.{csw_left, csw_steps, plain_left, plan_entries, plan_now}
+use Rattle.packed_access.proofs.SparingLemmas.{never_past, spared_further, still_past}
 use Rattle.packed_access.proofs.sender.Sender.issue_by_csw.Goals as goal
 
 pub returns-then-not-needs_csw-clause-broke : goal.returns-then-not-needs_csw-clause-broke
@@ -84,3 +85,31 @@ returns-in-Ok-clause-kept g c = λ m0 h.
     let is : c.issue_unit-in-Ok.new.self.managed ≡ (by_csw (target_issued old.log m0) old.managed c.args.unit.now).kept =
     c.issue_unit-in-Ok.ensures.managed ∙ ap (λ (q : Kept). made q c.args.unit.now) (c.in-Ok.ensures.kept m0 _ first) ∙ sym (csw_steps 0 (target_issued old.log m0) old.managed c.args.unit.now needs).1 in
     elim c.issue_unit-in-Ok.result as (λ r. OnOk r (c.issue_unit-in-Ok.new.self.managed ≡ (by_csw (target_issued old.log m0) old.managed c.args.unit.now).kept)) [ Ok done ↦ is | Err s ↦ tt ]
+
+pub returns-then-not-needs_csw-clause-spare : goal.returns-then-not-needs_csw-clause-spare
+returns-then-not-needs_csw-clause-spare g c = λ m0 left h s.
+    let old = c.args.self.now in
+    let some : 0 < length old.log.calls = (let w = c.requires.whole in omega (arith, w)) in
+    let needs : needs_csw old.managed c.args.unit.now ≡ false = search rules in
+    spared_further _ _ _ old.log c.issue_unit.new.self.log s.paid left c.issue_unit.result m0 s.covers c.issue_unit.ensures.further
+    (c.issue_unit.ensures.spare m0 [] s.paid (subst (λ (l : List Entry). HasIssued (g.F.Flights.state old.flights) old.log (g.F.Flights.accesses old.flights) l m0) (plain_left (length old.log.calls) (target_issued old.log m0) old.managed c.args.unit.now some c.requires.no_poll needs) h) s.spared)
+
+pub returns-in-Ok-clause-spare : goal.returns-in-Ok-clause-spare
+returns-in-Ok-clause-spare g c = λ m0 left h s.
+    let old = c.args.self.now in
+    let mid = c.read_csw.new.self in
+    let some : 0 < length old.log.calls = (let w = c.requires.whole in omega (arith, w)) in
+    let needs : needs_csw old.managed c.args.unit.now ≡ true = search rules in
+    let k : Kept = learned old.managed (port_of c.args.unit.now) (gives (target_issued old.log m0) (first_plan old.managed (port_of c.args.unit.now))) in
+    let first : HasIssued (g.F.Flights.state old.flights) old.log (g.F.Flights.accesses old.flights) (entries_of (length old.log.calls) Leads (first_plan old.managed (port_of c.args.unit.now)) ++ plan_entries (length old.log.calls) k c.args.unit.now) m0 =
+    subst (λ (l : List Entry). HasIssued (g.F.Flights.state old.flights) old.log (g.F.Flights.accesses old.flights) l m0) (csw_left (length old.log.calls) (target_issued old.log m0) old.managed c.args.unit.now some c.requires.no_poll needs) h in
+    let there = plan_now _ mid.log _ _ k mid.managed c.args.unit.now (length old.log.calls) m0 (c.in-Ok.ensures.on m0 _ first) c.in-Ok.ensures.empty (c.in-Ok.ensures.kept m0 _ first) (ap length c.read_csw.ensures.calls) in
+    let read = c.in-Ok.ensures.spare m0 _ left first s in
+    spared_further _ _ _ mid.log c.issue_unit-in-Ok.new.self.log read.paid left c.issue_unit-in-Ok.result m0 read.covers c.issue_unit-in-Ok.ensures.further
+    (c.issue_unit-in-Ok.ensures.spare m0 [] read.paid there read.spared)
+
+pub returns-in-Ok-clause-fenced : goal.returns-in-Ok-clause-fenced
+returns-in-Ok-clause-fenced g c = never_past _ c.read_csw.new.self.log c.issue_unit-in-Ok.new.self.log c.issue_unit-in-Ok.result c.issue_unit-in-Ok.ensures.further c.issue_unit-in-Ok.ensures.goes.known c.in-Ok.ensures.fenced
+
+pub returns-then-not-needs_csw-clause-fenced : goal.returns-then-not-needs_csw-clause-fenced
+returns-then-not-needs_csw-clause-fenced g c = still_past c.args.self.now.log c.issue_unit.new.self.log c.issue_unit.result c.issue_unit.ensures.further c.issue_unit.ensures.goes.known

@@ -4,6 +4,7 @@ use Rattle.call_terms.specs.declared.calls.Ask.{Ask}
 use Rattle.access_regs.specs.Plan.{needs_settle}
 use Rattle.packed_access.specs.Begun.{StopsThere}
 use Rattle.packed_access.proofs.AskedLemmas.{at_ok_then, first_calm, kept_is, needs_is, ok_then, plain_ready, planned_left, settle_left, settled_ready, small_is}
+use Rattle.packed_access.proofs.SparingLemmas.{past_before, spared_same}
 use Rattle.packed_access.proofs.sender.Sender.issue_planned.Goals as goal
 use Rattle.packed_access.proofs.sender.Sender.issue_planned.Goals.{then-before-eq0-via-then-before-eq0, then-before-eq0-via-else-before-eq0+then-not-needs_settle}
 
@@ -166,3 +167,26 @@ returns-in-Err-clause-stops g c = λ m0 calls ask answered is mild h left.
     let before : c.count-before.result - 1 ≡ length old.log.calls - 1 = ap (λ (n : ℕ). n - 1) c.count-before.ensures in
     let first = settle_left _ old.log _ _ old.managed c.args.unit.now _ m0 before needs (planned_left _ old.log _ old.managed calls ask c.args.unit.now m0 is mild h) in
     c.in-Err.ensures.stops m0 _ answered first left
+
+pub returns-then-before-eq0-clause-spare : goal.returns-then-before-eq0-clause-spare
+returns-then-before-eq0-clause-spare g c = λ m0 calls ask left is mild h s.
+    let old = c.args.self.now in
+    let calm : needs_settle old.managed c.args.unit.now ≡ false = elim c.then-before-eq0.branch [
+      | then-before-eq0-via-then-before-eq0 w ↦ first_calm _ old.log _ old.managed calls ask c.args.unit.now m0 h (let n = c.count-before.ensures in let z = w.if-before-eq0.true in omega (arith, n, z))
+      | then-before-eq0-via-else-before-eq0+then-not-needs_settle w ↦ sym w.needs_settle.ensures ∙ w.if-not-needs_settle.true
+    ] in
+    let r = plain_ready _ old.log _ old.managed c.args.unit.now m0 calm (planned_left _ old.log _ old.managed calls ask c.args.unit.now m0 is mild h) in
+    c.issue_by_cfg.ensures.spare m0 left r.left s
+
+pub returns-in-Ok-clause-spare : goal.returns-in-Ok-clause-spare
+returns-in-Ok-clause-spare g c = λ m0 calls ask left is mild h s.
+    let old = c.args.self.now in
+    let mid = c.settle.new.self in
+    let needs : needs_settle old.managed c.args.unit.now ≡ true = search rules in
+    let before : c.count-before.result - 1 ≡ length old.log.calls - 1 = ap (λ (n : ℕ). n - 1) c.count-before.ensures in
+    let first = settle_left _ old.log _ _ old.managed c.args.unit.now _ m0 before needs (planned_left _ old.log _ old.managed calls ask c.args.unit.now m0 is mild h) in
+    let r = settled_ready _ _ old.log mid.log _ _ old.managed mid.managed c.args.unit.now _ m0 needs first (c.in-Ok.ensures.on m0 _ first) c.in-Ok.ensures.further.calls c.settle.ensures.managed in
+    c.issue_by_cfg-in-Ok.ensures.spare m0 left r.left (spared_same _ _ _ old.log mid.log s.paid left m0 s.covers c.in-Ok.ensures.further (c.in-Ok.ensures.spare m0 _ s.paid first s.spared))
+
+pub returns-in-Ok-clause-fenced : goal.returns-in-Ok-clause-fenced
+returns-in-Ok-clause-fenced g c = past_before c.args.self.now.log c.settle.new.self.log c.issue_by_cfg-in-Ok.new.self.log c.issue_by_cfg-in-Ok.result c.in-Ok.ensures.further c.settle.ensures.goes.known c.issue_by_cfg-in-Ok.ensures.fenced

@@ -10,6 +10,7 @@ use Rattle.packed_access.specs.Logs.{IsStopped, LogState, result_for, with_entry
 use Rattle.packed_access.proofs.ActionLemmas.{action_has_come, where_flies}
 use Rattle.packed_access.proofs.CommandLemmas.{command_light, command_log, command_not_small}
 use Rattle.packed_access.proofs.LeftLemmas.{has_left, stops_left}
+use Rattle.packed_access.proofs.SparingLemmas.{has_commanded}
 use Rattle.packed_access.proofs.sender.Sender.make_last.Goals as goal
 
 pub returns-in-Ok-clause-on : goal.returns-in-Ok-clause-on
@@ -38,3 +39,11 @@ returns-in-Err-clause-stops g c = λ m0 calls answered are h left.
     let stopped : IsStopped c.in-Err.end (with_entry old.log (kept_of (entry_of calls (Commands c.args.call)))) c.stop.new.self c.stop.result =
     subst (λ (l : LogState). IsStopped c.in-Err.end l c.stop.new.self c.stop.result) (c.issue.ensures.answer ∙ ap (λ (n : ℕ). with_entry old.log (record { unit = n; part = Ends })) unit_is) c.stop.ensures.answer in
     stops_left _ _ _ _ _ old.log (entry_of calls (Commands c.args.call)) [] m0 c.in-Err.end c.stop.result c.stop.new.self answered h (where_flies _ _ c.args.call _ c.in-Err.ensures.left) (λ m. command_light c.args.call c.requires.sound) few c.in-Err.ensures.none stopped left
+
+pub returns-in-Ok-clause-spare : goal.returns-in-Ok-clause-spare
+returns-in-Ok-clause-spare g c = λ m0 calls points are h s.
+    let old = c.args.self.now in
+    let is : c.confirm.new.self ≡ log_done old.log (record { unit = length old.log.calls; part = Ends }) old.log.came (result_for (slice_get old.log.calls old.log.came) c.in-Ok.word) = search rules in
+    let grown : length (old.log.entries ++ record { unit = length old.log.calls; part = Ends } ∷ []) ≡ length old.log.entries + 1 = length-append old.log.entries (record { unit = length old.log.calls; part = Ends } ∷ []) in
+    has_commanded _ _ _ _ _ _ old.log c.confirm.new.self [] _ c.args.call points m0 h s c.in-Ok.ensures.packets (ap (λ (l : LogState). l.calls) is)
+    (let k = ap (λ (l : LogState). l.confirmed) is in let w = old.sound.confirmed_within in omega (arith, k, w, grown)) c.command.ensures.limits c.command.ensures.goes.limits

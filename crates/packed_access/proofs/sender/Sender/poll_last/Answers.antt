@@ -1,4 +1,4 @@
-use Rattle.std.proofs.Common.{rules, ◌≡◌, ◌∙◌, ℕ, ◌+◌, ◌^◌, ◌<◌, [], ◌∷◌, length, ap, subst, arith, length-append}
+use Rattle.std.proofs.Common.{rules, ◌≡◌, ◌∙◌, ℕ, ◌+◌, ◌-◌, ◌^◌, ◌<◌, ◌≤◌, ◌++◌, [], ◌∷◌, length, ap, subst, arith, length-append}
 use Rattle.std.specs.Prelude.{slice_get}
 use Rattle.target_machine.specs.Plain.{Polls}
 use Rattle.call_terms.specs.declared.journal.Part.TheVariants.{Ends}
@@ -10,6 +10,8 @@ use Rattle.packed_access.specs.Logs.{IsStopped, LogState, result_for, with_entry
 use Rattle.packed_access.proofs.ActionLemmas.{action_has_come}
 use Rattle.packed_access.proofs.LeftLemmas.{has_left, stops_left}
 use Rattle.packed_access.proofs.PollLemmas.{asked_log, poll_issue_of, poll_light, poll_mild, poll_not_small, poll_points, poll_steps}
+use Rattle.packed_access.specs.Sparing.{SendsFew}
+use Rattle.packed_access.proofs.SparingLemmas.{has_cost}
 use Rattle.packed_access.proofs.sender.Sender.poll_last.Goals as goal
 
 pub returns-in-Ok-clause-on : goal.returns-in-Ok-clause-on
@@ -54,3 +56,12 @@ returns-in-Err-clause-stops g c = λ m0 calls ask answered h left.
     (LeftOff (Polls c.args.mask c.args.requested c.args.turns) c.in-Err.end) c.in-Err.ensures.left in
     stops_left _ _ _ _ _ old.log (entry_of calls (Polls c.args.mask c.args.requested c.args.turns)) [] m0 c.in-Err.end c.stop.result c.stop.new.self answered h.issued left_off
     (λ m. poll_light c.args.turns c.args.mask c.args.requested _ c.requires.sound.1) few c.in-Err.ensures.none stopped left
+
+pub returns-in-Ok-clause-spare : goal.returns-in-Ok-clause-spare
+returns-in-Ok-clause-spare g c = λ m0 calls ask paid h s.
+    let old = c.args.self.now in
+    let is : c.confirm.new.self ≡ log_done old.log (record { unit = length old.log.calls; part = Ends }) old.log.came (result_for (slice_get old.log.calls old.log.came) (matched_word c.in-Ok.found.matched)) = search rules in
+    let grown : length (old.log.entries ++ record { unit = length old.log.calls; part = Ends } ∷ []) ≡ length old.log.entries + 1 = length-append old.log.entries (record { unit = length old.log.calls; part = Ends } ∷ []) in
+    let sent = poll_steps _ _ old.log old.managed calls ask c.args.mask c.args.requested c.args.turns m0 h _ c.bank_zero-zero.ensures (SendsFew (c.in-Ok.found.points - 1)) c.in-Ok.ensures.packets in
+    has_cost _ _ _ _ _ _ old.log c.confirm.new.self [] _ paid c.in-Ok.found.points m0 h.issued s c.in-Ok.ensures.some sent (ap (λ (l : LogState). l.calls) is)
+    (let k = ap (λ (l : LogState). l.confirmed) is in let w = old.sound.confirmed_within in omega (arith, k, w, grown)) c.make_poll.ensures.limits c.make_poll.ensures.goes.limits

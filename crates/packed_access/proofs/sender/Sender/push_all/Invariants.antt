@@ -11,6 +11,7 @@ invariant-loop-access g l = record {
   space : (next : RegAccess) → IsTaken next → length (g.F.Flights.accesses l.self.flights) < 4 → g.F.Flights.has_room l.self.flights next ≡ true;
   reported : g.F.Flights.reported l.self.flights ≡ g.F.Flights.reported l.fn.self.flights;
   state : g.F.Flights.state l.self.flights ≡ g.F.Flights.state l.fn.self.flights;
+  limits : g.F.Flights.limits l.self.flights ≡ g.F.Flights.limits l.fn.self.flights;
   managed : l.self.managed ≡ l.fn.self.managed;
   identity : g.F.Flights.identity l.self.flights ≡ g.F.Flights.identity l.fn.self.flights;
 }

@@ -1,9 +1,10 @@
-use Rattle.std.proofs.Common.{◌≡◌, ◌∙◌, ◌+◌, ◌*◌, ◌^◌, ◌<◌, [], length, arith, sym, ap, subst}
+use Rattle.std.proofs.Common.{◌≡◌, ◌∙◌, ◌+◌, ◌*◌, ◌^◌, ◌<◌, ◌≤◌, [], length, arith, sym, ap, subst}
 use Rattle.packed_access.specs.Begun.{HasIssued}
 use Rattle.packed_access.specs.Logs.{LogState, all_confirmed, all_taken}
 use Rattle.packed_access.proofs.EndLemmas.{has_ended, stops_there}
 use Rattle.packed_access.proofs.ReadLemmas.{last_value}
 use Rattle.packed_access.proofs.WholeLemmas.{has_come}
+use Rattle.packed_access.proofs.SparingLemmas.{has_filled, has_sent}
 use Rattle.packed_access.proofs.sender.Sender.send.Goals as goal
 
 pub returns-in-Ok-clause-on : goal.returns-in-Ok-clause-on
@@ -22,3 +23,16 @@ returns-in-Err-clause-stops g c = λ m0 rest answered h left. stops_there _ _ _ 
 
 pub returns-in-Ok-clause-last : goal.returns-in-Ok-clause-last
 returns-in-Ok-clause-last g c = λ m0 rest front e more h is at some. last_value _ _ c.args.self.now.log _ rest _ m0 front e more h c.in-Ok.ensures.came is at some
+
+pub returns-in-Ok-clause-spare : goal.returns-in-Ok-clause-spare
+returns-in-Ok-clause-spare g c =
+    let old = c.args.self.now in
+    let is : c.confirm.new.self ≡ all_confirmed (all_taken (g.F.Flights.values c.send.new.self) old.log) = c.confirm.ensures.answer ∙ ap all_confirmed c.take_values.ensures.answer in
+    λ m0 rest points h s. has_sent _ _ _ _ _ _ old.log c.confirm.new.self _ rest _ points m0 h s c.in-Ok.ensures.came (ap (λ (l : LogState). l.calls) is)
+    (let k = ap (λ (l : LogState). l.confirmed) is in let w = old.sound.confirmed_within in omega (arith, k, w)) c.send.ensures.limits c.send.ensures.goes.limits
+
+pub returns-in-Ok-clause-full : goal.returns-in-Ok-clause-full
+returns-in-Ok-clause-full g c =
+    let old = c.args.self.now in
+    let is : c.confirm.new.self ≡ all_confirmed (all_taken (g.F.Flights.values c.send.new.self) old.log) = c.confirm.ensures.answer ∙ ap all_confirmed c.take_values.ensures.answer in
+    λ m0 e rest next points h makes s is_full. has_filled _ _ _ _ _ _ old.log c.confirm.new.self _ e next rest _ points m0 h makes s c.in-Ok.ensures.came is_full (ap (λ (l : LogState). l.calls) is) (ap (λ (l : LogState). l.confirmed) is) c.send.ensures.limits c.send.ensures.goes.limits

@@ -3,6 +3,7 @@ use Rattle.target_machine.specs.declared.access.RegAccess.{RegAccess}
 use Rattle.packed_access.specs.Clearing.{IsOneTransfer, is_fault_end}
 use Rattle.packed_access.specs.Forgiving.{last_part}
 use Rattle.packed_access.proofs.TryWhereLemmas.{abort_broke, abort_log, flight_broke, flight_log, flight_skipped, flight_went, one_few}
+use Rattle.packed_access.proofs.PacketLemmas.{cleared_few, went_few}
 use Rattle.packed_access.proofs.sender.Sender.try_flight.Goals as goal
 use Rattle.packed_access.proofs.sender.Sender.try_flight.Goals.{then-ends, else-ends}
 
@@ -54,3 +55,13 @@ returns-in-Err-command-clause-broke g c = λ m0 asked k t made rest more h n.
     let yes : is_fault_end c.in-Err.end ≡ true = sym (c.in-Err.ensures.resumable one) ∙ sym c.can_resume.ensures ∙ (search rules) in
     abort_broke _ _ _ old.log c.issue.new.self asked k t made c.args.leads.now c.args.last c.args.ends rest more _ m0 h n (c.push.ensures.state ∙ c.push_all.ensures.state) are (one_few _ c.requires.one) few log
     _ _ _ _ _ c.issue-2.new.self c.in-Err.end c.in-Err-command.end c.stop-in-Err-command.result c.stop-in-Err-command.new.self c.in-Err.ensures.broke yes (c.in-Err.ensures.clear one yes) c.resume.ensures.state (c.in-Err-command.ensures.uncleared refl) log2 c.stop-in-Err-command.ensures.answer
+
+pub returns-in-Ok-clause-packets : goal.returns-in-Ok-clause-packets
+returns-in-Ok-clause-packets g c = went_few _ _ _ _ _ c.value.result (c.push.ensures.state ∙ c.push_all.ensures.state) c.in-Ok.ensures.came
+
+pub returns-in-Ok-command-clause-packets : goal.returns-in-Ok-command-clause-packets
+returns-in-Ok-command-clause-packets g c =
+    let are = c.push.ensures.accesses ∙ ap (λ (l : List RegAccess). l ++ c.args.last ∷ []) (c.push_all.ensures.accesses ∙ ap (λ (l : List RegAccess). l ++ c.args.leads.now) c.requires.empty) in
+    let one : IsOneTransfer _ = subst IsOneTransfer (sym are) c.requires.one in
+    let yes : is_fault_end c.in-Err.end ≡ true = sym (c.in-Err.ensures.resumable one) ∙ sym c.can_resume.ensures ∙ (search rules) in
+    cleared_few _ _ _ _ _ (c.push.ensures.state ∙ c.push_all.ensures.state) c.resume.ensures.state (c.in-Err.ensures.packets yes) (c.in-Err.ensures.clear one yes) c.in-Ok-command.ensures.packets

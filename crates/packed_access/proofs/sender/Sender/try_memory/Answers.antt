@@ -1,4 +1,4 @@
-use Rattle.std.proofs.Common.{◌≡◌, ◌∙◌, ℕ, ◌/◌, ◌%◌, ◌^◌, ◌<◌, ◌++◌, ◌∷◌, [], true, false, List, Option, Some, sym, ap, subst}
+use Rattle.std.proofs.Common.{◌≡◌, ◌∙◌, ℕ, ◌/◌, ◌%◌, ◌^◌, ◌<◌, ◌++◌, ◌∷◌, [], true, false, List, Option, Some, sym, ap, subst, arith}
 use Rattle.target_machine.specs.Lists.{after}
 use Rattle.target_machine.specs.Plain.{ap_access_of, csw_for, select_of, transfer_actions}
 use Rattle.target_machine.specs.declared.access.RegAccess.{RegAccess}
@@ -7,6 +7,7 @@ use Rattle.call_terms.proofs.CallRanges.{lanes_fit}
 use Rattle.access_regs.specs.Journal.{making}
 use Rattle.packed_access.specs.Forgiving.{IsNext, WentTo}
 use Rattle.packed_access.proofs.TryMemoryLemmas.{broken_calls, csw_given, csw_next, csw_read, drw_next, on_err, on_ok, went_came, went_skipped}
+use Rattle.packed_access.proofs.PacketLemmas.{went_most, went_thens}
 use Rattle.packed_access.proofs.sender.Sender.try_memory.Goals as goal
 
 pub access_drw-last-requires : goal.access_drw-last-requires
@@ -101,3 +102,13 @@ returns-else-large-clause-broke g c = λ m0 k t made rest h quiet is.
     let low : c.access_ap-low.result ≡ ap_access_of false 4 (c.args.address % 2 ^ 32) = c.access_ap-low.ensures ∙ ap (ap_access_of false 4) c.low_of.ensures in
     let next' = subst (λ (l : List RegAccess × RegAccess). IsNext (unit.Memory c.args.size c.args.read c.args.ap c.args.address c.args.value) t (made ++ (select_of c.args.ap 0 ∷ [] ++ ap_access_of true 0 0 ∷ [])) l.0 l.1 true (transfer_actions c.args.large c.args.size c.args.read c.args.address c.args.value (csw_read (after t (making made)) c.args.ap)) []) (λ j. (sym first j ∷ sym low j ∷ [], sym c.access_drw-last.ensures j)) next in
     on_err c.try_flight-else-large.result _ _ (λ s broke. broken_calls s _ c.try_flight-else-large.new.self.log _ _ m0 c.in-Ok-Some.ensures.further.calls broke) (c.try_flight-else-large.ensures.broke m0 (unit.Memory c.args.size c.args.read c.args.ap c.args.address c.args.value) k t _ _ [] went'.0 next')
+
+pub returns-in-Ok-None-clause-packets : goal.returns-in-Ok-None-clause-packets
+returns-in-Ok-None-clause-packets g c = went_most _ _ c.in-Ok-None.field-0 3 (omega arith) c.in-Ok-None.ensures.packets
+
+pub returns-then-large-clause-packets : goal.returns-then-large-clause-packets
+returns-then-large-clause-packets g c = went_thens _ _ _ c.in-Ok-Some.field-0 c.in-Ok-Some.csw c.try_flight.result (c.in-Ok-Some.field-0-is ∙ ap (λ (v : ℕ). Some v) (sym c.in-Ok-Some.csw-is)) c.in-Ok-Some.ensures.packets c.try_flight.ensures.packets
+
+pub returns-else-large-clause-packets : goal.returns-else-large-clause-packets
+returns-else-large-clause-packets g c =
+    went_thens _ _ _ c.in-Ok-Some.field-0 c.in-Ok-Some.csw c.try_flight-else-large.result (c.in-Ok-Some.field-0-is ∙ ap (λ (v : ℕ). Some v) (sym c.in-Ok-Some.csw-is)) c.in-Ok-Some.ensures.packets c.try_flight-else-large.ensures.packets

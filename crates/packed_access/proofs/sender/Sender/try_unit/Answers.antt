@@ -1,4 +1,4 @@
-use Rattle.std.proofs.Common.{rules, ◌≡◌, ◌∙◌, ◌/◌, ◌%◌, ◌<◌, ◌∷◌, [], Bool, true, false, refl, sym, ap, subst}
+use Rattle.std.proofs.Common.{rules, ◌≡◌, ◌∙◌, ◌/◌, ◌%◌, ◌<◌, ◌∷◌, [], Bool, true, false, refl, sym, ap, subst, arith}
 use Rattle.target_machine.specs.Plain.{ap_access_of, memory_actions, select_of}
 use Rattle.target_machine.specs.declared.access.RegAccess.{RegAccess}
 use Rattle.target_machine.specs.declared.unit.Unit.{Unit as AccessUnit}
@@ -6,6 +6,7 @@ use Rattle.target_machine.specs.declared.unit.Unit.TheVariants as unit
 use Rattle.access_regs.specs.Plan.{needs_cfg}
 use Rattle.packed_access.specs.Forgiving.{HasTried, IsDoneBy, IsNext, WentTo}
 use Rattle.packed_access.proofs.TryWideLemmas.{done_same, narrow_done, narrow_rest, port_done, port_next}
+use Rattle.packed_access.proofs.PacketLemmas.{flies_most, went_most}
 use Rattle.packed_access.proofs.sender.Sender.try_unit.Goals as goal
 
 pub returns-in-Ok-clause-on : goal.returns-in-Ok-clause-on
@@ -55,3 +56,9 @@ returns-in-Err-try_port-clause-broke g c = λ m0 t rest table h.
     let n = port_next _ old.log old.managed t rest m0 c.in-Ap.read c.in-Ap.ap c.in-Ap.addr c.in-Ap.value h' lt fits in
     let n' = subst (λ (x : RegAccess). IsNext (unit.Ap c.in-Ap.read c.in-Ap.ap c.in-Ap.addr c.in-Ap.value) t [] (select_of c.in-Ap.ap (c.in-Ap.addr / 16) ∷ []) x true rest []) (sym access) n in
     c.in-Err-try_port.ensures.broke m0 (unit.Ap c.in-Ap.read c.in-Ap.ap c.in-Ap.addr c.in-Ap.value) old.managed t [] rest [] h' n'
+
+pub returns-in-Ok-clause-packets : goal.returns-in-Ok-clause-packets
+returns-in-Ok-clause-packets g c = flies_most _ _ 3 4 (omega arith) c.in-Ok.ensures.packets
+
+pub returns-in-Ok-try_port-clause-packets : goal.returns-in-Ok-try_port-clause-packets
+returns-in-Ok-try_port-clause-packets g c = went_most _ _ c.in-Ok-try_port.word 4 (omega arith) c.in-Ok-try_port.ensures.packets

@@ -1,4 +1,4 @@
-use Rattle.std.proofs.Common.{rules, ◌≡◌, ◌∙◌, ℕ, ◌<◌, ◌∷◌, [], true, false, None, Some, refl, sym, ap, subst}
+use Rattle.std.proofs.Common.{rules, ◌≡◌, ◌∙◌, ℕ, ◌<◌, ◌∷◌, [], true, false, None, Some, refl, sym, ap, subst, arith}
 use Rattle.dap_base.specs.Bits.{has_bit}
 use Rattle.target_machine.specs.Plain.{after_cfg, ap_access_of, select_of}
 use Rattle.target_machine.specs.Registers.{cfg_la}
@@ -9,6 +9,7 @@ use Rattle.access_regs.specs.Plan.{learned_cfg, select_value}
 use Rattle.packed_access.specs.Forgiving.{IsNext, WentTo}
 use Rattle.packed_access.proofs.TryMemoryLemmas.{broken_calls}
 use Rattle.packed_access.proofs.TryWideLemmas.{cfg_large, cfg_next, cfg_skipped, cfg_small, cfg_tried, done_same, wide_done}
+use Rattle.packed_access.proofs.PacketLemmas.{went_most, went_then}
 use Rattle.packed_access.proofs.sender.Sender.try_wide.Goals as goal
 
 pub returns-in-Ok-None-clause-on : goal.returns-in-Ok-None-clause-on
@@ -79,3 +80,12 @@ returns-in-Err-try_memory-clause-broke g c = λ m0 t rest table h.
     let shape = cfg_large _ old.log old.managed t rest m0 c.args.size c.args.read c.args.ap c.args.address c.args.value h lt c.requires.wide _ port.log c.in-Ok-Some.field-0 c.in-Ok-Some.cfg came went table has in
     broken_calls c.in-Err-try_memory.stop _ c.try_memory.new.self.log _ _ m0 c.in-Ok-Some.ensures.further.calls
     (c.in-Err-try_memory.ensures.broke m0 old.managed t (select_of c.args.ap 15 ∷ ap_access_of true 4 0 ∷ []) (after_cfg t c.args.size c.args.read c.args.ap c.args.address c.args.value) tried refl shape)
+
+pub returns-in-Ok-None-clause-packets : goal.returns-in-Ok-None-clause-packets
+returns-in-Ok-None-clause-packets g c = went_most _ _ c.in-Ok-None.field-0 4 (omega arith) c.in-Ok-None.ensures.packets
+
+pub returns-then-not-learn_cfg-clause-packets : goal.returns-then-not-learn_cfg-clause-packets
+returns-then-not-learn_cfg-clause-packets g c = went_most _ _ c.in-Ok-Some.field-0 4 (omega arith) c.in-Ok-Some.ensures.packets
+
+pub returns-in-Ok-clause-packets : goal.returns-in-Ok-clause-packets
+returns-in-Ok-clause-packets g c = went_then _ _ _ c.in-Ok-Some.field-0 c.in-Ok-Some.cfg 3 (c.in-Ok-Some.field-0-is ∙ ap (λ (v : ℕ). Some v) (sym c.in-Ok-Some.cfg-is)) c.in-Ok-Some.ensures.packets c.in-Ok.ensures.packets

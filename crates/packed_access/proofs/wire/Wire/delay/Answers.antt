@@ -1,5 +1,8 @@
 use Rattle.std.proofs.Common.{rules, inr, ◌+◌, [], refl, arith}
 use Rattle.packed_access.proofs.DelayLemmas.{delay_begins, delay_left, delay_lefts, delay_mades, delay_next, goes_self, goes_then}
+use Rattle.target_machine.specs.InRange.{IsInRange}
+use Rattle.probe_core.specs.Probe.{target_of}
+use Rattle.packed_access.proofs.PacketLemmas.{delay_few, delays_few, few_begins}
 use Rattle.packed_access.proofs.wire.Wire.delay.Goals as goal
 
 pub loop-left-init : goal.loop-left-init
@@ -10,6 +13,8 @@ loop-left-init g c = record {
   usable = c.requires.usable;
   empty = c.requires.empty;
   on = delay_begins _;
+  packets = few_begins (λ m. IsInRange (target_of m.probe)) _;
+  limits = search rules;
   goes = goes_self _ _;
   faults = search rules;
   identity = search rules;
@@ -25,6 +30,8 @@ loop-left-preserved g c =
       usable = c.in-Ok.ensures.ended;
       empty = c.single.ensures.empty;
       on = delay_next _ _ _ i.count c.in-Ok.field-0 i.on c.in-Ok.ensures.done;
+      packets = delay_few _ _ _ i.count i.on i.packets c.in-Ok.ensures.packets;
+      limits = search rules;
       goes = goes_then _ _ _ _ _ _ i.goes c.single.ensures.goes;
       faults = search rules;
       identity = search rules;
@@ -44,3 +51,8 @@ pub returns-clause-left : goal.returns-clause-left
 returns-clause-left g c =
     let i = c.loop-left.invariant in
     delay_lefts _ _ _ i.count c.loop-left.left c.args.micros c.single-2.result (let b = c.loop-left-test.false in omega (arith, b)) i.some i.is i.on c.single-2.ensures.left
+
+pub returns-clause-packets : goal.returns-clause-packets
+returns-clause-packets g c =
+    let i = c.loop-left.invariant in
+    delays_few _ _ _ i.count c.loop-left.left c.args.micros c.single-2.result (let b = c.loop-left-test.false in omega (arith, b)) i.is i.on i.packets c.single-2.ensures.packets

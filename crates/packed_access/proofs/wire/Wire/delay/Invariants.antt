@@ -4,6 +4,7 @@ use Rattle.probe_core.specs.Bench.{StepsTo}
 use Rattle.probe_core.specs.Probe.{target_of}
 use Rattle.batch_packer.specs.Flying.{transfers_of}
 use Rattle.packed_access.specs.Flown.{BenchGoesOn}
+use Rattle.packed_access.specs.Sparing.{SendsFew}
 use Rattle.packed_access.specs.Wires.{HasDelayed}
 use Rattle.packed_access.proofs.wire.Wire.delay.Given as goal
 
@@ -15,6 +16,8 @@ invariant-loop-left g l = record {
   usable : l.self.flight.end ≡ None;
   empty : l.self.flight.accesses ≡ [];
   on : StepsTo (λ m o. IsInRange (target_of m.probe) → HasDelayed count (transfers_of m) (transfers_of o)) (g.B.Bench.state l.fn.self.bench) (g.B.Bench.state l.self.bench);
+  packets : StepsTo (λ m o. IsInRange (target_of m.probe) → SendsFew count m o) (g.B.Bench.state l.fn.self.bench) (g.B.Bench.state l.self.bench);
+  limits : l.self.flight.limits ≡ l.fn.self.flight.limits;
   goes : BenchGoesOn (g.B.Bench.reported l.fn.self.bench) (g.B.Bench.reported l.self.bench) (g.B.Bench.state l.fn.self.bench) (g.B.Bench.state l.self.bench);
   faults : (g.B.Bench.reported l.self.bench).faults ≡ (g.B.Bench.reported l.fn.self.bench).faults;
   identity : g.B.Bench.identity l.self.bench ≡ g.B.Bench.identity l.fn.self.bench;

@@ -7,6 +7,7 @@ use Rattle.batch_packer.specs.FlightStates.{FlightState}
 use Rattle.batch_packer.specs.declared.ends.FlightEnd.{FlightEnd}
 use Rattle.packed_access.proofs.FlightCause.{send_cause}
 use Rattle.packed_access.proofs.OnceLemmas.{cut_stopped, look, look_left, look_made, unnamed_cause, unnamed_left, unnamed_none, unnamed_response}
+use Rattle.packed_access.proofs.PacketLemmas.{look_few}
 use Rattle.packed_access.proofs.wire.Wire.look.Goals as goal
 
 pub returns-in-Ok-clause-done : goal.returns-in-Ok-clause-done
@@ -28,6 +29,8 @@ returns-in-Err g c =
     let broke : c.send.new.self.end ≡ Some c.in-Err.end = c.in-Err.ensures.answer in
     record {
       done = tt;
+      packets = tt;
+      limits = e.limits ∙ ap (λ (s : FlightState). s.limits) c.push.ensures.pushed;
       left = unnamed_left _ _ c.in-Err.end c.unnamed.result c.unnamed.ensures (look_left _ _ c.push.new.self.limits c.push.new.self.accesses c.send.new.self.end c.send.new.slots.values c.in-Err.end fits pushed broke (c.send.ensures.flown usable));
       none = unnamed_none c.in-Err.end c.unnamed.result c.unnamed.ensures;
       response = unnamed_response c.in-Err.end c.unnamed.result c.unnamed.ensures (cut_stopped _ c.push.new.self.limits.packet_size c.push.new.self.accesses (g.B.Bench.reported c.send.new.bench).last.replies c.send.new.self.end c.in-Err.end c.send.new.slots.values broke (e.read usable));
@@ -49,3 +52,8 @@ returns-in-Err g c =
       goes = search rules;
       identity = e.identity;
     }
+
+pub returns-in-Ok-clause-packets : goal.returns-in-Ok-clause-packets
+returns-in-Ok-clause-packets g c =
+    let usable : c.push.new.self.end ≡ None = ap (λ (s : FlightState). s.end) c.push.ensures.pushed ∙ c.requires.usable in
+    look_few _ _ c.push.new.self.limits c.push.new.self.accesses c.send.new.self.end c.send.new.slots.values c.in-Ok.ensures.answer (c.send.ensures.flown usable)

@@ -2,6 +2,7 @@ use Rattle.std.proofs.Common.{arith}
 use Rattle.batch_packer.proofs.PollLemmas.{IsPoll}
 use Rattle.packed_access.proofs.LookLemmas.{portion_lefts, portion_made}
 use Rattle.packed_access.proofs.PollCause.{poll_cause, poll_none}
+use Rattle.packed_access.proofs.PacketLemmas.{portion_few}
 use Rattle.packed_access.proofs.wire.Wire.portion.Goals as goal
 
 pub returns-clause-done : goal.returns-clause-done
@@ -25,3 +26,6 @@ returns-clause-cause g c =
     poll_cause c.args.config c.args.ask c.poll.result (g.B.Bench.reported c.args.self.now.bench) (g.B.Bench.reported c.poll.new.bench) c.poll.new.self is c.poll.ensures.answer
     (record { cause = c.poll.ensures.cause u; exchanges = c.poll.ensures.exchanges u; packets_are = c.poll.ensures.packets u; replies_are = c.poll.ensures.replies u; at = c.poll.ensures.at u })
     (c.poll.ensures.read u) (c.poll.ensures.packet u) (c.poll.ensures.replied u)
+
+pub returns-clause-packets : goal.returns-clause-packets
+returns-clause-packets g c = portion_few _ _ c.args.config c.args.ask c.poll.result (c.poll.ensures.polled c.requires.usable)

@@ -3,6 +3,7 @@ use Rattle.dap_messages.specs.Commands.{IsCommand}
 use Rattle.dap_messages.specs.declared.command_value.CommandValue.{CommandValue}
 use Rattle.batch_packer.specs.Commands.{is_single}
 use Rattle.packed_access.proofs.WireLemmas.{one_single, single_left, single_made}
+use Rattle.packed_access.proofs.PacketLemmas.{single_few}
 use Rattle.packed_access.proofs.wire.Wire.single.Goals as goal
 
 pub exchange-requires-clause-command : goal.exchange-requires-clause-command
@@ -16,3 +17,6 @@ returns-clause-done g c = single_made _ _ c.args.call _ c.exchange.result c.comm
 
 pub returns-clause-left : goal.returns-clause-left
 returns-clause-left g c = single_left _ _ c.args.call _ c.exchange.result c.command_of.ensures.value c.requires.one c.command_of.ensures.command c.exchange.ensures.done
+
+pub returns-clause-packets : goal.returns-clause-packets
+returns-clause-packets g c = single_few _ _ _ c.exchange.result c.exchange.ensures.done

@@ -1,9 +1,10 @@
-use Rattle.std.proofs.Common.{◌≡◌, ℕ, ◌+◌, [], None}
+use Rattle.std.proofs.Common.{◌≡◌, ℕ, ◌+◌, ◌*◌, ◌/◌, ◌<◌, [], None}
 use Rattle.target_machine.specs.Attempt.{bank}
 use Rattle.probe_core.specs.Bench.{StepsTo}
 use Rattle.probe_core.specs.Probe.{target_of}
 use Rattle.batch_packer.specs.Flying.{CanFly}
 use Rattle.packed_access.specs.Flown.{BenchGoesOn}
+use Rattle.packed_access.specs.Sparing.{SendsFew}
 use Rattle.packed_access.specs.Wires.{HasLooked}
 use Rattle.packed_access.proofs.wire.WireFlights.poll.Given as goal
 
@@ -14,6 +15,11 @@ invariant-loop-left g l = record {
   usable : l.self.flight.end ≡ None;
   empty : l.self.flight.accesses ≡ [];
   on : StepsTo (λ m o. CanFly m → bank (target_of m.probe) ≡ 0 → HasLooked l.mask l.requested made 0 m o) (g.B.Bench.state l.fn.self.bench) (g.B.Bench.state l.self.bench);
+  count : ℕ;
+  count_is : count ≡ (made + 65535) / 65536;
+  full : 0 < l.left → made ≡ 65536 * count;
+  packets : StepsTo (λ m o. CanFly m → bank (target_of m.probe) ≡ 0 → SendsFew count m o) (g.B.Bench.state l.fn.self.bench) (g.B.Bench.state l.self.bench);
+  limits : l.self.flight.limits ≡ l.fn.self.flight.limits;
   goes : BenchGoesOn (g.B.Bench.reported l.fn.self.bench) (g.B.Bench.reported l.self.bench) (g.B.Bench.state l.fn.self.bench) (g.B.Bench.state l.self.bench);
   faults : (g.B.Bench.reported l.self.bench).faults ≡ (g.B.Bench.reported l.fn.self.bench).faults;
   identity : g.B.Bench.identity l.self.bench ≡ g.B.Bench.identity l.fn.self.bench;

@@ -1,6 +1,7 @@
 use Rattle.packed_access.proofs.FlightCause.{send_cause}
 use Rattle.packed_access.proofs.FormLemmas.{clears_after, resumes}
 use Rattle.packed_access.proofs.SendLemmas.{room_after, send_broke, send_came, small_words}
+use Rattle.packed_access.proofs.SparingLemmas.{cuts_few}
 use Rattle.packed_access.proofs.wire.WireFlights.send.Goals as goal
 
 pub returns-clause-came : goal.returns-clause-came
@@ -38,3 +39,6 @@ returns-clause-resumable g c =
 pub returns-clause-clear : goal.returns-clause-clear
 returns-clause-clear g c =
     clears_after _ _ c.args.self.now.flight.limits c.args.self.now.flight.accesses c.send.new.slots.values c.send.new.self.end c.send.result c.args.self.now.limits c.send.ensures.answer (c.send.ensures.flown c.requires.usable)
+
+pub returns-clause-packets : goal.returns-clause-packets
+returns-clause-packets g c = cuts_few _ _ c.args.self.now.flight.limits c.args.self.now.flight.accesses c.send.new.slots.values c.send.new.self.end c.send.result c.send.ensures.answer (c.send.ensures.flown c.requires.usable)

@@ -1,0 +1,50 @@
+-- Flights that were sent because there was no room, by how many writes of DRW they have.
+use Rattle.std.specs.Prelude.{◌≡◌, ℕ, ◌+◌, ◌-◌, ◌*◌, ◌/◌, ◌≤◌, Bool, true, false, not, List, [], ◌∷◌, ◌++◌, length, take, sum_by}
+use Rattle.target_machine.specs.declared.access.RegAccess.{RegAccess}
+use Rattle.probe_core.specs.declared.job.Limits.{Limits}
+use Rattle.call_terms.specs.Journal.{Entry, one_if}
+use Rattle.access_calls.specs.Bounds.{block_words, capacity}
+use Rattle.flight_forms.specs.Forms.{all_write_drw}
+use Rattle.calls_in_flight.specs.Packets.{drw_writes_in, is_drw_write}
+
+-- how many accesses one Transfer holds at least
+abbrev pub transfer_accesses : Limits → ℕ
+transfer_accesses limits = (limits.packet_size - 3) / 6
+
+-- A flight for which there is no room for this access more: it has the capacity of accesses, at least as many as one Transfer holds, and a
+-- block of them where all are writes of DRW.
+pub record IsFull (limits : Limits) (accesses : List RegAccess) (next : RegAccess) : Type 0 where
+  pub many : capacity limits ≤ length accesses
+  pub wide : transfer_accesses limits ≤ length accesses
+  pub words : all_write_drw (accesses ++ next ∷ []) ≡ true → block_words limits ≤ length accesses
+
+-- how many of these entries are something else than writes of DRW
+abbrev pub others_in : List Entry → ℕ
+others_in entries = sum_by (λ (e : Entry). one_if (not (is_drw_write e.action))) entries
+
+-- one where the two are not the same
+abbrev pub differs : Bool → Bool → ℕ
+differs true b = one_if (not b)
+differs false b = one_if b
+
+-- how often a write of DRW follows something else, or something else a write of DRW, where one of these came before
+abbrev pub changes_after : Bool → List Entry → ℕ
+changes_after before [] = 0
+changes_after before (e ∷ entries) = differs before (is_drw_write e.action) + changes_after (is_drw_write e.action) entries
+
+-- how often it is so from the first write of DRW on
+abbrev pub changes_in : List Entry → ℕ
+changes_in entries = changes_after false entries
+
+-- Of so many flights that were sent because there was no room, whose accesses are among the first, confirmed entries: some have a block of
+-- writes of DRW; in others, or where the next entry follows them, writes of DRW and something else follow each other; and the rest have the
+-- capacity of accesses that are no such writes. Those without a block have as many accesses as one Transfer holds.
+pub record AreBlocks (full : ℕ) (limits : Limits) (entries : List Entry) (confirmed : ℕ) : Type 0 where
+  pub blocks : ℕ
+  pub mixed : ℕ
+  pub bare : ℕ
+  pub all : full ≤ blocks + mixed + bare
+  pub written : blocks * block_words limits ≤ drw_writes_in (take confirmed entries)
+  pub changing : mixed ≤ changes_in (take (confirmed + 1) entries)
+  pub others : bare * capacity limits ≤ others_in (take confirmed entries)
+  pub sizes : blocks * block_words limits + (mixed + bare) * transfer_accesses limits ≤ drw_writes_in (take confirmed entries) + others_in (take confirmed entries)
