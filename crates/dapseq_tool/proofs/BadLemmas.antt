@@ -1,14 +1,11 @@
 -- What is known of a bad reply.
 use Rattle.std.proofs.Common.{◌≡◌, ◌∙◌, ◌⊎◌, inl, inr, ℕ, List, Option, None, Some, refl, sym, ap, subst}
 use Rattle.std.specs.Prelude.{IsSome}
-use Rattle.target_machine.specs.State.{TargetState}
-use Rattle.call_terms.specs.Journal.{Entry}
-use Rattle.call_terms.specs.declared.calls.Ask.{Ask}
 use Rattle.probe_core.specs.Bench.{BenchState}
 use Rattle.access_calls.specs.declared.ended.Ending.{Ending}
 use Rattle.access_calls.specs.declared.ended.Ending.TheVariants as e
 use Rattle.bench_access.specs.Opening.{HasBadReply}
-use Rattle.job_runs.specs.Runs.{ComesTo, IsUnopened, LeavesAs, not_opened, opened}
+use Rattle.job_runs.specs.Runs.{AccessKind, ComesTo, IsUnopened, LeavesAs, not_opened, opened}
 use Rattle.dapseq_tool.specs.Answers.{answer_status, answer_text, fault_text, head_text, run_status}
 use Rattle.dapseq_tool.specs.Headline.{After, Call, Does, DoesWhat, FailsWriting, HasRun, IsRunTo, IsWritten, RunEnd, Runs, after_of, does, no_memory, not_headed, not_loaded, ran, unread}
 use Rattle.dapseq_tool.specs.Success.{HasGotBadReply, left_by, run_from}
@@ -49,36 +46,36 @@ run_ending ending end is (inl h) = bad_ending ending (sym h ∙ is)
 run_ending ending end is (inr h) = absurd (not_failing end is h)
 
 -- an observable bench gives no bad reply
-comes_well : (journal : TargetState → List Ask → List Entry) (run : Run) (before : Option (List ℕ)) (r : RunEnd) (a : After) (n : BenchState) → r.ended.ending ≡ e.ReplyBad
-    → IsRunTo journal run before r a n → ⊥
-comes_well journal run before r a n is h = elim h.comes [
+comes_well : (access : AccessKind) (run : Run) (before : Option (List ℕ)) (r : RunEnd) (a : After) (n : BenchState) → r.ended.ending ≡ e.ReplyBad
+    → IsRunTo access run before r a n → ⊥
+comes_well access run before r a n is h = elim h.comes [
   | not_opened o ↦ subst IsUnopened is o.ending
-  | opened first op leaves ↦ subst (λ (x : Ending). LeavesAs x (run_from journal run first before) (left_by before r n)) is leaves
+  | opened first op leaves ↦ subst (λ (x : Ending). LeavesAs x (run_from access run first before) (left_by before r n)) is leaves
 ]
 
 -- what is known of it by a run that ended so
-by_run : (journal : TargetState → List Ask → List Entry) (call : Call) (run : Run) (before : Option (List ℕ)) (r : RunEnd) → call.end ≡ status.ReplyBad
-    → HasRun journal run (IsSome call.old.state) call.old.reported before r (after_of call.new call.end) → HasGotBadReply call
-by_run journal call run before r is h =
+by_run : (access : AccessKind) (call : Call) (run : Run) (before : Option (List ℕ)) (r : RunEnd) → call.end ≡ status.ReplyBad
+    → HasRun access run (IsSome call.old.state) call.old.reported before r (after_of call.new call.end) → HasGotBadReply call
+by_run access call run before r is h =
     let bad = run_ending r.ended.ending call.end is h.status in
-    record { sent = r.sent; got = r.got; bad = h.bad bad; unseen = λ some. comes_well journal run before r (after_of call.new call.end) _ bad (h.comes some).1 }
+    record { sent = r.sent; got = r.got; bad = h.bad bad; unseen = λ some. comes_well access run before r (after_of call.new call.end) _ bad (h.comes some).1 }
 
-run_bad : (journal : TargetState → List Ask → List Entry) (call : Call) (unchanged : Type 0) (number : Option ℕ) (run : Run) → call.end ≡ status.ReplyBad
-    → Runs journal call unchanged number run → HasGotBadReply call
-run_bad journal call unchanged number run is h = elim h [
+run_bad : (access : AccessKind) (call : Call) (unchanged : Type 0) (number : Option ℕ) (run : Run) → call.end ≡ status.ReplyBad
+    → Runs access call unchanged number run → HasGotBadReply call
+run_bad access call unchanged number run is h = elim h [
   | not_headed fails part same ↦ absurd (not_failing call.end is fails)
   | not_loaded end head state ↦ absurd (by_end end)
-  | ran before r head has ↦ by_run journal call run before r is has
+  | ran before r head has ↦ by_run access call run before r is has
 ]
   where
     by_end : (call.end ≡ status.BenchFault) ⊎ (call.end ≡ status.OutOfMemory) → ⊥
     by_end (inl fault) = not_failing call.end is (subst FailsWriting (sym fault) tt)
     by_end (inr fault) = not_failing call.end is (subst FailsWriting (sym fault) tt)
 
-what_bad : (journal : TargetState → List Ask → List Entry) (call : Call) (unchanged : Type 0) (number : Option ℕ) (what : What) → call.end ≡ status.ReplyBad
-    → DoesWhat journal call unchanged number what → HasGotBadReply call
-what_bad journal call unchanged number (whats.Answer answer) is h = absurd (written_well call.old.written call.new.written _ (answer_status answer) call.end (answers_well answer) h.text is)
-what_bad journal call unchanged number (whats.Run run) is h = run_bad journal call unchanged number run is h
+what_bad : (access : AccessKind) (call : Call) (unchanged : Type 0) (number : Option ℕ) (what : What) → call.end ≡ status.ReplyBad
+    → DoesWhat access call unchanged number what → HasGotBadReply call
+what_bad access call unchanged number (whats.Answer answer) is h = absurd (written_well call.old.written call.new.written _ (answer_status answer) call.end (answers_well answer) h.text is)
+what_bad access call unchanged number (whats.Run run) is h = run_bad access call unchanged number run is h
 
 fault_well : status.ReadFault ≡ status.ReplyBad → ⊥
 fault_well e = cc e
@@ -86,9 +83,9 @@ fault_well e = cc e
 memory_well : (end : Status) → end ≡ status.OutOfMemory → end ≡ status.ReplyBad → ⊥
 memory_well end one two = let z : status.OutOfMemory ≡ status.ReplyBad = sym one ∙ two in cc
 
-pub bad_reply : (journal : TargetState → List Ask → List Entry) (call : Call) (unchanged : Type 0) → Does journal call unchanged → call.end ≡ status.ReplyBad → HasGotBadReply call
-bad_reply journal call unchanged d is = elim d [
-  | does bytes asked are asks done ↦ what_bad journal call unchanged asked.number asked.what is done
+pub bad_reply : (access : AccessKind) (call : Call) (unchanged : Type 0) → Does access call unchanged → call.end ≡ status.ReplyBad → HasGotBadReply call
+bad_reply access call unchanged d is = elim d [
+  | does bytes asked are asks done ↦ what_bad access call unchanged asked.number asked.what is done
   | unread rose text same ↦ absurd (written_well call.old.written call.new.written fault_text status.ReadFault call.end fault_well text is)
   | no_memory memory text same ↦ absurd (memory_well call.end memory is)
 ]

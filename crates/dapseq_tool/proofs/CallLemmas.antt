@@ -4,9 +4,6 @@ use Rattle.std.specs.Io.KnownBytes.{Appends}
 use Rattle.std.proofs.KnownBytes.{Appends-nil}
 use Rattle.dap_base.specs.Causes.{Rose}
 use Rattle.dap_base.specs.Streams.{AppendsPrefix, PutAppends}
-use Rattle.target_machine.specs.State.{TargetState}
-use Rattle.call_terms.specs.Journal.{Entry}
-use Rattle.call_terms.specs.declared.calls.Ask.{Ask}
 use Rattle.probe_core.specs.Bench.{Seen}
 use Rattle.text_lines.proofs.PutLemmas.{no_part, prefix_first, put_after}
 use Rattle.text_lines.specs.Causes.{NamesFault}
@@ -25,9 +22,7 @@ use Rattle.dapseq_tool.specs.declared.asking.What.{What}
 use Rattle.dapseq_tool.specs.declared.asking.What.TheVariants as whats
 use Rattle.dapseq_tool.specs.declared.status.Status.{Status}
 use Rattle.dapseq_tool.specs.declared.status.Status.TheVariants as status
-
-abbrev J : Type 0
-J = TargetState → List Ask → List Entry
+use Rattle.job_runs.specs.Runs.{AccessKind}
 
 -- ---- texts
 
@@ -49,30 +44,30 @@ then_written old mid new first second own end put (inr h) = inr (h.0, put_after 
 -- ---- what is asked for
 
 -- after the first line
-pub what_is_done : (journal : J) (call : Call) (unchanged : Type 0) (number : Option ℕ) (what : What) (old : Seen) (mid : Option (List ℕ))
+pub what_is_done : (access : AccessKind) (call : Call) (unchanged : Type 0) (number : Option ℕ) (what : What) (old : Seen) (mid : Option (List ℕ))
     → old ≡ record { reported = call.old.reported; state = call.old.state } → Appends call.old.written mid (head_text number)
-    → DoesAfter journal what old unchanged mid (after_of call.new call.end) → DoesWhat journal call unchanged number what
-what_is_done journal call unchanged number (whats.Answer answer) old mid is head h =
+    → DoesAfter access what old unchanged mid (after_of call.new call.end) → DoesWhat access call unchanged number what
+what_is_done access call unchanged number (whats.Answer answer) old mid is head h =
     record { text = then_written call.old.written mid call.new.written (head_text number) (answer_text answer) (answer_status answer) call.end head h.0; bench = h.1 }
-what_is_done journal call unchanged number (whats.Run run) old mid is head h =
-    by_run (subst (λ (o : Seen). AskedRun journal run o mid (after_of call.new call.end)) is h)
+what_is_done access call unchanged number (whats.Run run) old mid is head h =
+    by_run (subst (λ (o : Seen). AskedRun access run o mid (after_of call.new call.end)) is h)
   where
-    by_run : AskedRun journal run (record { reported = call.old.reported; state = call.old.state }) mid (after_of call.new call.end) → Runs journal call unchanged number run
+    by_run : AskedRun access run (record { reported = call.old.reported; state = call.old.state }) mid (after_of call.new call.end) → Runs access call unchanged number run
     by_run x = elim x [
       | after.not_loaded end same state ↦ not_loaded end (subst (λ (w : Option (List ℕ)). Appends call.old.written w (head_text number)) (sym same) head) state
       | after.ran r has ↦ ran mid r head has
     ]
 
 -- where the first line is not written whole
-pub what_is_begun : (journal : J) (call : Call) (unchanged : Type 0) (number : Option ℕ) (what : What) → FailsWriting call.end
-    → AppendsPrefix call.old.written call.new.written (head_text number) → unchanged → DoesWhat journal call unchanged number what
-what_is_begun journal call unchanged number (whats.Answer answer) fails part same =
+pub what_is_begun : (access : AccessKind) (call : Call) (unchanged : Type 0) (number : Option ℕ) (what : What) → FailsWriting call.end
+    → AppendsPrefix call.old.written call.new.written (head_text number) → unchanged → DoesWhat access call unchanged number what
+what_is_begun access call unchanged number (whats.Answer answer) fails part same =
     record { text = inr (fails, prefix_first call.old.written call.new.written (head_text number) (answer_text answer) part); bench = same }
-what_is_begun journal call unchanged number (whats.Run run) fails part same = not_headed fails part same
+what_is_begun access call unchanged number (whats.Run run) fails part same = not_headed fails part same
 
-pub is_done : (journal : J) (call : Call) (unchanged : Type 0) (asked : Asked) → ((bytes : List ℕ) × AreBytesOf call.old.left bytes × Asks call.words bytes asked)
-    → DoesWhat journal call unchanged asked.number asked.what → Does journal call unchanged
-is_done journal call unchanged asked known done = does known.0 asked known.1 known.2 done
+pub is_done : (access : AccessKind) (call : Call) (unchanged : Type 0) (asked : Asked) → ((bytes : List ℕ) × AreBytesOf call.old.left bytes × Asks call.words bytes asked)
+    → DoesWhat access call unchanged asked.number asked.what → Does access call unchanged
+is_done access call unchanged asked known done = does known.0 asked known.1 known.2 done
 
 -- ---- the usage
 

@@ -1,26 +1,24 @@
 -- What a call does is so of a lent bench.
 use Rattle.std.proofs.Common.{◌≡◌, ℕ, List, Option}
-use Rattle.target_machine.specs.State.{TargetState}
-use Rattle.call_terms.specs.Journal.{Entry}
-use Rattle.call_terms.specs.declared.calls.Ask.{Ask}
 use Rattle.dapseq_tool.specs.Headline.{Call, Does, DoesWhat, Runs, does, no_memory, not_headed, not_loaded, ran, unread}
 use Rattle.dapseq_tool.specs.declared.asking.Run.{Run}
 use Rattle.dapseq_tool.specs.declared.asking.What.{What}
 use Rattle.dapseq_tool.specs.declared.asking.What.TheVariants as whats
+use Rattle.job_runs.specs.Runs.{AccessKind}
 
-module _ (journal : TargetState → List Ask → List Entry) (call : Call) (u v : Type 0) (so : u → v) where
-  runs_so : (number : Option ℕ) (run : Run) → Runs journal call u number run → Runs journal call v number run
+module _ (access : AccessKind) (call : Call) (u v : Type 0) (so : u → v) where
+  runs_so : (number : Option ℕ) (run : Run) → Runs access call u number run → Runs access call v number run
   runs_so number run h = elim h [
     | not_headed fails part same ↦ not_headed fails part (so same)
     | not_loaded end head state ↦ not_loaded end head state
     | ran before r head has ↦ ran before r head has
   ]
 
-  what_so : (number : Option ℕ) (what : What) → DoesWhat journal call u number what → DoesWhat journal call v number what
+  what_so : (number : Option ℕ) (what : What) → DoesWhat access call u number what → DoesWhat access call v number what
   what_so number (whats.Answer answer) h = record { text = h.text; bench = so h.bench }
   what_so number (whats.Run run) h = runs_so number run h
 
-  pub does_so : Does journal call u → Does journal call v
+  pub does_so : Does access call u → Does access call v
   does_so d = elim d [
     | does bytes asked are asks done ↦ does bytes asked are asks (what_so asked.number asked.what done)
     | unread rose text same ↦ unread rose text (so same)

@@ -1,9 +1,6 @@
 -- Objects in memory: their counts of faults stay.
 use Rattle.std.proofs.Common.{◌≡◌, ◌≢◌, ◌⊎◌, inl, inr, ◌∙◌, ℕ, ◌+◌, ◌-◌, ◌^◌, ◌<◌, ◌≤◌, List, Option, Some, ap, subst, refl, sym, arith}
 use Rattle.dap_base.specs.Causes.{IsQuiet, Rose}
-use Rattle.target_machine.specs.State.{TargetState}
-use Rattle.call_terms.specs.Journal.{Entry}
-use Rattle.call_terms.specs.declared.calls.Ask.{Ask}
 use Rattle.dapseq_tool.specs.Asked.{Asks}
 use Rattle.dapseq_tool.specs.Headline.{AreBytesOf, Call}
 use Rattle.dapseq_tool.specs.InMemory.{IsCallInMemory}
@@ -12,6 +9,7 @@ use Rattle.dapseq_tool.specs.declared.asking.Asked.{Asked}
 use Rattle.dapseq_tool.specs.declared.memory.InMemory.{InMemory}
 use Rattle.dapseq_tool.specs.declared.status.Status.{Status}
 use Rattle.dapseq_tool.specs.declared.status.Status.TheVariants as status
+use Rattle.job_runs.specs.Runs.{AccessKind}
 
 pub quiet_zero : (before now : ℕ) → before ≡ 0 → now ≡ before → IsQuiet before now
 quiet_zero before now zero same = record { same = same; below = omega (arith, zero, same) }
@@ -21,9 +19,9 @@ quiet_sink before now end zero (inl same) none = quiet_zero before now zero same
 quiet_sink before now end zero (inr fault) none = absurd (none fault)
 
 -- what was asked for of these bytes was done
-pub done_in_memory : (journal : TargetState → List Ask → List Entry) (words : List (List ℕ)) (bytes : List ℕ) (end : InMemory) (call : Call) → IsCallInMemory words bytes end call →
-    (found : List ℕ) (asked : Asked) → AreBytesOf call.old.left found → Asks call.words found asked → IsDone journal call asked.number asked.what →
-    (call : Call) × IsCallInMemory words bytes end call × (asked : Asked) × Asks words bytes asked × IsDone journal call asked.number asked.what
-done_in_memory journal words bytes end call is found asked of asks done =
+pub done_in_memory : (access : AccessKind) (words : List (List ℕ)) (bytes : List ℕ) (end : InMemory) (call : Call) → IsCallInMemory words bytes end call →
+    (found : List ℕ) (asked : Asked) → AreBytesOf call.old.left found → Asks call.words found asked → IsDone access call asked.number asked.what →
+    (call : Call) × IsCallInMemory words bytes end call × (asked : Asked) × Asks words bytes asked × IsDone access call asked.number asked.what
+done_in_memory access words bytes end call is found asked of asks done =
     let same : found ≡ bytes = subst (λ (left : Option (List ℕ)). AreBytesOf left found) is.bytes_are of in
     (call, is, asked, subst (λ (ws : List (List ℕ)). Asks ws bytes asked) is.words_are (subst (λ (bs : List ℕ). Asks call.words bs asked) same asks), done)

@@ -4,14 +4,11 @@ use Rattle.std.specs.Prelude.{IsSome}
 use Rattle.std.specs.Io.KnownBytes.{Appends}
 use Rattle.dap_base.specs.Causes.{IsQuiet, Rose}
 use Rattle.dap_base.specs.Streams.{AppendsPrefix}
-use Rattle.target_machine.specs.State.{TargetState}
-use Rattle.call_terms.specs.Journal.{Entry}
-use Rattle.call_terms.specs.declared.calls.Ask.{Ask}
 use Rattle.probe_core.specs.Bench.{BenchState}
 use Rattle.access_calls.specs.declared.ended.Ending.{Ending}
 use Rattle.access_calls.specs.declared.ended.Ending.TheVariants as e
 use Rattle.job_runs.specs.Meant.{FailedOutside}
-use Rattle.job_runs.specs.Runs.{IsNotOpened, IsUnopened, not_opened, opened}
+use Rattle.job_runs.specs.Runs.{AccessKind, IsNotOpened, IsUnopened, not_opened, opened}
 use Rattle.job_runs.proofs.MeantLemmas.{ends_as_meant}
 use Rattle.dapseq_tool.specs.Answers.{answer_status, answer_text, head_text, run_status}
 use Rattle.dapseq_tool.specs.Headline.{After, Answers, Call, Does, DoesWhat, FailsWriting, HasRun, IsRunTo, IsWritten, RunEnd, Runs, after_of, does, no_memory, not_headed, not_loaded, ran, unread}
@@ -68,13 +65,13 @@ unopened_outside e.ReplyBad h = absurd h
 unopened_outside e.WriteFault h = absurd h
 unopened_outside e.OutOfMemory h = tt
 
-module _ (journal : TargetState → List Ask → List Entry) (call : Call) (number : Option ℕ) (run : Run) (none : FailsWriting call.end → ⊥) where
+module _ (access : AccessKind) (call : Call) (number : Option ℕ) (run : Run) (none : FailsWriting call.end → ⊥) where
   -- nothing outside failed where the status says no such fault
   not_outside : (ending : Ending) → call.end ≡ run_status ending → FailedOutside ending → ⊥
   not_outside ending is h = none (subst FailsWriting (sym is) (outside_fails ending h))
 
   as_meant : (before : Option (List ℕ)) (r : RunEnd) (n : BenchState) → Appends call.old.written before (head_text number)
-      → IsRunTo journal run before r (after_of call.new call.end) n → HasRunAsMeant journal call number run
+      → IsRunTo access run before r (after_of call.new call.end) n → HasRunAsMeant access call number run
   as_meant before r n head h =
       let put = whole r.written call.new.written _ (run_status r.ended.ending) call.end none h.text in
       elim h.comes [
@@ -87,13 +84,13 @@ module _ (journal : TargetState → List Ask → List Entry) (call : Call) (numb
           r = r;
           last = n;
           state = h.state;
-          meant = ends_as_meant r.ended.ending (run_from journal run first before) (left_by before r n) refl leaves (not_outside r.ended.ending put.0);
+          meant = ends_as_meant r.ended.ending (run_from access run first before) (left_by before r n) refl leaves (not_outside r.ended.ending put.0);
           text = put.1;
           status = put.0;
         }
       ]
 
-  run_done : (unchanged : Type 0) → IsSome call.old.state → Runs journal call unchanged number run → HasRunAsMeant journal call number run
+  run_done : (unchanged : Type 0) → IsSome call.old.state → Runs access call unchanged number run → HasRunAsMeant access call number run
   run_done unchanged some h = elim h [
     | not_headed fails part same ↦ absurd (none fails)
     | not_loaded end head state ↦ absurd (by_end end)
@@ -104,16 +101,16 @@ module _ (journal : TargetState → List Ask → List Entry) (call : Call) (numb
       by_end (inl is) = none (subst FailsWriting (sym is) tt)
       by_end (inr is) = none (subst FailsWriting (sym is) tt)
 
-what_done : (journal : TargetState → List Ask → List Entry) (call : Call) (unchanged : Type 0) (number : Option ℕ) (what : What) → (FailsWriting call.end → ⊥) → IsSome call.old.state
-    → DoesWhat journal call unchanged number what → IsDone journal call number what
-what_done journal call unchanged number (whats.Answer answer) none some h =
+what_done : (access : AccessKind) (call : Call) (unchanged : Type 0) (number : Option ℕ) (what : What) → (FailsWriting call.end → ⊥) → IsSome call.old.state
+    → DoesWhat access call unchanged number what → IsDone access call number what
+what_done access call unchanged number (whats.Answer answer) none some h =
     let put = whole call.old.written call.new.written (head_text number ++ answer_text answer) (answer_status answer) call.end none h.text in
     record { text = put.1; status = put.0 }
-what_done journal call unchanged number (whats.Run run) none some h = run_done journal call number run none unchanged some h
+what_done access call unchanged number (whats.Run run) none some h = run_done access call number run none unchanged some h
 
-pub success : (journal : TargetState → List Ask → List Entry) (call : Call) (unchanged : Type 0) → Does journal call unchanged → HasCauses call → Success journal call
-success journal call unchanged d causes = λ quiet some. elim d [
-  | does bytes asked are asks done ↦ (bytes, asked, are, asks, what_done journal call unchanged asked.number asked.what (no_failure call quiet causes) some done)
+pub success : (access : AccessKind) (call : Call) (unchanged : Type 0) → Does access call unchanged → HasCauses call → Success access call
+success access call unchanged d causes = λ quiet some. elim d [
+  | does bytes asked are asks done ↦ (bytes, asked, are, asks, what_done access call unchanged asked.number asked.what (no_failure call quiet causes) some done)
   | unread rose text same ↦ absurd (not_rose call.old.source_faults call.new.source_faults quiet.source rose)
   | no_memory is text same ↦ absurd (quiet.memory is)
 ]

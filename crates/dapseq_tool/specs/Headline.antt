@@ -3,9 +3,6 @@ use Rattle.std.specs.Prelude.{◌≡◌, ◌⊎◌, ℕ, Bool, false, List, drop
 use Rattle.std.specs.Io.KnownBytes.{Appends}
 use Rattle.dap_base.specs.Causes.{IsQuiet, Rose}
 use Rattle.dap_base.specs.Streams.{AppendsPrefix}
-use Rattle.target_machine.specs.State.{TargetState}
-use Rattle.call_terms.specs.Journal.{Entry}
-use Rattle.call_terms.specs.declared.calls.Ask.{Ask}
 use Rattle.probe_core.specs.Bench.{Reported, BenchState, Seen}
 use Rattle.probe_core.specs.Probe.{fresh_probe}
 use Rattle.probe_core.specs.Runs.{IsWholeRun}
@@ -13,7 +10,7 @@ use Rattle.access_calls.specs.declared.ended.Ended.{Ended}
 use Rattle.access_calls.specs.declared.ended.Ending.TheVariants as e
 use Rattle.report_lines.specs.Endings.{ending_lines, shows_target}
 use Rattle.bench_access.specs.Opening.{HasBadReply}
-use Rattle.job_runs.specs.Runs.{ComesTo, known_after, program_in}
+use Rattle.job_runs.specs.Runs.{AccessKind, ComesTo, known_after, program_in}
 use Rattle.job_runs.specs.Texts.{run_text}
 use Rattle.dapseq_tool.specs.Answers.{answer_status, answer_text, fault_text, head_text, run_status}
 use Rattle.dapseq_tool.specs.Asked.{Asks}
@@ -100,16 +97,16 @@ pub record After : Type 0 where
 
 -- What a run came to on an observable bench, and what was written after it: the report and the trace. A log that is kept whole is
 -- a run of the job's probe.
-pub record IsRunTo (journal : TargetState → List Ask → List Entry) (run : Run) (before : Option (List ℕ)) (r : RunEnd) (a : After) (n : BenchState) : Type 0 where
+pub record IsRunTo (access : AccessKind) (run : Run) (before : Option (List ℕ)) (r : RunEnd) (a : After) (n : BenchState) : Type 0 where
   pub state : a.bench.state ≡ Some n
-  pub comes : ComesTo journal run.valid.job.bench (program_in run.valid run.sequence) before (record { ended = r.ended; written = known_after before r.written; bench = n })
+  pub comes : ComesTo access run.valid.job.bench (program_in run.valid run.sequence) before (record { ended = r.ended; written = known_after before r.written; bench = n })
   pub text : IsWritten r.written a.written (run_text run.is_traced r.ended r.sent r.got run.valid.job n) (run_status r.ended.ending) a.end
   pub log : IsWholeRun (fresh_probe run.valid.job.bench) n
 
 -- A run that ended so, from a bench that reported this: what it came to where the bench is observable; its text where the report
 -- does not show the target; and its status. A bad reply is the one that is reported.
-pub record HasRun (journal : TargetState → List Ask → List Entry) (run : Run) (observable : Type 0) (old : Reported) (before : Option (List ℕ)) (r : RunEnd) (a : After) : Type 0 where
-  pub comes : observable → (n : BenchState) × IsRunTo journal run before r a n
+pub record HasRun (access : AccessKind) (run : Run) (observable : Type 0) (old : Reported) (before : Option (List ℕ)) (r : RunEnd) (a : After) : Type 0 where
+  pub comes : observable → (n : BenchState) × IsRunTo access run before r a n
   pub alone : shows_target r.ended.ending ≡ false → IsWritten r.written a.written (ending_lines r.ended.ending r.ended r.sent r.got) (run_status r.ended.ending) a.end
   pub status : (a.end ≡ run_status r.ended.ending) ⊎ FailsWriting a.end
   pub bad : r.ended.ending ≡ e.ReplyBad → HasBadReply old a.bench.reported r.sent r.got
@@ -119,25 +116,25 @@ abbrev pub after_of : Moment → Status → After
 after_of m end = record { written = m.written; end = end; bench = record { reported = m.reported; state = m.state } }
 
 -- What is done of a run: the head is not written whole; or the bench was not loaded, and is as it was; or it ran.
-pub data Runs (journal : TargetState → List Ask → List Entry) (call : Call) (unchanged : Type 0) (number : Option ℕ) (run : Run) : Type 0 where
-  not_headed : FailsWriting call.end → AppendsPrefix call.old.written call.new.written (head_text number) → unchanged → Runs journal call unchanged number run
+pub data Runs (access : AccessKind) (call : Call) (unchanged : Type 0) (number : Option ℕ) (run : Run) : Type 0 where
+  not_headed : FailsWriting call.end → AppendsPrefix call.old.written call.new.written (head_text number) → unchanged → Runs access call unchanged number run
   not_loaded : (call.end ≡ status.BenchFault) ⊎ (call.end ≡ status.OutOfMemory) → Appends call.old.written call.new.written (head_text number)
-      → call.new.state ≡ call.old.state → Runs journal call unchanged number run
+      → call.new.state ≡ call.old.state → Runs access call unchanged number run
   ran : (before : Option (List ℕ)) (r : RunEnd) → Appends call.old.written before (head_text number)
-      → HasRun journal run (IsSome call.old.state) call.old.reported before r (after_of call.new call.end) → Runs journal call unchanged number run
+      → HasRun access run (IsSome call.old.state) call.old.reported before r (after_of call.new call.end) → Runs access call unchanged number run
 
 -- ---- both
 
 -- what is done of what was asked for
-abbrev pub DoesWhat : (TargetState → List Ask → List Entry) → Call → Type 0 → Option ℕ → What → Type 0
-DoesWhat journal call unchanged number (whats.Answer answer) = Answers call unchanged number answer
-DoesWhat journal call unchanged number (whats.Run run) = Runs journal call unchanged number run
+abbrev pub DoesWhat : AccessKind → Call → Type 0 → Option ℕ → What → Type 0
+DoesWhat access call unchanged number (whats.Answer answer) = Answers call unchanged number answer
+DoesWhat access call unchanged number (whats.Run run) = Runs access call unchanged number run
 
 -- What a call does; `unchanged` says that the bench is the one that it was. There are bytes, those of the source where it is
 -- observable, of which the words ask for something, and it was done. Or the source failed, or memory was refused before it was
 -- known what is asked for.
-pub data Does (journal : TargetState → List Ask → List Entry) (call : Call) (unchanged : Type 0) : Type 0 where
+pub data Does (access : AccessKind) (call : Call) (unchanged : Type 0) : Type 0 where
   does : (bytes : List ℕ) (asked : Asked) → AreBytesOf call.old.left bytes → Asks call.words bytes asked
-      → DoesWhat journal call unchanged asked.number asked.what → Does journal call unchanged
-  unread : Rose call.old.source_faults call.new.source_faults → IsWritten call.old.written call.new.written fault_text status.ReadFault call.end → unchanged → Does journal call unchanged
-  no_memory : call.end ≡ status.OutOfMemory → call.new.written ≡ call.old.written → unchanged → Does journal call unchanged
+      → DoesWhat access call unchanged asked.number asked.what → Does access call unchanged
+  unread : Rose call.old.source_faults call.new.source_faults → IsWritten call.old.written call.new.written fault_text status.ReadFault call.end → unchanged → Does access call unchanged
+  no_memory : call.end ≡ status.OutOfMemory → call.new.written ≡ call.old.written → unchanged → Does access call unchanged

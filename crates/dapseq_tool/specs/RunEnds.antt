@@ -1,8 +1,5 @@
 -- What is done of a run that is asked for, from its load on.
 use Rattle.std.specs.Prelude.{◌≡◌, ◌⊎◌, ℕ, List, Option, IsSome}
-use Rattle.target_machine.specs.State.{TargetState}
-use Rattle.call_terms.specs.Journal.{Entry}
-use Rattle.call_terms.specs.declared.calls.Ask.{Ask}
 use Rattle.probe_core.specs.Bench.{Seen}
 use Rattle.dapseq_tool.specs.Answers.{answer_status, answer_text}
 use Rattle.dapseq_tool.specs.Headline.{After, HasRun, IsWritten, RunEnd}
@@ -10,13 +7,14 @@ use Rattle.dapseq_tool.specs.declared.asking.What.{What}
 use Rattle.dapseq_tool.specs.declared.asking.What.TheVariants as whats
 use Rattle.dapseq_tool.specs.declared.asking.Run.{Run}
 use Rattle.dapseq_tool.specs.declared.status.Status.TheVariants as status
+use Rattle.job_runs.specs.Runs.{AccessKind}
 
 -- The bench was not loaded, and nothing was written; or it ran.
-pub data AskedRun (journal : TargetState → List Ask → List Entry) (run : Run) (old : Seen) (before : Option (List ℕ)) (a : After) : Type 0 where
-  not_loaded : (a.end ≡ status.BenchFault) ⊎ (a.end ≡ status.OutOfMemory) → a.written ≡ before → a.bench.state ≡ old.state → AskedRun journal run old before a
-  ran : (r : RunEnd) → HasRun journal run (IsSome old.state) old.reported before r a → AskedRun journal run old before a
+pub data AskedRun (access : AccessKind) (run : Run) (old : Seen) (before : Option (List ℕ)) (a : After) : Type 0 where
+  not_loaded : (a.end ≡ status.BenchFault) ⊎ (a.end ≡ status.OutOfMemory) → a.written ≡ before → a.bench.state ≡ old.state → AskedRun access run old before a
+  ran : (r : RunEnd) → HasRun access run (IsSome old.state) old.reported before r a → AskedRun access run old before a
 
 -- What is done of what is asked for, after the first line: an answer is written, and the bench is the one that it was; or a run.
-abbrev pub DoesAfter : (TargetState → List Ask → List Entry) → What → Seen → Type 0 → Option (List ℕ) → After → Type 0
-DoesAfter journal (whats.Answer answer) old unchanged before a = IsWritten before a.written (answer_text answer) (answer_status answer) a.end × unchanged
-DoesAfter journal (whats.Run run) old unchanged before a = AskedRun journal run old before a
+abbrev pub DoesAfter : AccessKind → What → Seen → Type 0 → Option (List ℕ) → After → Type 0
+DoesAfter access (whats.Answer answer) old unchanged before a = IsWritten before a.written (answer_text answer) (answer_status answer) a.end × unchanged
+DoesAfter access (whats.Run run) old unchanged before a = AskedRun access run old before a

@@ -2,14 +2,11 @@
 use Rattle.std.specs.Prelude.{◌≡◌, ◌≢◌, ℕ, List, ◌++◌, Option, Some, IsSome}
 use Rattle.std.specs.Io.KnownBytes.{Appends}
 use Rattle.dap_base.specs.Causes.{IsQuiet, Rose}
-use Rattle.target_machine.specs.State.{TargetState}
-use Rattle.call_terms.specs.Journal.{Entry}
-use Rattle.call_terms.specs.declared.calls.Ask.{Ask}
 use Rattle.probe_core.specs.Bench.{BenchState}
 use Rattle.job_runs.specs.Meant.{EndsAsMeant}
 use Rattle.bench_access.specs.Opening.{HasBadReply, IsOpened}
 use Rattle.job_runs.specs.Runs as runs
-use Rattle.job_runs.specs.Runs.{Left, known_after, program_in}
+use Rattle.job_runs.specs.Runs.{AccessKind, Left, known_after, program_in}
 use Rattle.job_runs.specs.Texts.{run_text}
 use Rattle.dapseq_tool.specs.Answers.{answer_status, answer_text, head_text, run_status}
 use Rattle.dapseq_tool.specs.Asked.{Asks}
@@ -39,8 +36,8 @@ pub record IsAnswered (call : Call) (number : Option ℕ) (answer : Answer) : Ty
   pub status : call.end ≡ answer_status answer
 
 -- what is run, from where its access began
-abbrev pub run_from : (TargetState → List Ask → List Entry) → Run → BenchState → Option (List ℕ) → runs.Run
-run_from journal run first before = record { journal = journal; program = program_in run.valid run.sequence; first = first; before = before }
+abbrev pub run_from : AccessKind → Run → BenchState → Option (List ℕ) → runs.Run
+run_from access run first before = record { access = access; limits = run.valid.job.bench.limits; program = program_in run.valid run.sequence; first = first; before = before }
 
 -- what it left
 abbrev pub left_by : Option (List ℕ) → RunEnd → BenchState → Left
@@ -48,7 +45,7 @@ left_by before r n = record { ended = r.ended; written = known_after before r.wr
 
 -- The run ended as it is meant to, from the target of its job on; its report, and the trace where it is requested, was written
 -- whole after the head and the lines of the run; and the status is that of how it ended.
-pub record HasRunAsMeant (journal : TargetState → List Ask → List Entry) (call : Call) (number : Option ℕ) (run : Run) : Type 0 where
+pub record HasRunAsMeant (access : AccessKind) (call : Call) (number : Option ℕ) (run : Run) : Type 0 where
   pub before : Option (List ℕ)
   pub head : Appends call.old.written before (head_text number)
   pub first : BenchState
@@ -56,20 +53,20 @@ pub record HasRunAsMeant (journal : TargetState → List Ask → List Entry) (ca
   pub r : RunEnd
   pub last : BenchState
   pub state : call.new.state ≡ Some last
-  pub meant : EndsAsMeant (run_from journal run first before) (left_by before r last)
+  pub meant : EndsAsMeant (run_from access run first before) (left_by before r last)
   pub text : Appends r.written call.new.written (run_text run.is_traced r.ended r.sent r.got run.valid.job last)
   pub status : call.end ≡ run_status r.ended.ending
 
 -- what was asked for was done
-abbrev pub IsDone : (TargetState → List Ask → List Entry) → Call → Option ℕ → What → Type 0
-IsDone journal call number (whats.Answer answer) = IsAnswered call number answer
-IsDone journal call number (whats.Run run) = HasRunAsMeant journal call number run
+abbrev pub IsDone : AccessKind → Call → Option ℕ → What → Type 0
+IsDone access call number (whats.Answer answer) = IsAnswered call number answer
+IsDone access call number (whats.Run run) = HasRunAsMeant access call number run
 
 -- Where nothing outside failed and the bench is observable: there are bytes, those of the source where it is observable, of which
 -- the words ask for something, and that was done.
-abbrev pub Success : (TargetState → List Ask → List Entry) → Call → Type 0
-Success journal call = IsQuietCall call → IsSome call.old.state
-    → (bytes : List ℕ) × (asked : Asked) × AreBytesOf call.old.left bytes × Asks call.words bytes asked × IsDone journal call asked.number asked.what
+abbrev pub Success : AccessKind → Call → Type 0
+Success access call = IsQuietCall call → IsSome call.old.state
+    → (bytes : List ℕ) × (asked : Asked) × AreBytesOf call.old.left bytes × Asks call.words bytes asked × IsDone access call asked.number asked.what
 
 -- ---- a bad reply
 

@@ -8,6 +8,7 @@ ghost use Rattle.dapseq_tool.specs.Answers.{answer_status, answer_text, failed_s
 ghost use Rattle.dapseq_tool.specs.Asked.{IsReadLine, IsRunLine, IsSoundRun, IsUsage, OnRun};
 ghost use Rattle.dapseq_tool.specs.Headline.{moment, AreTaken, Does, FailsWriting, IsWritten};
 ghost use Rattle.dapseq_tool.specs.RunEnds.{AskedRun, DoesAfter};
+ghost use Rattle.job_runs.specs.Runs.{access_kind};
 
 use crate::answering::{status_of, write_answer, write_head};
 use crate::asking::{Answer, Unasked, What, ask};
@@ -58,7 +59,7 @@ fn perform<B: Bench, K: Sink, A: OverBench<B>>(
     sink: &mut K,
 ) -> Over<B>
     requires { OnRun what.now IsSoundRun }
-    ensures does { DoesAfter A.Access.journal what.now (seen B.reported B.state bench) (result.bench ≡ bench) (K.written sink.old)
+    ensures does { DoesAfter (access_kind A.Access.journal A.Access.cost A.Access.is_sparing) what.now (seen B.reported B.state bench) (result.bench ≡ bench) (K.written sink.old)
         (record { written = K.written sink.new; end = result.status; bench = seen B.reported B.state result.bench }) }
     ensures identity { B.identity result.bench ≡ B.identity bench }
     ensures write { result.status ≡ Status.WriteFault → Rose (K.faults sink.old) (K.faults sink.new) }
@@ -101,7 +102,7 @@ pub fn dapseq_over<S: Source, K: Sink, B: Bench, A: OverBench<B>>(
 ) -> Over<B>
     // What the words and the bytes ask for was done.
     ensures asked { let at = moment S.left S.faults K.written K.faults B.reported B.state in
-        Does A.Access.journal (record { words = words.now; old = at source.old sink.old bench; new = at source.new sink.new result.bench; end = result.status }) (result.bench ≡ bench) }
+        Does (access_kind A.Access.journal A.Access.cost A.Access.is_sparing) (record { words = words.now; old = at source.old sink.old bench; new = at source.new sink.new result.bench; end = result.status }) (result.bench ≡ bench) }
 
     // The words alone decide on the usage, and whether the source is read: to its end, or one byte too far.
     ensures usage { result.status ≡ Status.Usage → IsUsage words.now }

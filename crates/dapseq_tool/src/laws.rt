@@ -1,22 +1,20 @@
 //! Laws of calls, as the contracts of functions that do nothing.
 ghost use Rattle.std.specs.Prelude.{◌≡◌, ⊤, ℕ, List};
-ghost use Rattle.target_machine.specs.State.{TargetState};
-ghost use Rattle.call_terms.specs.Journal.{Entry};
-ghost use Rattle.call_terms.specs.declared.calls.Ask.{Ask};
 ghost use Rattle.dapseq_tool.specs.Asked.{Asks, IsSameWhat};
 ghost use Rattle.dapseq_tool.specs.declared.asking.Asked.{Asked};
 ghost use Rattle.dapseq_tool.specs.Headline.{Call, Does};
 ghost use Rattle.dapseq_tool.specs.declared.status.Status.TheVariants as Status;
 ghost use Rattle.dapseq_tool.specs.Success.{HasCauses, HasGotBadReply, Success};
+ghost use Rattle.job_runs.specs.Runs.{AccessKind};
 
 /// A call that nothing outside disturbed did what was asked for.
 pub fn quiet_calls_succeed()
-    ensures { (journal : TargetState → List Ask → List Entry) (call : Call) → Does journal call ⊤ → HasCauses call → Success journal call }
+    ensures { (access : AccessKind) (call : Call) → Does access call ⊤ → HasCauses call → Success access call }
 {}
 
 /// A call that ends with a bad reply received one, and its bench is not observable.
 pub fn bad_replies_are_received()
-    ensures { (journal : TargetState → List Ask → List Entry) (call : Call) → Does journal call ⊤ → call.end ≡ Status.ReplyBad → HasGotBadReply call }
+    ensures { (access : AccessKind) (call : Call) → Does access call ⊤ → call.end ≡ Status.ReplyBad → HasGotBadReply call }
 {}
 
 /// The words and the bytes of the source ask for one thing at most.

@@ -1,12 +1,12 @@
 //! A whole call in memory.
 ghost use Rattle.std.specs.Prelude.{◌≡◌, ◌≢◌, IfOk, MatchBool};
-ghost use Rattle.dapseq_tool.specs.Asked.{Asks};
-ghost use Rattle.access_regs.specs.Journal.{issued};
-ghost use Rattle.access_regs.specs.declared.planner.Planner.TheVariants.{Managed};
+ghost use Rattle.probe_core.specs.Memory.{IsBeforeLoad};
+ghost use Rattle.dapseq_tool.specs.Asked.{Asks, IsRunLine};
 ghost use Rattle.dapseq_tool.specs.Headline.{Call};
 ghost use Rattle.dapseq_tool.specs.InMemory.{IsCallInMemory};
 ghost use Rattle.dapseq_tool.specs.Success.{IsDone};
 ghost use Rattle.dapseq_tool.specs.declared.asking.Asked.{Asked};
+ghost use Rattle.dapseq_tool.specs.Packed.{packed};
 
 use crate::packed::dapseq;
 use crate::status::Status;
@@ -78,11 +78,17 @@ fn is_out_of_room(status: Status) -> bool
 }
 
 /// Calls [`dapseq`](crate::dapseq) with these words over these bytes, a sink in memory and a bench in
-/// memory that was not loaded. It does exactly what they ask for, to its end. `OutOfMemory` where memory is
-/// refused, or the text has no room in the 64 MiB of the sink.
+/// memory that was not loaded. It does exactly what they ask for, to its end. Where the words ask for no run, and
+/// where the job is refused, the bench is still one that was not loaded. `OutOfMemory` where memory is refused, or
+/// the text has no room in the 64 MiB of the sink.
 pub fn dapseq_in_memory(alloc: Global, words: &Words, bytes: &[u8]) -> Result<InMemory, OutOfMemory>
-    ensures { IfOk result (λ end. (call : Call) × IsCallInMemory words.now bytes.now end call
-        × (asked : Asked) × Asks words.now bytes.now asked × IsDone (issued Managed) call asked.number asked.what) }
+    // What the words and the bytes ask for was done.
+    ensures done { IfOk result (λ end. (call : Call) × IsCallInMemory words.now bytes.now end call
+        × (asked : Asked) × Asks words.now bytes.now asked × IsDone packed call asked.number asked.what) }
+
+    // A run alone loads the bench, and only where its job is not refused.
+    ensures unloaded { IfOk result (λ end. (IsRunLine words.now → ⊥) → IsBeforeLoad end.bench) }
+    ensures refused { IfOk result (λ end. end.status ≡ Status.Refused → IsBeforeLoad end.bench) }
 {
     let mut source = source_of(alloc, bytes)?;
     let mut sink = MemorySink::new(alloc, &[])?;

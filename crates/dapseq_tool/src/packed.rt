@@ -1,11 +1,10 @@
 //! The whole call over the access that packs, as the program makes it, and the same in memory.
 ghost use Rattle.std.specs.Prelude.{◌≡◌, ◌≢◌, ◌⊎◌};
 ghost use Rattle.dap_base.specs.Causes.{IsQuiet, Rose};
-ghost use Rattle.access_regs.specs.Journal.{issued};
-ghost use Rattle.access_regs.specs.declared.planner.Planner.TheVariants.{Managed};
 ghost use Rattle.dapseq_tool.specs.Asked.{IsReadLine, IsRunLine, IsUsage};
 ghost use Rattle.dapseq_tool.specs.Headline.{moment, AreTaken, Does, FailsWriting};
 ghost use Rattle.dapseq_tool.specs.Success.{HasGotBadReply, Success};
+ghost use Rattle.dapseq_tool.specs.Packed.{packed};
 
 use crate::call::dapseq_over;
 use crate::status::Status;
@@ -40,11 +39,11 @@ pub fn dapseq<S: Source, K: Sink, B: Bench>(
 ) -> Status
     // What the words and the bytes ask for was done.
     ensures asked { let at = moment S.left S.faults K.written K.faults B.reported B.state in
-        Does (issued Managed) (record { words = words.now; old = at source.old sink.old bench.old; new = at source.new sink.new bench.new; end = result }) (bench.new ≡ bench.old) }
+        Does packed (record { words = words.now; old = at source.old sink.old bench.old; new = at source.new sink.new bench.new; end = result }) (bench.new ≡ bench.old) }
 
     // Where nothing outside failed and the bench is observable, it was done whole.
     ensures success { let at = moment S.left S.faults K.written K.faults B.reported B.state in
-        Success (issued Managed) (record { words = words.now; old = at source.old sink.old bench.old; new = at source.new sink.new bench.new; end = result }) }
+        Success packed (record { words = words.now; old = at source.old sink.old bench.old; new = at source.new sink.new bench.new; end = result }) }
 
     // A bad reply is one that was received, and its bench is not observable.
     ensures bad_reply { let at = moment S.left S.faults K.written K.faults B.reported B.state in

@@ -7,6 +7,7 @@ ghost use Rattle.dapseq_tool.specs.Answers.{IsRunStatus, run_status, status_afte
 ghost use Rattle.dapseq_tool.specs.Asked.{IsSoundRun};
 ghost use Rattle.dapseq_tool.specs.Headline.{After, FailsWriting, HasRun, RunEnd};
 ghost use Rattle.dapseq_tool.specs.RunEnds.{AskedRun};
+ghost use Rattle.job_runs.specs.Runs.{access_kind};
 
 use crate::asking::Run;
 use crate::call::Over;
@@ -64,7 +65,7 @@ fn run_loaded<B: Bench, K: Sink, A: OverBench<B>>(
     requires sound { IsSoundRun run.now }
     requires idle { IsIdle (B.reported bench) }
     requires limits { run.now.valid.job.bench.limits ≡ (B.reported bench).limits }
-    ensures run { (r : RunEnd) × HasRun A.Access.journal run.now (B.state bench ≡ Some (fresh run.now.valid.job.bench)) (B.reported bench) (K.written sink.old) r
+    ensures run { (r : RunEnd) × HasRun (access_kind A.Access.journal A.Access.cost A.Access.is_sparing) run.now (B.state bench ≡ Some (fresh run.now.valid.job.bench)) (B.reported bench) (K.written sink.old) r
         (record { written = K.written sink.new; end = result.status; bench = seen B.reported B.state result.bench }) }
     ensures identity { B.identity result.bench ≡ B.identity bench }
     ensures write { result.status ≡ Status.WriteFault → Rose (K.faults sink.old) (K.faults sink.new) }
@@ -90,7 +91,7 @@ pub fn run_asked<B: Bench, K: Sink, A: OverBench<B>>(
     sink: &mut K,
 ) -> Over<B>
     requires { IsSoundRun run.now }
-    ensures run { AskedRun A.Access.journal run.now (seen B.reported B.state bench) (K.written sink.old)
+    ensures run { AskedRun (access_kind A.Access.journal A.Access.cost A.Access.is_sparing) run.now (seen B.reported B.state bench) (K.written sink.old)
         (record { written = K.written sink.new; end = result.status; bench = seen B.reported B.state result.bench }) }
     ensures identity { B.identity result.bench ≡ B.identity bench }
     ensures write { result.status ≡ Status.WriteFault → Rose (K.faults sink.old) (K.faults sink.new) }

@@ -1,14 +1,18 @@
 -- What an access and a run over it report together is what a run leaves.
-use Rattle.std.proofs.Common.{◌≡◌, ◌∙◌, ℕ, List, Bool, true, false, Option, None, Some, refl, sym, ap, subst}
+use Rattle.std.proofs.Common.{◌≡◌, ◌∙◌, ℕ, ◌+◌, ◌-◌, ◌/◌, ◌<◌, ◌≤◌, List, length, Bool, true, false, Option, None, Some, refl, sym, ap, subst, arith}
 use Rattle.target_machine.specs.State.{Agree, TargetState}
 use Rattle.probe_core.specs.Bench.{BenchState, Seen, StepsTo, fresh}
 use Rattle.probe_core.specs.Probe.{target_of}
 use Rattle.probe_core.specs.declared.job.BenchJob.{BenchJob}
+use Rattle.probe_core.specs.declared.job.Limits.{Limits}
 use Rattle.call_terms.specs.Asks.{is_settled, settled_last}
 use Rattle.call_terms.specs.Journal.{Entry}
+use Rattle.call_terms.specs.NeedPoints.{Asks, finished, needed}
+use Rattle.call_terms.specs.Weights.{registers_in}
 use Rattle.call_terms.specs.World.{start_world, world_after}
 use Rattle.call_terms.specs.declared.calls.Ask.{Ask}
 use Rattle.call_terms.proofs.MarkLemmas.{after_marked, marked_settled}
+use Rattle.access_calls.specs.Bounds.{AreNextWrites, KeepsBounds, KeepsBoundsIf, block_words, capacity, starting_since}
 use Rattle.access_calls.specs.Left.{answered_at, answered_by, answered_cut}
 use Rattle.access_calls.specs.Numbers.{HasNumbers}
 use Rattle.access_calls.specs.Reported.{Reported, began, world_from}
@@ -22,11 +26,13 @@ use Rattle.access_calls.specs.declared.stop.Stop.{Stop}
 use Rattle.access_calls.specs.declared.stop.Stop.TheVariants as stop
 use Rattle.access_calls.specs.declared.stop.StopCause.{StopCause}
 use Rattle.access_calls.specs.declared.stop.StopCause.TheVariants.{Faulted, NoAnswer}
-use Rattle.sequence_terms.specs.Runs.{Program, Outcome, meaning, outcome, outcome_of}
+use Rattle.sequence_terms.specs.Runs.{Program, Outcome, late_meaning, meaning, outcome, outcome_of}
+use Rattle.sequence_terms.specs.Machine.{end_state}
 use Rattle.sequence_terms.proofs.Made.{are_made}
-use Rattle.control_flow.specs.Answers.{EndBy, EndsAs, IsAll, IsCut, IsPart, Ran, ran}
-use Rattle.late_calls.specs.Held.{Knows, known_part}
-use Rattle.job_runs.specs.Runs.{ComesTo, HasStopped, IsBroken, IsFaultStop, IsLeftOff, IsNotOpened, IsRetryStop, IsStop, IsUnopened, IsWhole, Left, LeavesAs, Run, known_after, not_opened, opened, outcome_with}
+use Rattle.sequence_terms.proofs.Writing.{only_written}
+use Rattle.control_flow.specs.Answers.{EndBy, EndsAs, HasNeeds, IsAll, IsCut, IsPart, Ran, ran}
+use Rattle.sequence_terms.specs.Known.{Knows, known_part}
+use Rattle.job_runs.specs.Runs.{AccessKind, ComesTo, HasStopped, IsBroken, IsFaultStop, IsFew, IsFewIf, IsLeftOff, IsNotOpened, IsRetryStop, IsStop, IsUnopened, IsWhole, Left, LeavesAs, Run, calls_in, entries_in, known_after, needs_in, not_opened, opened, outcome_with}
 use Rattle.job_runs.specs.Ends.{ending_of}
 use Rattle.bench_access.specs.Opening.{IsLoaded, IsNotBegun, IsOpened, RefusedBy}
 
@@ -44,12 +50,16 @@ ends_at : (ending : Ending) (p : Program) (a : Reported) (first : BenchState) (b
 ends_at ending p a first before r end is h =
     subst (λ (x : Option Stop). EndsAs ending a.lines (outcome_of (meaning (world_from first (answered_at x a.lines)) p before)) r) is h
 
-module _ (journal : TargetState → List Ask → List Entry) (p : Program) (first : BenchState) (before : Option (List ℕ)) where
+-- what came since the load, from which the access counts
+since_load : (now first most : ℕ) → first ≡ 0 → now - first ≤ most → now ≤ most
+since_load now first most none few = omega (arith, none, few)
+
+module _ (access : AccessKind) (limits : Limits) (p : Program) (first : BenchState) (before : Option (List ℕ)) where
   abbrev run : Run
-  run = record { journal = journal; program = p; first = first; before = before }
+  run = record { access = access; limits = limits; program = p; first = first; before = before }
 
   abbrev entries : Reported → List Entry
-  entries a = journal (target_of first.probe) a.asks.calls
+  entries a = access.journal (target_of first.probe) a.asks.calls
 
   abbrev whole : Outcome
   whole = outcome p (target_of first.probe) before
@@ -60,8 +70,45 @@ module _ (journal : TargetState → List Ask → List Entry) (p : Program) (firs
       let w = start_world (target_of first.probe) None in
       ap (λ (c : List Ask). (world_after w c).target) is ∙ ap (λ x. x.target) (after_marked w whole.calls) ∙ sym (are_made w p before).made.target
 
-  is_whole : (a : Reported) (l : Left) → IsAll whole (ran l.ended a.asks l.written) → IsOpen (entries a) a (began first None) l.bench → IsWhole run l
-  is_whole a l all at = record {
+  -- what an access reports of need points at the end of its run
+  abbrev HasRunNeeds : Ending → Reported → Type 0
+  HasRunNeeds ending a = HasNeeds ending a.asks (late_meaning access.cost (world_from first (answered_by a)) p before)
+
+  -- the same where all is answered
+  all_needs : (ending : Ending) (a : Reported) → a.end ≡ None → HasRunNeeds ending a → HasNeeds ending a.asks (late_meaning access.cost (world_from first None) p before)
+  all_needs ending a end h = subst (λ (x : Option Stop). HasNeeds ending a.asks (late_meaning access.cost (world_from first (answered_at x a.lines)) p before)) end h
+
+  -- the lines before do not count
+  counted_needs : (a : Reported) → a.asks ≡ needed (finished (end_state (late_meaning access.cost (world_from first None) p before)).rest.asks) → a.asks.needs ≡ needs_in run
+  counted_needs a is = ap (λ (x : Asks). x.needs) is
+      ∙ ap (λ (x : Asks). (needed (finished x)).needs) (sym (only_written access.cost (world_from first None) p before None).asks)
+
+  -- the bounds of the access are those of the run
+  is_few : (answered : Option ℕ) (a : Reported) (l : Left) → a.bench.limits ≡ limits → first.starting ≡ 0 → a.asks.calls ≡ settled_last whole.calls → a.asks.needs ≡ needs_in run
+      → KeepsBounds (entries a) a (began first answered) l.bench → IsFew run l
+  is_few answered a l same opening calls points h = record {
+    few = since_load _ first.starting _ opening
+        (subst (λ (x : Limits). starting_since (began first answered) l.bench ≤ 3 + needs_in run + registers_in (entries_in run (calls_in run)) / capacity x) same
+        (subst (λ (c : List Ask). starting_since (began first answered) l.bench ≤ 3 + needs_in run + registers_in (entries_in run c) / capacity a.bench.limits) calls
+        (subst (λ (n : ℕ). starting_since (began first answered) l.bench ≤ 3 + n + registers_in (entries a) / capacity a.bench.limits) points h.few)));
+    blocks = λ size ap_ address some next low two. since_load _ first.starting _ opening
+        (subst (λ (x : Limits). starting_since (began first answered) l.bench ≤ 6 + (length (calls_in run) + block_words x - 1) / block_words x) same
+        (subst (λ (c : List Ask). starting_since (began first answered) l.bench ≤ 6 + (length c + block_words a.bench.limits - 1) / block_words a.bench.limits) calls
+        (h.blocks size ap_ address
+        (subst (λ (c : List Ask). 0 < length c) (sym calls) some)
+        (subst (λ (c : List Ask). AreNextWrites (address / 1024) size ap_ address c) (sym calls) next)
+        low (subst (λ (n : ℕ). n ≤ 2) (sym points) two))));
+  }
+
+  -- so it is of an access that says so
+  few_if : (is_sparing : Bool) (answered : Option ℕ) (a : Reported) (l : Left) → a.end ≡ None → a.state ≡ Some l.bench → a.bench.limits ≡ limits → first.starting ≡ 0
+      → a.asks.calls ≡ settled_last whole.calls → a.asks.needs ≡ needs_in run → KeepsBoundsIf is_sparing (entries a) a (began first answered) → IsFewIf is_sparing run l
+  few_if false answered a l end seen same opening calls points h = tt
+  few_if true answered a l end seen same opening calls points h =
+      is_few answered a l same opening calls points (subst (λ (o : Option BenchState). WhereObservable o (λ m. KeepsBounds (entries a) a (began first answered) m)) seen (h end))
+
+  is_whole : (a : Reported) (l : Left) → IsAll whole (ran l.ended a.asks l.written) → IsOpen (entries a) a (began first None) l.bench → IsFewIf access.is_sparing run l → IsWhole run l
+  is_whole a l all at few = record {
     variables = all.variables;
     units = all.units;
     skipped = all.skipped;
@@ -69,6 +116,7 @@ module _ (journal : TargetState → List Ask → List Entry) (p : Program) (firs
     target = subst (λ (t : TargetState). Agree (target_of l.bench.probe) t) (settled_target a.asks.calls all.calls)
         (at.settled (subst (λ (c : List Ask). is_settled c ≡ true) (sym all.calls) (marked_settled whole.calls)));
     retries = at.retries;
+    packets = few;
   }
 
   is_left_off : (a : Reported) (l : Left) → IsPart whole (ran l.ended a.asks l.written) → IsOpen (entries a) a (began first None) l.bench → IsLeftOff run l
@@ -128,27 +176,40 @@ module _ (journal : TargetState → List Ask → List Entry) (p : Program) (firs
   is_stop Faulted a r l is cut skipped at = is_fault_stop a r l cut skipped at
   is_stop NoAnswer a r l is cut skipped at = is_retry_stop a r l cut skipped at
 
+  -- what is known of the packets of an access
+  pub record SendsFew (ending : Ending) (a : Reported) : Type 0 where
+    pub limits_are : a.bench.limits ≡ limits
+    pub opening : first.starting ≡ 0
+    pub points : HasRunNeeds ending a
+    pub bounds : KeepsBoundsIf access.is_sparing (entries a) a (began first (answered_by a))
+
   -- What a run leaves, by how it ended.
-  pub leaves : (ending : Ending) (a : Reported) (l : Left) → EndBy ending a.end → l.ended.skipped ≡ a.skipped → a.state ≡ Some l.bench
+  pub leaves : (ending : Ending) (a : Reported) (l : Left) → EndBy ending a.end → l.ended.skipped ≡ a.skipped → a.state ≡ Some l.bench → SendsFew ending a
       → EndsAs ending a.lines (outcome_of (meaning (world_from first (answered_by a)) p before)) (ran l.ended a.asks l.written)
-      → Stands journal a (began first (answered_by a)) → LeavesAs ending run l
-  leaves e.Done a l end skipped seen ends stands =
-      let so = ends_at e.Done p a first before (ran l.ended a.asks l.written) None end ends in
-      (so.0, is_whole a l so.1 (stands_at journal a first l.bench None end seen stands))
-  leaves (e.Halted cause) a l end skipped seen ends stands =
-      let so = ends_at (e.Halted cause) p a first before (ran l.ended a.asks l.written) None end ends in
-      (so.0, is_whole a l so.1 (stands_at journal a first l.bench None end seen stands))
-  leaves (e.Cut r) a l end skipped seen ends stands =
+      → Stands access.journal a (began first (answered_by a)) → LeavesAs ending run l
+  leaves e.Done a l end skipped seen few ends stands =
+      let so = ends_at e.Done p a first before (ran l.ended a.asks l.written) None end ends in (
+        so.0,
+        is_whole a l so.1 (stands_at access.journal a first l.bench None end seen stands)
+            (few_if access.is_sparing (answered_by a) a l end seen few.limits_are few.opening so.1.calls (counted_needs a (all_needs e.Done a end few.points)) few.bounds),
+      )
+  leaves (e.Halted cause) a l end skipped seen few ends stands =
+      let so = ends_at (e.Halted cause) p a first before (ran l.ended a.asks l.written) None end ends in (
+        so.0,
+        is_whole a l so.1 (stands_at access.journal a first l.bench None end seen stands)
+            (few_if access.is_sparing (answered_by a) a l end seen few.limits_are few.opening so.1.calls (counted_needs a (all_needs (e.Halted cause) a end few.points)) few.bounds),
+      )
+  leaves (e.Cut r) a l end skipped seen few ends stands =
       is_stop r.cause a r l refl (ends_at (e.Cut r) p a first before (ran l.ended a.asks l.written) (Some (stop.Cut r)) end ends) skipped
-      (stands_at journal a first l.bench (Some (stop.Cut r)) end seen stands)
-  leaves (e.BenchFault issued confirmed) a l end skipped seen ends stands =
+      (stands_at access.journal a first l.bench (Some (stop.Cut r)) end seen stands)
+  leaves (e.BenchFault issued confirmed) a l end skipped seen few ends stands =
       is_broken issued confirmed a l (ends_at (e.BenchFault issued confirmed) p a first before (ran l.ended a.asks l.written) (Some (stop.BenchFault issued confirmed)) end ends)
-      (stands_at journal a first l.bench (Some (stop.BenchFault issued confirmed)) end seen stands)
-  leaves e.ReplyBad a l end skipped seen ends stands = stands_at journal a first l.bench (Some stop.ReplyBad) end seen stands
-  leaves e.WriteFault a l end skipped seen ends stands =
-      is_left_off a l (ends_at e.WriteFault p a first before (ran l.ended a.asks l.written) None end ends) (stands_at journal a first l.bench None end seen stands)
-  leaves e.OutOfMemory a l end skipped seen ends stands =
-      is_left_off a l (ends_at e.OutOfMemory p a first before (ran l.ended a.asks l.written) None end ends) (stands_at journal a first l.bench None end seen stands)
+      (stands_at access.journal a first l.bench (Some (stop.BenchFault issued confirmed)) end seen stands)
+  leaves e.ReplyBad a l end skipped seen few ends stands = stands_at access.journal a first l.bench (Some stop.ReplyBad) end seen stands
+  leaves e.WriteFault a l end skipped seen few ends stands =
+      is_left_off a l (ends_at e.WriteFault p a first before (ran l.ended a.asks l.written) None end ends) (stands_at access.journal a first l.bench None end seen stands)
+  leaves e.OutOfMemory a l end skipped seen few ends stands =
+      is_left_off a l (ends_at e.OutOfMemory p a first before (ran l.ended a.asks l.written) None end ends) (stands_at access.journal a first l.bench None end seen stands)
 
 -- what was known before is known, or nothing is
 pub known_by : (old new : Option (List ℕ)) → (known : Bool) × Knows known old × (known_part known old ≡ old) × (known_part known new ≡ known_after old new)
@@ -170,10 +231,10 @@ unopened stop.ReplyBad old new sent got job is h = absurd (h.2 job is)
 unopened stop.OutOfMemory old new sent got job is h = tt
 
 -- an access that did not begin
-pub not_begun : (journal : TargetState → List Ask → List Entry) (job : BenchJob) (p : Program) (before : Option (List ℕ)) (s : Stop) (old new : Seen) (sent got : List ℕ) (ended : Ended) (after : Option (List ℕ))
+pub not_begun : (access : AccessKind) (job : BenchJob) (p : Program) (before : Option (List ℕ)) (s : Stop) (old new : Seen) (sent got : List ℕ) (ended : Ended) (after : Option (List ℕ))
     → IsLoaded job old.state → IsNotBegun old new s sent got → ended.ending ≡ ending_of s → after ≡ before
-    → (n : BenchState) × (new.state ≡ Some n) × ComesTo journal job p before (record { ended = ended; written = after; bench = n })
-not_begun journal job p before s old new sent got ended after loaded h ending same =
+    → (n : BenchState) × (new.state ≡ Some n) × ComesTo access job p before (record { ended = ended; written = after; bench = n })
+not_begun access job p before s old new sent got ended after loaded h ending same =
     let seen = still_seen (λ m n. Agree (target_of n.probe) (target_of m.probe)) (fresh job) old.state new.state loaded.is (h.target job loaded) in
     let so : IsNotOpened job before (record { ended = ended; written = after; bench = seen.0 }) = record {
       ending = subst (λ (x : Ending). IsUnopened x) (sym ending) (unopened s old new sent got job loaded h.cause);
@@ -192,19 +253,27 @@ abbrev EndsOf : Program → BenchState → Reported → Ended → Option (List �
 EndsOf p first a ended before after = EndsAs ended.ending a.lines (outcome_of (meaning (world_from first (answered_by a)) p before)) (ran ended a.asks after)
 
 -- a run over an access that began
-pub opened_run : (journal : TargetState → List Ask → List Entry) (job : BenchJob) (p : Program) (before mid : Option (List ℕ)) (a : Reported) (ended : Ended)
-    → ((first : BenchState) × IsOpened job first × Stands journal a (began first (answered_by a))
-    × ((known : Bool) → Knows known before → EndsOf p first a ended (known_part known before) (known_part known mid)))
-    → EndBy ended.ending a.end → ended.skipped ≡ a.skipped
-    → (n : BenchState) × (a.state ≡ Some n) × ComesTo journal job p before (record { ended = ended; written = known_after before mid; bench = n })
-opened_run journal job p before mid a ended h end skipped =
+pub opened_run : (access : AccessKind) (job : BenchJob) (p : Program) (before mid : Option (List ℕ)) (a : Reported) (ended : Ended)
+    → ((first : BenchState) × IsOpened job first × Stands access.journal a (began first (answered_by a))
+    × ((known : Bool) → Knows known before → EndsOf p first a ended (known_part known before) (known_part known mid))
+    × ((known : Bool) → Knows known before → HasNeeds ended.ending a.asks (late_meaning access.cost (world_from first (answered_by a)) p (known_part known before)))
+    × KeepsBoundsIf access.is_sparing (access.journal (target_of first.probe) a.asks.calls) a (began first (answered_by a)))
+    → EndBy ended.ending a.end → ended.skipped ≡ a.skipped → a.bench.limits ≡ job.limits
+    → (n : BenchState) × (a.state ≡ Some n) × ComesTo access job p before (record { ended = ended; written = known_after before mid; bench = n })
+opened_run access job p before mid a ended h end skipped limits_are =
     let first : BenchState = h.0 in
-    let seen = where_seen a.state (λ m. StandsAt a.end (journal (target_of first.probe) a.asks.calls) a (began first (answered_by a)) m) h.2 in
+    let seen = where_seen a.state (λ m. StandsAt a.end (access.journal (target_of first.probe) a.asks.calls) a (began first (answered_by a)) m) h.2 in
     let known = known_by before mid in
     let ends : EndsOf p first a ended before (known_after before mid) =
     subst (λ (x : Option (List ℕ)). EndsOf p first a ended before x) known.3
     (subst (λ (x : Option (List ℕ)). EndsOf p first a ended x (known_part known.0 mid)) known.2 (h.3 known.0 known.1)) in
-    (seen.0, seen.1, opened first h.1 (leaves journal p first before ended.ending a (record { ended = ended; written = known_after before mid; bench = seen.0 }) end skipped seen.1 ends h.2))
+    let points = subst (λ (x : Option (List ℕ)). HasNeeds ended.ending a.asks (late_meaning access.cost (world_from first (answered_by a)) p x)) known.2 (h.4 known.0 known.1) in
+    let few : SendsFew access job.limits p first before ended.ending a = record { limits_are = limits_are; opening = h.1.starting; points = points; bounds = h.5 } in (
+      seen.0,
+      seen.1,
+      opened first h.1
+          (leaves access job.limits p first before ended.ending a (record { ended = ended; written = known_after before mid; bench = seen.0 }) end skipped seen.1 few ends h.2),
+    )
 
 -- nothing was written
 pub nothing_written : (w : Option (List ℕ)) → known_after w w ≡ w

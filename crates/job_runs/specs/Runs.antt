@@ -1,13 +1,17 @@
 -- What a run of a job leaves.
-use Rattle.std.specs.Prelude.{◌≡◌, ℕ, ◌+◌, ◌*◌, ◌≤◌, List, take, Option, Some, None}
+use Rattle.std.specs.Prelude.{◌≡◌, ⊤, ℕ, ◌+◌, ◌-◌, ◌*◌, ◌/◌, ◌^◌, ◌<◌, ◌≤◌, Bool, true, false, List, length, take, Option, Some, None}
 use Rattle.target_machine.specs.Start.{start}
 use Rattle.target_machine.specs.State.{Agree, TargetState}
 use Rattle.probe_core.specs.Bench.{BenchState}
 use Rattle.probe_core.specs.Probe.{ended_retries_of, target_of}
 use Rattle.probe_core.specs.declared.job.BenchJob.{BenchJob}
+use Rattle.probe_core.specs.declared.job.Limits.{Limits}
+use Rattle.call_terms.specs.Asks.{settled_last}
 use Rattle.call_terms.specs.Journal.{Entry, first_fault, one_if}
-use Rattle.call_terms.specs.Weights.{commands_in}
+use Rattle.call_terms.specs.NeedPoints.{Costs}
+use Rattle.call_terms.specs.Weights.{commands_in, registers_in}
 use Rattle.call_terms.specs.declared.calls.Ask.{Ask}
+use Rattle.access_calls.specs.Bounds.{AreNextWrites, block_words, capacity}
 use Rattle.access_calls.specs.Numbers.{HasNumbers}
 use Rattle.access_calls.specs.Reported.{began}
 use Rattle.access_calls.specs.Standing.{HasPerformed, IsBenchFault, grown_since, number_of, pending_of}
@@ -22,14 +26,26 @@ use Rattle.job_check.specs.declared.running.ValidRun.{ValidRun}
 use Rattle.bench_access.specs.Opening.{IsOpened}
 use Rattle.sequence_terms.specs.Late.{Grows}
 use Rattle.sequence_terms.specs.Runs as runs
-use Rattle.sequence_terms.specs.Runs.{Outcome, Program, outcome, outcome_within, units_of}
+use Rattle.sequence_terms.specs.Runs.{Outcome, Program, needs, outcome, outcome_within, units_of}
 
 -- ---- what is run, and what it leaves
 
--- A run: the journal of its access, its program, the state of its bench where the access began, and what was written before,
--- where that is known.
-pub record Run : Type 0 where
+-- What is known of an access: the journal of the calls that it was asked, how many need points calls make by themselves, and
+-- whether it keeps the bounds on starting packets.
+pub record AccessKind : Type 0 where
   pub journal : TargetState → List Ask → List Entry
+  pub cost : Costs
+  pub is_sparing : Bool
+
+-- an access of this kind
+abbrev pub access_kind : (TargetState → List Ask → List Entry) → Costs → Bool → AccessKind
+access_kind journal cost is_sparing = record { journal = journal; cost = cost; is_sparing = is_sparing }
+
+-- A run: its access, the packet limits of its job, its program, the state of its bench where the access began, and what was
+-- written before, where that is known.
+pub record Run : Type 0 where
+  pub access : AccessKind
+  pub limits : Limits
   pub program : Program
   pub first : BenchState
   pub before : Option (List ℕ)
@@ -63,15 +79,40 @@ outcome_with run m = outcome_within m run.program (target_in run) run.before
 
 -- the journal of the calls that were asked
 abbrev pub entries_in : Run → List Ask → List Entry
-entries_in run asked = run.journal (target_in run) asked
+entries_in run asked = run.access.journal (target_in run) asked
 
 -- no retry ended
 abbrev pub NoneEnded : Run → Left → Type 0
 NoneEnded run l = ended_retries_of l.bench.probe ≡ ended_retries_of run.first.probe
 
+-- ---- how few packets are sent
+
+-- the calls of the whole outcome, which are settled after the last
+abbrev pub calls_in : Run → List Ask
+calls_in run = settled_last (outcome_in run).calls
+
+-- how many need points it has, one of them at its end
+abbrev pub needs_in : Run → ℕ
+needs_in run = needs run.access.cost run.program (target_in run)
+
+-- The starting packets since the load are few: at most three for the opening, one for each need point, and one for each full
+-- flight of register accesses; and for at least one write, all at neighbouring addresses of one block of 1,024 bytes below 2^32,
+-- with at most two need points, at most six more than the blocks of writes that hold them.
+pub record IsFew (run : Run) (l : Left) : Type 0 where
+  pub few : l.bench.starting ≤ 3 + needs_in run + registers_in (entries_in run (calls_in run)) / capacity run.limits
+  pub blocks : (size ap address : ℕ) → 0 < length (calls_in run) → AreNextWrites (address / 1024) size ap address (calls_in run)
+      → address < 2 ^ 32 → needs_in run ≤ 2
+      → l.bench.starting ≤ 6 + (length (calls_in run) + block_words run.limits - 1) / block_words run.limits
+
+-- an access that says so keeps these bounds
+abbrev pub IsFewIf : Bool → Run → Left → Type 0
+IsFewIf false run l = ⊤
+IsFewIf true run l = IsFew run l
+
 -- ---- done or halted
 
--- The run came to the end of what it means: with the same variables, units, skipped units and lines, and the target agrees.
+-- The run came to the end of what it means: with the same variables, units, skipped units and lines, and the target agrees. No
+-- retry ended, and the packets were few.
 pub record IsWhole (run : Run) (l : Left) : Type 0 where
   pub variables : variables_of l.ended.variables ≡ (outcome_in run).variables
   pub units : l.ended.units ≡ units_of (outcome_in run)
@@ -79,6 +120,7 @@ pub record IsWhole (run : Run) (l : Left) : Type 0 where
   pub written : l.written ≡ (outcome_in run).written
   pub target : Agree (target_of l.bench.probe) (outcome_in run).target
   pub retries : NoneEnded run l
+  pub packets : IsFewIf run.access.is_sparing run l
 
 -- ---- stopped by the target or the probe
 
@@ -166,7 +208,7 @@ pub record IsNotOpened (job : BenchJob) (before : Option (List ℕ)) (l : Left) 
   pub target : Agree (target_of l.bench.probe) (start job.target)
 
 -- What a run of a job comes to over a bench that was just loaded with it.
-pub data ComesTo (journal : TargetState → List Ask → List Entry) (job : BenchJob) (p : Program) (before : Option (List ℕ)) (l : Left) : Type 0 where
-  not_opened : IsNotOpened job before l → ComesTo journal job p before l
+pub data ComesTo (access : AccessKind) (job : BenchJob) (p : Program) (before : Option (List ℕ)) (l : Left) : Type 0 where
+  not_opened : IsNotOpened job before l → ComesTo access job p before l
   opened : (first : BenchState) → IsOpened job first
-      → LeavesAs l.ended.ending (record { journal = journal; program = p; first = first; before = before }) l → ComesTo journal job p before l
+      → LeavesAs l.ended.ending (record { access = access; limits = job.limits; program = p; first = first; before = before }) l → ComesTo access job p before l

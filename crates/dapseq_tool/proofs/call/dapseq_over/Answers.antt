@@ -3,6 +3,7 @@ use Rattle.probe_core.specs.Bench.{seen}
 use Rattle.dapseq_tool.specs.Headline.{Call, FailsWriting, moment}
 use Rattle.dapseq_tool.proofs.CallLemmas.{failed_fails, is_done, what_is_begun, what_is_done}
 use Rattle.dapseq_tool.proofs.call.dapseq_over.Goals as goal
+use Rattle.job_runs.specs.Runs.{access_kind}
 
 pub returns-in-Err-ReadFault-clause-usage_only : goal.returns-in-Err-ReadFault-clause-usage_only
 returns-in-Err-ReadFault-clause-usage_only g c = λ u.
@@ -16,8 +17,8 @@ returns-in-Ok-write_head-clause-asked g c =
       new = moment g.S.Source.left g.S.Source.faults g.K.Sink.written g.K.Sink.faults g.B.Bench.reported g.B.Bench.state c.ask.new.source c.perform.new.sink c.perform.result.bench;
       end = c.perform.result.status;
     } in
-    is_done g.A.Access.journal call _ c.in-Ok.asked c.in-Ok.ensures.asked
-    (what_is_done g.A.Access.journal call _ c.in-Ok.asked.number c.in-Ok.asked.what (seen g.B.Bench.reported g.B.Bench.state c.args.bench) (g.K.Sink.written c.write_head.new.sink) refl
+    is_done (access_kind g.A.Access.journal g.A.Access.cost g.A.Access.is_sparing) call _ c.in-Ok.asked c.in-Ok.ensures.asked
+    (what_is_done (access_kind g.A.Access.journal g.A.Access.cost g.A.Access.is_sparing) call _ c.in-Ok.asked.number c.in-Ok.asked.what (seen g.B.Bench.reported g.B.Bench.state c.args.bench) (g.K.Sink.written c.write_head.new.sink) refl
     c.in-Ok-write_head.ensures.text c.perform.ensures.does)
 
 pub returns-in-Ok-write_head-clause-usage : goal.returns-in-Ok-write_head-clause-usage
@@ -34,5 +35,5 @@ returns-clause-asked g c =
       new = moment g.S.Source.left g.S.Source.faults g.K.Sink.written g.K.Sink.faults g.B.Bench.reported g.B.Bench.state c.ask.new.source c.write_head.new.sink c.args.bench;
       end = c.failed_status.result;
     } in
-    is_done g.A.Access.journal call _ c.in-Ok.asked c.in-Ok.ensures.asked
-    (what_is_begun g.A.Access.journal call _ c.in-Ok.asked.number c.in-Ok.asked.what (subst FailsWriting (sym c.failed_status.ensures) (failed_fails c.in-Err.end)) c.in-Err.ensures.text refl)
+    is_done (access_kind g.A.Access.journal g.A.Access.cost g.A.Access.is_sparing) call _ c.in-Ok.asked c.in-Ok.ensures.asked
+    (what_is_begun (access_kind g.A.Access.journal g.A.Access.cost g.A.Access.is_sparing) call _ c.in-Ok.asked.number c.in-Ok.asked.what (subst FailsWriting (sym c.failed_status.ensures) (failed_fails c.in-Err.end)) c.in-Err.ensures.text refl)

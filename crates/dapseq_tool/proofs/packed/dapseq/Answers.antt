@@ -3,11 +3,10 @@ use Rattle.dapseq_tool.specs.declared.status.Status.TheVariants as status
 use Rattle.dapseq_tool.proofs.BadLemmas.{bad_reply}
 use Rattle.dapseq_tool.proofs.SuccessLemmas.{success}
 use Rattle.std.proofs.Common.{◌≡◌, ◌∙◌, ap, inl, inr, rules, subst, sym}
-use Rattle.access_regs.specs.Journal.{issued}
-use Rattle.access_regs.specs.declared.planner.Planner.TheVariants.{Managed}
 use Rattle.dapseq_tool.specs.Headline.{Call, Does, moment}
 use Rattle.dapseq_tool.proofs.LentLemmas.{does_so}
 use Rattle.dapseq_tool.proofs.packed.dapseq.Goals as goal
+use Rattle.dapseq_tool.specs.Packed.{packed}
 
 pub returns-clause-bench_only_in_run : goal.returns-clause-bench_only_in_run
 returns-clause-bench_only_in_run g c =
@@ -28,7 +27,7 @@ returns-clause-asked g c =
 pub returns-clause-success : goal.returns-clause-success
 returns-clause-success g c =
     let back : c.dapseq_over-over.result.bench.now ≡ c.bench-1.given.0 = search rules in
-    subst (λ v. Success (issued Managed) (record {
+    subst (λ v. Success packed (record {
       words = c.args.words.now;
       old = moment g.S.Source.left g.S.Source.faults g.K.Sink.written g.K.Sink.faults g.B.Bench.reported g.B.Bench.state c.args.source.now c.args.sink.now c.args.bench.now;
       new = moment g.S.Source.left g.S.Source.faults g.K.Sink.written g.K.Sink.faults g.B.Bench.reported g.B.Bench.state c.dapseq_over-over.new.source c.dapseq_over-over.new.sink v;
