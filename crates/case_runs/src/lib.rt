@@ -1,30 +1,34 @@
 //! Runs stored jobs in memory, and compares what is written with what is stored beside them.
 #![tactic(auto)]
 
-use dap_base::{MemorySink, MemorySource, NameText, OutOfMemory, Words};
-use dapseq_tool::{Status, dapseq};
-use probe_core::MemoryBench;
-use std::alloc::Global;
+mod answering;
+mod failing;
+
+use answering::{Failing, answer, words_of};
+use dap_base::{OutOfMemory, Words};
+use failing::{Object, failing_calls};
 use std::io::ErrorKind;
 use std::{fs, io};
 
-// The words of a command line, one a line.
-fn words_of(alloc: Global, text: &str) -> Result<Words, OutOfMemory> {
-    let mut words = Words::new(alloc);
-    for line in text.lines() {
-        words.push(NameText::new(alloc, line)?)?;
-    }
-    Ok(words)
+// A stored job: its bytes, the words it is run with, and the text that is expected.
+#[derive(Drop)]
+struct Stored {
+    job: Vec<u8>,
+    words: Words,
+    text: Vec<u8>,
 }
 
-// How the program ends with these words and this job, and what it writes.
-fn answer(alloc: Global, words: &str, job: &[u8]) -> Result<(Status, MemorySink), OutOfMemory> {
-    let words = words_of(alloc, words)?;
-    let mut source = MemorySource::new(alloc, job, &[])?;
-    let mut sink = MemorySink::new(alloc, &[])?;
-    let mut bench = MemoryBench::new(alloc);
-    let status = dapseq(alloc, &words, &mut source, &mut sink, &mut bench);
-    Ok((status, sink))
+fn no_memory(_: OutOfMemory) -> io::Error {
+    io::Error::from(ErrorKind::OutOfMemory)
+}
+
+// Reads `NAME.json`, `NAME.json.args` and `NAME.json.stdout`.
+fn read_stored(rt: &HostRuntime, name: &str) -> io::Result<Stored> {
+    let job = fs::read(rt, format!(in rt.alloc(); "{name}.json")?)?;
+    let args = fs::read_to_string(rt, format!(in rt.alloc(); "{name}.json.args")?)?;
+    let text = fs::read(rt, format!(in rt.alloc(); "{name}.json.stdout")?)?;
+    let words = words_of(rt.alloc(), args.as_str()).map_err(no_memory)?;
+    Ok(Stored { job, words, text })
 }
 
 /// Runs the job `NAME.json` of the folder that the program runs in, with the words of `NAME.json.args`, one a
@@ -33,17 +37,41 @@ fn answer(alloc: Global, words: &str, job: &[u8]) -> Result<(Status, MemorySink)
 ///
 /// An error where a file cannot be read, standard output cannot be written, or memory is refused.
 pub fn run_case(rt: &HostRuntime, name: &str) -> io::Result<()> {
-    let job = fs::read(rt, format!(in rt.alloc(); "{name}.json")?)?;
-    let words = fs::read_to_string(rt, format!(in rt.alloc(); "{name}.json.args")?)?;
-    let expected = fs::read(rt, format!(in rt.alloc(); "{name}.json.stdout")?)?;
-    let Ok((status, sink)) = answer(rt.alloc(), words.as_str(), &job) else {
-        return Err(io::Error::from(ErrorKind::OutOfMemory));
+    let stored = read_stored(rt, name)?;
+    let failing = Failing {
+        source: &[],
+        sink: &[],
+        bench: &[],
     };
+    let (status, sink) = answer(rt.alloc(), &stored.words, &stored.job, failing).map_err(
+        no_memory,
+    )?;
     let code = status.code();
-    if sink.bytes() == expected.as_slice() {
+    if sink.bytes() == stored.text.as_slice() {
         println!(rt; "{name} {code} as expected")?;
     } else {
         println!(rt; "{name} {code} differs")?;
     }
     Ok(())
+}
+
+/// Runs the same job once for each call of its source, its sink and its bench, and lets that call fail. Prints the
+/// name, and how many calls of each there are; or `differs` where a run does not end with the status of the object
+/// that failed, or writes what it may not write then.
+///
+/// An error where a file cannot be read, standard output cannot be written, or memory is refused.
+pub fn run_failing(rt: &HostRuntime, name: &str) -> io::Result<()> {
+    let Stored { job, words, text } = read_stored(rt, name)?;
+    print!(rt; "{name}")?;
+    for (object, called) in [
+        (Object::Source, "source"),
+        (Object::Sink, "sink"),
+        (Object::Bench, "bench"),
+    ] {
+        match failing_calls(rt.alloc(), &words, &job, &text, object).map_err(no_memory)? {
+            Some(calls) => print!(rt; " {called} {calls}")?,
+            None => print!(rt; " {called} differs")?,
+        }
+    }
+    println!(rt)
 }

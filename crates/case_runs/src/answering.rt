@@ -1,0 +1,40 @@
+//! Whole calls of the program over objects in memory.
+
+use dap_base::{MemorySink, MemorySource, NameText, OutOfMemory, Words};
+use dapseq_tool::{Status, dapseq};
+use probe_core::FaultyBench;
+use std::alloc::Global;
+
+/// The numbers of the calls that fail, from 1, of each object of a run.
+#[derive(Clone, Copy)]
+pub struct Failing<'a> {
+    /// Those of the source.
+    pub source: &'a [u32],
+    /// Those of the sink.
+    pub sink: &'a [u32],
+    /// Those of the bench.
+    pub bench: &'a [u32],
+}
+
+/// The words of a command line, one a line. An error where memory is refused.
+pub fn words_of(alloc: Global, text: &str) -> Result<Words, OutOfMemory> {
+    let mut words = Words::new(alloc);
+    for line in text.lines() {
+        words.push(NameText::new(alloc, line)?)?;
+    }
+    Ok(words)
+}
+
+/// How the program ends with these words and this job, and what it writes. An error where memory is refused.
+pub fn answer(
+    alloc: Global,
+    words: &Words,
+    job: &[u8],
+    failing: Failing<'_>,
+) -> Result<(Status, MemorySink), OutOfMemory> {
+    let mut source = MemorySource::new(alloc, job, failing.source)?;
+    let mut sink = MemorySink::new(alloc, failing.sink)?;
+    let mut bench = FaultyBench::new(alloc, failing.bench)?;
+    let status = dapseq(alloc, words, &mut source, &mut sink, &mut bench);
+    Ok((status, sink))
+}
