@@ -13,10 +13,14 @@ use Rattle.probe_core.specs.Probe.{target_of}
 use Rattle.call_terms.specs.Asks.{ForgiveNothing, is_forgiving, is_settled}
 use Rattle.call_terms.specs.Journal.{Entry, actions_in, target_after}
 use Rattle.call_terms.specs.declared.calls.Ask.{Ask}
+use Rattle.call_terms.specs.declared.journal.Part.TheVariants.{Settles}
 use Rattle.access_regs.specs.Entries.{kept_by}
-use Rattle.access_regs.specs.Journal.{issued, issued_from, kept_from, making}
+use Rattle.access_regs.specs.Journal.{issued, issued_from, kept_from, making, numbered, steps_of}
 use Rattle.access_regs.specs.Kept.{Kept, nothing_kept}
-use Rattle.access_regs.proofs.Joins.{journal_joins}
+use Rattle.access_regs.specs.Plan.{settle}
+use Rattle.access_regs.proofs.EntryLemmas.{journal_marks}
+use Rattle.access_regs.proofs.Joins.{journal_joins, later_entries}
+use Rattle.access_calls.specs.Growing.{IsAfter, JournalGrows, JournalSettles}
 use Rattle.access_calls.specs.Issued.{kept_of}
 use Rattle.access_calls.specs.Left.{IsLeft}
 use Rattle.access_calls.specs.Reported.{Reported, began}
@@ -163,3 +167,29 @@ pub stands_packed : (bench : BenchReported) (state : Option BenchState) (log : L
     HasBegun bench state log sent got kept accesses m0 → IsLeft (reported_by bench state log sent got) n → Stands (issued Managed) (reported_by bench state log sent got) (began m0 n)
 stands_packed bench state log sent got kept accesses m0 n h left =
     begun_stands Managed (reported_by bench state log sent got) kept accesses (take log.known log.results) m0 n (is_begun bench state log sent got kept accesses m0 h) left
+
+-- the journal of more calls begins with that of the first ones
+pub grows_packed : JournalGrows (issued Managed)
+grows_packed t asks more =
+    let n : ℕ = 0 + length asks in
+    let rest : List Entry = issued_from Managed n (kept_from Managed nothing_kept t asks) (target_after t (issued Managed t asks)) more in
+    let later : AllByRecursion (IsAfter n) rest = later_entries Managed n (kept_from Managed nothing_kept t asks) (target_after t (issued Managed t asks)) more in
+    let number : n ≡ length asks = omega arith in
+    record {
+      rest = rest;
+      joined = journal_joins Managed 0 nothing_kept t asks more;
+      later = subst (λ (k : ℕ). AllByRecursion (IsAfter k) rest) number later;
+    }
+
+-- what settles so many calls is issued after them
+settling_later : (n : ℕ) (accesses : List RegAccess) → AllByRecursion (IsAfter n) (numbered n false (steps_of Settles accesses))
+settling_later n [] = tt
+settling_later n (a ∷ accesses) = (omega arith, settling_later n accesses)
+
+-- the journal of calls that a `finish` follows begins with that of the calls
+pub settles_packed : JournalSettles (issued Managed)
+settles_packed t asks = record {
+  rest = numbered (length asks) false (steps_of Settles (settle (kept_by Managed t asks)));
+  joined = (journal_marks Managed t asks).0;
+  later = settling_later (length asks) (settle (kept_by Managed t asks));
+}

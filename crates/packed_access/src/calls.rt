@@ -138,7 +138,7 @@ impl<F: Flights> Access for PackedAccess<F> {
     ghost use Rattle.access_regs.specs.declared.planner.Planner.TheVariants.{Managed};
     ghost use Rattle.packed_access.specs.Logs.{keeps_by, reported_by};
     ghost use Rattle.packed_access.specs.Spares.{spares_packed};
-    ghost use Rattle.packed_access.specs.Stands.{stands_packed};
+    ghost use Rattle.packed_access.specs.Stands.{grows_packed, settles_packed, stands_packed};
 
     ghost reported = { λ s. reported_by (F.reported s.sender.flights) (F.state s.sender.flights) s.sender.log (F.packet s.sender.flights) (F.reply s.sender.flights) };
 
@@ -151,6 +151,10 @@ impl<F: Flights> Access for PackedAccess<F> {
     ghost cost = { cost_by Managed };
 
     ghost is_sparing = { true };
+
+    ghost grows = { grows_packed };
+
+    ghost settles = { settles_packed };
 
     ghost keeps = { λ s. keeps_by (F.reported s.sender.flights) (F.state s.sender.flights) s.sender.log (F.packet s.sender.flights) (F.reply s.sender.flights) };
 
