@@ -1,3 +1,4 @@
+pub mod Keys
 pub mod StepTree
 pub mod StepsView
 pub mod StepsFall

@@ -1,11 +1,10 @@
 -- Reading a pack: its levels and their sequences, by the names of the Open-CMSIS-Pack device description.
-use Rattle.std.specs.Prelude.{codes, false, [], map, None, Result, Ok}
+use Rattle.std.specs.Prelude.{codes, false, [], None, Result, Ok}
 use Rattle.serde_json.specs.Data.{Data}
 use Rattle.json_form.specs.declared.fault.JobFault.{JobFault}
 use Rattle.dap_base.specs.Outcome.{◌>>=◌}
 use Rattle.json_form.specs.Reading.{text, flag, only_keys, required, optional, or_else, list_of, alone, never, repeats_by}
-use Rattle.device_tree.specs.declared.levels.TheConstants.{PACK_KEYS, LEVEL_KEYS, VARIANT_KEYS, DEVICE_KEYS, SUB_FAMILY_KEYS, FAMILY_KEYS}
-use Rattle.device_tree.specs.declared.sequences.TheConstants.{SEQUENCE_KEYS}
+use Rattle.device_tree.specs.Keys.{sequence_keys, level_keys, variant_keys, device_keys, sub_family_keys, family_keys, pack_keys}
 use Rattle.device_tree.specs.StepsReading.{steps_in}
 use Rattle.device_tree.specs.Same.{same_sequence, same_variant}
 use Rattle.device_tree.specs.declared.pack.SeqText.{SeqText}
@@ -20,7 +19,7 @@ use Rattle.device_tree.specs.declared.pack.Pack.{Pack}
 
 unfoldable pub sequence_in : Data → Result SeqText JobFault
 sequence_in d = do
-  known ← only_keys (map (λ k. k.now) SEQUENCE_KEYS) d
+  known ← only_keys sequence_keys d
   name ← required (codes "name") text d
   pname ← optional (codes "Pname") text d
   disable ← or_else (codes "disable") flag false d
@@ -39,19 +38,19 @@ level_in d = do
 
 unfoldable pub defaults_in : Data → Result Level JobFault
 defaults_in d = do
-  known ← only_keys (map (λ k. k.now) LEVEL_KEYS) d
+  known ← only_keys level_keys d
   level_in d
 
 unfoldable pub variant_in : Data → Result Variant JobFault
 variant_in d = do
-  known ← only_keys (map (λ k. k.now) VARIANT_KEYS) d
+  known ← only_keys variant_keys d
   name ← required (codes "Dvariant") text d
   own ← level_in d
   Ok (record { name = name; level = own })
 
 unfoldable pub device_in : Data → Result Device JobFault
 device_in d = do
-  known ← only_keys (map (λ k. k.now) DEVICE_KEYS) d
+  known ← only_keys device_keys d
   name ← required (codes "Dname") text d
   own ← level_in d
   variants ← or_else (codes "variants") (list_of None (alone variant_in) (repeats_by same_variant)) [] d
@@ -59,7 +58,7 @@ device_in d = do
 
 unfoldable pub sub_family_in : Data → Result SubFamily JobFault
 sub_family_in d = do
-  known ← only_keys (map (λ k. k.now) SUB_FAMILY_KEYS) d
+  known ← only_keys sub_family_keys d
   name ← required (codes "DsubFamily") text d
   own ← level_in d
   devices ← or_else (codes "devices") (list_of None (alone device_in) never) [] d
@@ -67,7 +66,7 @@ sub_family_in d = do
 
 unfoldable pub family_in : Data → Result Family JobFault
 family_in d = do
-  known ← only_keys (map (λ k. k.now) FAMILY_KEYS) d
+  known ← only_keys family_keys d
   name ← required (codes "Dfamily") text d
   own ← level_in d
   subs ← or_else (codes "subFamilies") (list_of None (alone sub_family_in) never) [] d
@@ -76,7 +75,7 @@ family_in d = do
 
 unfoldable pub pack_in : Data → Result Pack JobFault
 pack_in d = do
-  known ← only_keys (map (λ k. k.now) PACK_KEYS) d
+  known ← only_keys pack_keys d
   top ← optional (codes "defaults") defaults_in d
   families ← required (codes "families") (list_of None (alone family_in) never) d
   Ok (record { defaults = top; families = families })

@@ -1,5 +1,5 @@
 -- Reading the steps of a sequence: the elements `block` and `control` of the Open-CMSIS-Pack debug description.
-use Rattle.std.specs.Prelude.{◌-◌, ◌^◌, codes, false, [], ◌∷◌, Option, Some, None, map, is_some, Result, Ok, Err, if◌then◌else◌}
+use Rattle.std.specs.Prelude.{◌-◌, ◌^◌, codes, false, [], ◌∷◌, Option, Some, None, is_some, Result, Ok, Err, if◌then◌else◌}
 use Rattle.std.specs.Option.{option_map_or}
 use Rattle.std.specs.Ordering.{nat_cmp, match_ordering}
 use Rattle.std.specs.Cmp.Lexicographic.{slice_cmp}
@@ -11,7 +11,7 @@ use Rattle.json_form.specs.declared.path.PathStep.TheVariants.{Key, Index}
 use Rattle.json_form.specs.Faults.{at}
 use Rattle.dap_base.specs.Outcome.{◌>>=◌}
 use Rattle.json_form.specs.Reading.{text, flag, number as number_in, only_keys, required, optional, or_else}
-use Rattle.device_tree.specs.declared.step_reader.TheConstants.{BLOCK_KEYS, CONTROL_KEYS}
+use Rattle.device_tree.specs.Keys.{block_keys, control_keys}
 use Rattle.device_tree.specs.StepTree.{StepTree, no_steps}
 use Rattle.device_tree.specs.StepsView.{then_step, tree_len}
 use Rattle.device_tree.specs.declared.steps.Step.{Step}
@@ -19,7 +19,7 @@ use Rattle.device_tree.specs.declared.steps.Step.TheVariants.{Block, Control}
 
 unfoldable pub block_step : Data → Result Step JobFault
 block_step d = do
-  known ← only_keys (map (λ k. k.now) BLOCK_KEYS) d
+  known ← only_keys block_keys d
   code ← required (codes "block") text d
   atomic ← or_else (codes "atomic") flag false d
   info ← optional (codes "info") text d
@@ -40,7 +40,7 @@ control_after steps d = do
 
 unfoldable pub control_step : Option (Result StepTree JobFault) → Data → Result Step JobFault
 control_step inner d = do
-  known ← only_keys (map (λ k. k.now) CONTROL_KEYS) d
+  known ← only_keys control_keys d
   steps ← inner_steps inner
   control_after steps d
 

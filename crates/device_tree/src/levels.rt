@@ -4,6 +4,8 @@ ghost use Rattle.std.specs.Str.{bytes_eq};
 ghost use Rattle.serde_json.specs.View.{view};
 ghost use Rattle.json_form.specs.Faults.{Gives, at};
 ghost use Rattle.json_form.specs.declared.path.PathStep.TheVariants.{Key};
+ghost use Rattle.json_form.specs.Reading.{only_keys};
+ghost use Rattle.device_tree.specs.Keys.{variant_keys, device_keys, sub_family_keys, family_keys};
 ghost use Rattle.device_tree.specs.PackReading.{defaults_in, variant_in, device_in, sub_family_in, family_in, pack_in};
 ghost use Rattle.device_tree.specs.PackForm.{IsPack};
 ghost use Rattle.device_tree.specs.Same.{same_variant};
@@ -38,6 +40,13 @@ impl Reader for DefaultsReader {
 
 const VARIANT_KEYS: [&str; 3] = ["Dvariant", "debugvars", "sequences"];
 
+// That the value has no other keys than a variant may have.
+fn only_variant_keys(alloc: Global, value: &Value) -> Result<(), JobFault>
+    ensures { Gives result (only_keys variant_keys (view value.now)) }
+{
+    only_keys_of(alloc, value, &VARIANT_KEYS)
+}
+
 #[derive(Clone, Copy)]
 struct VariantReader;
 
@@ -48,7 +57,7 @@ impl Reader for VariantReader {
 
     #[tactic(auto, unfolding(crate::specs::PackReading::variant_in))]
     fn read(&self, alloc: Global, value: &Value) -> Result<Variant, JobFault> {
-        only_keys_of(alloc, value, &VARIANT_KEYS)?;
+        only_variant_keys(alloc, value)?;
         let name = required_of(alloc, value, "Dvariant", &Text)?;
         let level = level_of(alloc, value)?;
         Ok(Variant { name, level })
@@ -70,6 +79,13 @@ impl Keyed for VariantReader {
 
 const DEVICE_KEYS: [&str; 4] = ["Dname", "debugvars", "sequences", "variants"];
 
+// That the value has no other keys than a device may have.
+fn only_device_keys(alloc: Global, value: &Value) -> Result<(), JobFault>
+    ensures { Gives result (only_keys device_keys (view value.now)) }
+{
+    only_keys_of(alloc, value, &DEVICE_KEYS)
+}
+
 #[derive(Clone, Copy)]
 struct DeviceReader;
 
@@ -80,7 +96,7 @@ impl Reader for DeviceReader {
 
     #[tactic(auto, unfolding(crate::specs::PackReading::device_in))]
     fn read(&self, alloc: Global, value: &Value) -> Result<Device, JobFault> {
-        only_keys_of(alloc, value, &DEVICE_KEYS)?;
+        only_device_keys(alloc, value)?;
         let name = required_of(alloc, value, "Dname", &Text)?;
         let level = level_of(alloc, value)?;
         let list = ListOf {
@@ -100,6 +116,13 @@ impl Reader for DeviceReader {
 
 const SUB_FAMILY_KEYS: [&str; 4] = ["DsubFamily", "debugvars", "sequences", "devices"];
 
+// That the value has no other keys than a subfamily may have.
+fn only_sub_family_keys(alloc: Global, value: &Value) -> Result<(), JobFault>
+    ensures { Gives result (only_keys sub_family_keys (view value.now)) }
+{
+    only_keys_of(alloc, value, &SUB_FAMILY_KEYS)
+}
+
 #[derive(Clone, Copy)]
 struct SubFamilyReader;
 
@@ -110,7 +133,7 @@ impl Reader for SubFamilyReader {
 
     #[tactic(auto, unfolding(crate::specs::PackReading::sub_family_in))]
     fn read(&self, alloc: Global, value: &Value) -> Result<SubFamily, JobFault> {
-        only_keys_of(alloc, value, &SUB_FAMILY_KEYS)?;
+        only_sub_family_keys(alloc, value)?;
         let name = required_of(alloc, value, "DsubFamily", &Text)?;
         let level = level_of(alloc, value)?;
         let list = ListOf {
@@ -134,6 +157,13 @@ const FAMILY_KEYS: [&str; 5] = [
     "devices",
 ];
 
+// That the value has no other keys than a family may have.
+fn only_family_keys(alloc: Global, value: &Value) -> Result<(), JobFault>
+    ensures { Gives result (only_keys family_keys (view value.now)) }
+{
+    only_keys_of(alloc, value, &FAMILY_KEYS)
+}
+
 #[derive(Clone, Copy)]
 struct FamilyReader;
 
@@ -144,7 +174,7 @@ impl Reader for FamilyReader {
 
     #[tactic(auto, unfolding(crate::specs::PackReading::family_in))]
     fn read(&self, alloc: Global, value: &Value) -> Result<Family, JobFault> {
-        only_keys_of(alloc, value, &FAMILY_KEYS)?;
+        only_family_keys(alloc, value)?;
         let name = required_of(alloc, value, "Dfamily", &Text)?;
         let level = level_of(alloc, value)?;
         let subs = ListOf {

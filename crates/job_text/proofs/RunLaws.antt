@@ -7,8 +7,9 @@ use Rattle.json_form.specs.Form.{IsNumber, HasOr}
 use Rattle.json_form.proofs.ReadingLaws.{Reads, done, bind_ok, ok_is}
 use Rattle.json_form.proofs.LeafLaws.{number_reads}
 use Rattle.json_form.proofs.ObjectLaws.{only_keys_sound, only_keys_complete, or_else_reads}
+use Rattle.function_table.specs.Variables.{predefined}
 use Rattle.target_machine.specs.declared.unit.Variable.{Variable}
-use Rattle.job_text.specs.RunReading.{with_value, names_read, variable_in, values_after, variables_in, zeros, run_in}
+use Rattle.job_text.specs.RunReading.{with_value, variable_in, values_after, variables_in, zeros, run_in}
 use Rattle.job_text.specs.RunForm.{HasValues, AreVariables, IsRun}
 
 value_reads : (name : List ℕ) → Reads (or_else name (number 0 (2 ^ 64 - 1)) 0) (HasOr name (IsNumber 0 (2 ^ 64 - 1)) 0)
@@ -54,9 +55,9 @@ unfolding variables_in
 variables_reads = record {
   sound = λ d x e. (
       let a = bind_ok _ _ x e in
-      let b = values_sound [] names_read d x a.2 in
-      record { known = only_keys_sound _ d a.0 a.1; values = subst (HasValues names_read d) (sym b.1) b.2 });
-  complete = λ d x p. rw (only_keys_complete _ d p.known) (values_complete [] names_read d x p.values);
+      let b = values_sound [] predefined d x a.2 in
+      record { known = only_keys_sound _ d a.0 a.1; values = subst (HasValues predefined d) (sym b.1) b.2 });
+  complete = λ d x p. rw (only_keys_complete _ d p.known) (values_complete [] predefined d x p.values);
 }
 
 pub run_reads : Reads run_in IsRun

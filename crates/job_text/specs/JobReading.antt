@@ -1,5 +1,5 @@
 -- Reading a job.
-use Rattle.std.specs.Prelude.{codes, List, [], map, Some, Result, Ok}
+use Rattle.std.specs.Prelude.{codes, List, [], Some, Result, Ok}
 use Rattle.serde_json.specs.Data.{Data}
 use Rattle.json_form.specs.declared.fault.JobFault.{JobFault}
 use Rattle.dap_base.specs.Outcome.{◌>>=◌}
@@ -8,15 +8,14 @@ use Rattle.device_tree.specs.PackReading.{pack_in}
 use Rattle.target_machine.specs.declared.job.RegionJob.{RegionJob}
 use Rattle.job_text.specs.declared.job.Job.{Job}
 use Rattle.job_text.specs.declared.job.WatchItem.{WatchItem}
-use Rattle.job_text.specs.declared.watch.TheConstants.{WATCH_KEYS}
-use Rattle.job_text.specs.declared.reading.TheConstants.{JOB_KEYS}
+use Rattle.job_text.specs.Keys.{watch_keys, job_keys}
 use Rattle.job_text.specs.Tests.{is_aligned, are_words_in}
 use Rattle.job_text.specs.RunReading.{run_in, default_settings}
 use Rattle.job_text.specs.TargetReading.{address_number, bench_in}
 
 unfoldable pub watch_item_in : List RegionJob → Data → Result WatchItem JobFault
 watch_item_in regions d = do
-  known ← only_keys (map (λ k. k.now) WATCH_KEYS) d
+  known ← only_keys watch_keys d
   address ← required (codes "address") (such is_aligned address_number) d
   words ← required (codes "words") (such (are_words_in regions address) (number 1 65536)) d
   Ok (record { address = address; words = words })
@@ -26,7 +25,7 @@ watch_in regions d = or_else (codes "watch") (list_of (Some 1024) (alone (watch_
 
 unfoldable pub job_in : Data → Result Job JobFault
 job_in d = do
-  known ← only_keys (map (λ k. k.now) JOB_KEYS) d
+  known ← only_keys job_keys d
   pack ← required (codes "pack") pack_in d
   settings ← or_else (codes "run") run_in default_settings d
   bench ← required (codes "bench") bench_in d

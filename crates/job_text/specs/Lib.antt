@@ -1,3 +1,4 @@
+pub mod Keys
 pub mod RunReading
 pub mod RunForm
 pub mod Tests

@@ -6,12 +6,8 @@ use Rattle.dap_base.specs.Outcome.{◌>>=◌}
 use Rattle.json_form.specs.Reading.{number, only_keys, or_else}
 use Rattle.target_machine.specs.declared.unit.Variable.{Variable}
 use Rattle.target_machine.specs.declared.unit.Settings.{Settings}
-use Rattle.function_table.specs.declared.variables.TheConstants.{PREDEFINED}
-use Rattle.job_text.specs.declared.run.TheConstants.{RUN_KEYS}
-
--- the names of the predefined variables, in their order, as the code has them
-abbrev pub names_read : List (List ℕ)
-names_read = map (λ name. name.now) PREDEFINED
+use Rattle.function_table.specs.Variables.{predefined}
+use Rattle.job_text.specs.Keys.{run_keys}
 
 abbrev pub with_value : ℕ → List ℕ → Variable
 with_value value name = record { name = name; value = value }
@@ -31,16 +27,16 @@ values_after earlier (name ∷ names) d = do
 
 unfoldable pub variables_in : Data → Result (List Variable) JobFault
 variables_in d = do
-  known ← only_keys names_read d
-  values_after [] names_read d
+  known ← only_keys predefined d
+  values_after [] predefined d
 
 -- each predefined variable at 0
 abbrev pub zeros : List Variable
-zeros = map (with_value 0) names_read
+zeros = map (with_value 0) predefined
 
 unfoldable pub run_in : Data → Result Settings JobFault
 run_in d = do
-  known ← only_keys (map (λ k. k.now) RUN_KEYS) d
+  known ← only_keys run_keys d
   turn ← or_else (codes "turn_us") (number 1 60000000) 10 d
   retry ← or_else (codes "retry") (number 0 65535) 100 d
   idle ← or_else (codes "idle") (number 0 255) 0 d

@@ -1,5 +1,5 @@
 -- Reading a simulated target and the probe in front of it: the member `bench` of a job.
-use Rattle.std.specs.Prelude.{ℕ, ◌-◌, ◌^◌, codes, false, List, [], map, Some, Result, Ok, Err, if◌then◌else◌}
+use Rattle.std.specs.Prelude.{ℕ, ◌-◌, ◌^◌, codes, false, List, [], Some, Result, Ok, Err, if◌then◌else◌}
 use Rattle.serde_json.specs.Data.{Data}
 use Rattle.json_form.specs.declared.fault.JobFault.{JobFault}
 use Rattle.json_form.specs.declared.fault.JobFault.TheVariants.{Missing}
@@ -13,9 +13,7 @@ use Rattle.target_machine.specs.declared.job.TargetJob.{TargetJob}
 use Rattle.job_text.specs.declared.target.DebugPort.{DebugPort}
 use Rattle.probe_core.specs.declared.job.Limits.{Limits}
 use Rattle.probe_core.specs.declared.job.BenchJob.{BenchJob}
-use Rattle.job_text.specs.declared.target.TheConstants.{AP_KEYS, TARGET_KEYS}
-use Rattle.job_text.specs.declared.memory.TheConstants.{REGION_KEYS, WORD_KEYS, SCRIPT_KEYS}
-use Rattle.job_text.specs.declared.bench.TheConstants.{BENCH_KEYS}
+use Rattle.job_text.specs.Keys.{ap_keys, region_keys, word_keys, script_keys, target_keys, bench_keys}
 use Rattle.job_text.specs.Tests.{has_bit_0, lacks_bits_4_and_6, is_aligned, is_word_in, is_length_after, same_ap, overlap, same_word, repeats_script, is_filled}
 
 abbrev pub word_number : Data → Result ℕ JobFault
@@ -26,7 +24,7 @@ address_number = number 0 (2 ^ 64 - 1)
 
 unfoldable pub ap_in : Data → Result ApJob JobFault
 ap_in d = do
-  known ← only_keys (map (λ k. k.now) AP_KEYS) d
+  known ← only_keys ap_keys d
   ap ← required (codes "ap") (number 0 255) d
   idr ← or_else (codes "idr") word_number 0x24770011 d
   base ← or_else (codes "base") word_number 0xE00FF003 d
@@ -36,7 +34,7 @@ ap_in d = do
 
 unfoldable pub region_in : List RegionJob → Data → Result RegionJob JobFault
 region_in earlier d = do
-  known ← only_keys (map (λ k. k.now) REGION_KEYS) d
+  known ← only_keys region_keys d
   address ← required (codes "address") (such is_aligned address_number) d
   length ← required (codes "length") (such (is_length_after earlier address) (number 4 4194304)) d
   read_only ← or_else (codes "kind") (choice (codes "rw") (codes "ro")) false d
@@ -44,7 +42,7 @@ region_in earlier d = do
 
 unfoldable pub word_in : List RegionJob → Data → Result WordJob JobFault
 word_in regions d = do
-  known ← only_keys (map (λ k. k.now) WORD_KEYS) d
+  known ← only_keys word_keys d
   address ← required (codes "address") (such (is_word_in regions) address_number) d
   value ← required (codes "value") word_number d
   Ok (record { address = address; value = value })
@@ -57,7 +55,7 @@ values_in d = do
 
 unfoldable pub script_in : List RegionJob → Data → Result ScriptJob JobFault
 script_in regions d = do
-  known ← only_keys (map (λ k. k.now) SCRIPT_KEYS) d
+  known ← only_keys script_keys d
   address ← required (codes "address") (such (is_word_in regions) address_number) d
   values ← required (codes "values") values_in d
   Ok (record { address = address; values = values })
@@ -96,7 +94,7 @@ scripts_in regions words d = or_else (codes "scripts") (list_of (Some 1024) (alo
 
 unfoldable pub target_in : Data → Result TargetJob JobFault
 target_in d = do
-  known ← only_keys (map (λ k. k.now) TARGET_KEYS) d
+  known ← only_keys target_keys d
   port ← port_in d
   aps ← aps_in d
   memory ← regions_in d
@@ -119,7 +117,7 @@ limits_in d = do
 
 unfoldable pub bench_in : Data → Result BenchJob JobFault
 bench_in d = do
-  known ← only_keys (map (λ k. k.now) BENCH_KEYS) d
+  known ← only_keys bench_keys d
   limits ← limits_in d
   stalls ← or_else (codes "stalls") (list_of (Some 65536) (alone (number 0 100000)) never) [] d
   target ← required (codes "target") target_in d

@@ -1,6 +1,8 @@
 //! The simulated probe and its target: the member `bench`.
 ghost use Rattle.serde_json.specs.View.{view};
 ghost use Rattle.json_form.specs.Faults.{Gives};
+ghost use Rattle.json_form.specs.Reading.{only_keys};
+ghost use Rattle.job_text.specs.Keys.{bench_keys};
 ghost use Rattle.job_text.specs.TargetReading.{packet_size_in, packet_count_in, limits_in, bench_in};
 
 use crate::target::TargetReader;
@@ -56,6 +58,13 @@ fn limits_of(alloc: Global, bench: &Value) -> Result<Limits, JobFault>
     })
 }
 
+// That the value has no other keys than a bench may have.
+fn only_bench_keys(alloc: Global, value: &Value) -> Result<(), JobFault>
+    ensures { Gives result (only_keys bench_keys (view value.now)) }
+{
+    only_keys_of(alloc, value, &BENCH_KEYS)
+}
+
 /// Reads a bench.
 #[derive(Clone, Copy)]
 pub struct BenchReader;
@@ -67,7 +76,7 @@ impl Reader for BenchReader {
 
     #[tactic(auto, unfolding(crate::specs::TargetReading::bench_in))]
     fn read(&self, alloc: Global, value: &Value) -> Result<BenchJob, JobFault> {
-        only_keys_of(alloc, value, &BENCH_KEYS)?;
+        only_bench_keys(alloc, value)?;
         let limits = limits_of(alloc, value)?;
         let stalls = member_or(alloc, value, "stalls", &STALLS, ItemList::new(alloc))?;
         let target = required_of(alloc, value, "target", &TargetReader)?;

@@ -2,8 +2,9 @@
 ghost use Rattle.std.specs.Prelude.{◌≡◌, [], codes, map, IfOk};
 ghost use Rattle.serde_json.specs.View.{view};
 ghost use Rattle.json_form.specs.Faults.{Gives};
-ghost use Rattle.json_form.specs.Reading.{or_else};
-ghost use Rattle.job_text.specs.RunReading.{with_value, names_read, zeros, variable_in, values_after, variables_in, run_in, default_settings};
+ghost use Rattle.json_form.specs.Reading.{or_else, only_keys};
+ghost use Rattle.function_table.specs.Variables.{predefined};
+ghost use Rattle.job_text.specs.RunReading.{with_value, zeros, variable_in, values_after, variables_in, run_in, default_settings};
 
 use dap_base::{ItemList, NameText, OutOfMemory};
 use device_tree::JobFault;
@@ -54,6 +55,27 @@ fn values_of(alloc: Global, value: &Value, names: &[&str]) -> Result<Variables, 
     Ok(variables)
 }
 
+// That the value has no other keys than the names of the predefined variables.
+fn only_predefined(alloc: Global, value: &Value) -> Result<(), JobFault>
+    ensures { Gives result (only_keys predefined (view value.now)) }
+{
+    only_keys_of(alloc, value, &PREDEFINED)
+}
+
+// A value for each predefined variable, in their order.
+fn predefined_of(alloc: Global, value: &Value) -> Result<Variables, JobFault>
+    ensures { Gives result (values_after [] predefined (view value.now)) }
+{
+    values_of(alloc, value, &PREDEFINED)
+}
+
+// Each predefined variable at 0.
+fn predefined_zeros(alloc: Global) -> Result<Variables, OutOfMemory>
+    ensures { IfOk result (λ vs. vs ≡ zeros) }
+{
+    zeros_of(alloc, &PREDEFINED)
+}
+
 #[derive(Clone, Copy)]
 struct VariablesReader;
 
@@ -64,8 +86,8 @@ impl Reader for VariablesReader {
 
     #[tactic(auto, unfolding(crate::specs::RunReading::variables_in))]
     fn read(&self, alloc: Global, value: &Value) -> Result<Variables, JobFault> {
-        only_keys_of(alloc, value, &PREDEFINED)?;
-        values_of(alloc, value, &PREDEFINED)
+        only_predefined(alloc, value)?;
+        predefined_of(alloc, value)
     }
 }
 
@@ -75,7 +97,7 @@ fn start_of(alloc: Global, run: &Value) -> Result<Variables, JobFault>
 {
     match optional_of(alloc, run, "variables", &VariablesReader)? {
         Some(variables) => Ok(variables),
-        None => Ok(zeros_of(alloc, &PREDEFINED)?),
+        None => Ok(predefined_zeros(alloc)?),
     }
 }
 
@@ -131,7 +153,7 @@ fn defaults(alloc: Global) -> Result<Settings, OutOfMemory>
         turn_us: DEFAULT_TURN_US,
         retry: DEFAULT_RETRY,
         idle: 0,
-        start: zeros_of(alloc, &PREDEFINED)?,
+        start: predefined_zeros(alloc)?,
     })
 }
 

@@ -2,7 +2,8 @@
 ghost use Rattle.std.specs.Prelude.{◌≡◌, ◌==◌};
 ghost use Rattle.serde_json.specs.View.{view};
 ghost use Rattle.json_form.specs.Faults.{Gives};
-ghost use Rattle.json_form.specs.Reading.{such, number};
+ghost use Rattle.json_form.specs.Reading.{such, number, only_keys};
+ghost use Rattle.job_text.specs.Keys.{target_keys};
 ghost use Rattle.job_text.specs.Tests.{has_bit_0, lacks_bits_4_and_6, same_ap};
 ghost use Rattle.job_text.specs.TargetReading.{word_number, ap_in, aps_in, regions_in, words_in, listed_in, reset_in, scripts_in, power_reads_in, port_in, target_in};
 
@@ -238,6 +239,13 @@ const TARGET_KEYS: [&str; 10] = [
     "reset",
 ];
 
+// That the value has no other keys than a target may have.
+fn only_target_keys(alloc: Global, value: &Value) -> Result<(), JobFault>
+    ensures { Gives result (only_keys target_keys (view value.now)) }
+{
+    only_keys_of(alloc, value, &TARGET_KEYS)
+}
+
 /// Reads a target.
 #[derive(Clone, Copy)]
 pub struct TargetReader;
@@ -249,7 +257,7 @@ impl Reader for TargetReader {
 
     #[tactic(auto, unfolding(crate::specs::TargetReading::target_in))]
     fn read(&self, alloc: Global, value: &Value) -> Result<TargetJob, JobFault> {
-        only_keys_of(alloc, value, &TARGET_KEYS)?;
+        only_target_keys(alloc, value)?;
         let port = port_of(alloc, value)?;
         let aps = aps_of(alloc, value)?;
         let memory = regions_of(alloc, value)?;
