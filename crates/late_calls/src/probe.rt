@@ -1,5 +1,5 @@
 //! Calls that are commands of the probe.
-ghost use Rattle.std.specs.Prelude.{◌≡◌, ◌%◌, ◌^◌, ◌≤◌, ℕ, List, Option, None, length};
+ghost use Rattle.std.specs.Prelude.{◌≡◌, ℕ, List, Option, None, length};
 ghost use Rattle.probe_core.specs.Bench.{BenchState};
 ghost use Rattle.access_calls.specs.GoesOn.{GoesOn};
 ghost use Rattle.access_calls.specs.Left.{IsLeft};
@@ -15,6 +15,7 @@ use crate::held::Held;
 use crate::ports::debug_port;
 use access_calls::Access;
 use call_terms::Value;
+use sequence_terms::low_bits;
 use target_machine::{HaltCause, ProbeCall};
 
 // `DAP_WriteABORT`, on debug port 0 alone.
@@ -132,19 +133,6 @@ pub(crate) fn pins<A: Access>(
         wait: wait as u32,
     };
     command(call, held, access)
-}
-
-// The lowest `count` bits.
-fn low_bits(count: u8, bits: u64) -> u64
-    requires some { 1 ≤ count }
-    requires most { count ≤ 64 }
-    ensures { result ≡ bits % 2 ^ count }
-{
-    if count == 64 {
-        bits
-    } else {
-        bits % (1u64 << count)
-    }
 }
 
 // `DAP_SWJ_Sequence`, of 1 to 64 bits.

@@ -1,6 +1,5 @@
 //! Calls that access memory.
 ghost use Rattle.std.specs.Prelude.{◌≡◌, ◌⊎◌, ℕ, ◌<◌, ◌^◌, ◌%◌, ◌≤◌, List, Option, false};
-ghost use Rattle.target_machine.specs.Sound.{IsSound};
 ghost use Rattle.call_terms.specs.World.{World};
 ghost use Rattle.sequence_terms.specs.Calls as c;
 ghost use Rattle.sequence_terms.specs.Direct.{Now, direct};
@@ -10,28 +9,8 @@ ghost use Rattle.sequence_meaning.specs.Held.{IsCaused, IsMade, Gives, state_of}
 use crate::asking::{Port, ask, asked, port_of};
 use crate::end::End;
 use crate::held::Held;
-use target_machine::{HaltCause, Target, Unit};
-
-// A memory access of 1, 2 or 4 bytes; a value that is written is cut to its size.
-#[tactic(auto, unfolding(sequence_terms::specs::Calls::memory_unit))]
-fn memory_unit(size: u8, read: bool, ap: u8, address: u64, value: u64) -> Unit
-    requires { (size ≡ 1) ⊎ ((size ≡ 2) ⊎ (size ≡ 4)) }
-    ensures unit { result ≡ c.memory_unit size read ap address value }
-    ensures sound { address % size ≡ 0 → IsSound result }
-{
-    let kept = match size {
-        1 => value % 0x100,
-        2 => value % 0x1_0000,
-        _ => value % 0x1_0000_0000,
-    };
-    Unit::Memory {
-        size,
-        read,
-        ap,
-        address,
-        value: if read { 0 } else { kept as u32 },
-    }
-}
+use sequence_terms::memory_unit;
+use target_machine::{HaltCause, Target};
 
 // The value of `Read64`.
 #[tactic(auto, unfolding(sequence_terms::specs::Calls::low_and_high, sequence_terms::specs::Calls::use_now, sequence_terms::specs::Direct::direct))]

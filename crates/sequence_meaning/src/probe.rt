@@ -1,5 +1,5 @@
 //! Calls that are commands of the probe.
-ghost use Rattle.std.specs.Prelude.{◌≡◌, ℕ, ◌%◌, ◌^◌, ◌≤◌, List, Option, false};
+ghost use Rattle.std.specs.Prelude.{ℕ, List, Option, false};
 ghost use Rattle.target_machine.specs.Sound.{IsSoundProbe};
 ghost use Rattle.call_terms.specs.World.{World};
 ghost use Rattle.sequence_terms.specs.Calls as c;
@@ -10,6 +10,7 @@ ghost use Rattle.sequence_meaning.specs.Held.{IsCaused, IsMade, Gives, state_of}
 use crate::asking::{command, debug_port};
 use crate::end::End;
 use crate::held::Held;
+use sequence_terms::low_bits;
 use target_machine::{HaltCause, ProbeCall, Target};
 
 // A command whose result is dropped.
@@ -90,19 +91,6 @@ pub(crate) fn pins(
         wait: wait as u32,
     };
     command(call, held, target)
-}
-
-// The lowest `count` bits.
-fn low_bits(count: u8, bits: u64) -> u64
-    requires some { 1 ≤ count }
-    requires most { count ≤ 64 }
-    ensures { result ≡ bits % 2 ^ count }
-{
-    if count == 64 {
-        bits
-    } else {
-        bits % (1u64 << count)
-    }
 }
 
 // `DAP_SWJ_Sequence`, of 1 to 64 bits.
