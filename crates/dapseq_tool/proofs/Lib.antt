@@ -8,3 +8,5 @@ pub mod OneLemmas
 pub mod BadLemmas
 pub mod LentLemmas
 pub mod MemoryLemmas
+pub mod JobLength
+pub mod SomeAsked

@@ -21,3 +21,8 @@ pub fn bad_replies_are_received()
 pub fn one_thing()
     ensures { (words : List (List ℕ)) (bytes : List ℕ) (x y : Asked) → Asks words bytes x → Asks words bytes y → IsSameWhat x.what y.what }
 {}
+
+/// The words and the bytes of the source ask for something, whichever they are.
+pub fn something_is_asked()
+    ensures { (words : List (List ℕ)) (bytes : List ℕ) → (asked : Asked) × Asks words bytes asked }
+{}

@@ -8,6 +8,7 @@ use Rattle.sequence_resolve.specs.declared.selection.Selection.{Selection}
 use Rattle.sequence_resolve.specs.Resolving.{IsEffectiveSet}
 use Rattle.job_text.specs.declared.job.Job.{Job}
 use Rattle.job_text.specs.Answers.{Describes}
+use Rattle.seq_check.specs.Valid.{IsValid}
 use Rattle.seq_check.specs.Answers.{checked_trees}
 use Rattle.job_check.specs.Answers.{NoJob, NoSet, NoValid, AreTreesOf}
 use Rattle.job_check.specs.declared.answer.Refusal.{Refusal}
@@ -34,6 +35,13 @@ pub record IsSetOf (bytes : List ℕ) (s : Selection) (set : SeqSet) : Type 0 wh
   pub job : Job
   pub described : Describes bytes job
   pub resolved : IsEffectiveSet job.pack s.device s.variant s.pname set
+
+-- The set of the selection is valid, and a sequence of it has the name: all of a run, except where its trees lie in memory.
+pub record HasRun (bytes : List ℕ) (s : Selection) (name : List ℕ) : Type 0 where
+  pub set : SeqSet
+  pub of : IsSetOf bytes s set
+  pub named : has_sequence set name ≡ true
+  pub valid : IsValid set
 
 -- Why no sequence runs: the bytes are no job; the job has no set for the selection; no sequence of the set has the name; or the
 -- set is not valid.

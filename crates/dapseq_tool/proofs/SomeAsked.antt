@@ -1,0 +1,74 @@
+-- The words and the bytes of the source ask for something.
+use Rattle.std.proofs.Common.{◌≡◌, ◌⊎◌, inl, inr, ℕ, ◌<◌, ◌≤◌, ◌^◌, nat_le, Bool, true, false, List, length, Option, Some, None, MatchBool, refl, arith}
+use Rattle.std.proofs.lemmas.Bool.{leb-true}
+use Rattle.command_words.specs.declared.answer.Command.{Command}
+use Rattle.command_words.specs.declared.answer.Command.TheVariants as commands
+use Rattle.command_words.specs.Table.{IsCommand}
+use Rattle.sequence_resolve.specs.declared.selection.Selection.{Selection}
+use Rattle.job_check.specs.declared.running.RunRefusal.{RunRefusal}
+use Rattle.job_check.specs.declared.running.RunRefusal.TheVariants as refusals
+use Rattle.job_check.specs.Running.{IsRefusedRun, not_described, not_resolved, not_named, not_valid}
+use Rattle.job_check.proofs.SomeAnswer.{some_answer}
+use Rattle.job_check.proofs.SomeRun.{run_or_refusal}
+use Rattle.dapseq_tool.specs.Generated.{its_device, its_sequence, job_text}
+use Rattle.dapseq_tool.specs.declared.asking.Answer.TheVariants as answers
+use Rattle.dapseq_tool.specs.declared.asking.Asked.{Asked}
+use Rattle.dapseq_tool.specs.declared.asking.What.{What}
+use Rattle.dapseq_tool.specs.declared.asking.What.TheVariants as whats
+use Rattle.dapseq_tool.specs.Asked.{limit, ReadsSource, of_check, AsksOfRun, AsksOfBytes, AsksOfCommand, Asks, usage, command, generated}
+use Rattle.dapseq_tool.proofs.JobLength.{job_few}
+use Rattle.command_words.proofs.SomeCommand.{command_or_none}
+
+-- no run is refused for want of memory
+never_memory : (bytes : List ℕ) (s : Selection) (name : List ℕ) → IsRefusedRun bytes s name refusals.OutOfMemory → ⊥
+never_memory bytes s name is = elim is [
+  | not_described r none e ↦ absurd cc
+  | not_resolved job r described none e ↦ absurd cc
+  | not_named set of none e ↦ absurd cc
+  | not_valid set r of named none e ↦ absurd cc
+]
+
+module _ (s : Selection) (sequence : List ℕ) (traced : Bool) (bytes : List ℕ) where
+  -- the answer where no sequence runs
+  no_run : (end : RunRefusal) → IsRefusedRun bytes s sequence end → (what : What) × AsksOfRun s sequence traced bytes what
+  no_run (refusals.Refused r) is = (whats.Answer (answers.Refused r), is)
+  no_run refusals.NoSequence is = (whats.Answer answers.NoSequence, is)
+  no_run refusals.OutOfMemory is = absurd (never_memory bytes s sequence is)
+
+  of_run : length bytes < 2 ^ 63 → (what : What) × AsksOfRun s sequence traced bytes what
+  of_run few = elim (run_or_refusal bytes s sequence few) [
+    | inl run ↦ (whats.Run (record { valid = run.0; sequence = sequence; is_traced = traced }), record { name = refl; shown = refl; valid = run.1 })
+    | inr none ↦ no_run none.0 none.1
+  ]
+
+-- what a command that reads the source asks for, where there are not too many bytes
+of_bytes : (c : Command) → ReadsSource c → (bytes : List ℕ) → length bytes ≤ limit → (what : What) × AsksOfBytes c bytes what
+of_bytes (commands.Check s) reads bytes few = let answer = some_answer bytes s in (of_check answer.0, (answer.0, answer.1, refl))
+of_bytes (commands.Run s sequence) reads bytes few = of_run s sequence false bytes (omega (arith, few))
+of_bytes (commands.Trace s sequence) reads bytes few = of_run s sequence true bytes (omega (arith, few))
+of_bytes (commands.Gen n) reads bytes few = absurd reads
+
+by_length : (c : Command) → ReadsSource c → (bytes : List ℕ) (b : Bool) → nat_le (length bytes) limit ≡ b → (what : What) × MatchBool b (AsksOfBytes c bytes what) (what ≡ whats.Answer answers.TooLong)
+by_length c reads bytes true few = of_bytes c reads bytes (leb-true (length bytes) limit few)
+by_length c reads bytes false many = (whats.Answer answers.TooLong, refl)
+
+of_command : (c : Command) → ReadsSource c → (bytes : List ℕ) → (what : What) × AsksOfCommand c bytes what
+of_command c reads bytes = by_length c reads bytes (nat_le (length bytes) limit) refl
+
+module _ (words : List (List ℕ)) (bytes : List ℕ) where
+  read_line : (c : Command) → IsCommand words c → ReadsSource c → (asked : Asked) × Asks words bytes asked
+  read_line c is reads = let w = of_command c reads bytes in (record { number = None; what = w.0 }, command c is reads refl w.1)
+
+  by_command : (c : Command) → IsCommand words c → (asked : Asked) × Asks words bytes asked
+  by_command (commands.Check s) is = read_line (commands.Check s) is tt
+  by_command (commands.Run s sequence) is = read_line (commands.Run s sequence) is tt
+  by_command (commands.Trace s sequence) is = read_line (commands.Trace s sequence) is tt
+  by_command (commands.Gen n) is =
+      let w = of_run its_device its_sequence false (job_text n) (job_few n is.row.2.bits) in
+      (record { number = Some n; what = w.0 }, generated n is refl w.1)
+
+  pub something_is_asked : (asked : Asked) × Asks words bytes asked
+  something_is_asked = elim (command_or_none words) [
+    | inl c ↦ by_command c.0 c.1
+    | inr none ↦ (record { number = None; what = whats.Answer answers.Usage }, usage none refl refl)
+  ]
