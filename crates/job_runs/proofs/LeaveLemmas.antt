@@ -1,23 +1,27 @@
 -- What an access and a run over it report together is what a run leaves.
-use Rattle.std.proofs.Common.{◌≡◌, ◌∙◌, ℕ, ◌+◌, ◌-◌, ◌/◌, ◌<◌, ◌≤◌, List, length, Bool, true, false, Option, None, Some, refl, sym, ap, subst, arith}
+use Rattle.std.proofs.Common.{◌≡◌, ◌∙◌, ◌⊎◌, inl, inr, ℕ, ◌+◌, ◌-◌, ◌*◌, ◌/◌, ◌<◌, ◌≤◌, if◌then◌else◌, List, [], ◌++◌, append-nil, length, take, Bool, true, false, Option, None, Some, refl, sym, ap, subst, arith}
+use Rattle.std.specs.Prelude.{option_map, slice_get}
+use Rattle.std.proofs.lemmas.List.{take-append-le}
 use Rattle.target_machine.specs.State.{Agree, TargetState}
 use Rattle.probe_core.specs.Bench.{BenchState, Seen, StepsTo, fresh}
 use Rattle.probe_core.specs.Probe.{target_of}
 use Rattle.probe_core.specs.declared.job.BenchJob.{BenchJob}
 use Rattle.probe_core.specs.declared.job.Limits.{Limits}
 use Rattle.call_terms.specs.Asks.{is_settled, settled_last}
-use Rattle.call_terms.specs.Journal.{Entry}
+use Rattle.call_terms.specs.Journal.{Entry, lines_before, target_after}
+use Rattle.call_terms.specs.Journal.{settles as is_settling}
 use Rattle.call_terms.specs.NeedPoints.{Asks, finished, needed}
-use Rattle.call_terms.specs.Weights.{registers_in}
+use Rattle.call_terms.specs.Weights.{commands_in, registers_in}
 use Rattle.call_terms.specs.World.{start_world, world_after}
 use Rattle.call_terms.specs.declared.calls.Ask.{Ask}
 use Rattle.call_terms.proofs.MarkLemmas.{after_marked, marked_settled}
 use Rattle.access_calls.specs.Bounds.{AreNextWrites, KeepsBounds, KeepsBoundsIf, block_words, capacity, starting_since}
 use Rattle.access_calls.specs.Left.{answered_at, answered_by, answered_cut}
-use Rattle.access_calls.specs.Numbers.{HasNumbers}
+use Rattle.access_calls.specs.Growing.{JournalGrows, JournalSettles}
+use Rattle.access_calls.specs.Numbers.{HasNumbers, StopNumbers, lines_at, unit_at}
 use Rattle.access_calls.specs.Reported.{Reported, began, world_from}
 use Rattle.access_calls.specs.Standing as s
-use Rattle.access_calls.specs.Standing.{Stands, StandsAt, WhereObservable, HasPerformed, IsOpen}
+use Rattle.access_calls.specs.Standing.{Stands, StandsAt, WhereObservable, HasPerformed, IsOpen, grown_since, number_of, pending_of}
 use Rattle.access_calls.specs.declared.ended.Ended.{Ended}
 use Rattle.access_calls.specs.declared.ended.Ending.{Ending}
 use Rattle.access_calls.specs.declared.ended.Ending.TheVariants as e
@@ -26,13 +30,19 @@ use Rattle.access_calls.specs.declared.stop.Stop.{Stop}
 use Rattle.access_calls.specs.declared.stop.Stop.TheVariants as stop
 use Rattle.access_calls.specs.declared.stop.StopCause.{StopCause}
 use Rattle.access_calls.specs.declared.stop.StopCause.TheVariants.{Faulted, NoAnswer}
-use Rattle.sequence_terms.specs.Runs.{Program, Outcome, late_meaning, meaning, outcome, outcome_of}
+use Rattle.sequence_terms.specs.Laws as laws
+use Rattle.sequence_terms.specs.Laws.{IsCutShort}
+use Rattle.sequence_terms.specs.Runs.{Program, Outcome, late_meaning, meaning, outcome, outcome_of, units_of}
 use Rattle.sequence_terms.specs.Machine.{end_state}
+use Rattle.sequence_terms.proofs.Limits.{limit_cuts}
 use Rattle.sequence_terms.proofs.Made.{are_made}
 use Rattle.sequence_terms.proofs.Writing.{only_written}
-use Rattle.control_flow.specs.Answers.{EndBy, EndsAs, HasNeeds, IsAll, IsCut, IsPart, Ran, ran}
+use Rattle.control_flow.specs.Answers as answers
+use Rattle.control_flow.specs.Answers.{EndBy, EndsAs, HasNeeds, IsAll, IsCut, IsPart, Ran, SharesCalls, StopsAfter, ran}
 use Rattle.sequence_terms.specs.Known.{Knows, known_part}
-use Rattle.job_runs.specs.Runs.{AccessKind, ComesTo, HasStopped, IsBroken, IsFaultStop, IsFew, IsFewIf, IsLeftOff, IsNotOpened, IsRetryStop, IsStop, IsUnopened, IsWhole, Left, LeavesAs, Run, calls_in, entries_in, known_after, needs_in, not_opened, opened, outcome_with}
+use Rattle.target_machine.specs.Counts.{one_if}
+use Rattle.job_runs.proofs.FrontLemmas.{Covers, Meeting, call_within, covered, covers, get_some, meeting, meets, own_call, same_fault, same_first, same_made, same_numbers}
+use Rattle.job_runs.specs.Runs.{AccessKind, ComesTo, EndsAfter, HasStopped, IsBroken, IsFaultStop, IsFew, IsFewIf, IsLeftOff, IsNotOpened, IsRetryStop, IsStop, IsUnopened, IsWhole, Left, LeavesAs, Run, calls_in, calls_with, entries_in, known_after, needs_in, not_opened, opened, outcome_with}
 use Rattle.job_runs.specs.Ends.{ending_of}
 use Rattle.bench_access.specs.Opening.{IsLoaded, IsNotBegun, IsOpened, RefusedBy}
 
@@ -54,7 +64,19 @@ ends_at ending p a first before r end is h =
 since_load : (now first most : ℕ) → first ≡ 0 → now - first ≤ most → now ≤ most
 since_load now first most none few = omega (arith, none, few)
 
-module _ (access : AccessKind) (limits : Limits) (p : Program) (first : BenchState) (before : Option (List ℕ)) where
+-- the unit of an entry is at most one more than those that have their lines before it
+unit_by_lines : (e : Entry) → e.unit ≤ lines_before e + 1
+unit_by_lines e = one (is_settling e.part)
+  where
+    one : (b : Bool) → e.unit ≤ (if b then e.unit else e.unit - 1) + 1
+    one true = omega arith
+    one false = omega arith
+
+one_at_most : (b : Bool) → one_if b ≤ 1
+one_at_most true = omega arith
+one_at_most false = omega arith
+
+module _ (access : AccessKind) (grows : JournalGrows access.journal) (settles : JournalSettles access.journal) (limits : Limits) (p : Program) (first : BenchState) (before : Option (List ℕ)) where
   abbrev run : Run
   run = record { access = access; limits = limits; program = p; first = first; before = before }
 
@@ -119,62 +141,153 @@ module _ (access : AccessKind) (limits : Limits) (p : Program) (first : BenchSta
     packets = few;
   }
 
+  -- how what was asked meets the calls of an outcome
+  abbrev Covered : Reported → Type 0
+  Covered a = Covers access.journal grows settles (target_of first.probe) a.asks.calls whole.calls
+
+  covered_by : (a : Reported) → SharesCalls a.asks.calls whole.calls → Covered a
+  covered_by a shares = covers access.journal grows settles (target_of first.probe) a.asks.calls whole.calls (meets a.asks.calls whole.calls shares)
+
   is_left_off : (a : Reported) (l : Left) → IsPart whole (ran l.ended a.asks l.written) → IsOpen (entries a) a (began first None) l.bench → IsLeftOff run l
-  is_left_off a l part at = record {
-    asked = a.asks.calls;
-    sent = a.confirmed;
-    front = record { written = part.written; calls = part.calls };
-    performed = at.performed;
-    retries = at.retries;
-  }
+  is_left_off a l part at =
+      let c = covered_by a part.calls in
+      record {
+        asked = a.asks.calls;
+        more = c.more;
+        sent = a.confirmed;
+        front = record { written = part.written; entries = c.goes_on; beyond = c.beyond };
+        performed = at.performed;
+        target = subst (λ (es : List Entry). Agree (target_of l.bench.probe) (target_after (target_of first.probe) es))
+            (sym (ap (take a.confirmed) c.goes_on.joined ∙ take-append-le a.confirmed (entries a) c.goes_on.rest at.performed.within)) at.performed.target;
+        retries = at.retries;
+      }
 
   is_broken : (issued confirmed : ℕ) (a : Reported) (l : Left) → IsPart whole (ran l.ended a.asks l.written)
       → s.IsBenchFault (entries a) issued confirmed (began first None) l.bench → IsBroken run issued confirmed l
-  is_broken issued confirmed a l part fault = record {
-    asked = a.asks.calls;
-    front = record { written = part.written; calls = part.calls };
-    stands = fault;
-  }
+  is_broken issued confirmed a l part fault =
+      let c = covered_by a part.calls in
+      record {
+        asked = a.asks.calls;
+        more = c.more;
+        front = record { written = part.written; entries = c.goes_on; beyond = c.beyond };
+        stands = fault;
+      }
 
-  has_stopped : (answered : Option ℕ) (o : Outcome) (a : Reported) (r : Report) (l : Left) → IsCut r.cause a.lines o (ran l.ended a.asks l.written) → l.ended.skipped ≡ a.skipped
-      → HasNumbers (entries a) a.asks.calls a.skipped a.lines r → HasPerformed (entries a) r.accesses (began first answered) l.bench
-      → HasStopped run answered o a.asks.calls a.lines r l
-  has_stopped answered o a r l cut skipped numbers performed = record {
+  -- the entry that a stop names, and that its unit was asked
+  record Names (a : Reported) (r : Report) : Type 0 where
+    entry : Entry
+    at : slice_get (entries a) r.confirmed ≡ Some entry
+    lines : lines_before entry ≡ a.lines
+    asked : r.unit ≤ length a.asks.calls
+    unit : r.unit ≤ a.lines + 1
+
+  names : (a : Reported) (r : Report) → HasNumbers (entries a) a.asks.calls a.skipped a.lines r → Names a r
+  names a r numbers =
+      let e = get_some r.confirmed (entries a) numbers.named in
+      let lines : a.lines ≡ lines_before e.0 = ap (λ (n : StopNumbers). n.lines) numbers.numbers ∙ ap lines_at e.1 in
+      let unit : r.unit ≡ e.0.unit = ap (λ (n : StopNumbers). n.unit) numbers.numbers ∙ ap unit_at e.1 in
+      record {
+        entry = e.0;
+        at = e.1;
+        lines = sym lines;
+        asked = (let there = call_within a.asks.calls (r.unit - 1) r.what numbers.what in omega (arith, there));
+        unit = (let high = unit_by_lines e.0 in omega (arith, lines, unit, high));
+      }
+
+  has_stopped : (answered : Option ℕ) (o : Outcome) (a : Reported) (r : Report) (l : Left) (calls : List Ask) → IsCut r.cause a.lines o (ran l.ended a.asks l.written) → l.ended.skipped ≡ a.skipped
+      → HasNumbers (entries a) a.asks.calls a.skipped a.lines r → HasPerformed (entries a) r.accesses (began first answered) l.bench → r.accesses ≤ r.confirmed + 1
+      → Meeting r (entries a) (entries_in run calls) → option_map (λ (x : Ask). x.call) (slice_get calls (r.unit - 1)) ≡ Some r.what
+      → HasStopped run answered o calls a.lines r l
+  has_stopped answered o a r l calls cut skipped numbers performed one meet what = record {
     stops = cut.stops;
     written = cut.written;
-    calls = cut.calls;
-    numbers = subst (λ (n : ℕ). HasNumbers (entries a) a.asks.calls n a.lines r) (sym skipped) numbers;
-    performed = performed;
+    numbers = subst (λ (n : ℕ). HasNumbers (entries_in run calls) calls n a.lines r) (sym skipped)
+        (same_numbers r (entries a) (entries_in run calls) meet one a.asks.calls calls a.skipped a.lines numbers what);
+    performed = same_made r (entries a) (entries_in run calls) meet one (began first answered) l.bench performed;
   }
 
-  is_fault_stop : (a : Reported) (r : Report) (l : Left) → IsCut r.cause a.lines whole (ran l.ended a.asks l.written) → l.ended.skipped ≡ a.skipped
+  is_fault_stop : (a : Reported) (r : Report) (l : Left) → r.cause ≡ Faulted → IsCut r.cause a.lines whole (ran l.ended a.asks l.written) → l.ended.skipped ≡ a.skipped
       → s.IsFaulted (entries a) r a (began first None) l.bench → IsFaultStop run r l
-  is_fault_stop a r l cut skipped at = record {
-    asked = a.asks.calls;
-    lines = a.lines;
-    stopped = has_stopped None whole a r l cut skipped at.numbers at.performed;
-    fault = at.first;
-    confirmed = at.confirmed;
-    retries = at.retries;
-  }
+  is_fault_stop a r l cause cut skipped at =
+      let n = names a r at.numbers in
+      let units : length whole.calls ≡ a.lines + 1 = (subst (λ (c : StopCause). StopsAfter c a.lines whole) cause cut.stops).1 in
+      let one : r.accesses ≤ r.confirmed + 1 = (let c = at.confirmed in omega (arith, c)) in
+      let m = meets a.asks.calls whole.calls cut.calls in
+      let meet : Meeting r (entries a) (entries_in run (calls_in run)) =
+      meeting access.journal grows settles (target_of first.probe) r a.asks.calls whole.calls whole.calls [] n.entry m (sym (append-nil whole.calls)) n.at
+      (let lines = n.lines in omega (arith, lines, units)) n.asked (let high = n.unit in omega (arith, units, high)) in
+      let what = own_call a.asks.calls whole.calls whole.calls [] (r.unit - 1) r.what m (sym (append-nil whole.calls)) (let high = n.unit in omega (arith, units, high)) at.numbers.what in
+      record {
+        lines = a.lines;
+        stopped = has_stopped None whole a r l (calls_in run) cut skipped at.numbers at.performed one meet what;
+        fault = same_fault r (entries a) (entries_in run (calls_in run)) meet one (target_of first.probe) at.first;
+        confirmed = at.confirmed;
+        retries = at.retries;
+      }
 
-  is_retry_stop : (a : Reported) (r : Report) (l : Left) → IsCut r.cause a.lines (outcome_with run a.lines) (ran l.ended a.asks l.written) → l.ended.skipped ≡ a.skipped
+  -- the outcome with so many units answered, by how it stops
+  abbrev short : ℕ → Outcome
+  short lines = outcome_with run lines
+
+  retry_one : (r : Report) (m : BenchState) → r.accesses ≡ r.confirmed + one_if (pending_of m) → r.accesses ≤ r.confirmed + 1
+  retry_one r m is = (let few = one_at_most (pending_of m) in omega (arith, is, few))
+
+  -- a retry that ended, in the journal of these calls
+  retry_in : (a : Reported) (r : Report) (l : Left) (more : List Ask) → IsCut r.cause a.lines (short a.lines) (ran l.ended a.asks l.written) → l.ended.skipped ≡ a.skipped
+      → s.IsUnanswered (entries a) r a (began first (Some a.lines)) l.bench → (0 < length more → EndsAfter a.lines whole) → Meeting r (entries a) (entries_in run (calls_with run more))
+      → option_map (λ (x : Ask). x.call) (slice_get (calls_with run more) (r.unit - 1)) ≡ Some r.what → IsRetryStop run r l
+  retry_in a r l more cut skipped at after_all meet what =
+      let one = retry_one r l.bench at.confirmed in
+      record {
+        lines = a.lines;
+        more = more;
+        after_all = after_all;
+        stopped = has_stopped (Some a.lines) (short a.lines) a r l (calls_with run more) cut skipped at.numbers at.performed one meet what;
+        confirmed = at.confirmed;
+        retries = at.retries;
+        number = subst (λ (es : List Entry). number_of l.bench + 2 * commands_in es ≤ number_of first + 2 * grown_since (began first (Some a.lines)) l.bench + 1)
+            (same_first r (entries a) (entries_in run (calls_with run more)) meet one) at.number;
+      }
+
+  -- where the next unit is not answered
+  retry_short : (a : Reported) (r : Report) (l : Left) → IsCut r.cause a.lines (short a.lines) (ran l.ended a.asks l.written) → l.ended.skipped ≡ a.skipped
+      → s.IsUnanswered (entries a) r a (began first (Some a.lines)) l.bench → units_of (short a.lines) ≡ a.lines + 1 → (later : List Ask) → whole.calls ≡ (short a.lines).calls ++ later → IsRetryStop run r l
+  retry_short a r l cut skipped at units later are =
+      let n = names a r at.numbers in
+      let m = meets a.asks.calls (short a.lines).calls cut.calls in
+      let all : whole.calls ++ [] ≡ (short a.lines).calls ++ later = append-nil whole.calls ∙ are in
+      retry_in a r l [] cut skipped at (λ some. absurd (omega (arith, some)))
+      (meeting access.journal grows settles (target_of first.probe) r a.asks.calls (short a.lines).calls (whole.calls ++ []) later n.entry m all n.at
+      (let lines = n.lines in omega (arith, lines, units)) n.asked (let high = n.unit in omega (arith, units, high)))
+      (own_call a.asks.calls (short a.lines).calls (whole.calls ++ []) later (r.unit - 1) r.what m all (let high = n.unit in omega (arith, units, high)) at.numbers.what)
+
+  -- where the outcome comes to its end with so many units
+  retry_whole : (a : Reported) (r : Report) (l : Left) → IsCut r.cause a.lines (short a.lines) (ran l.ended a.asks l.written) → l.ended.skipped ≡ a.skipped
+      → s.IsUnanswered (entries a) r a (began first (Some a.lines)) l.bench → EndsAfter a.lines (short a.lines) → short a.lines ≡ whole → IsRetryStop run r l
+  retry_whole a r l cut skipped at ends same =
+      let n = names a r at.numbers in
+      let c = covered_by a (subst (λ (o : Outcome). SharesCalls a.asks.calls o.calls) same cut.calls) in
+      retry_in a r l c.more cut skipped at (λ some. subst (EndsAfter a.lines) same ends)
+      (covered access.journal grows settles (target_of first.probe) r a.asks.calls whole.calls c at.numbers.named n.asked)
+      (c.same (r.unit - 1) r.what at.numbers.what)
+
+  is_retry_stop : (a : Reported) (r : Report) (l : Left) → r.cause ≡ NoAnswer → IsCut r.cause a.lines (short a.lines) (ran l.ended a.asks l.written) → l.ended.skipped ≡ a.skipped
       → s.IsUnanswered (entries a) r a (began first (Some a.lines)) l.bench → IsRetryStop run r l
-  is_retry_stop a r l cut skipped at = record {
-    asked = a.asks.calls;
-    lines = a.lines;
-    stopped = has_stopped (Some a.lines) (outcome_with run a.lines) a r l cut skipped at.numbers at.performed;
-    confirmed = at.confirmed;
-    retries = at.retries;
-    number = at.number;
-  }
+  is_retry_stop a r l cause cut skipped at = by_limit (limit_cuts a.lines p (target_of first.probe) before) (subst (λ (c : StopCause). StopsAfter c a.lines (short a.lines)) cause cut.stops)
+    where
+      by_limit : laws.IsWhole a.lines whole (short a.lines) ⊎ IsCutShort a.lines whole (short a.lines) → StopsAfter NoAnswer a.lines (short a.lines) → IsRetryStop run r l
+      by_limit (inl h) (inl stops) =
+          let units = ap units_of h.same in let few = h.units in let many = stops.1 in absurd (omega (arith, units, few, many))
+      by_limit (inl h) (inr stops) = retry_whole a r l cut skipped at stops h.same
+      by_limit (inr h) (inl stops) = retry_short a r l cut skipped at stops.1 h.more h.calls
+      by_limit (inr h) (inr stops) = absurd (subst answers.IsWhole h.ending stops.0)
 
   -- by the cause
   is_stop : (cause : StopCause) (a : Reported) (r : Report) (l : Left) → cause ≡ r.cause
       → IsCut r.cause a.lines (outcome_of (meaning (world_from first (answered_cut cause a.lines)) p before)) (ran l.ended a.asks l.written) → l.ended.skipped ≡ a.skipped
       → s.IsCut cause (entries a) r a (began first (answered_cut cause a.lines)) l.bench → IsStop cause run r l
-  is_stop Faulted a r l is cut skipped at = is_fault_stop a r l cut skipped at
-  is_stop NoAnswer a r l is cut skipped at = is_retry_stop a r l cut skipped at
+  is_stop Faulted a r l is cut skipped at = is_fault_stop a r l (sym is) cut skipped at
+  is_stop NoAnswer a r l is cut skipped at = is_retry_stop a r l (sym is) cut skipped at
 
   -- what is known of the packets of an access
   pub record SendsFew (ending : Ending) (a : Reported) : Type 0 where
@@ -253,14 +366,14 @@ abbrev EndsOf : Program → BenchState → Reported → Ended → Option (List �
 EndsOf p first a ended before after = EndsAs ended.ending a.lines (outcome_of (meaning (world_from first (answered_by a)) p before)) (ran ended a.asks after)
 
 -- a run over an access that began
-pub opened_run : (access : AccessKind) (job : BenchJob) (p : Program) (before mid : Option (List ℕ)) (a : Reported) (ended : Ended)
+pub opened_run : (access : AccessKind) → JournalGrows access.journal → JournalSettles access.journal → (job : BenchJob) (p : Program) (before mid : Option (List ℕ)) (a : Reported) (ended : Ended)
     → ((first : BenchState) × IsOpened job first × Stands access.journal a (began first (answered_by a))
     × ((known : Bool) → Knows known before → EndsOf p first a ended (known_part known before) (known_part known mid))
     × ((known : Bool) → Knows known before → HasNeeds ended.ending a.asks (late_meaning access.cost (world_from first (answered_by a)) p (known_part known before)))
     × KeepsBoundsIf access.is_sparing (access.journal (target_of first.probe) a.asks.calls) a (began first (answered_by a)))
     → EndBy ended.ending a.end → ended.skipped ≡ a.skipped → a.bench.limits ≡ job.limits
     → (n : BenchState) × (a.state ≡ Some n) × ComesTo access job p before (record { ended = ended; written = known_after before mid; bench = n })
-opened_run access job p before mid a ended h end skipped limits_are =
+opened_run access grows settles job p before mid a ended h end skipped limits_are =
     let first : BenchState = h.0 in
     let seen = where_seen a.state (λ m. StandsAt a.end (access.journal (target_of first.probe) a.asks.calls) a (began first (answered_by a)) m) h.2 in
     let known = known_by before mid in
@@ -268,11 +381,11 @@ opened_run access job p before mid a ended h end skipped limits_are =
     subst (λ (x : Option (List ℕ)). EndsOf p first a ended before x) known.3
     (subst (λ (x : Option (List ℕ)). EndsOf p first a ended x (known_part known.0 mid)) known.2 (h.3 known.0 known.1)) in
     let points = subst (λ (x : Option (List ℕ)). HasNeeds ended.ending a.asks (late_meaning access.cost (world_from first (answered_by a)) p x)) known.2 (h.4 known.0 known.1) in
-    let few : SendsFew access job.limits p first before ended.ending a = record { limits_are = limits_are; opening = h.1.starting; points = points; bounds = h.5 } in (
+    let few : SendsFew access grows settles job.limits p first before ended.ending a = record { limits_are = limits_are; opening = h.1.starting; points = points; bounds = h.5 } in (
       seen.0,
       seen.1,
       opened first h.1
-          (leaves access job.limits p first before ended.ending a (record { ended = ended; written = known_after before mid; bench = seen.0 }) end skipped seen.1 few ends h.2),
+          (leaves access grows settles job.limits p first before ended.ending a (record { ended = ended; written = known_after before mid; bench = seen.0 }) end skipped seen.1 few ends h.2),
     )
 
 -- nothing was written

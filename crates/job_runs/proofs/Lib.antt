@@ -1,4 +1,5 @@
 pub mod EndLemmas
+pub mod FrontLemmas
 pub mod LeaveLemmas
 pub mod TextLemmas
 pub mod MeantLemmas

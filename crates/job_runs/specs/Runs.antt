@@ -1,5 +1,5 @@
 -- What a run of a job leaves.
-use Rattle.std.specs.Prelude.{◌≡◌, ⊤, ℕ, ◌+◌, ◌-◌, ◌*◌, ◌/◌, ◌^◌, ◌<◌, ◌≤◌, Bool, true, false, List, length, take, Option, Some, None}
+use Rattle.std.specs.Prelude.{◌≡◌, ⊤, ℕ, ◌+◌, ◌-◌, ◌*◌, ◌/◌, ◌^◌, ◌<◌, ◌≤◌, Bool, true, false, List, ◌++◌, length, take, Option, Some, None}
 use Rattle.target_machine.specs.Start.{start}
 use Rattle.target_machine.specs.State.{Agree, TargetState}
 use Rattle.probe_core.specs.Bench.{BenchState}
@@ -7,13 +7,15 @@ use Rattle.probe_core.specs.Probe.{ended_retries_of, target_of}
 use Rattle.probe_core.specs.declared.job.BenchJob.{BenchJob}
 use Rattle.probe_core.specs.declared.job.Limits.{Limits}
 use Rattle.call_terms.specs.Asks.{settled_last}
-use Rattle.call_terms.specs.Journal.{Entry, first_fault, one_if}
+use Rattle.target_machine.specs.Counts.{one_if}
+use Rattle.call_terms.specs.Journal.{Entry, first_fault, target_after}
 use Rattle.call_terms.specs.NeedPoints.{Costs}
 use Rattle.call_terms.specs.Weights.{commands_in, registers_in}
 use Rattle.call_terms.specs.declared.calls.Ask.{Ask}
 use Rattle.access_calls.specs.Bounds.{AreNextWrites, block_words, capacity}
+use Rattle.access_calls.specs.Growing.{GoesOnWith}
 use Rattle.access_calls.specs.Numbers.{HasNumbers}
-use Rattle.access_calls.specs.Reported.{began}
+use Rattle.access_calls.specs.Reported.{Beginning, began, start_of}
 use Rattle.access_calls.specs.Standing.{HasPerformed, IsBenchFault, grown_since, number_of, pending_of}
 use Rattle.access_calls.specs.declared.ended.Ended.{Ended}
 use Rattle.access_calls.specs.declared.ended.Ending.{Ending}
@@ -21,7 +23,8 @@ use Rattle.access_calls.specs.declared.ended.Ending.TheVariants as e
 use Rattle.access_calls.specs.declared.stop.Report.{Report}
 use Rattle.access_calls.specs.declared.stop.StopCause.{StopCause}
 use Rattle.access_calls.specs.declared.stop.StopCause.TheVariants.{Faulted, NoAnswer}
-use Rattle.control_flow.specs.Answers.{SharesCalls, StopsAfter, program_of, variables_of}
+use Rattle.control_flow.specs.Answers as answers
+use Rattle.control_flow.specs.Answers.{StopsAfter, program_of, variables_of}
 use Rattle.job_check.specs.declared.running.ValidRun.{ValidRun}
 use Rattle.bench_access.specs.Opening.{IsOpened}
 use Rattle.sequence_terms.specs.Late.{Grows}
@@ -77,19 +80,23 @@ outcome_in run = outcome run.program (target_in run) run.before
 abbrev pub outcome_with : Run → ℕ → Outcome
 outcome_with run m = outcome_within m run.program (target_in run) run.before
 
--- the journal of the calls that were asked
+-- the journal of calls, from the first target
 abbrev pub entries_in : Run → List Ask → List Entry
-entries_in run asked = run.access.journal (target_in run) asked
+entries_in run calls = run.access.journal (target_in run) calls
+
+-- the calls of the whole outcome, which are settled after the last
+abbrev pub calls_in : Run → List Ask
+calls_in run = settled_last (outcome_in run).calls
+
+-- the same with more calls, which were asked after them
+abbrev pub calls_with : Run → List Ask → List Ask
+calls_with run more = settled_last ((outcome_in run).calls ++ more)
 
 -- no retry ended
 abbrev pub NoneEnded : Run → Left → Type 0
 NoneEnded run l = ended_retries_of l.bench.probe ≡ ended_retries_of run.first.probe
 
 -- ---- how few packets are sent
-
--- the calls of the whole outcome, which are settled after the last
-abbrev pub calls_in : Run → List Ask
-calls_in run = settled_last (outcome_in run).calls
 
 -- how many need points it has, one of them at its end
 abbrev pub needs_in : Run → ℕ
@@ -124,35 +131,47 @@ pub record IsWhole (run : Run) (l : Left) : Type 0 where
 
 -- ---- stopped by the target or the probe
 
--- The numbers of the report are those of a stop in the journal of the calls that were asked: exactly its accesses were performed,
--- the target agrees with the one after them, and `lines` units have their lines before the stop, which are written. The calls that
--- were asked and those of the outcome both come first in one list.
-pub record HasStopped (run : Run) (answered : Option ℕ) (o : Outcome) (asked : List Ask) (lines : ℕ) (r : Report) (l : Left) : Type 0 where
+-- Exactly the first so many of these entries were performed, and the target agrees with the one after them. By the probe's work that is
+-- so among the entries in front: all that are issued before so many calls were asked, and perhaps more.
+pub record HasMade (calls : ℕ) (entries : List Entry) (count : ℕ) (b : Beginning) (m : BenchState) : Type 0 where
+  pub front : List Entry
+  pub goes_on : GoesOnWith calls front entries
+  pub performed : HasPerformed front count b m
+  pub target : Agree (target_of m.probe) (target_after (start_of b) (take count entries))
+
+-- The numbers of the report are those of a stop in the journal of these calls: exactly its accesses were performed, the target agrees
+-- with the one after them, and `lines` units have their lines before the stop, which are written.
+pub record HasStopped (run : Run) (answered : Option ℕ) (o : Outcome) (calls : List Ask) (lines : ℕ) (r : Report) (l : Left) : Type 0 where
   pub stops : StopsAfter r.cause lines o
   pub written : l.written ≡ o.written
-  pub calls : SharesCalls asked o.calls
-  pub numbers : HasNumbers (entries_in run asked) asked l.ended.skipped lines r
-  pub performed : HasPerformed (entries_in run asked) r.accesses (began run.first answered) l.bench
+  pub numbers : HasNumbers (entries_in run calls) calls l.ended.skipped lines r
+  pub performed : HasMade r.unit (entries_in run calls) r.accesses (began run.first answered) l.bench
 
--- At a fault: the outcome ends at a fault of the next unit, and the last performed access is the first that gives a fault which
--- its unit does not forgive. No retry ended.
+-- the outcome is Done or Halted, with so many units
+abbrev pub EndsAfter : ℕ → Outcome → Type 0
+EndsAfter units o = answers.IsWhole o.ending × (units_of o ≡ units)
+
+-- At a fault: the outcome ends at a fault of the next unit, and the last performed access is the first of the journal of its calls that
+-- gives a fault which its unit does not forgive. No retry ended.
 pub record IsFaultStop (run : Run) (r : Report) (l : Left) : Type 0 where
-  pub asked : List Ask
   pub lines : ℕ
-  pub stopped : HasStopped run None (outcome_in run) asked lines r l
-  pub fault : first_fault (target_in run) (entries_in run asked) ≡ Some r.accesses
+  pub stopped : HasStopped run None (outcome_in run) (calls_in run) lines r l
+  pub fault : first_fault (target_in run) (entries_in run (calls_in run)) ≡ Some r.accesses
   pub confirmed : r.accesses ≡ r.confirmed + 1
   pub retries : NoneEnded run l
 
--- Where a retry ended: the outcome is the one with so many units answered. The performed accesses are confirmed, except the last
--- where a read was outstanding or a write unchecked. Just one retry ended, and the transfer that it ended is one of the run's.
+-- Where a retry ended: the outcome is the one with so many units answered, which comes first in the whole one; the journal is that
+-- of the whole one's calls, and of more only where these have all their lines before the stop. The performed accesses are confirmed,
+-- except the last where a read was outstanding or a write unchecked. Just one retry ended, and the transfer that it ended is one of
+-- the run's.
 pub record IsRetryStop (run : Run) (r : Report) (l : Left) : Type 0 where
-  pub asked : List Ask
   pub lines : ℕ
-  pub stopped : HasStopped run (Some lines) (outcome_with run lines) asked lines r l
+  pub more : List Ask
+  pub after_all : 0 < length more → EndsAfter lines (outcome_in run)
+  pub stopped : HasStopped run (Some lines) (outcome_with run lines) (calls_with run more) lines r l
   pub confirmed : r.accesses ≡ r.confirmed + one_if (pending_of l.bench)
   pub retries : ended_retries_of l.bench.probe ≡ ended_retries_of run.first.probe + 1
-  pub number : number_of l.bench + 2 * commands_in (take r.accesses (entries_in run asked))
+  pub number : number_of l.bench + 2 * commands_in (take r.accesses (entries_in run (calls_with run more)))
       ≤ number_of run.first + 2 * grown_since (began run.first (Some lines)) l.bench + 1
 
 -- by the cause
@@ -162,25 +181,29 @@ IsStop NoAnswer run r l = IsRetryStop run r l
 
 -- ---- left off
 
--- What was written comes first in the lines of the outcome, and the calls that were asked and the outcome's both come first in one
--- list.
-pub record IsFront (run : Run) (asked : List Ask) (l : Left) : Type 0 where
+-- What was written comes first in the lines of the outcome. The entries of the calls that were asked come first in the journal of the
+-- outcome's calls, and of more only where more were asked than these.
+pub record IsFront (run : Run) (asked more : List Ask) (l : Left) : Type 0 where
   pub written : Grows l.written (outcome_in run).written
-  pub calls : SharesCalls asked (outcome_in run).calls
+  pub entries : GoesOnWith (length asked) (entries_in run asked) (entries_in run (calls_with run more))
+  pub beyond : 0 < length more → units_of (outcome_in run) < length asked
 
 -- Where the bench failed: at least the confirmed entries were performed and at most those that were issued, and perhaps a part of
 -- the next.
 pub record IsBroken (run : Run) (issued confirmed : ℕ) (l : Left) : Type 0 where
   pub asked : List Ask
-  pub front : IsFront run asked l
+  pub more : List Ask
+  pub front : IsFront run asked more l
   pub stands : IsBenchFault (entries_in run asked) issued confirmed (began run.first None) l.bench
 
 -- Where the sink failed or memory was refused: exactly the entries that were sent were performed.
 pub record IsLeftOff (run : Run) (l : Left) : Type 0 where
   pub asked : List Ask
+  pub more : List Ask
   pub sent : ℕ
-  pub front : IsFront run asked l
+  pub front : IsFront run asked more l
   pub performed : HasPerformed (entries_in run asked) sent (began run.first None) l.bench
+  pub target : Agree (target_of l.bench.probe) (target_after (target_in run) (take sent (entries_in run (calls_with run more))))
   pub retries : NoneEnded run l
 
 -- ---- together

@@ -13,7 +13,7 @@ returns-in-Ok-clause-run g c = λ is.
     let stands = g.met.A.Access.stands c.run-ended.new.access began.0 (answered_by a) (c.run-ended.ensures.on began.0 began.1) (left_by a) in
     let spares = g.met.A.Access.spares c.run-ended.new.access began.0 (answered_by a) (c.run-ended.ensures.on began.0 began.1) (left_by a) in
     let began_limits = c.in-Ok.ensures.goes.limits in
-    let r = opened_run (access_kind g.A.Access.journal g.A.Access.cost g.A.Access.is_sparing) c.args.run_of.now.job.bench (program_in c.args.run_of.now c.args.sequence.now)
+    let r = opened_run (access_kind g.A.Access.journal g.A.Access.cost g.A.Access.is_sparing) g.met.A.Access.grows g.met.A.Access.settles c.args.run_of.now.job.bench (program_in c.args.run_of.now c.args.sequence.now)
     (g.K.Sink.written c.args.sink.now) (g.K.Sink.written c.run-ended.new.sink) a c.run-ended.result
     (began.0, began.2, stands, (λ known knows. c.run-ended.ensures.answer began.0 known began.1 knows), (λ known knows. c.run-ended.ensures.needs began.0 known began.1 knows), spares)
     c.run-ended.ensures.end c.run-ended.ensures.skipped (c.run-ended.ensures.goes.limits ∙ began_limits ∙ sym c.requires.limits) in
