@@ -6,7 +6,8 @@ use Rattle.target_machine.specs.declared.unit.ProbeCall.TheVariants as probe
 use Rattle.probe_core.specs.Bench.{BenchState}
 use Rattle.probe_core.specs.Probe.{ended_retries_of, target_of, work_of}
 use Rattle.call_terms.specs.Asks.{is_settled}
-use Rattle.call_terms.specs.Journal.{Entry, first_fault, one_if, target_after}
+use Rattle.target_machine.specs.Counts.{one_if}
+use Rattle.call_terms.specs.Journal.{Entry, first_fault, target_after}
 use Rattle.call_terms.specs.Weights.{commands_in, performed}
 use Rattle.call_terms.specs.World.{skips, world_after}
 use Rattle.call_terms.specs.declared.calls.Ask.{Ask}

@@ -7,6 +7,7 @@ mod issued;
 pub mod laws;
 mod marks;
 mod not_begun;
+mod scripted;
 mod stop;
 pub mod users;
 
@@ -15,6 +16,7 @@ pub use ended::{Ended, Ending};
 pub use issued::{Issued, StopReport, stop_report};
 pub use marks::mark_last;
 pub use not_begun::NotBegun;
+pub use scripted::Scripted;
 pub use stop::{Report, Stop, StopCause};
 
 #[cfg(test)]

@@ -1,11 +1,9 @@
 //! The numbers of stops by the worked rows, and the users over an access whose results are given.
-mod scripted;
 
 use crate::users::{CopyEnd, Held, copy_word, flush_lent};
 use crate::*;
 use call_terms::{Ask, Part};
 use dap_base::MemorySink;
-use scripted::Scripted;
 use std::alloc::Global;
 use std::process::Abort;
 use std::test::Fail;

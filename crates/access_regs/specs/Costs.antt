@@ -12,7 +12,7 @@ use Rattle.target_machine.specs.declared.unit.ProbeCall.TheVariants as probe
 use Rattle.target_machine.specs.declared.unit.Unit.{Unit as AccessUnit}
 use Rattle.target_machine.specs.declared.unit.Unit.TheVariants as unit
 use Rattle.call_terms.specs.Asks.{is_forgiving}
-use Rattle.call_terms.specs.Journal.{one_if}
+use Rattle.target_machine.specs.Counts.{one_if}
 use Rattle.call_terms.specs.NeedPoints.{Cost}
 use Rattle.call_terms.specs.Weights.{weight}
 use Rattle.call_terms.specs.declared.calls.Ask.{Ask}

@@ -48,7 +48,7 @@ pub fn settling_ends()
 
 /// Where calls stop, by the entries that they issue.
 #[tactic(auto, using(crate::proofs::StopLists::fault_stops, crate::proofs::StopLists::wait_stops, crate::proofs::StopLists::passing_stops))]
-pub fn entries_sdapseq_tools()
+pub fn entries_stop()
     ensures fault { FaultStops }
     ensures wait { WaitStops }
     ensures passing { PassingStops }

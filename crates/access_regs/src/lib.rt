@@ -1,7 +1,6 @@
 //! Plans for the register accesses of units: what the target already has is not written again.
 #![tactic(auto)]
 
-mod accesses;
 mod known;
 pub mod laws;
 mod managed;

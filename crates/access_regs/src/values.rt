@@ -1,10 +1,12 @@
 //! What registers are written with.
-ghost use Rattle.std.specs.Prelude.{◌≡◌, ◌<◌, ◌⊎◌, ◌*◌, ◌/◌, ◌%◌, ◌^◌};
-ghost use Rattle.target_machine.specs.Plain.{to_lanes};
+ghost use Rattle.std.specs.Prelude.{◌≡◌, ◌<◌, ◌⊎◌, ◌%◌};
+ghost use Rattle.target_machine.specs.Plain.{dp_write_of};
+ghost use Rattle.target_machine.specs.Registers.{select_address};
 ghost use Rattle.access_regs.specs.Kept.{is_known};
 ghost use Rattle.access_regs.specs.Plan as plans;
 
-use target_machine::registers::{ADDRINC_SINGLE, CSW_ADDRINC, CSW_OTHERS};
+use target_machine::RegAccess;
+use target_machine::registers::{ADDRINC_SINGLE, CSW_ADDRINC, CSW_OTHERS, SELECT};
 
 // SELECT with this AP and this bank.
 pub(crate) fn select_value(ap: u8, bank: u8) -> u32
@@ -12,6 +14,18 @@ pub(crate) fn select_value(ap: u8, bank: u8) -> u32
     ensures { result ≡ plans.select_value ap bank }
 {
     u32::from(ap) * 0x100_0000 + u32::from(bank) * 16
+}
+
+// A write of SELECT.
+pub(crate) fn write_select(value: u32) -> RegAccess
+    ensures { result ≡ dp_write_of select_address value }
+{
+    RegAccess {
+        ap: false,
+        read: false,
+        addr: SELECT,
+        value,
+    }
 }
 
 // CSW with this size and AddrInc single, its other bits as they are known.
@@ -39,19 +53,6 @@ pub(crate) fn predicted(tar: u32, size: u8) -> Option<u32>
     if next % 1024 == 0 { None } else { Some(next) }
 }
 
-// The value in its lanes of DRW.
-pub(crate) fn to_lanes(address: u64, value: u32) -> u32
-    requires { value * 2 ^ (8 * (address % 4)) < 2 ^ 32 }
-    ensures { result ≡ to_lanes address value }
-{
-    match address % 4 {
-        0 => value,
-        1 => value * 0x100,
-        2 => value * 0x1_0000,
-        _ => value * 0x100_0000,
-    }
-}
-
 // CSW with AddrInc off.
 pub(crate) fn increment_off(csw: u32) -> u32
     ensures { result ≡ plans.increment_off csw }
@@ -67,18 +68,4 @@ pub(crate) fn is_known(known: Option<u32>, value: u32) -> bool
         Some(number) => number == value,
         None => false,
     }
-}
-
-// The low 32 bits of an address: TAR.
-pub(crate) fn low_of(address: u64) -> u32
-    ensures { result ≡ address % 2 ^ 32 }
-{
-    (address % 0x1_0000_0000) as u32
-}
-
-// The other bits of an address: the upper word of TAR.
-pub(crate) fn high_of(address: u64) -> u32
-    ensures { result ≡ address / 2 ^ 32 }
-{
-    (address / 0x1_0000_0000) as u32
 }

@@ -1,7 +1,7 @@
 //! What a reply shows of the accesses of its command.
 ghost use Rattle.std.specs.Prelude.{◌≡◌, ◌<◌, ◌≤◌, ◌+◌, ◌++◌, ◌^◌, ◌&&◌, ◌||◌, false, length, nat_lt, not, slice_get};
 ghost use Rattle.dap_messages.specs.Requests.{kind_of, reads_in, write_after, write_last};
-ghost use Rattle.dap_transfer.specs.CommandEnds.{one_if};
+ghost use Rattle.target_machine.specs.Counts.{one_if};
 ghost use Rattle.dap_transfer.specs.Laws.{AreNormal};
 ghost use Rattle.dap_transfer.specs.Private.{word_of};
 ghost use Rattle.dap_transfer.specs.State.{is_good};

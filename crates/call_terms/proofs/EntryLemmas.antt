@@ -9,7 +9,8 @@ use Rattle.target_machine.specs.declared.access.Outcome.{Outcome}
 use Rattle.target_machine.specs.declared.access.Outcome.TheVariants.{Value, Done, Fault}
 use Rattle.target_machine.specs.declared.unit.ProbeCall.TheVariants as probe
 use Rattle.call_terms.proofs.CallLists.{head_of, later_head, later_twice, later_zero}
-use Rattle.call_terms.specs.Journal.{Entry, Passes, attempted_in, completes, first_fault, is_unforgiven, is_skip, one_if, skipped_in, target_after}
+use Rattle.target_machine.specs.Counts.{one_if}
+use Rattle.call_terms.specs.Journal.{Entry, Passes, attempted_in, completes, first_fault, is_unforgiven, is_skip, skipped_in, target_after}
 use Rattle.call_terms.specs.Weights.{AreWeighty, IsWeighty, commands_in, commands_of, delay_commands, performed, registers_in, registers_of, weight, weight_in}
 use Rattle.call_terms.specs.World.{later_by}
 

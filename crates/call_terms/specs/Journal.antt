@@ -1,5 +1,6 @@
 -- The journal: what is issued for calls, entry by entry.
 use Rattle.std.specs.Prelude.{◌≡◌, ℕ, ◌-◌, Bool, true, false, not, ◌&&◌, if◌then◌else◌, List, [], ◌∷◌, map, sum_by, Option, Some, None}
+use Rattle.target_machine.specs.Counts.{one_if}
 use Rattle.target_machine.specs.Lists as lists
 use Rattle.target_machine.specs.Plain.{Action, acted, is_fault}
 use Rattle.target_machine.specs.State.{TargetState}
@@ -61,10 +62,6 @@ first_fault t (e ∷ entries) = if is_unforgiven t e then Some 1 else later_by 1
 -- how many units' lines are written before the entry is issued: those of all units before its own
 abbrev pub lines_before : Entry → ℕ
 lines_before e = if settles e.part then e.unit else e.unit - 1
-
--- 1 where so
-abbrev pub one_if : Bool → ℕ
-one_if b = if b then 1 else 0
 
 -- How many units are attempted by these entries.
 abbrev pub attempted_in : List Entry → ℕ

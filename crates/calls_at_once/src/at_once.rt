@@ -6,10 +6,10 @@ ghost use Rattle.target_machine.specs.Sound.{IsSound, IsSoundCall, IsSoundProbe}
 ghost use Rattle.target_machine.specs.declared.unit.Call.TheVariants as calls;
 ghost use Rattle.calls_at_once.specs.Made.{IsDone, MadeAs, end_of, takes_memory};
 
-use crate::accesses::access_dp;
 use crate::commands::command_now;
 use crate::made::{Made, met_fault};
 use crate::plain::make_plain;
+use call_terms::accesses::access_dp;
 use dap_base::OutOfMemory;
 use target_machine::registers::{ABORT, CLEAR_ALL};
 use target_machine::{Call, ProbeCall, Target, Unit, attempt};

@@ -4,7 +4,8 @@ ghost use Rattle.target_machine.specs.Lines.{delayed};
 ghost use Rattle.target_machine.specs.Plain.{commanded, given};
 ghost use Rattle.target_machine.specs.Sound.{IsSoundProbe};
 
-use crate::accesses::{access_dp, number_of};
+use crate::accesses::number_of;
+use call_terms::accesses::access_dp;
 use target_machine::registers::ABORT;
 use target_machine::{ProbeCall, Target, attempt};
 

@@ -5,11 +5,11 @@ ghost use Rattle.target_machine.specs.Sound.{IsSound, IsSoundMemory};
 ghost use Rattle.target_machine.specs.declared.unit.Call.TheVariants as calls;
 ghost use Rattle.calls_at_once.specs.Made.{IsDone, MadeAs, end_of, is_match, memory_end_by, takes_memory};
 
-use crate::accesses::{
-    access_ap, access_dp, access_drw, has_faulted, high_of, low_of, make_all, number_of, of_lanes,
-    plain_csw, select,
-};
+use crate::accesses::{has_faulted, make_all, number_of};
 use crate::made::{Made, made_of};
+use call_terms::accesses::{
+    access_ap, access_dp, access_drw, from_lanes, high_of, low_of, plain_csw, select,
+};
 use dap_base::OutOfMemory;
 use target_machine::registers::{CFG, CFG_LA, CSW, CTRL_STAT, TAR, TAR_HIGH};
 use target_machine::{Outcome, Target, Unit, attempt};
@@ -89,7 +89,7 @@ fn memory_end(size: u8, read: bool, address: u64, outcome: Outcome) -> Made
     ensures { end_of result ≡ memory_end_by size read address outcome }
 {
     match made_of(outcome) {
-        Made::Answered(word) if read => Made::Answered(of_lanes(size, address, word)),
+        Made::Answered(word) if read => Made::Answered(from_lanes(size, address, word)),
         made => made,
     }
 }

@@ -20,7 +20,7 @@ use Rattle.calls_in_flight.proofs.FlightLemmas.{commands_both, flight_length, he
 use Rattle.calls_in_flight.specs.Actions.{ActionBench, ActionDone, ActionWait, AreForgiving, FaultForgiven}
 use Rattle.calls_in_flight.specs.Packets.{FewPackets, FullFlight}
 use Rattle.calls_in_flight.specs.UnderWay.{IsUnderWay}
-use Rattle.dap_transfer.specs.CommandEnds.{one_if}
+use Rattle.target_machine.specs.Counts.{one_if}
 use Rattle.dap_transfer.specs.State.{is_wait}
 use Rattle.probe_core.specs.Bench.{BenchState}
 use Rattle.probe_core.specs.Probe.{ended_retries_of, target_of, work_of}

@@ -3,7 +3,8 @@ use Rattle.std.proofs.Common.{◌≡◌, ℕ, ◌+◌, ◌-◌, ◌*◌, ◌/◌
 use Rattle.std.proofs.lemmas.List.Sums.{sum_by-append}
 use Rattle.std.proofs.Math.Nat.{le-div_iff_mul-le}
 use Rattle.call_terms.proofs.EntryLemmas.{registers_append}
-use Rattle.call_terms.specs.Journal.{Entry, one_if}
+use Rattle.target_machine.specs.Counts.{one_if}
+use Rattle.call_terms.specs.Journal.{Entry}
 use Rattle.access_calls.specs.Bounds.{starting_since}
 use Rattle.access_calls.specs.Bounds as bounds
 use Rattle.call_terms.specs.Weights.{registers_in}

@@ -14,7 +14,7 @@ use Rattle.calls_in_flight.proofs.FlightLemmas.{clear_end, clear_passes, command
 use Rattle.calls_in_flight.proofs.UnderWayLemmas.{front_performed}
 use Rattle.calls_in_flight.specs.Flights.{AreStrict, BenchFlies, FaultFlies, IsCutAt, IsFaultAt, WaitFlies, transfers_of}
 use Rattle.calls_in_flight.specs.UnderWay.{IsUnderWay}
-use Rattle.dap_transfer.specs.CommandEnds.{one_if}
+use Rattle.target_machine.specs.Counts.{one_if}
 use Rattle.dap_transfer.specs.State.{TransferState, is_wait}
 use Rattle.flight_forms.specs.Flights.{DoesPart, Part}
 use Rattle.probe_core.specs.Bench.{BenchState}

@@ -9,7 +9,7 @@ use Rattle.call_terms.specs.Journal.{Entry, Passes, actions_in, target_after}
 use Rattle.call_terms.specs.Weights.{commands_in, commands_of, weight, weight_in}
 use Rattle.calls_in_flight.specs.Flights.{Flies}
 use Rattle.calls_in_flight.specs.UnderWay.{IsUnderWay}
-use Rattle.dap_transfer.specs.CommandEnds.{one_if}
+use Rattle.target_machine.specs.Counts.{one_if}
 use Rattle.dap_transfer.specs.Laws.{one_at_a_time}
 use Rattle.dap_transfer.specs.State.{grown, is_wait}
 use Rattle.flight_forms.specs.Flights.{AreClear, Part, slot_values}

@@ -4,7 +4,8 @@ use Rattle.target_machine.specs.Plain.{Action, Makes, Polls, Commands}
 use Rattle.target_machine.specs.Registers.{drw_register}
 use Rattle.target_machine.specs.declared.access.RegAccess.{RegAccess}
 use Rattle.probe_core.specs.Bench.{BenchState}
-use Rattle.call_terms.specs.Journal.{Entry, actions_in, one_if}
+use Rattle.target_machine.specs.Counts.{one_if}
+use Rattle.call_terms.specs.Journal.{Entry, actions_in}
 use Rattle.call_terms.specs.NeedPoints.{capped_sum}
 use Rattle.call_terms.specs.Weights.{registers_in}
 use Rattle.call_terms.specs.declared.calls.Ask.{Ask}

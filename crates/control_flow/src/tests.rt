@@ -1,13 +1,11 @@
 //! Runs of small sets over an access whose results are given. What they come to was worked out by hand.
 mod jobs;
-mod scripted;
 
 use crate::run;
-use access_calls::{Ended, Ending};
+use access_calls::{Ended, Ending, Scripted};
 use call_terms::Ask;
 use dap_base::MemorySink;
 use jobs::{Piece, checked, settings};
-use scripted::Scripted;
 use std::alloc::Global;
 use std::process::Abort;
 use std::test::Fail;

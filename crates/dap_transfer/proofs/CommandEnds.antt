@@ -22,7 +22,8 @@ use Rattle.dap_transfer.proofs.Steps.{continued, start_notes, from_start, goes_o
 use Rattle.dap_transfer.proofs.Prefix.{IsPlain, good_or_not, leaves_good, leaves_rdbuff, between_leaves, run_one, LeavesAs}
 use Rattle.dap_transfer.proofs.TargetFacts.{ap_waits, rdbuff_waits}
 use Rattle.dap_transfer.proofs.Words.{reads_first}
-use Rattle.dap_transfer.specs.CommandEnds.{may_be_free, writes_ap, AreGuarded, doubted, in_doubt, one_if, target_after, EndsAt, Ends}
+use Rattle.target_machine.specs.Counts.{one_if}
+use Rattle.dap_transfer.specs.CommandEnds.{may_be_free, writes_ap, AreGuarded, doubted, in_doubt, target_after, EndsAt, Ends}
 use Rattle.dap_transfer.proofs.StickyFacts.{clash, stays_clear, free_may}
 use Rattle.dap_transfer.proofs.RunEnds.{OneAs, Reports, one_ends, ReportsAs, alone_reports, back_reports, fetched_reports, gives_one}
 

@@ -12,7 +12,8 @@ use Rattle.dap_messages.specs.Requests.{ends_in_write, is_mask, is_posted, kind,
 use Rattle.dap_messages.specs.Responses.{code_of, response_of}
 use Rattle.dap_messages.specs.Replies.{AnswersTransfer, kind_at, last_is_posted, may_end_by, may_stop, passes, progress_at}
 use Rattle.dap_transfer.specs.Laws.{AreNormal, IsNormalKind}
-use Rattle.dap_transfer.specs.CommandEnds.{EndsAt, one_if, posted_last, doubted}
+use Rattle.target_machine.specs.Counts.{one_if}
+use Rattle.dap_transfer.specs.CommandEnds.{EndsAt, posted_last, doubted}
 
 pub posted_at : (n : ℕ) (o : Bool) (rs : List Request) → suc n ≤ length rs → posted_last o (take (suc n) rs) ≡ last_is_posted rs (suc n)
 posted_at n o [] h = absurd (omega arith)

@@ -17,7 +17,8 @@ use Rattle.dap_transfer.specs.WireTransfer.{Ending, ends, number_after, wire_end
 use Rattle.dap_transfer.specs.Transfer.{RunResult, ending, transferred}
 use Rattle.dap_transfer.specs.Private.{mask_if, run, run_then, request_ran, close_ran, served}
 use Rattle.dap_transfer.specs.Laws.{IsNormalKind, AreNormal}
-use Rattle.dap_transfer.specs.CommandEnds.{IsNumbered, NumbersTransfers, one_if, posted_in}
+use Rattle.target_machine.specs.Counts.{one_if}
+use Rattle.dap_transfer.specs.CommandEnds.{IsNumbered, NumbersTransfers, posted_in}
 use Rattle.dap_transfer.proofs.Runs.{run-append}
 use Rattle.dap_transfer.proofs.ReadWords.{not_sticky}
 use Rattle.dap_transfer.proofs.RunEnds.{OneAs, one_ends}

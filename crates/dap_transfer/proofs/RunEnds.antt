@@ -11,7 +11,7 @@ use Rattle.dap_transfer.specs.WireTransfer.{Ending, ends, wire_ending_as}
 use Rattle.dap_transfer.specs.Private.{first_then, front, run, run_then}
 use Rattle.dap_transfer.proofs.Prefix.{IsPlain, plain_once}
 use Rattle.dap_transfer.proofs.ReadWords.{not_sticky}
-use Rattle.dap_transfer.specs.CommandEnds.{one_if}
+use Rattle.target_machine.specs.Counts.{one_if}
 use Rattle.dap_transfer.proofs.StickyFacts.{clash, fault_sticky, no_mismatch}
 
 abbrev pub gives_one : Role → ℕ

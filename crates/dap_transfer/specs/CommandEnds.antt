@@ -1,6 +1,7 @@
 -- How a command of normal requests ends: where, and which of its accesses are known to have been good.
 use Rattle.std.specs.Prelude.{◌≡◌, ℕ, ◌+◌, ◌≤◌, Bool, true, false, not, ◌&&◌, ◌||◌, ◌==◌, if◌then◌else◌, List, [], ◌∷◌, length, take, map, fold, count_by}
 use Rattle.target_machine.specs.Registers.{abort_address, ctrl_stat_address, dpidr_address}
+use Rattle.target_machine.specs.Counts.{one_if}
 use Rattle.target_machine.specs.State.{TargetState}
 use Rattle.target_machine.specs.declared.access.RegAccess.{RegAccess}
 use Rattle.dap_messages.specs.declared.request.Request.{Request}
@@ -37,11 +38,6 @@ doubted Mismatch pending = false
 -- the same of a command that was done
 abbrev pub in_doubt : Transferred → Bool
 in_doubt d = doubted d.response d.next.pending
-
--- one where it holds
-abbrev pub one_if : Bool → ℕ
-one_if true = 1
-one_if false = 0
 
 -- whether the last request is a posted read; without a request, whether one was outstanding before
 abbrev pub posted_last : Bool → List Request → Bool

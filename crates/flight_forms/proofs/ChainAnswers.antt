@@ -10,7 +10,8 @@ use Rattle.dap_messages.specs.declared.request.Response.TheVariants.{Good, Wait,
 use Rattle.dap_messages.specs.Replies.{Answers, AnswersTransfer}
 use Rattle.dap_messages.specs.Requests.{mask_request, reads_in, write_after}
 use Rattle.dap_messages.specs.Responses.{code_of}
-use Rattle.dap_transfer.specs.CommandEnds.{EndsAt, counted_from, doubted, masked_by, one_if, posted_last}
+use Rattle.target_machine.specs.Counts.{one_if}
+use Rattle.dap_transfer.specs.CommandEnds.{EndsAt, counted_from, doubted, masked_by, posted_last}
 use Rattle.dap_transfer.specs.Laws.{AreNormal}
 use Rattle.dap_transfer.specs.State.{TransferState, Transferred}
 use Rattle.dap_transfer.specs.Transfer.{transferred}

@@ -7,7 +7,7 @@ use Rattle.target_machine.specs.declared.access.RegAccess.{RegAccess}
 use Rattle.dap_messages.specs.declared.request.Response.{Response}
 use Rattle.dap_messages.specs.declared.request.Response.TheVariants.{Good, Wait, Fault, Mismatch}
 use Rattle.dap_messages.specs.Requests.{mask_request}
-use Rattle.dap_transfer.specs.CommandEnds.{one_if}
+use Rattle.target_machine.specs.Counts.{one_if}
 use Rattle.dap_transfer.specs.Laws.{one_at_a_time}
 use Rattle.dap_transfer.specs.State.{TransferState, Transferred, grown, is_wait}
 use Rattle.dap_transfer.specs.Transfer.{transferred}

@@ -11,7 +11,8 @@ use Rattle.dap_messages.specs.Replies.{Answers, AnswersTransfer, kind_at, last_i
 use Rattle.dap_messages.specs.Replies as reply
 use Rattle.dap_messages.specs.Requests.{ends_in_write, is_mask, is_match, is_posted, kind, reads_in, write_after, write_last}
 use Rattle.dap_messages.specs.Responses.{code_of, response_of}
-use Rattle.dap_transfer.specs.CommandEnds.{one_if, posted_last}
+use Rattle.target_machine.specs.Counts.{one_if}
+use Rattle.dap_transfer.specs.CommandEnds.{posted_last}
 use Rattle.dap_transfer.specs.Laws.{AreNormal, accesses_in}
 use Rattle.flight_forms.specs.Flights.{IsPartOf, Part, part_of}
 use Rattle.dap_messages.specs.Requests.{mask_request}

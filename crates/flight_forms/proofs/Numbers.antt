@@ -9,7 +9,8 @@ use Rattle.dap_messages.specs.declared.request.RequestKind.TheVariants.{Posted, 
 use Rattle.dap_messages.specs.declared.request.Response.{Response}
 use Rattle.dap_messages.specs.declared.request.Response.TheVariants.{Good, Wait, Fault, Mismatch}
 use Rattle.dap_messages.specs.Requests.{is_posted, kind, write_after, write_last}
-use Rattle.dap_transfer.specs.CommandEnds.{EndsAt, IsNumbered, doubted, one_at_end, one_if, posted_in, posted_last}
+use Rattle.target_machine.specs.Counts.{one_if}
+use Rattle.dap_transfer.specs.CommandEnds.{EndsAt, IsNumbered, doubted, one_at_end, posted_in, posted_last}
 use Rattle.dap_transfer.specs.Laws.{AreNormal, IsNormalKind, accesses_in}
 use Rattle.dap_transfer.specs.State.{is_wait}
 use Rattle.dap_transfer.specs.Wires.{access_of}

@@ -13,7 +13,8 @@ use Rattle.dap_messages.specs.declared.request.Response.TheVariants.{Good, Fault
 use Rattle.dap_messages.specs.Requests.{is_posted, kind, write_after, write_last}
 use Rattle.dap_transfer.specs.Wires.{access_of}
 use Rattle.dap_transfer.specs.Laws.{accesses_in, one_at_a_time, IsNormalKind, AreNormal}
-use Rattle.dap_transfer.specs.CommandEnds.{one_if, posted_last, EndsAt, doubted, target_after}
+use Rattle.target_machine.specs.Counts.{one_if}
+use Rattle.dap_transfer.specs.CommandEnds.{posted_last, EndsAt, doubted, target_after}
 use Rattle.dap_transfer.proofs.CommandEnds.{posted_bits, write_bits}
 use Rattle.flight_forms.specs.Flights.{AreClear, Performs, is_own}
 

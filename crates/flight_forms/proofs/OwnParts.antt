@@ -19,7 +19,8 @@ use Rattle.dap_transfer.specs.Laws.{accesses_in, value_now, read_values, reads_v
 use Rattle.dap_transfer.proofs.Prefix.{makes_prefix}
 use Rattle.dap_transfer.proofs.ReadWords.{has_words}
 use Rattle.dap_transfer.proofs.Words.{reads_first}
-use Rattle.dap_transfer.specs.CommandEnds.{AreGuarded, EndsAt, doubted, one_if, posted_last, target_after}
+use Rattle.target_machine.specs.Counts.{one_if}
+use Rattle.dap_transfer.specs.CommandEnds.{AreGuarded, EndsAt, doubted, posted_last, target_after}
 use Rattle.flight_forms.specs.Flights.{DoesPart, Performs, doubts, part_of, seen_values, slot_values}
 use Rattle.dap_transfer.proofs.CommandEnds.{command_ends}
 use Rattle.dap_transfer.proofs.Work.{counts_accesses}

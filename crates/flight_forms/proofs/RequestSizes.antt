@@ -6,7 +6,8 @@ use Rattle.std.proofs.lemmas.List.Concat.{flat_map-cons}
 use Rattle.target_machine.specs.declared.access.RegAccess.{RegAccess}
 use Rattle.dap_messages.specs.declared.request.Request.{Request}
 use Rattle.dap_messages.specs.Requests.{kind, reads_in, request_bytes, takes_word, word_if}
-use Rattle.dap_transfer.specs.CommandEnds.{may_be_free, one_if, writes_ap}
+use Rattle.target_machine.specs.Counts.{one_if}
+use Rattle.dap_transfer.specs.CommandEnds.{may_be_free, writes_ap}
 use Rattle.dap_transfer.specs.Private.{word_of}
 use Rattle.dap_transfer.proofs.Words.{reads_first}
 use Rattle.flight_forms.specs.Forms.{bytes_in}

@@ -3,7 +3,8 @@ use Rattle.std.proofs.Common.{◌≡◌, leb, ltb, ℕ, ◌+◌, ◌-◌, ◌/�
 use Rattle.std.proofs.lemmas.Bool.{lt-ltb}
 use Rattle.target_machine.specs.declared.access.RegAccess.{RegAccess}
 use Rattle.dap_messages.specs.declared.request.Request.{Request}
-use Rattle.dap_transfer.specs.CommandEnds.{may_be_free, one_if, writes_ap}
+use Rattle.target_machine.specs.Counts.{one_if}
+use Rattle.dap_transfer.specs.CommandEnds.{may_be_free, writes_ap}
 use Rattle.flight_forms.specs.declared.size.FlightSize.{FlightSize}
 use Rattle.flight_forms.specs.declared.size.Tally.{Tally}
 use Rattle.flight_forms.specs.Forms.{all_write_drw, filled, fits_guarded, parts_of, writes_drw}

@@ -8,7 +8,7 @@ use Rattle.dap_messages.specs.declared.request.Response.{Response}
 use Rattle.dap_messages.specs.declared.request.Response.TheVariants.{Good, Wait, Fault, Mismatch}
 use Rattle.dap_messages.specs.Requests.{kind, reads_in, write_after}
 use Rattle.dap_transfer.specs.Block.{blocked}
-use Rattle.dap_transfer.specs.CommandEnds.{one_if}
+use Rattle.target_machine.specs.Counts.{one_if}
 use Rattle.dap_transfer.specs.Laws.{accesses_in, one_at_a_time, reads_value, value_now}
 use Rattle.dap_transfer.specs.State.{TransferState, grown, is_good, is_wait}
 use Rattle.dap_transfer.specs.Transfer.{transferred}

@@ -3,7 +3,8 @@ use Rattle.std.specs.Prelude.{◌≡◌, ℕ, ◌+◌, ◌-◌, ◌*◌, ◌/◌
 use Rattle.target_machine.specs.declared.access.RegAccess.{RegAccess}
 use Rattle.dap_messages.specs.declared.request.Request.{Request}
 use Rattle.dap_messages.specs.Requests.{reads_in}
-use Rattle.dap_transfer.specs.CommandEnds.{may_be_free, one_if, writes_ap}
+use Rattle.target_machine.specs.Counts.{one_if}
+use Rattle.dap_transfer.specs.CommandEnds.{may_be_free, writes_ap}
 use Rattle.flight_forms.specs.declared.size.FlightSize.{FlightSize}
 use Rattle.flight_forms.specs.declared.size.Tally.{Tally}
 use Rattle.flight_forms.specs.Forms.{all_write_drw, bytes_in, parts_of, writes_drw}

@@ -1,7 +1,8 @@
 //! How large the requests of a list of accesses are, kept as the list grows.
 ghost use Rattle.std.specs.Prelude.{◌≡◌, ◌<◌, ◌≤◌, ◌&&◌, ◌∷◌, ◌++◌, List, [], drop, is_some, length, take};
 ghost use Rattle.target_machine.specs.declared.access.RegAccess.{RegAccess};
-ghost use Rattle.dap_transfer.specs.CommandEnds.{may_be_free, one_if};
+ghost use Rattle.target_machine.specs.Counts.{one_if};
+ghost use Rattle.dap_transfer.specs.CommandEnds.{may_be_free};
 ghost use Rattle.flight_forms.specs.Forms.{fits_block, fits_chain, form_of, parts_of, writes_drw};
 ghost use Rattle.flight_forms.specs.Sizes.{IsSizeOf, size_with, tally_fits, tally_fits_guarded, with_access};
 

@@ -7,7 +7,8 @@ use Rattle.probe_core.specs.Probe.{ended_retries_of, target_of}
 use Rattle.probe_core.specs.declared.job.BenchJob.{BenchJob}
 use Rattle.probe_core.specs.declared.job.Limits.{Limits}
 use Rattle.call_terms.specs.Asks.{settled_last}
-use Rattle.call_terms.specs.Journal.{Entry, first_fault, one_if}
+use Rattle.target_machine.specs.Counts.{one_if}
+use Rattle.call_terms.specs.Journal.{Entry, first_fault}
 use Rattle.call_terms.specs.NeedPoints.{Costs}
 use Rattle.call_terms.specs.Weights.{commands_in, registers_in}
 use Rattle.call_terms.specs.declared.calls.Ask.{Ask}

@@ -1,14 +1,12 @@
 //! Calls of functions over an access whose results are given. All values were worked out by hand.
-mod scripted;
 
 ghost use Rattle.std.specs.Prelude.{◌≡◌, IfOk};
 
 use crate::{End, Held, both, number_of, numbers_of, performed};
-use access_calls::Stop;
+use access_calls::{Scripted, Stop};
 use call_terms::{Ask, Slot, Value};
 use dap_base::MemorySink;
 use function_table::Function;
-use scripted::Scripted;
 use sequence_terms::Globals;
 use std::alloc::Global;
 use std::process::Abort;

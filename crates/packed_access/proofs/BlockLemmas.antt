@@ -8,7 +8,8 @@ use Rattle.std.specs.Prelude.{bit_and, sum_by}
 use Rattle.target_machine.specs.Plain.{Action, Makes}
 use Rattle.target_machine.specs.declared.access.RegAccess.{RegAccess}
 use Rattle.probe_core.specs.declared.job.Limits.{Limits}
-use Rattle.call_terms.specs.Journal.{Entry, actions_in, one_if}
+use Rattle.target_machine.specs.Counts.{one_if}
+use Rattle.call_terms.specs.Journal.{Entry, actions_in}
 use Rattle.access_regs.specs.Journal.{making}
 use Rattle.access_calls.specs.Bounds.{block_words, capacity}
 use Rattle.flight_forms.specs.Forms.{all_write_drw, writes_drw}

@@ -6,7 +6,7 @@ use Rattle.target_machine.specs.State.{TargetState}
 use Rattle.target_machine.specs.declared.unit.Call.TheVariants.{Probe}
 use Rattle.target_machine.specs.declared.unit.ProbeCall.{ProbeCall}
 use Rattle.call_terms.specs.Asks.{probe_ask, settled_last}
-use Rattle.call_terms.specs.Journal.{one_if}
+use Rattle.target_machine.specs.Counts.{one_if}
 use Rattle.call_terms.specs.NeedPoints.{Asks, Cost, asked, capped_sum, needed, needed_more, used, with_call}
 use Rattle.call_terms.specs.declared.calls.Ask.{Ask}
 use Rattle.call_terms.specs.declared.calls.Slot.{Slot}

@@ -12,7 +12,7 @@ use Rattle.dap_messages.specs.Responses.{response_of}
 use Rattle.dap_messages.specs.declared.request.Response.{Response}
 use Rattle.dap_messages.specs.declared.request.Response.TheVariants.{Good, Wait, Fault, Mismatch}
 use Rattle.dap_replies.proofs.ReplyLaws.{response_is}
-use Rattle.dap_transfer.specs.CommandEnds.{one_if}
+use Rattle.target_machine.specs.Counts.{one_if}
 use Rattle.dap_transfer.specs.Laws.{one_at_a_time, value_now}
 use Rattle.dap_transfer.specs.State.{TransferState, grown, is_wait}
 use Rattle.dap_transfer.specs.WireTransfer.{value_of}

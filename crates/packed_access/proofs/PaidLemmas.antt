@@ -9,7 +9,8 @@ use Rattle.probe_core.specs.Bench.{Reported as BenchReported}
 use Rattle.probe_core.specs.Probe.{target_of}
 use Rattle.probe_core.specs.declared.job.Limits.{Limits}
 use Rattle.call_terms.specs.Asks.{settled_last}
-use Rattle.call_terms.specs.Journal.{Entry, one_if}
+use Rattle.target_machine.specs.Counts.{one_if}
+use Rattle.call_terms.specs.Journal.{Entry}
 use Rattle.call_terms.specs.NeedPoints.{Asks, needed, used}
 use Rattle.call_terms.specs.declared.calls.Ask.{Ask}
 use Rattle.call_terms.specs.declared.calls.Slot.{Slot}

@@ -12,7 +12,8 @@ use Rattle.target_machine.specs.declared.unit.Unit.{Unit as AccessUnit}
 use Rattle.target_machine.specs.declared.unit.Unit.TheVariants as unit
 use Rattle.target_machine.specs.Plain.{may_forgive}
 use Rattle.call_terms.specs.Asks.{IsUnitInRange, unit_ask}
-use Rattle.call_terms.specs.Journal.{Entry, one_if, settles, target_after}
+use Rattle.target_machine.specs.Counts.{one_if}
+use Rattle.call_terms.specs.Journal.{Entry, settles, target_after}
 use Rattle.call_terms.specs.NeedPoints.{asked}
 use Rattle.call_terms.specs.World.{is_small_end, results, skips, small_now, start_world}
 use Rattle.call_terms.specs.declared.calls.Ask.{Ask}

@@ -14,7 +14,7 @@ use Rattle.target_machine.specs.declared.unit.Unit.{Unit as AccessUnit}
 use Rattle.target_machine.specs.declared.unit.Unit.TheVariants as unit
 use Rattle.target_machine.proofs.ActionLists.{pass_last}
 use Rattle.probe_core.specs.Bench.{BenchState}
-use Rattle.call_terms.specs.Journal.{one_if}
+use Rattle.target_machine.specs.Counts.{one_if}
 use Rattle.access_regs.specs.Costs.{leading_reads}
 use Rattle.access_regs.specs.Entries.{NoneFault}
 use Rattle.access_regs.specs.Journal.{alone_at, kept_alone, large_of, making}

@@ -2,7 +2,8 @@
 use Rattle.std.specs.Prelude.{◌≡◌, ℕ, ◌+◌, ◌-◌, ◌*◌, ◌/◌, ◌≤◌, Bool, true, false, not, List, [], ◌∷◌, ◌++◌, length, take, sum_by}
 use Rattle.target_machine.specs.declared.access.RegAccess.{RegAccess}
 use Rattle.probe_core.specs.declared.job.Limits.{Limits}
-use Rattle.call_terms.specs.Journal.{Entry, one_if}
+use Rattle.target_machine.specs.Counts.{one_if}
+use Rattle.call_terms.specs.Journal.{Entry}
 use Rattle.access_calls.specs.Bounds.{block_words, capacity}
 use Rattle.flight_forms.specs.Forms.{all_write_drw}
 use Rattle.calls_in_flight.specs.Packets.{drw_writes_in, is_drw_write}

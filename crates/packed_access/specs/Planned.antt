@@ -7,7 +7,7 @@ use Rattle.target_machine.specs.Registers.{cfg_la}
 use Rattle.target_machine.specs.State.{TargetState}
 use Rattle.target_machine.specs.declared.access.RegAccess.{RegAccess}
 use Rattle.target_machine.specs.declared.unit.Unit.{Unit as AccessUnit}
-use Rattle.call_terms.specs.Journal.{one_if}
+use Rattle.target_machine.specs.Counts.{one_if}
 use Rattle.call_terms.specs.World.{start_world, stop}
 use Rattle.call_terms.specs.declared.calls.Ask.{Ask}
 use Rattle.access_regs.specs.Journal.{gives, making, port_of}

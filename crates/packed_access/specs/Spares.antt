@@ -20,7 +20,8 @@ use Rattle.probe_core.specs.Probe.{target_of}
 use Rattle.probe_core.specs.Ranges.{AreLimits}
 use Rattle.probe_core.specs.declared.job.Limits.{Limits}
 use Rattle.call_terms.specs.Asks.{AreAskable, IsCallInRange, is_forgiving}
-use Rattle.call_terms.specs.Journal.{Entry, one_if}
+use Rattle.target_machine.specs.Counts.{one_if}
+use Rattle.call_terms.specs.Journal.{Entry}
 use Rattle.call_terms.specs.Weights.{registers_in}
 use Rattle.call_terms.specs.declared.calls.Ask.{Ask}
 use Rattle.access_regs.specs.Costs.{cost_by, leading_reads}

@@ -7,7 +7,7 @@ use Rattle.probe_core.specs.Bench.{Reported as BenchReported}
 use Rattle.probe_core.specs.Probe.{target_of}
 use Rattle.probe_core.specs.Ranges.{AreLimits}
 use Rattle.probe_core.specs.declared.job.Limits.{Limits}
-use Rattle.call_terms.specs.Journal.{one_if}
+use Rattle.target_machine.specs.Counts.{one_if}
 use Rattle.call_terms.specs.NeedPoints.{Asks, capped_sum}
 use Rattle.call_terms.specs.Weights.{registers_in}
 use Rattle.call_terms.specs.declared.calls.Ask.{Ask}

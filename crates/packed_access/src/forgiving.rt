@@ -30,12 +30,12 @@ ghost use Rattle.access_regs.specs.Kept.{Kept, known, selected};
 ghost use Rattle.access_regs.specs.Plan.{needs_cfg, select_value};
 ghost use Rattle.access_regs.specs.declared.planner.Planner.TheVariants.{Managed};
 
-use crate::accesses::{access_ap, access_drw, high_of, low_of, plain_csw};
 use crate::flights::Flights;
 use crate::log::CallLog;
 use crate::planned::port_of;
 use crate::sender::Sender;
 use access_calls::Stop;
+use call_terms::accesses::{access_ap, access_drw, high_of, low_of, plain_csw};
 use target_machine::registers::{CFG, CSW, TAR, TAR_HIGH};
 use target_machine::{RegAccess, Unit};
 

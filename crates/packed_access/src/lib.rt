@@ -2,7 +2,6 @@
 #![tactic(auto)]
 
 mod access;
-mod accesses;
 mod asking;
 mod calls;
 mod flights;
@@ -14,6 +13,7 @@ mod opening;
 mod over_bench;
 mod planned;
 mod polls;
+mod results;
 mod sender;
 mod trying;
 mod wire;

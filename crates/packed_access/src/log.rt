@@ -8,7 +8,7 @@ ghost use Rattle.access_calls.specs.declared.stop.Stop.TheVariants as Stop;
 ghost use Rattle.batch_packer.specs.FlightEnds.{IsShort};
 ghost use Rattle.packed_access.specs.Logs.{IsLogCut, IsOfCall, IsSoundState, IsStopped, all_confirmed, asks_of, most_entries, nothing_logged, pending, place_of, result_at, result_for, all_issued, with_asks, with_call, with_entry, with_needs, with_result};
 
-use crate::accesses::result_of;
+use crate::results::result_of;
 use access_calls::{Issued, Report, Stop, StopCause, mark_last, stop_report};
 use batch_packer::{Cut, FlightEnd};
 use call_terms::{Ask, Part, Slot};

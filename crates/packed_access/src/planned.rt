@@ -7,7 +7,7 @@ ghost use Rattle.probe_core.specs.Bench.{BenchState};
 ghost use Rattle.call_terms.specs.Journal.{Entry};
 ghost use Rattle.call_terms.specs.declared.journal.Part.TheVariants.{Ends, Leads};
 ghost use Rattle.call_terms.specs.NeedPoints.{capped_sum};
-ghost use Rattle.call_terms.specs.Journal.{one_if};
+ghost use Rattle.target_machine.specs.Counts.{one_if};
 ghost use Rattle.access_regs.specs.Journal.{by_csw, gives, port_of};
 ghost use Rattle.access_regs.specs.Plan.{cfg_plan, first_plan, last_access, leads, learned, learned_cfg, made, needs_cfg, needs_csw};
 ghost use Rattle.access_calls.specs.Answers.{NoMemory};

@@ -19,11 +19,11 @@ ghost use Rattle.call_terms.specs.declared.journal.Part.TheVariants.{Leads};
 ghost use Rattle.access_regs.specs.Kept.{Kept, selected};
 ghost use Rattle.access_regs.specs.Plan.{select_value};
 
-use crate::accesses::write_select;
 use crate::flights::Flights;
 use crate::sender::Sender;
 use access_calls::Stop;
 use call_terms::Part;
+use call_terms::accesses::select;
 use target_machine::registers::CLEAR_ALL;
 use target_machine::{ProbeCall, RegAccess};
 
@@ -161,8 +161,8 @@ impl<F: Flights> Sender<F> {
         ensures managed { self.new.managed ≡ selected self.old.managed (select_value ap bank) }
         ensures identity { F.identity self.new.flights ≡ F.identity self.old.flights }
     {
-        let select = write_select(ap, bank);
-        self.managed.selected(select.value);
-        self.try_flight(&[select], access, ends)
+        let write = select(ap, bank);
+        self.managed.selected(write.value);
+        self.try_flight(&[write], access, ends)
     }
 }

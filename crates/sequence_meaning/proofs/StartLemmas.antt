@@ -9,6 +9,7 @@ use Rattle.function_table.specs.Variables.{predefined}
 use Rattle.sequence_code.specs.Trees.{SetTrees}
 use Rattle.target_machine.specs.State.{TargetState}
 use Rattle.target_machine.specs.declared.unit.Variable.{Variable}
+use Rattle.sequence_terms.proofs.PredefinedNames.{has, name_at, names_length, own_name}
 use Rattle.sequence_terms.specs.declared.bindings.Binding.{Binding}
 use Rattle.sequence_terms.specs.Direct.{Now, now_at, direct}
 use Rattle.sequence_terms.specs.Machine.{State}
@@ -19,36 +20,12 @@ use Rattle.sequence_meaning.specs.Starting.{variables_of}
 
 -- ---- the predefined variables have names of their own
 
-has : List (List ℕ) → List ℕ → Bool
-has [] n = false
-has (x ∷ xs) n = cond (bytes_eq n x) true (has xs n)
-
 has_is : (vs : List Variable) (i : ℕ) (n : List ℕ) → has_in (variables_of (take i vs)) n ≡ has (take i (map (λ v. v.name) vs)) n
 unfolding has
 has_is [] zero n = refl
 has_is [] (suc i) n = refl
 has_is (v ∷ vs) zero n = refl
 has_is (v ∷ vs) (suc i) n = ap (λ b. cond (bytes_eq n v.name) true b) (has_is vs i n)
-
-name_at : (vs : List Variable) (i : ℕ) (d : Variable) → i < length vs → (get_or vs i d).name ≡ get_or (map (λ v. v.name) vs) i []
-name_at [] i d h = absurd (omega arith)
-name_at (v ∷ vs) zero d h = refl
-name_at (v ∷ vs) (suc i) d h = name_at vs i d (omega arith)
-
-names_length : (vs : List Variable) → length (map (λ v. v.name) vs) ≡ length vs
-names_length [] = refl
-names_length (v ∷ vs) = ap suc (names_length vs)
-
-own_name : (i : ℕ) → i < 7 → has (take i predefined) (get_or predefined i []) ≡ false
-unfolding has
-own_name zero h = refl
-own_name (suc zero) h = refl
-own_name (suc (suc zero)) h = refl
-own_name (suc (suc (suc zero))) h = refl
-own_name (suc (suc (suc (suc zero)))) h = refl
-own_name (suc (suc (suc (suc (suc zero))))) h = refl
-own_name (suc (suc (suc (suc (suc (suc zero)))))) h = refl
-own_name (suc (suc (suc (suc (suc (suc (suc i))))))) h = absurd (omega arith)
 
 new_name : (vs : List Variable) (i : ℕ) (d : Variable) → map (λ v. v.name) vs ≡ predefined → i < length vs → has_in (variables_of (take i vs)) (get_or vs i d).name ≡ false
 new_name vs i d same h =

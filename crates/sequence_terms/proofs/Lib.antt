@@ -18,3 +18,4 @@ pub mod VariableLemmas
 pub mod GlobalLemmas
 pub mod Rows
 pub mod Sizes
+pub mod PredefinedNames

@@ -6,8 +6,9 @@ ghost use Rattle.target_machine.specs.Sound.{IsSound};
 ghost use Rattle.access_regs.specs.Plan.{learned, learned_cfg, made, settled};
 
 use super::Managed;
-use crate::values::{high_of, increment_off, low_of, planned_csw, predicted, select_value};
+use crate::values::{increment_off, planned_csw, predicted, select_value};
 use crate::{Known, Unsettled};
+use call_terms::accesses::{high_of, low_of};
 use target_machine::Unit;
 use target_machine::registers::{CFG, CFG_LA, SELECT};
 

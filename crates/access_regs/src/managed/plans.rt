@@ -8,8 +8,8 @@ ghost use Rattle.access_regs.specs.Plans.{accesses_of};
 
 use super::Managed;
 use crate::Plan;
-use crate::accesses::{access_ap, access_drw, write_select};
-use crate::values::{high_of, increment_off, is_known, low_of, planned_csw, select_value};
+use crate::values::{increment_off, is_known, planned_csw, select_value, write_select};
+use call_terms::accesses::{access_ap, access_drw, high_of, low_of};
 use target_machine::registers::{CFG, CSW, CTRL_STAT, TAR, TAR_HIGH};
 use target_machine::{RegAccess, Unit};
 

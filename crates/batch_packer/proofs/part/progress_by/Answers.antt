@@ -1,7 +1,7 @@
 use Rattle.std.proofs.Common.{◌≡◌, ◌-◌, not, ◌&&◌, ◌||◌, length, ap, ◌∙◌, ℕ, Bool}
 use Rattle.std.specs.Prelude.{nat_lt}
 use Rattle.dap_transfer.specs.State.{is_good}
-use Rattle.dap_transfer.specs.CommandEnds.{one_if}
+use Rattle.target_machine.specs.Counts.{one_if}
 use Rattle.dap_transfer.specs.Laws.{accesses_in}
 use Rattle.flight_forms.specs.Flights.{doubts, seen_values}
 use Rattle.batch_packer.specs.SlotList.{SlotList}

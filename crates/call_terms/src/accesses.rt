@@ -1,13 +1,24 @@
-//! The register accesses of units that are made alone, and the result of a call.
-ghost use Rattle.std.specs.Prelude.{◌≡◌, ◌<◌, ◌⊎◌, ◌*◌, ◌/◌, ◌%◌, ◌^◌, false};
-ghost use Rattle.target_machine.specs.Plain.{ap_access_of, csw_for, drw_of, from_lanes, result_of, select_of, to_lanes};
-ghost use Rattle.target_machine.specs.Sound.{IsSoundCall};
+//! The register accesses of which calls are made, and what they are written with.
+ghost use Rattle.std.specs.Prelude.{◌≡◌, ◌<◌, ◌⊎◌, ◌*◌, ◌/◌, ◌%◌, ◌^◌, false, if◌then◌else◌};
+ghost use Rattle.target_machine.specs.Plain.{ap_access_of, csw_for, dp_read_of, dp_write_of, drw_of, from_lanes, select_of, to_lanes};
 
+use target_machine::RegAccess;
 use target_machine::registers::{CSW_OTHERS, DRW, SELECT};
-use target_machine::{Call, RegAccess, Unit};
 
-// SELECT with this AP and this bank.
-pub(crate) fn write_select(ap: u8, bank: u8) -> RegAccess
+/// An access of the register of the debug port at a byte address; a read writes 0.
+pub fn access_dp(read: bool, addr: u8, value: u32) -> RegAccess
+    ensures { result ≡ (if read then dp_read_of addr else dp_write_of addr value) }
+{
+    RegAccess {
+        ap: false,
+        read,
+        addr,
+        value: if read { 0 } else { value },
+    }
+}
+
+/// The write of SELECT with this AP and this bank of 16 bytes; DPBANKSEL is 0.
+pub fn select(ap: u8, bank: u8) -> RegAccess
     requires { bank < 16 }
     ensures { result ≡ select_of ap bank }
 {
@@ -19,8 +30,8 @@ pub(crate) fn write_select(ap: u8, bank: u8) -> RegAccess
     }
 }
 
-// An access of a register of the selected AP and bank.
-pub(crate) fn access_ap(read: bool, addr: u8, value: u32) -> RegAccess
+/// An access of the register of the selected AP and bank at a byte address; a read writes 0.
+pub fn access_ap(read: bool, addr: u8, value: u32) -> RegAccess
     ensures { result ≡ ap_access_of read addr value }
 {
     RegAccess {
@@ -31,8 +42,8 @@ pub(crate) fn access_ap(read: bool, addr: u8, value: u32) -> RegAccess
     }
 }
 
-// An access of DRW, with the value in its lanes.
-pub(crate) fn access_drw(read: bool, address: u64, value: u32) -> RegAccess
+/// An access of DRW for the memory at a byte address, with the value in its lanes.
+pub fn access_drw(read: bool, address: u64, value: u32) -> RegAccess
     requires { read ≡ false → value * 2 ^ (8 * (address % 4)) < 2 ^ 32 }
     ensures { result ≡ drw_of read address value }
 {
@@ -56,8 +67,8 @@ fn in_lanes(address: u64, value: u32) -> u32
     }
 }
 
-// The value in the lanes of what was read from DRW.
-fn of_lanes(size: u8, address: u64, word: u32) -> u32
+/// The value of 1, 2 or 4 bytes at a byte address, in the lanes of what was read from DRW.
+pub fn from_lanes(size: u8, address: u64, word: u32) -> u32
     requires { (size ≡ 1) ⊎ ((size ≡ 2) ⊎ (size ≡ 4)) }
     ensures { result ≡ from_lanes size address word }
 {
@@ -74,26 +85,8 @@ fn of_lanes(size: u8, address: u64, word: u32) -> u32
     }
 }
 
-// The result of a call from what its last action gave.
-pub(crate) fn result_of(call: &Call, word: u32) -> u32
-    requires { IsSoundCall call.now }
-    ensures { result ≡ result_of call.now word }
-{
-    match *call {
-        Call::Access(
-            Unit::Memory {
-                size,
-                read: true,
-                address,
-                ..
-            },
-        ) => of_lanes(size, address, word),
-        _ => word,
-    }
-}
-
-// CSW with this size and no increment, its other bits as they were read.
-pub(crate) fn plain_csw(csw: u32, size: u8) -> u32
+/// CSW with this size (1, 2 or 4 bytes) and no increment, its other bits as they were read.
+pub fn plain_csw(csw: u32, size: u8) -> u32
     ensures { result ≡ csw_for csw size }
 {
     let code = match size {
@@ -104,15 +97,15 @@ pub(crate) fn plain_csw(csw: u32, size: u8) -> u32
     (csw & CSW_OTHERS) + code
 }
 
-// The low 32 bits of an address: TAR.
-pub(crate) fn low_of(address: u64) -> u32
+/// The low 32 bits of an address: TAR.
+pub fn low_of(address: u64) -> u32
     ensures { result ≡ address % 2 ^ 32 }
 {
     (address % 0x1_0000_0000) as u32
 }
 
-// The other bits of an address: the upper word of TAR.
-pub(crate) fn high_of(address: u64) -> u32
+/// The other bits of an address: the upper word of TAR.
+pub fn high_of(address: u64) -> u32
     ensures { result ≡ address / 2 ^ 32 }
 {
     (address / 0x1_0000_0000) as u32

@@ -1,8 +1,8 @@
-//! An access for tests: its bench is not observable, and its results are given.
+//! An access for tests of what runs over one: it has no bench, and its results are given.
 ghost use Rattle.std.specs.Prelude.{◌≡◌, ◌+◌, ◌-◌, ◌<◌, ◌≤◌, ◌^◌, [], ℕ, None, Some, false, true, if◌then◌else◌, min, vec_len};
 ghost use Rattle.access_calls.specs.declared.stop.Stop.TheVariants.{BenchFault};
 
-use access_calls::{Access, Stop, mark_last};
+use crate::{Access, Stop, mark_last};
 use call_terms::{Ask, Asked, Slot};
 use std::alloc::Global;
 use target_machine::{Call, ProbeCall, Unit};
@@ -13,14 +13,17 @@ const FAULT: Stop = Stop::BenchFault {
     confirmed: 0,
 };
 
-/// Answers the given results, 0 after them, and fails as its bench would from the call on that has
-/// the number `fails_at`, counted from 0 over all calls but `value`.
+/// An access for tests of what runs over an access. It answers the given results in the order of the calls, and 0 after them,
+/// and fails as its bench would from the call on that has the number `fails_at`, counted from 0 over all calls but `value`.
+/// Its bench is not observable: what it says of a run is what any access says.
 #[derive(Drop)]
 pub struct Scripted {
+    /// What was asked, in order.
     pub calls: Vec<Ask>,
     results: Vec<u32>,
     made: u32,
     fails_at: u32,
+    /// How many need points came.
     pub needs: u64,
     fence: usize,
     faults: u64,
@@ -28,6 +31,7 @@ pub struct Scripted {
 }
 
 impl Scripted {
+    /// An access of which nothing was asked, with these results. No memory is taken.
     pub fn new(alloc: Global, results: Vec<u32>, fails_at: u32) -> Scripted
         ensures calls { result.calls.items ≡ [] }
         ensures needs { result.needs ≡ 0 }
