@@ -8,3 +8,4 @@ pub mod Causes
 pub mod GoesOn
 pub mod Bounds
 pub mod Copy
+pub mod Growing

@@ -94,6 +94,7 @@ impl Scripted {
 impl Access for Scripted {
     ghost use Rattle.probe_core.specs.Bench.{no_exchange};
     ghost use Rattle.access_calls.specs.Causes.{keeps_nothing};
+    ghost use Rattle.access_calls.specs.Growing.{grows_empty};
 
     ghost reported = { λ s. record {
       bench = record { limits = record { packet_size = 64; packet_count = 1 }; held = 0; waiting = 0; faults = s.faults; exchanges = 0; last = no_exchange };
@@ -119,6 +120,8 @@ impl Access for Scripted {
     ghost cost = { λ t asks ask. record { before = 0; after = 0 } };
 
     ghost is_sparing = { false };
+
+    ghost grows = { grows_empty };
 
     ghost keeps = { λ s. keeps_nothing _ _ (λ i. []) (λ i. []) };
 

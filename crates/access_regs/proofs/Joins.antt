@@ -1,14 +1,16 @@
 -- The journal of two lists of calls, one after the other.
-use Rattle.std.proofs.Common.{◌≡◌, ◌∙◌, ℕ, suc, ◌+◌, List, [], ◌∷◌, ◌++◌, append_assoc, length, refl, sym, ap, arith}
+use Rattle.std.proofs.Common.{◌≡◌, ◌∙◌, ℕ, suc, ◌+◌, ◌-◌, ◌≤◌, Bool, true, false, if◌then◌else◌, List, [], ◌∷◌, ◌++◌, append_assoc, length, refl, sym, ap, arith}
+use Rattle.std.specs.List.{AllByRecursion}
 use Rattle.target_machine.proofs.ActionLists.{after_append}
 use Rattle.target_machine.specs.Lists.{after}
 use Rattle.target_machine.specs.Plain.{Action}
 use Rattle.target_machine.specs.State.{TargetState}
-use Rattle.call_terms.specs.Journal.{Entry, actions_in, target_after}
+use Rattle.call_terms.specs.Asks.{is_forgiving}
+use Rattle.call_terms.specs.Journal.{Entry, actions_in, lines_before, settles, target_after}
 use Rattle.call_terms.specs.declared.calls.Ask.{Ask}
 use Rattle.access_regs.specs.Kept.{Kept}
-use Rattle.access_regs.specs.Journal.{entries_at, kept_at, target_at, issued_from, kept_from}
-use Rattle.access_regs.specs.Laws.{JournalJoins, KeptJoins, SettlingEnds}
+use Rattle.access_regs.specs.Journal.{Step, entries_at, finish_of, issue_of, kept_at, numbered, target_at, issued_from, kept_from}
+use Rattle.access_regs.specs.Laws.{JournalJoins, KeptJoins, LaterEntries, SettlingEnds}
 use Rattle.access_regs.proofs.Lists.{actions_in_append, actions_entries}
 use Rattle.access_regs.proofs.Settle.{settled_calm}
 use Rattle.access_regs.specs.declared.planner.Planner.{Planner}
@@ -43,3 +45,29 @@ kept_joins p n k t (c ∷ xs) ys =
 
 pub settling_ends : SettlingEnds
 settling_ends k = settled_calm k
+
+-- ---- entries of later calls
+
+later_number : (n : ℕ) (b : Bool) → n ≤ (if b then (if b then n else n + 1) else (if b then n else n + 1) - 1)
+later_number n true = omega arith
+later_number n false = omega arith
+
+later_numbered : (low n : ℕ) (forgiving : Bool) (steps : List Step) → low ≤ n → AllByRecursion (λ e. low ≤ lines_before e) (numbered n forgiving steps)
+later_numbered low n forgiving [] h = tt
+later_numbered low n forgiving (s ∷ steps) h = ((let l = later_number n (settles s.part) in omega (arith, l, h)), later_numbered low n forgiving steps h)
+
+later_append : (low : ℕ) (xs ys : List Entry) → AllByRecursion (λ e. low ≤ lines_before e) xs → AllByRecursion (λ e. low ≤ lines_before e) ys → AllByRecursion (λ e. low ≤ lines_before e) (xs ++ ys)
+later_append low [] ys h j = j
+later_append low (x ∷ xs) ys h j = (h.0, later_append low xs ys h.1 j)
+
+later_from : (low : ℕ) (p : Planner) (n : ℕ) (k : Kept) (t : TargetState) (calls : List Ask) → low ≤ n → AllByRecursion (λ e. low ≤ lines_before e) (issued_from p n k t calls)
+later_from low p n k t [] h = tt
+later_from low p n k t (c ∷ cs) h =
+    later_append low (entries_at p n t k c) (issued_from p (n + 1) (kept_at p t k c) (target_at p t k c) cs)
+    (later_append low (numbered n (is_forgiving c) (issue_of p t k c).steps) (numbered (n + 1) false (finish_of p t k c).steps)
+    (later_numbered low n (is_forgiving c) (issue_of p t k c).steps h)
+    (later_numbered low (n + 1) false (finish_of p t k c).steps (omega (arith, h))))
+    (later_from low p (n + 1) (kept_at p t k c) (target_at p t k c) cs (omega (arith, h)))
+
+pub later_entries : LaterEntries
+later_entries p n k t calls = later_from n p n k t calls (omega arith)

@@ -1,5 +1,6 @@
 -- What is true of the journal of any calls, by either planner.
-use Rattle.std.specs.Prelude.{◌≡◌, ◌≢◌, ◌+◌, ◌/◌, ◌<◌, ℕ, Bool, true, false, ◌||◌, if◌then◌else◌, List, [], ◌∷◌, ◌++◌, length, None}
+use Rattle.std.specs.Prelude.{◌≡◌, ◌≢◌, ◌+◌, ◌/◌, ◌<◌, ◌≤◌, ℕ, Bool, true, false, ◌||◌, if◌then◌else◌, List, [], ◌∷◌, ◌++◌, length, None}
+use Rattle.std.specs.List.{AllByRecursion}
 use Rattle.dap_base.specs.Bits.{has_bit}
 use Rattle.target_machine.specs.Registers.{cfg_la}
 use Rattle.target_machine.specs.Plain.{Answered, Faulted, has_large}
@@ -9,7 +10,7 @@ use Rattle.target_machine.specs.State.{TargetState, Agree}
 use Rattle.access_regs.specs.Journal.{alone_at, issue_of, kept_alone, issued, issued_from, kept_at, kept_from, target_at, planned}
 use Rattle.access_regs.specs.Alone.{actions_alone, alone, alone_after, large_of_all, NoneFaults, StopsInLast, AnswersWith, KeepsMemory}
 use Rattle.target_machine.specs.Fresh.{IsFresh}
-use Rattle.call_terms.specs.Journal.{Passes, actions_in, target_after}
+use Rattle.call_terms.specs.Journal.{Passes, actions_in, lines_before, target_after}
 use Rattle.call_terms.specs.Asks.{AreAskable, IsAskable, is_settled, IsUnitInRange}
 use Rattle.access_regs.specs.Kept.{Kept, forget, known, nothing_kept, selected}
 use Rattle.access_regs.specs.Plan.{learned_cfg, needs_cfg, select_value, settled}
@@ -64,6 +65,10 @@ JournalAnswers = (p : Planner) (t : TargetState) (calls more : List Ask) (c : As
 abbrev pub JournalJoins : Type 0
 JournalJoins = (p : Planner) (units : ℕ) (k : Kept) (t : TargetState) (xs ys : List Ask) →
     issued_from p units k t (xs ++ ys) ≡ issued_from p units k t xs ++ issued_from p (units + length xs) (kept_from p k t xs) (target_after t (issued_from p units k t xs)) ys
+
+-- Each entry of calls that are asked after so many others is issued for one of them, or settles what was asked before it.
+abbrev pub LaterEntries : Type 0
+LaterEntries = (p : Planner) (units : ℕ) (k : Kept) (t : TargetState) (calls : List Ask) → AllByRecursion (λ e. units ≤ lines_before e) (issued_from p units k t calls)
 
 -- So it is with what is kept.
 abbrev pub KeptJoins : Type 0

@@ -2,7 +2,7 @@
 ghost use Rattle.access_regs.specs.Closed.{MemoryFollowsCalls};
 ghost use Rattle.access_regs.specs.Costs.{AloneReads, PlannedReads, PortReads};
 ghost use Rattle.access_regs.specs.Entries.{CallAnswers, JournalGrows, JournalMarks, JournalWeighs, LeadsAreGood, SelectIsGood, UnitsInRange};
-ghost use Rattle.access_regs.specs.Laws.{AloneKept, CallGoes, CallLeaves, FreshFollows, JournalAgrees, JournalAnswers, JournalFollows, JournalJoins, JournalPasses, JournalStops, KeptAfterCfg, KeptByCfg, KeptBySelect, KeptJoins, PlainIsAlone, PortKept, SettlingEnds, UnitKeepsMemory};
+ghost use Rattle.access_regs.specs.Laws.{AloneKept, CallGoes, CallLeaves, FreshFollows, JournalAgrees, JournalAnswers, JournalFollows, JournalJoins, JournalPasses, JournalStops, KeptAfterCfg, KeptByCfg, KeptBySelect, KeptJoins, LaterEntries, PlainIsAlone, PortKept, SettlingEnds, UnitKeepsMemory};
 ghost use Rattle.access_regs.specs.Light.{JournalIsLight};
 ghost use Rattle.access_regs.specs.Skips.{FaultSkips, PassingIsMade};
 ghost use Rattle.access_regs.specs.Stops.{FaultStops, PassingStops, WaitStops};
@@ -34,9 +34,10 @@ pub fn neighbours_are_few()
 {}
 
 /// The journal of more calls begins with that of the first ones, and goes on from where these end.
-#[tactic(auto, using(crate::proofs::Joins::journal_joins, crate::proofs::Joins::kept_joins))]
+#[tactic(auto, using(crate::proofs::Joins::journal_joins, crate::proofs::Joins::later_entries, crate::proofs::Joins::kept_joins))]
 pub fn journals_join()
     ensures entries { JournalJoins }
+    ensures later { LaterEntries }
     ensures kept { KeptJoins }
 {}
 

@@ -37,6 +37,7 @@ impl Scripted {
 
 impl Access for Scripted {
     ghost use Rattle.access_calls.specs.Causes.{keeps_nothing};
+    ghost use Rattle.access_calls.specs.Growing.{grows_empty};
 
     ghost reported = { λ s. record {
       bench = reported_of s.bench;
@@ -62,6 +63,8 @@ impl Access for Scripted {
     ghost cost = { λ t asks ask. record { before = 0; after = 0 } };
 
     ghost is_sparing = { false };
+
+    ghost grows = { grows_empty };
 
     ghost keeps = { λ s. keeps_nothing None _ refl refl };
 

@@ -1,0 +1,24 @@
+-- The journal of calls, and that of more calls after them.
+use Rattle.std.specs.Prelude.{◌≡◌, ◌≤◌, ◌++◌, ℕ, List, [], length, refl}
+use Rattle.std.specs.List.{AllByRecursion}
+use Rattle.call_terms.specs.Journal.{Entry, lines_before}
+use Rattle.call_terms.specs.declared.calls.Ask.{Ask}
+use Rattle.target_machine.specs.State.{TargetState}
+
+-- the entry is issued once so many calls were asked: for a later one, or to settle what they left
+abbrev pub IsAfter : ℕ → Entry → Type 0
+IsAfter calls e = calls ≤ lines_before e
+
+-- these entries begin with the first ones, and go on with those that are issued once so many calls were asked
+pub record GoesOnWith (calls : ℕ) (first entries : List Entry) : Type 0 where
+  pub rest : List Entry
+  pub joined : entries ≡ first ++ rest
+  pub later : AllByRecursion (IsAfter calls) rest
+
+-- The journal of more calls begins with the journal of the first of them.
+abbrev pub JournalGrows : (TargetState → List Ask → List Entry) → Type 0
+JournalGrows journal = (t : TargetState) (asks more : List Ask) → GoesOnWith (length asks) (journal t asks) (journal t (asks ++ more))
+
+-- the journal of an access that never has entries
+pub grows_empty : JournalGrows (λ t asks. [])
+grows_empty t asks more = record { rest = []; joined = refl; later = tt }
