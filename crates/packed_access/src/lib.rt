@@ -4,10 +4,8 @@
 mod access;
 mod asking;
 mod calls;
-mod flights;
 mod forgiving;
 mod issuing;
-pub mod laws;
 mod log;
 mod opening;
 mod over_bench;
@@ -16,17 +14,18 @@ mod polls;
 mod results;
 mod sender;
 mod trying;
-mod wire;
 
-pub use access::{Packed, PackedAccess};
-pub use flights::{Flights, Polled};
-pub use wire::Wire;
+pub use access::{Packed, PackedAccess, Single};
 
+#[cfg(test)]
+mod benches;
 #[cfg(test)]
 mod end_tests;
 #[cfg(test)]
 mod opening_tests;
 #[cfg(test)]
 mod rows;
+#[cfg(test)]
+mod single_tests;
 #[cfg(test)]
 mod tests;

@@ -1,45 +1,20 @@
 //! A row of the tests: what is asked over a bench in memory, and its packets and replies.
-ghost use Rattle.std.specs.Prelude.{◌≡◌, ◌≤◌, ◌↔◌, true, IfOk, IsTrue};
-ghost use Rattle.std.specs.List.{All};
-ghost use Rattle.target_machine.specs.Ranges.{IsTargetJob};
+ghost use Rattle.std.specs.Prelude.{◌≡◌, true};
 ghost use Rattle.target_machine.specs.Sound.{IsSound, IsSoundMemory, IsSoundProbe};
 ghost use Rattle.probe_core.specs.Memory.{reported_of};
-ghost use Rattle.probe_core.specs.Ranges.{AreLimits, IsBenchJob};
 ghost use Rattle.bench_access.specs.Opening.{IsIdle};
 
-use crate::{Packed, PackedAccess};
+use crate::PackedAccess;
+use crate::benches::{Setting, bench_of};
 use access_calls::{Access, Report, Stop, StopCause};
 use bench_access::OverBench;
+use bench_flights::{Alone, Flights, FlightsOver, Wire};
 use call_terms::{Asked, Slot};
-use dap_base::{ItemList, OutOfMemory};
-use probe_core::{Bench, BenchJob, Config, Limits, MemoryBench, Shown};
+use probe_core::{Bench, Config, Limits, MemoryBench, Shown};
 use std::alloc::Global;
 use std::process::Abort;
 use std::test::Fail;
-use target_machine::{ApJob, ProbeCall, RegionJob, ScriptJobs, TargetJob, Unit, WordJob, WordJobs};
-
-// What differs from row to row.
-#[derive(Clone, Copy, Drop)]
-pub(crate) struct Setting<'a> {
-    pub(crate) packet_count: u8,
-    pub(crate) stalls: &'a [u32],
-    pub(crate) powered: bool,
-    pub(crate) power_reads: u32,
-    pub(crate) la: bool,
-    pub(crate) carry: bool,
-    // the words at 0x20000000 and 0x20000004
-    pub(crate) words: [u32; 2],
-}
-
-pub(crate) const BASE: Setting<'static> = Setting {
-    packet_count: 1,
-    stalls: &[],
-    powered: true,
-    power_reads: 0,
-    la: false,
-    carry: false,
-    words: [0, 0],
-};
+use target_machine::{ProbeCall, Unit};
 
 // What is asked of the access.
 #[derive(Drop)]
@@ -60,115 +35,6 @@ pub(crate) enum Step {
     ForgiveFails(Unit, StopCause),
     FlushFails(Report),
     FinishFails(Report),
-}
-
-fn list<T: Copy + Drop>(alloc: Global, items: &[T]) -> Result<ItemList<T>, OutOfMemory>
-    ensures { IfOk result (λ list. list ≡ items.now) }
-{
-    let mut list = ItemList::new(alloc);
-    for item in items {
-        list.push(*item)?;
-    }
-    Ok(list)
-}
-
-// A target with AP 0, and 4,096 bytes at 0x20000000 and at 0x100000000.
-fn target(alloc: Global, setting: &Setting<'_>) -> Result<TargetJob, OutOfMemory>
-    requires { setting.now.power_reads ≤ 1000000 }
-    ensures { IfOk result IsTargetJob }
-{
-    Ok(TargetJob {
-        dpidr: 0x2BA0_1477,
-        powered: setting.powered,
-        power_reads: setting.power_reads,
-        pins: 0xA0,
-        carry: setting.carry,
-        aps: list(
-            alloc,
-            &[ApJob {
-                ap: 0,
-                idr: 0x2477_0011,
-                base: 0xE00F_F003,
-                csw: 0x40,
-                la: setting.la,
-            }],
-        )?,
-        memory: list(
-            alloc,
-            &[
-                RegionJob {
-                    address: 0x2000_0000,
-                    length: 4096,
-                    read_only: false,
-                },
-                RegionJob {
-                    address: 0x1_0000_0000,
-                    length: 4096,
-                    read_only: false,
-                },
-            ],
-        )?,
-        words: list(
-            alloc,
-            &[
-                WordJob {
-                    address: 0x2000_0000,
-                    value: setting.words[0],
-                },
-                WordJob {
-                    address: 0x2000_0004,
-                    value: setting.words[1],
-                },
-            ],
-        )?,
-        scripts: ScriptJobs::new(alloc),
-        reset: WordJobs::new(alloc),
-    })
-}
-
-// Whether these may be stalls of a bench.
-fn are_stalls(stalls: &[u32]) -> bool
-    ensures { IsTrue result ↔ All (λ stall. stall ≤ 100000) stalls.now }
-{
-    stalls.iter().all(|stall| *stall <= 100_000)
-}
-
-// The job of a bench so set.
-pub(crate) fn job_of(
-    rt: &impl Abort,
-    alloc: Global,
-    setting: &Setting<'_>,
-    limits: Limits,
-) -> Result<BenchJob, OutOfMemory>
-    requires limits { AreLimits limits }
-    ensures in_range { IfOk result IsBenchJob }
-    ensures limits { IfOk result (λ job. job.limits ≡ limits) }
-{
-    assert!(rt; setting.power_reads <= 1_000_000);
-    assert!(rt; setting.stalls.len() <= 65_536);
-    assert!(rt; are_stalls(setting.stalls));
-    Ok(BenchJob {
-        limits,
-        stalls: list(alloc, setting.stalls)?,
-        target: target(alloc, setting)?,
-    })
-}
-
-// A bench in memory so set.
-fn bench_of(
-    rt: &impl Abort,
-    alloc: Global,
-    setting: &Setting<'_>,
-    limits: Limits,
-) -> Result<MemoryBench, OutOfMemory>
-    requires limits { AreLimits limits }
-    ensures idle { IfOk result (λ bench. IsIdle (reported_of bench)) }
-    ensures limits { IfOk result (λ bench. (reported_of bench).limits ≡ limits) }
-{
-    let job = job_of(rt, alloc, setting, limits)?;
-    let mut bench = MemoryBench::new(alloc);
-    assert_eq!(rt; bench.load(alloc, &job), Ok(()));
-    Ok(bench)
 }
 
 pub(crate) fn word(read: bool, address: u64, value: u32) -> Unit {
@@ -304,15 +170,15 @@ fn is_sound_call(call: &ProbeCall) -> bool
     match *call {
         ProbeCall::Delay(micros) => micros <= 60_000_000,
         ProbeCall::Line { count, bits } => count == 16 && bits < 0x1_0000,
-        ProbeCall::Pins { .. } => true,
-        _ => false,
+        ProbeCall::Pins { .. } | ProbeCall::Abort(_) => true,
+        ProbeCall::Clock(hertz) => hertz != 0,
     }
 }
 
 // Asks a unit that may be asked.
-fn ask(
+fn ask<F: Flights>(
     rt: &impl Abort,
-    access: &mut Packed<MemoryBench>,
+    access: &mut PackedAccess<F>,
     unit: &Unit,
     forgive: bool,
 ) -> Result<Asked, Stop> {
@@ -322,9 +188,9 @@ fn ask(
 }
 
 // Asks a command that may be asked.
-fn command(
+fn command<F: Flights>(
     rt: &impl Abort,
-    access: &mut Packed<MemoryBench>,
+    access: &mut PackedAccess<F>,
     call: &ProbeCall,
 ) -> Result<u64, Stop> {
     assert!(rt; is_sound_call(call));
@@ -333,15 +199,20 @@ fn command(
 }
 
 // Asks a unit, which has a place.
-fn take_slot(rt: &impl Abort, access: &mut Packed<MemoryBench>, unit: &Unit, forgive: bool) {
+fn take_slot<F: Flights>(
+    rt: &impl Abort,
+    access: &mut PackedAccess<F>,
+    unit: &Unit,
+    forgive: bool,
+) {
     let asked = ask(rt, access, unit, forgive);
     assert!(rt; matches!(asked, Ok(Asked::Slot(_))), "{unit:?}");
 }
 
 // Asks a unit, at which the access ends by this cause.
-fn fails(
+fn fails<F: Flights>(
     rt: &impl Abort,
-    access: &mut Packed<MemoryBench>,
+    access: &mut PackedAccess<F>,
     unit: &Unit,
     forgive: bool,
     cause: StopCause,
@@ -353,7 +224,7 @@ fn fails(
 }
 
 // Asks for words written from 0x20000000 on.
-fn make_writes(rt: &impl Abort, access: &mut Packed<MemoryBench>, count: u32) {
+fn make_writes<F: Flights>(rt: &impl Abort, access: &mut PackedAccess<F>, count: u32) {
     for index in 0..count {
         let address = 0x2000_0000 + 4 * index as u64;
         take_slot(rt, access, &word(false, address, index + 1), false);
@@ -361,7 +232,7 @@ fn make_writes(rt: &impl Abort, access: &mut Packed<MemoryBench>, count: u32) {
 }
 
 // Asks one step.
-fn make(rt: &impl Abort, access: &mut Packed<MemoryBench>, step: &Step) {
+fn make<F: Flights>(rt: &impl Abort, access: &mut PackedAccess<F>, step: &Step) {
     match step {
         Step::Ask(unit) => take_slot(rt, access, unit, false),
         Step::Writes(count) => make_writes(rt, access, *count),
@@ -388,12 +259,12 @@ fn shows_all(rt: &impl Abort, bench: &mut MemoryBench, packet_count: u8, lines: 
 }
 
 // Begins an access over a bench with these limits.
-fn begun(
+fn begun<F: FlightsOver<MemoryBench>>(
     rt: &impl Abort,
     alloc: Global,
     bench: MemoryBench,
     limits: Limits,
-) -> Option<Packed<MemoryBench>>
+) -> Option<PackedAccess<F>>
     requires idle { IsIdle (reported_of bench) }
     requires limits { limits ≡ (reported_of bench).limits }
 {
@@ -401,7 +272,7 @@ fn begun(
         idle: 0,
         retry: 100,
     };
-    match PackedAccess::begin(alloc, bench, config, limits) {
+    match PackedAccess::<F>::begin(alloc, bench, config, limits) {
         Ok(access) => Some(access),
         Err(_) => {
             assert!(rt; false, "not begun");
@@ -411,7 +282,7 @@ fn begun(
 }
 
 // Asks the steps.
-fn make_all(rt: &impl Abort, access: &mut Packed<MemoryBench>, steps: &[Step]) {
+fn make_all<F: Flights>(rt: &impl Abort, access: &mut PackedAccess<F>, steps: &[Step]) {
     for step in steps {
         make(rt, access, step);
     }
@@ -425,6 +296,28 @@ pub(crate) fn row(
     steps: &[Step],
     lines: &[&str],
 ) -> Result<(), Fail> {
+    row_by::<Wire<MemoryBench>>(rt, alloc, setting, steps, lines)
+}
+
+// The same, by the access that sends each register access by itself.
+pub(crate) fn row_alone(
+    rt: &impl Abort,
+    alloc: Global,
+    setting: &Setting<'_>,
+    steps: &[Step],
+    lines: &[&str],
+) -> Result<(), Fail> {
+    row_by::<Alone<MemoryBench>>(rt, alloc, setting, steps, lines)
+}
+
+// The same, by either access.
+fn row_by<F: FlightsOver<MemoryBench>>(
+    rt: &impl Abort,
+    alloc: Global,
+    setting: &Setting<'_>,
+    steps: &[Step],
+    lines: &[&str],
+) -> Result<(), Fail> {
     let packet_count = setting.packet_count;
     assert!(rt; 1 <= packet_count && packet_count <= 64);
     let limits = Limits {
@@ -432,7 +325,7 @@ pub(crate) fn row(
         packet_count,
     };
     let bench = bench_of(rt, alloc, setting, limits)?;
-    if let Some(mut access) = begun(rt, alloc, bench, limits) {
+    if let Some(mut access) = begun::<F>(rt, alloc, bench, limits) {
         make_all(rt, &mut access, steps);
         let mut bench = access.into_bench();
         shows_all(rt, &mut bench, packet_count, lines);
