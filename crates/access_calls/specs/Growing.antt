@@ -1,6 +1,7 @@
 -- The journal of calls, and that of more calls after them.
 use Rattle.std.specs.Prelude.{◌≡◌, ◌≤◌, ◌++◌, ℕ, List, [], length, refl}
 use Rattle.std.specs.List.{AllByRecursion}
+use Rattle.call_terms.specs.Asks.{settled_last}
 use Rattle.call_terms.specs.Journal.{Entry, lines_before}
 use Rattle.call_terms.specs.declared.calls.Ask.{Ask}
 use Rattle.target_machine.specs.State.{TargetState}
@@ -22,3 +23,11 @@ JournalGrows journal = (t : TargetState) (asks more : List Ask) → GoesOnWith (
 -- the journal of an access that never has entries
 pub grows_empty : JournalGrows (λ t asks. [])
 grows_empty t asks more = record { rest = []; joined = refl; later = tt }
+
+-- The journal of calls that a `finish` follows begins with the journal of the calls, and goes on with what settles them.
+abbrev pub JournalSettles : (TargetState → List Ask → List Entry) → Type 0
+JournalSettles journal = (t : TargetState) (asks : List Ask) → GoesOnWith (length asks) (journal t asks) (journal t (settled_last asks))
+
+-- the same of the journal that never has entries
+pub settles_empty : JournalSettles (λ t asks. [])
+settles_empty t asks = record { rest = []; joined = refl; later = tt }

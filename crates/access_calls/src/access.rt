@@ -13,7 +13,7 @@ ghost use Rattle.access_calls.specs.Answers.{HasSlot, IsEnd, IsSmallOnly, IsSmal
 ghost use Rattle.access_calls.specs.Bounds.{KeepsBoundsIf};
 ghost use Rattle.access_calls.specs.Causes.{KeepsReplyAt};
 ghost use Rattle.access_calls.specs.GoesOn.{GoesOn};
-ghost use Rattle.access_calls.specs.Growing.{JournalGrows};
+ghost use Rattle.access_calls.specs.Growing.{JournalGrows, JournalSettles};
 ghost use Rattle.access_calls.specs.Left.{IsLeft};
 ghost use Rattle.access_calls.specs.Reported.{Reported, began, world_from};
 ghost use Rattle.access_calls.specs.Standing.{Stands};
@@ -179,6 +179,9 @@ pub trait Access {
     /// The journal of more calls begins with the journal of the first of them.
     ghost grows: { JournalGrows journal };
 
+    /// The journal of calls that a `finish` follows begins with the journal of the calls.
+    ghost settles: { JournalSettles journal };
+
     /// A packet and a reply are kept only at `Cut` and `ReplyBad`.
     ghost keeps: { (a : Self) → KeepsReplyAt (reported a).end (reported a) };
 
@@ -205,6 +208,8 @@ impl<A: Access> Access for &mut A {
     ghost is_sparing = { A.is_sparing };
 
     ghost grows = { A.grows };
+
+    ghost settles = { A.settles };
 
     ghost keeps = { λ a. A.keeps a.now };
 

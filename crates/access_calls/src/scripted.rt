@@ -94,7 +94,7 @@ impl Scripted {
 impl Access for Scripted {
     ghost use Rattle.probe_core.specs.Bench.{no_exchange};
     ghost use Rattle.access_calls.specs.Causes.{keeps_nothing};
-    ghost use Rattle.access_calls.specs.Growing.{grows_empty};
+    ghost use Rattle.access_calls.specs.Growing.{grows_empty, settles_empty};
 
     ghost reported = { λ s. record {
       bench = record { limits = record { packet_size = 64; packet_count = 1 }; held = 0; waiting = 0; faults = s.faults; exchanges = 0; last = no_exchange };
@@ -122,6 +122,8 @@ impl Access for Scripted {
     ghost is_sparing = { false };
 
     ghost grows = { grows_empty };
+
+    ghost settles = { settles_empty };
 
     ghost keeps = { λ s. keeps_nothing _ _ (λ i. []) (λ i. []) };
 

@@ -27,7 +27,7 @@ use Rattle.calls_in_flight.proofs.SendLemmas.{action_sends}
 use Rattle.access_calls.specs.Standing.{WhereObservable}
 use Rattle.batch_packer.specs.Flying.{CanFly}
 use Rattle.packed_access.specs.Begun.{HasIssued, IsIssuing, most_weight}
-use Rattle.packed_access.specs.Flown.{CanCommand, CanCount, HasDone}
+use Rattle.bench_flights.specs.Flown.{CanCommand, CanCount, HasDone}
 use Rattle.packed_access.specs.Actions.{entry_of, log_done}
 use Rattle.packed_access.specs.Logs.{LogState}
 use Rattle.packed_access.specs.Marks.{unmarked_append, unmarked_last}

@@ -29,7 +29,7 @@ use Rattle.calls_in_flight.specs.Flights.{AreStrict}
 use Rattle.calls_in_flight.proofs.EndLemmas.{flight_ends, flight_fails}
 use Rattle.calls_in_flight.proofs.FlightLemmas.{flight_length}
 use Rattle.packed_access.specs.Begun.{HasEnded, HasIssued, IsIssuing, StopsThere}
-use Rattle.packed_access.specs.Flown.{BrokeOff, MayHaveFlown, WasCut}
+use Rattle.bench_flights.specs.Flown.{BrokeOff, MayHaveFlown, WasCut}
 use Rattle.packed_access.specs.Logs.{IsCause, IsLogCut, IsStopped, LogState, reported_by}
 use Rattle.packed_access.proofs.WholeLemmas.{take_first}
 use Rattle.access_regs.specs.declared.planner.Planner.TheVariants.{Managed}

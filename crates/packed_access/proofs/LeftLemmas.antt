@@ -31,7 +31,7 @@ use Rattle.calls_in_flight.proofs.SendLemmas.{action_sends}
 use Rattle.flight_forms.specs.Flights.{Part}
 use Rattle.dap_messages.specs.declared.request.Response.TheVariants.{Good, Mismatch}
 use Rattle.packed_access.specs.Begun.{HasEnded, HasIssued, IsIssuing, StopsThere, most_weight}
-use Rattle.packed_access.specs.Flown.{CanCount, DidLess, HasDone, LeftOff, NamesNone, WasUnanswered}
+use Rattle.bench_flights.specs.Flown.{CanCount, DidLess, HasDone, LeftOff, NamesNone, WasUnanswered}
 use Rattle.packed_access.specs.Logs.{IsCause, IsLogCut, IsStopped, LogState, reported_by, with_entry}
 use Rattle.packed_access.proofs.ActionLemmas.{at_rest, at_rest_count}
 use Rattle.packed_access.proofs.EndLemmas.{IsBrokenOff, ended_in, numbers_longer, stops_in}

@@ -22,7 +22,7 @@ use Rattle.access_regs.specs.declared.planner.Planner.TheVariants.{Managed}
 use Rattle.access_calls.specs.declared.stop.Stop.{Stop}
 use Rattle.packed_access.specs.Begun.{HasBegun, HasEnded}
 use Rattle.packed_access.specs.Logs.{LogState, all_confirmed, all_taken, asks_of, nothing_logged, reported_by, with_asks, with_call, with_needs}
-use Rattle.packed_access.specs.Opening.{MayBegin}
+use Rattle.bench_flights.specs.Opening.{MayBegin}
 use Rattle.packed_access.specs.Sparing.{AreNeeded, HasBegunSparing, HasPaid, HasSpared, left_of}
 use Rattle.packed_access.proofs.BegunLemmas.{ended_begun}
 use Rattle.packed_access.proofs.NeedLemmas.{begun_needs, refused_new}

@@ -20,7 +20,7 @@ use Rattle.batch_packer.specs.Flying.{CanFly}
 use Rattle.batch_packer.specs.SlotList.{slot_at}
 use Rattle.calls_in_flight.proofs.PushLemmas.{plan_gives}
 use Rattle.packed_access.specs.Begun.{HasIssued, IsIssuing, entries_of, target_issued}
-use Rattle.packed_access.specs.Flown.{HasCome}
+use Rattle.bench_flights.specs.Flown.{HasCome}
 use Rattle.packed_access.specs.Logs.{LogState}
 use Rattle.packed_access.proofs.SlotLemmas.{slot_gives}
 use Rattle.access_regs.specs.declared.planner.Planner.TheVariants.{Managed}

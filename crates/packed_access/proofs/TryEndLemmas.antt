@@ -34,8 +34,8 @@ use Rattle.calls_in_flight.specs.Sending.{IsSending}
 use Rattle.calls_in_flight.proofs.CutLemmas.{front_length, front_target, has_at, has_part, split as cut_split, take_front}
 use Rattle.calls_in_flight.proofs.EndLemmas.{flight_ends, flight_fails}
 use Rattle.calls_in_flight.proofs.FlightLemmas.{flight_length}
-use Rattle.packed_access.specs.Clearing.{ClearedOff, is_fault_end}
-use Rattle.packed_access.specs.Flown.{BrokeOff, DidLess, HasDone, IsCutResponse, MayHaveFlown, WasCut}
+use Rattle.bench_flights.specs.Clearing.{ClearedOff, is_fault_end}
+use Rattle.bench_flights.specs.Flown.{BrokeOff, DidLess, HasDone, IsCutResponse, MayHaveFlown, WasCut}
 use Rattle.packed_access.specs.Forgiving.{IsNext, IsTrying}
 use Rattle.packed_access.specs.Logs.{IsCause, IsStopped, LogState, reported_by}
 use Rattle.packed_access.proofs.EndLemmas.{IsBrokenOff, numbers_longer}

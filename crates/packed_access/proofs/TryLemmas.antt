@@ -33,7 +33,7 @@ use Rattle.calls_in_flight.proofs.CutLemmas.{Cutting, cut, faults, work_is}
 use Rattle.calls_in_flight.proofs.FlightLemmas.{flight_length, makes_after}
 use Rattle.calls_in_flight.proofs.SendLemmas.{forgiven_sends, whole_sends}
 use Rattle.packed_access.specs.Begun.{IsIssuing}
-use Rattle.packed_access.specs.Flown.{HasCome, HasDone}
+use Rattle.bench_flights.specs.Flown.{HasCome, HasDone}
 use Rattle.packed_access.specs.Forgiving.{IsForgiven, IsNext, IsTrying}
 use Rattle.packed_access.specs.Logs.{LogState, all_confirmed}
 use Rattle.packed_access.proofs.ActionLemmas.{at_rest, at_rest_count}

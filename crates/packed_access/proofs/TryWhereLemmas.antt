@@ -24,8 +24,8 @@ use Rattle.batch_packer.specs.SlotList.{slot_at}
 use Rattle.batch_packer.specs.declared.ends.FlightEnd.{FlightEnd}
 use Rattle.batch_packer.specs.declared.ends.FlightEnd.TheVariants as ends
 use Rattle.calls_in_flight.specs.Forgiving.{steps_of_unit}
-use Rattle.packed_access.specs.Clearing.{CanClear, ClearedOff, IsOneTransfer, is_fault_end}
-use Rattle.packed_access.specs.Flown.{BrokeOff, HasCome, HasDone, IsCutResponse, WasCut}
+use Rattle.bench_flights.specs.Clearing.{CanClear, ClearedOff, IsOneTransfer, is_fault_end}
+use Rattle.bench_flights.specs.Flown.{BrokeOff, HasCome, HasDone, IsCutResponse, WasCut}
 use Rattle.packed_access.specs.Forgiving.{HasBroken, HasForgiven, HasTried, IsForgiven, IsNext, IsTrying, last_part, with_accesses}
 use Rattle.packed_access.specs.Logs.{IsStopped, LogState, all_confirmed, reported_by, with_entry}
 use Rattle.packed_access.proofs.ActionLemmas.{at_rest_count}

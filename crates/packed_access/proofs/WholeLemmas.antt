@@ -30,7 +30,7 @@ use Rattle.calls_in_flight.proofs.FlightLemmas.{room_grown}
 use Rattle.calls_in_flight.proofs.OpenLemmas.{askable_first}
 use Rattle.calls_in_flight.proofs.SendLemmas.{whole_sends}
 use Rattle.packed_access.specs.Begun.{HasIssued, IsGivenAt, IsIssuing, most_weight}
-use Rattle.packed_access.specs.Flown.{HasCome}
+use Rattle.bench_flights.specs.Flown.{HasCome}
 use Rattle.packed_access.specs.Logs.{LogState, all_confirmed, all_taken, filled, place_of, result_by, result_for}
 use Rattle.packed_access.specs.Stands.{IsMildAt, mild_from}
 use Rattle.packed_access.proofs.CameLemmas.{HaveCome, have_come_own, place_within, take_through}

@@ -40,7 +40,8 @@ use Rattle.calls_in_flight.proofs.ActionLemmas.{few_packets}
 use Rattle.calls_in_flight.proofs.WriteLemmas.{writes_are_few}
 use Rattle.calls_in_flight.specs.Packets.{drw_writes_in, is_drw_write}
 use Rattle.packed_access.specs.Begun.{IsOpenAt, IsSince}
-use Rattle.packed_access.specs.Blocks.{AreBlocks, changes_after, changes_in, others_in, transfer_accesses}
+use Rattle.packed_access.specs.Blocks.{AreBlocks, changes_after, changes_in, others_in}
+use Rattle.bench_flights.specs.Full.{transfer_accesses}
 use Rattle.packed_access.specs.Logs.{LogState, asks_of, reported_by}
 use Rattle.packed_access.specs.NextWrites.{journal_few, mild_write}
 use Rattle.packed_access.specs.Sparing.{AreNeeded, HasBegunSparing, HasPaid, IsSpared, first_cost, left_of, marks_in}

@@ -18,14 +18,10 @@ use Rattle.access_regs.specs.declared.planner.Planner.TheVariants.{Managed}
 use Rattle.access_calls.specs.Bounds.{capacity}
 use Rattle.access_calls.specs.Standing.{WhereObservable}
 use Rattle.batch_packer.specs.Flying.{CanFly}
+use Rattle.bench_flights.specs.Flown.{SendsFew}
 use Rattle.packed_access.specs.Begun.{HasBegun}
 use Rattle.packed_access.specs.Blocks.{AreBlocks}
 use Rattle.packed_access.specs.Logs.{LogState, asks_of}
-
--- at most so many starting packets came, and their count stops before 2^64
-pub record SendsFew (packets : ℕ) (m o : BenchState) : Type 0 where
-  pub few : o.starting ≤ m.starting + packets
-  pub counts : m.starting < 2 ^ 64 → o.starting < 2 ^ 64
 
 -- Since the beginning there were at most so many starting packets, besides the three of the opening and one for each flight that was sent
 -- because there was no room; these had at least the capacity of accesses each, which are confirmed, and a block where all were writes of

@@ -21,9 +21,9 @@ ghost use Rattle.target_machine.specs.declared.unit.Call.TheVariants.{Access};
 ghost use Rattle.access_regs.specs.Costs.{cost_by};
 ghost use Rattle.access_regs.specs.declared.planner.Planner.TheVariants.{Managed};
 
-use crate::flights::Flights;
 use crate::sender::Sender;
 use access_calls::Stop;
+use bench_flights::Flights;
 use target_machine::Unit;
 
 impl<F: Flights> Sender<F> {

@@ -21,9 +21,9 @@ ghost use Rattle.access_regs.specs.declared.planner.Planner.TheVariants.{Managed
 ghost use Rattle.access_regs.specs.Costs.{command_cost, cost_by};
 
 use crate::access::PackedAccess;
-use crate::flights::Flights;
 use crate::sender::Sender;
 use access_calls::{Access, Stop};
+use bench_flights::Flights;
 use call_terms::{Ask, Asked, Slot};
 use target_machine::{Call, ProbeCall, Unit};
 
@@ -137,6 +137,7 @@ impl<F: Flights> Access for PackedAccess<F> {
     ghost use Rattle.access_regs.specs.Costs.{cost_by};
     ghost use Rattle.access_regs.specs.declared.planner.Planner.TheVariants.{Managed};
     ghost use Rattle.packed_access.specs.Logs.{keeps_by, reported_by};
+    ghost use Rattle.packed_access.specs.Grows.{grows_packed, settles_packed};
     ghost use Rattle.packed_access.specs.Spares.{spares_packed};
     ghost use Rattle.packed_access.specs.Stands.{stands_packed};
 
@@ -151,6 +152,10 @@ impl<F: Flights> Access for PackedAccess<F> {
     ghost cost = { cost_by Managed };
 
     ghost is_sparing = { true };
+
+    ghost grows = { grows_packed Managed };
+
+    ghost settles = { settles_packed Managed };
 
     ghost keeps = { λ s. keeps_by (F.reported s.sender.flights) (F.state s.sender.flights) s.sender.log (F.packet s.sender.flights) (F.reply s.sender.flights) };
 

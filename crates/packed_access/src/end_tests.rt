@@ -1,5 +1,6 @@
 //! The worked rows that a fault or a retry ends, with their packets, replies and reports.
-use crate::rows::{BASE, Setting, Step, read, row, word, write};
+use crate::benches::{BASE, Setting};
+use crate::rows::{Step, read, row, word, write};
 use access_calls::{Report, StopCause};
 use std::alloc::Global;
 use std::process::Abort;

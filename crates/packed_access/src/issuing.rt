@@ -15,7 +15,7 @@ ghost use Rattle.flight_forms.specs.Packing.{IsTaken};
 ghost use Rattle.probe_core.specs.Bench.{BenchState};
 ghost use Rattle.call_terms.specs.Journal.{Entry, target_after};
 ghost use Rattle.access_calls.specs.Answers.{AtCut, NoMemory};
-ghost use Rattle.packed_access.specs.Blocks.{IsFull};
+ghost use Rattle.bench_flights.specs.Full.{IsFull};
 ghost use Rattle.packed_access.specs.Sparing.{HasSpared};
 ghost use Rattle.access_calls.specs.GoesOn.{GoesOn};
 ghost use Rattle.access_calls.specs.Issued.{kept_of, lines_before_kept};
@@ -28,11 +28,11 @@ ghost use Rattle.packed_access.specs.Actions.{entry_of, log_done};
 ghost use Rattle.packed_access.specs.Logs.{IsFurther, IsOfCall, IsSoundState, all_confirmed, all_taken, asks_of, ended_by, most_entries, reported_by, result_for};
 ghost use Rattle.access_regs.specs.declared.planner.Planner.TheVariants.{Managed};
 
-use crate::flights::Flights;
 use crate::log::CallLog;
 use crate::sender::Sender;
 use access_calls::Stop;
 use access_regs::Plan;
+use bench_flights::Flights;
 use call_terms::Part;
 use target_machine::{ProbeCall, RegAccess};
 

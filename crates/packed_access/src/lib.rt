@@ -4,10 +4,8 @@
 mod access;
 mod asking;
 mod calls;
-mod flights;
 mod forgiving;
 mod issuing;
-pub mod laws;
 mod log;
 mod opening;
 mod over_bench;
@@ -16,12 +14,11 @@ mod polls;
 mod results;
 mod sender;
 mod trying;
-mod wire;
 
 pub use access::{Packed, PackedAccess};
-pub use flights::{Flights, Polled};
-pub use wire::Wire;
 
+#[cfg(test)]
+mod benches;
 #[cfg(test)]
 mod end_tests;
 #[cfg(test)]

@@ -1,6 +1,6 @@
 //! Accesses that do not begin.
-use crate::PackedAccess;
-use crate::rows::{BASE, job_of};
+use crate::Packed;
+use crate::benches::{BASE, job_of};
 use access_calls::Stop;
 use bench_access::OverBench;
 use probe_core::{Bench, Config, FaultyBench, Limits};
@@ -21,7 +21,7 @@ fn fails_at(rt: &impl Abort, alloc: Global, call: u32) -> Result<(), Fail> {
         idle: 0,
         retry: 100,
     };
-    match PackedAccess::begin(alloc, bench, config, limits) {
+    match Packed::<FaultyBench>::begin(alloc, bench, config, limits) {
         Ok(_) => assert!(rt; false, "begun"),
         Err(refusal) => {
             let stop = Stop::BenchFault {

@@ -25,10 +25,10 @@ ghost use Rattle.access_regs.specs.Costs.{cost_by};
 ghost use Rattle.access_regs.specs.declared.planner.Planner.TheVariants.{Managed};
 ghost use Rattle.target_machine.specs.declared.unit.Unit.TheVariants as unit;
 
-use crate::flights::Flights;
 use crate::issuing::listed;
 use crate::sender::Sender;
 use access_calls::Stop;
+use bench_flights::Flights;
 use call_terms::Part;
 use target_machine::Unit;
 

@@ -15,15 +15,16 @@ ghost use Rattle.access_calls.specs.GoesOn.{GoesOn};
 ghost use Rattle.access_calls.specs.Left.{IsLeft};
 ghost use Rattle.batch_packer.specs.Flying.{CanFly};
 ghost use Rattle.packed_access.specs.Begun.{HasEnded, HasIssued, StopsThere};
-ghost use Rattle.packed_access.specs.Flown.{BenchGoesOn, HasDone, HasEndCause, IsCutResponse, LeftOff, NamesNone, matched_word};
+ghost use Rattle.bench_flights.specs.Flown.{BenchGoesOn, HasDone, HasEndCause, IsCutResponse, LeftOff, NamesNone, matched_word};
 ghost use Rattle.packed_access.specs.Logs.{asks_of, most_entries, reported_by};
 ghost use Rattle.packed_access.specs.Polls.{HasPoll};
-ghost use Rattle.packed_access.specs.Sparing.{HasSpared, SendsFew};
+ghost use Rattle.packed_access.specs.Sparing.{HasSpared};
+ghost use Rattle.bench_flights.specs.Flown.{SendsFew};
 
-use crate::flights::Flights;
 use crate::sender::Sender;
 use access_calls::Stop;
 use batch_packer::FlightEnd;
+use bench_flights::Flights;
 use call_terms::Part;
 
 // What a poll came to: whether the value matched, and how many need points it makes.

@@ -3,9 +3,9 @@ ghost use Rattle.std.specs.Prelude.{◌≡◌, ◌-◌, None, Some, length};
 ghost use Rattle.access_calls.specs.declared.stop.Stop.TheVariants.{OutOfMemory};
 ghost use Rattle.packed_access.specs.Logs.{IsSoundState};
 
-use crate::flights::Flights;
 use crate::log::CallLog;
 use access_regs::Managed;
+use bench_flights::Flights;
 
 /// What issues the entries of calls into flights, and keeps what is known of the registers and of the calls.
 #[derive(Drop)]

@@ -1,5 +1,6 @@
 //! The worked rows whose calls all come, with their packets and replies.
-use crate::rows::{BASE, Setting, Step, read, row, word, write, write_dp};
+use crate::benches::{BASE, Setting};
+use crate::rows::{Step, read, row, word, write, write_dp};
 use std::alloc::Global;
 use std::process::Abort;
 use std::test::Fail;

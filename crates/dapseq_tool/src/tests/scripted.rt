@@ -37,7 +37,7 @@ impl Scripted {
 
 impl Access for Scripted {
     ghost use Rattle.access_calls.specs.Causes.{keeps_nothing};
-    ghost use Rattle.access_calls.specs.Growing.{grows_empty};
+    ghost use Rattle.access_calls.specs.Growing.{grows_empty, settles_empty};
 
     ghost reported = { λ s. record {
       bench = reported_of s.bench;
@@ -65,6 +65,8 @@ impl Access for Scripted {
     ghost is_sparing = { false };
 
     ghost grows = { grows_empty };
+
+    ghost settles = { settles_empty };
 
     ghost keeps = { λ s. keeps_nothing None _ refl refl };
 

@@ -3,14 +3,14 @@ use Rattle.std.specs.Prelude.{slice_get}
 use Rattle.target_machine.specs.Plain.{Polls}
 use Rattle.call_terms.specs.declared.journal.Part.TheVariants.{Ends}
 use Rattle.packed_access.specs.Actions.{entry_of, log_done}
-use Rattle.packed_access.specs.Flown.{HasDone, LeftOff, matched_word}
+use Rattle.bench_flights.specs.Flown.{HasDone, LeftOff, matched_word}
 use Rattle.access_regs.specs.Journal.{Issue}
 use Rattle.access_calls.specs.Issued.{kept_of}
 use Rattle.packed_access.specs.Logs.{IsStopped, LogState, result_for, with_entry}
 use Rattle.packed_access.proofs.ActionLemmas.{action_has_come}
 use Rattle.packed_access.proofs.LeftLemmas.{has_left, stops_left}
 use Rattle.packed_access.proofs.PollLemmas.{asked_log, poll_issue_of, poll_light, poll_mild, poll_not_small, poll_points, poll_steps}
-use Rattle.packed_access.specs.Sparing.{SendsFew}
+use Rattle.bench_flights.specs.Flown.{SendsFew}
 use Rattle.packed_access.proofs.SparingLemmas.{has_cost}
 use Rattle.packed_access.proofs.sender.Sender.poll_last.Goals as goal
 

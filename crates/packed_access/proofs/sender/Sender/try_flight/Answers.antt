@@ -1,9 +1,9 @@
 use Rattle.std.proofs.Common.{rules, ◌≡◌, ◌∙◌, ◌^◌, ◌<◌, ◌++◌, ◌∷◌, [], true, false, List, length, refl, sym, ap, subst, arith}
 use Rattle.target_machine.specs.declared.access.RegAccess.{RegAccess}
-use Rattle.packed_access.specs.Clearing.{IsOneTransfer, is_fault_end}
+use Rattle.bench_flights.specs.Clearing.{IsOneTransfer, is_fault_end}
 use Rattle.packed_access.specs.Forgiving.{last_part}
 use Rattle.packed_access.proofs.TryWhereLemmas.{abort_broke, abort_log, flight_broke, flight_log, flight_skipped, flight_went, one_few}
-use Rattle.packed_access.proofs.PacketLemmas.{cleared_few, went_few}
+use Rattle.packed_access.proofs.WentLemmas.{cleared_few, went_few}
 use Rattle.packed_access.proofs.sender.Sender.try_flight.Goals as goal
 use Rattle.packed_access.proofs.sender.Sender.try_flight.Goals.{then-ends, else-ends}
 

@@ -7,7 +7,7 @@ use Rattle.call_terms.proofs.CallRanges.{lanes_fit}
 use Rattle.access_regs.specs.Journal.{making}
 use Rattle.packed_access.specs.Forgiving.{IsNext, WentTo}
 use Rattle.packed_access.proofs.TryMemoryLemmas.{broken_calls, csw_given, csw_next, csw_read, drw_next, on_err, on_ok, went_came, went_skipped}
-use Rattle.packed_access.proofs.PacketLemmas.{went_most, went_thens}
+use Rattle.packed_access.proofs.WentLemmas.{went_most, went_thens}
 use Rattle.packed_access.proofs.sender.Sender.try_memory.Goals as goal
 
 pub access_drw-last-requires : goal.access_drw-last-requires

@@ -6,7 +6,7 @@ use Rattle.target_machine.specs.declared.unit.Unit.TheVariants as unit
 use Rattle.access_regs.specs.Plan.{needs_cfg}
 use Rattle.packed_access.specs.Forgiving.{HasTried, IsDoneBy, IsNext, WentTo}
 use Rattle.packed_access.proofs.TryWideLemmas.{done_same, narrow_done, narrow_rest, port_done, port_next}
-use Rattle.packed_access.proofs.PacketLemmas.{flies_most, went_most}
+use Rattle.packed_access.proofs.WentLemmas.{flies_most, went_most}
 use Rattle.packed_access.proofs.sender.Sender.try_unit.Goals as goal
 
 pub returns-in-Ok-clause-on : goal.returns-in-Ok-clause-on

@@ -9,7 +9,7 @@ use Rattle.access_regs.specs.Plan.{learned_cfg, select_value}
 use Rattle.packed_access.specs.Forgiving.{IsNext, WentTo}
 use Rattle.packed_access.proofs.TryMemoryLemmas.{broken_calls}
 use Rattle.packed_access.proofs.TryWideLemmas.{cfg_large, cfg_next, cfg_skipped, cfg_small, cfg_tried, done_same, wide_done}
-use Rattle.packed_access.proofs.PacketLemmas.{went_most, went_then}
+use Rattle.packed_access.proofs.WentLemmas.{went_most, went_then}
 use Rattle.packed_access.proofs.sender.Sender.try_wide.Goals as goal
 
 pub returns-in-Ok-None-clause-on : goal.returns-in-Ok-None-clause-on
