@@ -1,6 +1,6 @@
 -- The debug variables one after the other, and whole runs of the evaluator.
-use Rattle.std.proofs.Common.{◌≡◌, ℕ, zero, suc, ◌+◌, ◌<◌, ◌≤◌, false, List, [], ◌∷◌, length, drop, get_or, Option, None, Some, unwrap_or, Result, Ok, Err, refl, sym, ap, subst, ◌∙◌, arith}
-use Rattle.std.proofs.lemmas.List.{drop_more}
+use Rattle.std.proofs.Common.{◌≡◌, ℕ, ◌+◌, ◌<◌, ◌≤◌, List, ◌∷◌, length, drop, get_or, Option, None, Some, unwrap_or, Result, Ok, refl, sym, ap, subst, ◌∙◌}
+use Rattle.std.proofs.lemmas.List.{drop_all, drop_more}
 use Rattle.dap_base.specs.Outcome.{◌>>=◌}
 use Rattle.expr_grammar.specs.declared.code.Name.{Name}
 use Rattle.expr_grammar.specs.declared.code.Stmt as statement
@@ -16,6 +16,7 @@ use Rattle.sequence_terms.specs.Machine.{State, Out}
 use Rattle.sequence_terms.specs.Steps.{done, steps_at, sequence_at, debugged, run_of}
 use Rattle.sequence_terms.specs.Values.{value, stored}
 use Rattle.sequence_terms.specs.Variables.{set_visible}
+use Rattle.sequence_terms.proofs.LoopLemmas.{tail_two}
 use Rattle.late_calls.specs.declared.end.End.{End}
 use Rattle.late_calls.specs.Ends.{Ends, Gives}
 use Rattle.late_calls.proofs.Leaves.{After, ends_on, later_bind, later_ok}
@@ -28,33 +29,13 @@ S = State Value Late
 abbrev O : Type 0 → Type 0
 O A = Out Value Late A
 
-drop_end : {X : Type 0} (xs : List X) (i : ℕ) → length xs ≤ i → drop i xs ≡ []
-drop_end [] zero h = refl
-drop_end [] (suc i) h = refl
-drop_end (x ∷ xs) zero h = absurd (omega arith)
-drop_end (x ∷ xs) (suc i) h = drop_end xs i (omega arith)
-
 module _ (cost : Costs) (w : World) (turn_us : ℕ) (set : SetTrees) where
   -- ---- the debug variables
-
-  abbrev dropped_value : {B : Type 0} → B × S → O (Unit {0})
-  dropped_value y = Ok (tt, y.1)
-
-  abbrev rest_of : {B C : Type 0} → (S → O C) → B × S → O C
-  rest_of g y = g y.1
-
-  tail_one : {B C : Type 0} (p : O B) (g : S → O C) → (p >>= rest_of {B = B} {C = C} g) ≡ ((p >>= dropped_value {B = B}) >>= rest_of {B = Unit {0}} {C = C} g)
-  tail_one (Ok x) g = refl
-  tail_one (Err e) g = refl
-
-  tail_two : {A B C : Type 0} (o : O A) (f : A × S → O B) (g : S → O C) → (o >>= λ x. f x >>= rest_of {B = B} {C = C} g) ≡ ((o >>= λ x. f x >>= dropped_value {B = B}) >>= rest_of {B = Unit {0}} {C = C} g)
-  tail_two (Ok x) f g = tail_one (f x) g
-  tail_two (Err e) f g = refl
 
   debug_first : (st : StmtTree) (code : List StmtTree) (s : S) → debugged (late cost w) turn_us set (st ∷ code) s ≡ (debugged_one cost w turn_us set st s >>= λ y. debugged (late cost w) turn_us set code y.1)
   unfolding debugged
   debug_first (t.Empty at) code s = refl
-  debug_first (t.Declare name e) code s = tail_two {A = Value} {B = Value} {C = Unit {0}} (value (late cost w) (λ n q. sequence_at (late cost w) turn_us set 0 n q) e s) (λ x. stored (late cost w) name x.0 x.1) (λ q. debugged (late cost w) turn_us set code q)
+  debug_first (t.Declare name e) code s = tail_two {V = Value} {T = Late} {A = Value} {B = Value} {C = Unit {0}} (value (late cost w) (λ n q. sequence_at (late cost w) turn_us set 0 n q) e s) (λ x. stored (late cost w) name x.0 x.1) (λ q. debugged (late cost w) turn_us set code q)
   debug_first (t.Plain at e) code s = refl
 
   debug_more : (xs : List statement.Stmt) (i : ℕ) (d : statement.Stmt) (s : S) → i < length xs
@@ -72,7 +53,7 @@ module _ (cost : Costs) (w : World) (turn_us : ℕ) (set : SetTrees) where
 
   pub debug_over : (total : O (Unit {0})) (xs : List statement.Stmt) (i : ℕ) (s : S) → total ≡ debugged (late cost w) turn_us set (code_trees (drop i xs)) s → length xs ≤ i → total ≡ Ok (tt, s)
   unfolding debugged
-  debug_over total xs i s same h = same ∙ rw (drop_end xs i h) refl
+  debug_over total xs i s same h = same ∙ rw (drop_all i xs h) refl
 
   pub debug_next : (total : O (Unit {0})) (xs : List statement.Stmt) (i : ℕ) (d a : statement.Stmt) (s r : S) → total ≡ debugged (late cost w) turn_us set (code_trees (drop i xs)) s → i < length xs → a ≡ get_or xs i d
       → debugged_one cost w turn_us set (stmt_tree a) s ≡ Ok (tt, r) → total ≡ debugged (late cost w) turn_us set (code_trees (drop (i + 1) xs)) r

@@ -1,6 +1,6 @@
 -- What a run starts with.
 use Rattle.std.proofs.Common.{◌≡◌, ◌<◌, ◌≤◌, ℕ, zero, suc, ◌+◌, Bool, true, false, cond, List, [], ◌∷◌, ◌++◌, map, take, drop, length, get_or, slice_get, Option, None, Some, refl, sym, ap, subst, ◌∙◌, arith, bytes_eq}
-use Rattle.std.proofs.lemmas.List.{drop_more, take_more, map-append}
+use Rattle.std.proofs.lemmas.List.{drop_all, drop_more, take_more, map-append}
 use Rattle.expr_grammar.specs.Tree as t
 use Rattle.expr_grammar.specs.Tree.{StmtTree, stmt_tree, code_trees}
 use Rattle.expr_grammar.specs.declared.code.Stmt as statement
@@ -63,14 +63,8 @@ declared_more xs i d one whole old new h is same add =
     ∙ ap (λ x. with_all_new (with_all_new old (declared_names (stmt_tree x ∷ [])) (Number 0)) (declared_names (code_trees (drop (i + 1) xs))) (Number 0)) (sym is)
     ∙ ap (λ bs. with_all_new bs (declared_names (code_trees (drop (i + 1) xs))) (Number 0)) (sym add)
 
-drop_end : {X : Type 0} (xs : List X) (i : ℕ) → length xs ≤ i → drop i xs ≡ []
-drop_end [] zero h = refl
-drop_end [] (suc i) h = refl
-drop_end (x ∷ xs) zero h = absurd (omega arith)
-drop_end (x ∷ xs) (suc i) h = drop_end xs i (omega arith)
-
 pub declared_over : (xs : List statement.Stmt) (i : ℕ) (whole old : List (Binding Value)) → length xs ≤ i → whole ≡ with_all_new old (declared_names (code_trees (drop i xs))) (Number 0) → old ≡ whole
-declared_over xs i whole old h same = sym (same ∙ ap (λ l. with_all_new old (declared_names (code_trees l)) (Number 0)) (drop_end xs i h))
+declared_over xs i whole old h same = sym (same ∙ ap (λ l. with_all_new old (declared_names (code_trees l)) (Number 0)) (drop_all i xs h))
 
 -- ---- the variables of an answer
 

@@ -1,4 +1,3 @@
-pub mod HeldLemmas
 pub mod Leaves
 pub mod LineLemmas
 pub mod UseLemmas

@@ -1,8 +1,6 @@
 -- Lines that are written, and what is confirmed before.
-use Rattle.std.proofs.Common.{◌≡◌, ℕ, Bool, true, false, List, [], ◌++◌, take, drop, nat_lt, Option, None, Some, option_map, Ok, refl, sym, ap, ◌∙◌}
-use Rattle.std.specs.Io.KnownBytes.{Appends}
+use Rattle.std.proofs.Common.{◌≡◌, ℕ, true, List, [], ◌++◌, take, drop, nat_lt, Option, None, Some, option_map, Ok, refl, sym, ap, ◌∙◌}
 use Rattle.std.proofs.lemmas.List.{append_assoc, append-nil, take-append-drop}
-use Rattle.dap_base.specs.Streams.{AppendsPrefix}
 use Rattle.call_terms.specs.declared.calls.Value.{Value}
 use Rattle.call_terms.specs.declared.calls.Value.TheVariants.{Number}
 use Rattle.call_terms.specs.NeedPoints.{Asks, Costs, needed}
@@ -13,32 +11,15 @@ use Rattle.sequence_terms.specs.Direct.{line_after}
 use Rattle.sequence_terms.specs.Machine.{State, end_state, with_rest, line_more}
 use Rattle.sequence_terms.specs.Late.{Late, late_of, late, line_unless, Later}
 use Rattle.sequence_terms.proofs.Goes as g
+use Rattle.sequence_terms.proofs.KnownLemmas.{known_more, knows_more, knows_part}
 use Rattle.sequence_terms.proofs.LateLemmas.{steady_late}
 use Rattle.late_calls.specs.declared.end.End.{End}
 use Rattle.late_calls.specs.Ends.{Left, Ends, IsStopAt}
-use Rattle.sequence_terms.specs.Known.{known_part, Knows}
 use Rattle.late_calls.proofs.Leaves.{After, left_on, stops_before}
 use Rattle.access_calls.proofs.KeepLemmas.{goes_same, goes_trans}
 
 abbrev S : Type 0
 S = State Value Late
-
--- ---- what the sink holds
-
-pub known_more : (known : Bool) (old new : Option (List ℕ)) (text : List ℕ) → Appends old new text → Knows known old → known_part known new ≡ option_map (line_after text) (known_part known old)
-known_more false old new text h t = refl
-known_more true None new text h t = absurd cc
-known_more true (Some xs) None text h t = absurd h
-known_more true (Some xs) (Some ys) text h t = ap Some h
-
-pub knows_more : (known : Bool) (old new : Option (List ℕ)) (text : List ℕ) → Appends old new text → Knows known old → Knows known new
-knows_more false old new text h t = tt
-knows_more true None new text h t = absurd cc
-knows_more true (Some xs) None text h t = absurd h
-knows_more true (Some xs) (Some ys) text h t = refl
-
-pub knows_part : (known : Bool) (old new : Option (List ℕ)) (text : List ℕ) → AppendsPrefix old new text → Knows known old → Knows known new
-knows_part known old new text h t = knows_more known old new (take h.0 text) h.1 t
 
 -- ---- lines
 

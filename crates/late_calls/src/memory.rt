@@ -4,7 +4,6 @@ ghost use Rattle.probe_core.specs.Bench.{BenchState};
 ghost use Rattle.access_calls.specs.GoesOn.{GoesOn};
 ghost use Rattle.access_calls.specs.Left.{IsLeft};
 ghost use Rattle.access_calls.specs.Reported.{world_from};
-ghost use Rattle.target_machine.specs.Sound.{IsSound};
 ghost use Rattle.sequence_terms.specs.declared.bindings.Binding.{Binding};
 ghost use Rattle.sequence_terms.specs.Calls as c;
 ghost use Rattle.sequence_terms.specs.Late.{late};
@@ -19,28 +18,7 @@ use crate::ports::port_of;
 use crate::uses::{both, confirmed};
 use access_calls::Access;
 use call_terms::Value;
-use target_machine::{HaltCause, Unit};
-
-// A memory access of 1, 2 or 4 bytes; a value that is written is cut to its size.
-#[tactic(auto, unfolding(sequence_terms::specs::Calls::memory_unit))]
-fn memory_unit(size: u8, read: bool, ap: u8, address: u64, value: u64) -> Unit
-    requires { (size ≡ 1) ⊎ ((size ≡ 2) ⊎ (size ≡ 4)) }
-    ensures unit { result ≡ c.memory_unit size read ap address value }
-    ensures sound { address % size ≡ 0 → IsSound result }
-{
-    let kept = match size {
-        1 => value % 0x100,
-        2 => value % 0x1_0000,
-        _ => value % 0x1_0000_0000,
-    };
-    Unit::Memory {
-        size,
-        read,
-        ap,
-        address,
-        value: if read { 0 } else { kept as u32 },
-    }
-}
+use sequence_terms::{memory_port, memory_unit};
 
 // The number of two words, the lower one first.
 #[tactic(auto, using(crate::proofs::UseLemmas::joined_is))]
@@ -148,8 +126,8 @@ fn two_units<A: Access>(
     }
 }
 
-// A memory call, with its halts in their order.
-#[tactic(auto, unfolding(sequence_terms::specs::Calls::memory_at, sequence_terms::specs::Calls::one_unit))]
+// A memory call, once the port is known.
+#[tactic(auto, unfolding(sequence_terms::specs::Calls::memory_at, sequence_terms::specs::Calls::one_unit, sequence_terms::specs::Calls::or_halt))]
 fn memory_at<A: Access>(
     size: u8,
     read: bool,
@@ -172,15 +150,10 @@ fn memory_at<A: Access>(
     ensures identity { A.identity access.new ≡ A.identity access.old }
     ensures goes { GoesOn (A.reported access.old) (A.reported access.new) }
 {
-    if port.dp != 0 {
-        return Err(End::Halted(HaltCause::Unsupported));
-    }
-    let Ok(ap) = u8::try_from(port.ap) else {
-        return Err(End::Halted(HaltCause::AddressTooLarge));
+    let ap = match memory_port(size, address, port.ap, port.dp) {
+        Ok(ap) => ap,
+        Err(cause) => return Err(End::Halted(cause)),
     };
-    if address % u64::from(size) != 0 {
-        return Err(End::Halted(HaltCause::Misaligned));
-    }
     if size == 8 {
         return two_units(read, ap, port.forgive, address, value, held, access);
     }

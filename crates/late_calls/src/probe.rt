@@ -1,5 +1,5 @@
 //! Calls that are commands of the probe.
-ghost use Rattle.std.specs.Prelude.{◌≡◌, ◌%◌, ◌^◌, ◌≤◌, ℕ, List, Option, None, length};
+ghost use Rattle.std.specs.Prelude.{◌≡◌, ℕ, List, Option, None, length};
 ghost use Rattle.probe_core.specs.Bench.{BenchState};
 ghost use Rattle.access_calls.specs.GoesOn.{GoesOn};
 ghost use Rattle.access_calls.specs.Left.{IsLeft};
@@ -15,6 +15,7 @@ use crate::held::Held;
 use crate::ports::debug_port;
 use access_calls::Access;
 use call_terms::Value;
+use sequence_terms::{low_bits, pins_command};
 use target_machine::{HaltCause, ProbeCall};
 
 // `DAP_WriteABORT`, on debug port 0 alone.
@@ -103,7 +104,7 @@ pub(crate) fn clock<A: Access>(hertz: u64, held: &mut Held, access: &mut A) -> R
 }
 
 // `DAP_SWJ_Pins`, with a wait of 32 bits.
-#[tactic(auto, unfolding(sequence_terms::specs::Calls::pins))]
+#[tactic(auto, unfolding(sequence_terms::specs::Calls::pins, sequence_terms::specs::Calls::or_halt))]
 pub(crate) fn pins<A: Access>(
     output: u64,
     select: u64,
@@ -123,27 +124,9 @@ pub(crate) fn pins<A: Access>(
     ensures identity { A.identity access.new ≡ A.identity access.old }
     ensures goes { GoesOn (A.reported access.old) (A.reported access.new) }
 {
-    if wait > 0xFFFF_FFFF {
-        return Err(End::Halted(HaltCause::ArgumentOutOfRange));
-    }
-    let call = ProbeCall::Pins {
-        output: (output % 256) as u8,
-        select: (select % 256) as u8,
-        wait: wait as u32,
-    };
-    command(call, held, access)
-}
-
-// The lowest `count` bits.
-fn low_bits(count: u8, bits: u64) -> u64
-    requires some { 1 ≤ count }
-    requires most { count ≤ 64 }
-    ensures { result ≡ bits % 2 ^ count }
-{
-    if count == 64 {
-        bits
-    } else {
-        bits % (1u64 << count)
+    match pins_command(output, select, wait) {
+        Ok(call) => command(call, held, access),
+        Err(cause) => Err(End::Halted(cause)),
     }
 }
 

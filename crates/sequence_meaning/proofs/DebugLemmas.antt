@@ -1,6 +1,6 @@
 -- The debug variables one after the other, and whole runs.
-use Rattle.std.proofs.Common.{◌≡◌, ℕ, ◌+◌, ◌<◌, ◌≤◌, false, List, ◌∷◌, length, drop, get_or, unwrap_or, Result, Ok, Err, refl, sym, ap, subst, ◌∙◌}
-use Rattle.std.proofs.lemmas.List.{drop_more}
+use Rattle.std.proofs.Common.{◌≡◌, ℕ, ◌+◌, ◌<◌, ◌≤◌, false, List, ◌∷◌, length, drop, get_or, unwrap_or, Result, Ok, refl, sym, ap, subst, ◌∙◌}
+use Rattle.std.proofs.lemmas.List.{drop_all, drop_more}
 use Rattle.dap_base.specs.Outcome.{◌>>=◌}
 use Rattle.expr_grammar.specs.declared.code.Stmt as statement
 use Rattle.expr_grammar.specs.Tree as t
@@ -17,8 +17,9 @@ use Rattle.sequence_meaning.specs.Starting.{debugged_one, defined}
 use Rattle.sequence_terms.specs.Laws.{Adds}
 use Rattle.sequence_terms.proofs.Adding.{adds_direct}
 use Rattle.sequence_terms.proofs.Goes as g
+use Rattle.sequence_terms.proofs.LoopLemmas.{tail_two}
 use Rattle.sequence_meaning.proofs.StopLemmas.{ends_on}
-use Rattle.sequence_meaning.proofs.Loops.{drop_end, steps_found}
+use Rattle.sequence_meaning.proofs.Loops.{steps_found}
 
 abbrev S : Type 0
 S = State ℕ Now
@@ -29,24 +30,10 @@ O A = Out ℕ Now A
 module _ (turn_us : ℕ) (set : SetTrees) where
   -- ---- the debug variables
 
-  abbrev dropped_value : {B : Type 0} → B × S → O (Unit {0})
-  dropped_value y = Ok (tt, y.1)
-
-  abbrev rest_of : {B C : Type 0} → (S → O C) → B × S → O C
-  rest_of g y = g y.1
-
-  tail_one : {B C : Type 0} (p : O B) (g : S → O C) → (p >>= rest_of {B = B} {C = C} g) ≡ ((p >>= dropped_value {B = B}) >>= rest_of {B = Unit {0}} {C = C} g)
-  tail_one (Ok x) g = refl
-  tail_one (Err e) g = refl
-
-  tail_two : {A B C : Type 0} (o : O A) (f : A × S → O B) (g : S → O C) → (o >>= λ x. f x >>= rest_of {B = B} {C = C} g) ≡ ((o >>= λ x. f x >>= dropped_value {B = B}) >>= rest_of {B = Unit {0}} {C = C} g)
-  tail_two (Ok x) f g = tail_one (f x) g
-  tail_two (Err e) f g = refl
-
   debug_first : (st : StmtTree) (code : List StmtTree) (s : S) → debugged (direct false) turn_us set (st ∷ code) s ≡ (debugged_one turn_us set st s >>= λ y. debugged (direct false) turn_us set code y.1)
   unfolding debugged
   debug_first (t.Empty at) code s = refl
-  debug_first (t.Declare name e) code s = tail_two {A = ℕ} {B = ℕ} {C = Unit {0}} (value (direct false) (λ n q. sequence_at (direct false) turn_us set 0 n q) e s) (λ x. stored (direct false) name x.0 x.1) (λ q. debugged (direct false) turn_us set code q)
+  debug_first (t.Declare name e) code s = tail_two {V = ℕ} {T = Now} {A = ℕ} {B = ℕ} {C = Unit {0}} (value (direct false) (λ n q. sequence_at (direct false) turn_us set 0 n q) e s) (λ x. stored (direct false) name x.0 x.1) (λ q. debugged (direct false) turn_us set code q)
   debug_first (t.Plain at e) code s = refl
 
   debug_more : (xs : List statement.Stmt) (i : ℕ) (d : statement.Stmt) (s : S) → i < length xs
@@ -75,7 +62,7 @@ module _ (turn_us : ℕ) (set : SetTrees) where
 
   pub debug_over : (total : O (Unit {0})) (xs : List statement.Stmt) (i : ℕ) (s : S) → total ≡ debugged (direct false) turn_us set (code_trees (drop i xs)) s → length xs ≤ i → total ≡ Ok (tt, s)
   unfolding debugged
-  debug_over total xs i s same h = same ∙ rw (drop_end xs i h) refl
+  debug_over total xs i s same h = same ∙ rw (drop_all i xs h) refl
 
   -- ---- the run
 

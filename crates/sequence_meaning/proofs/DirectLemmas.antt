@@ -1,14 +1,11 @@
 -- What the parts of the meaning are where each call is made at once.
-use Rattle.std.proofs.Common.{◌≡◌, ℕ, ◌%◌, Bool, true, false, List, [], ◌∷◌, Option, None, Some, unwrap_or, option_map, take, ◌++◌, Ok, Err, nat_eq, codes, refl, sym, ap, ◌∙◌}
+use Rattle.std.proofs.Common.{◌≡◌, ℕ, ◌%◌, false, List, [], ◌∷◌, Option, None, Some, unwrap_or, Ok, Err, nat_eq, codes, refl, sym, ap, ◌∙◌}
 use Rattle.sequence_terms.specs.declared.bindings.Binding.{Binding}
 use Rattle.sequence_terms.specs.Direct.{Now, direct}
 use Rattle.sequence_terms.specs.Machine.{State, Out}
 use Rattle.sequence_terms.specs.Variables.{value_in}
 use Rattle.dap_base.specs.Outcome.{◌>>=◌}
 use Rattle.sequence_terms.specs.Calls.{use_now, missing, given, global, port_with, port_from, port}
-use Rattle.std.specs.Io.KnownBytes.{Appends}
-use Rattle.dap_base.specs.Streams.{AppendsPrefix}
-use Rattle.sequence_terms.specs.Known.{known_part, Knows}
 use Rattle.sequence_terms.specs.Values.{all_used, numbers_of}
 
 given_is : (o : Option ℕ) (s : State ℕ Now) → (given (direct false) 0 o s >>= λ v. use_now (direct false) v.0 v.1) ≡ Ok (unwrap_or o 0, s)
@@ -30,23 +27,6 @@ port_as gs a e d ai ei di s same =
     rw (global_as (codes "__ap") gs a ai s same)
     (rw (global_as (codes "__errorcontrol") gs e ei s same)
     (rw (global_as (codes "__dp") gs d di s same) refl))
-
--- ---- what the sink holds
-
-pub known_more : (known : Bool) (old new : Option (List ℕ)) (text : List ℕ) → Appends old new text → Knows known old → known_part known new ≡ option_map (λ bytes. bytes ++ text) (known_part known old)
-known_more false old new text h t = refl
-known_more true None new text h t = absurd cc
-known_more true (Some xs) None text h t = absurd h
-known_more true (Some xs) (Some ys) text h t = ap Some h
-
-pub knows_more : (known : Bool) (old new : Option (List ℕ)) (text : List ℕ) → Appends old new text → Knows known old → Knows known new
-knows_more false old new text h t = tt
-knows_more true None new text h t = absurd cc
-knows_more true (Some xs) None text h t = absurd h
-knows_more true (Some xs) (Some ys) text h t = refl
-
-pub knows_part : (known : Bool) (old new : Option (List ℕ)) (text : List ℕ) → AppendsPrefix old new text → Knows known old → Knows known new
-knows_part known old new text h t = knows_more known old new (take h.0 text) h.1 t
 
 -- ---- values that are used
 

@@ -1,6 +1,6 @@
 -- Loops of the direct runner, one turn at a time.
 use Rattle.std.proofs.Common.{◌≡◌, ℕ, zero, suc, ◌+◌, ◌-◌, ◌<◌, ◌≤◌, true, false, List, [], ◌∷◌, ◌++◌, length, drop, take, get_or, Option, None, Some, unwrap_or, Result, Ok, codes, refl, sym, ap, subst, ◌∙◌, arith}
-use Rattle.std.proofs.lemmas.List.{drop_more}
+use Rattle.std.proofs.lemmas.List.{drop_all, drop_more}
 use Rattle.expr_grammar.specs.declared.code.Arg.{Arg}
 use Rattle.expr_grammar.specs.declared.code.Name.{Name}
 use Rattle.expr_grammar.specs.declared.code.Stmt as statement
@@ -30,12 +30,6 @@ S = State ℕ Now
 abbrev O : Type 0 → Type 0
 O A = Out ℕ Now A
 
-pub drop_end : {X : Type 0} (xs : List X) (i : ℕ) → length xs ≤ i → drop i xs ≡ []
-drop_end [] zero h = refl
-drop_end [] (suc i) h = refl
-drop_end (x ∷ xs) zero h = absurd (omega arith)
-drop_end (x ∷ xs) (suc i) h = drop_end xs i (omega arith)
-
 module _ (runner : Runner) (depth : ℕ) where
   args_more : (xs : List Arg) (i : ℕ) (d : Arg) (got : List ℕ) (s : S) → i < length xs
       → arguments (direct false) (calls_of runner depth) (arg_trees (drop i xs)) got s ≡ chained (direct false) (argument (direct false) (calls_of runner depth) (arg_tree (get_or xs i d)) got s) (λ g r. arguments (direct false) (calls_of runner depth) (arg_trees (drop (i + 1) xs)) g r)
@@ -54,7 +48,7 @@ module _ (runner : Runner) (depth : ℕ) where
 
   pub args_over : (total : O (List ℕ)) (xs : List Arg) (i : ℕ) (got : List ℕ) (s : S) → total ≡ arguments (direct false) (calls_of runner depth) (arg_trees (drop i xs)) got s → length xs ≤ i → total ≡ Ok (got, s)
   unfolding arguments
-  args_over total xs i got s same h = same ∙ rw (drop_end xs i h) refl
+  args_over total xs i got s same h = same ∙ rw (drop_all i xs h) refl
 
 module _ (runner : Runner) (depth : ℕ) where
   block_more : (xs : List statement.Stmt) (i : ℕ) (d : statement.Stmt) (s : S) → i < length xs
@@ -74,7 +68,7 @@ module _ (runner : Runner) (depth : ℕ) where
 
   pub block_over : (total : O (Unit {0})) (xs : List statement.Stmt) (i : ℕ) (s : S) → total ≡ block (direct false) runner.turn_us (calls_of runner depth) (code_trees (drop i xs)) s → length xs ≤ i → total ≡ Ok (tt, s)
   unfolding block
-  block_over total xs i s same h = same ∙ rw (drop_end xs i h) refl
+  block_over total xs i s same h = same ∙ rw (drop_all i xs h) refl
 
   done_more : (xs : List CheckedStep) (i : ℕ) (d : CheckedStep) (s : S) → i < length xs
       → done (direct false) runner.turn_us (calls_of runner depth) (steps_tree (drop i xs)) s ≡ in_order (direct false) (step (direct false) runner.turn_us (calls_of runner depth) (step_tree (get_or xs i d)) s) (λ r. done (direct false) runner.turn_us (calls_of runner depth) (steps_tree (drop (i + 1) xs)) r)
@@ -93,7 +87,7 @@ module _ (runner : Runner) (depth : ℕ) where
 
   pub done_over : (total : O (Unit {0})) (xs : List CheckedStep) (i : ℕ) (s : S) → total ≡ done (direct false) runner.turn_us (calls_of runner depth) (steps_tree (drop i xs)) s → length xs ≤ i → total ≡ Ok (tt, s)
   unfolding done
-  done_over total xs i s same h = same ∙ rw (drop_end xs i h) refl
+  done_over total xs i s same h = same ∙ rw (drop_all i xs h) refl
 
 module _ (test : S → O ℕ) (body : S → O (Unit {0})) where
   pub turns_on : (total : O (Unit {0})) (left : ℕ) (s now : S) → total ≡ turns (direct false) test body left s → 0 < left

@@ -7,13 +7,13 @@ use Rattle.sequence_terms.specs.declared.bindings.Binding.{Binding}
 use Rattle.sequence_terms.specs.Direct.{Now, direct, now_at}
 use Rattle.sequence_terms.specs.Late.{Grows}
 use Rattle.sequence_terms.specs.Laws.{Adds, IsMadeIn, StopBy}
-use Rattle.sequence_terms.specs.Machine as machine
-use Rattle.sequence_terms.specs.Machine.{Over, State, Out, end_state}
+use Rattle.sequence_terms.specs.Machine.{State, Out, end_state}
 use Rattle.sequence_terms.specs.Runs as ending
-use Rattle.sequence_terms.specs.Runs.{Ending, Outcome, Program, as_values, meaning, outcome, outcome_of, outcome_over}
+use Rattle.sequence_terms.specs.Runs.{Ending, Outcome, Program, as_values, meaning, outcome, outcome_of}
 use Rattle.sequence_terms.specs.Steps.{start_state}
 use Rattle.sequence_terms.proofs.Adding.{adds_direct}
 use Rattle.sequence_terms.proofs.Goes as g
+use Rattle.sequence_terms.proofs.OutcomeLemmas.{over_calls, over_written}
 use Rattle.sequence_meaning.specs.declared.end.End.{End}
 use Rattle.sequence_meaning.specs.declared.end.End.TheVariants as end
 use Rattle.sequence_meaning.specs.declared.held.Held.{Held}
@@ -72,18 +72,6 @@ after_all w (a ∷ calls) more un h = by (stops_here w a) refl (λ e. after_all 
     by false e k = (let rest = k e in rw e rest)
 
 -- ---- the end of a run, as its outcome has it
-
-over_calls : (e : Over) (s : State ℕ Now) → (outcome_over e s).calls ≡ s.rest.calls
-over_calls (machine.Halted cause) s = refl
-over_calls (machine.Faulted call) s = refl
-over_calls machine.Unanswered s = refl
-over_calls machine.Lost s = refl
-
-over_written : (e : Over) (s : State ℕ Now) → (outcome_over e s).written ≡ s.rest.written
-over_written (machine.Halted cause) s = refl
-over_written (machine.Faulted call) s = refl
-over_written machine.Unanswered s = refl
-over_written machine.Lost s = refl
 
 calls_of_end : (out : O) → (outcome_of out).calls ≡ (end_state out).rest.calls
 calls_of_end (Ok x) = refl

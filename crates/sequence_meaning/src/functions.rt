@@ -21,7 +21,7 @@ use target_machine::{HaltCause, Target};
 use text_lines::{Line, TextError, put_text};
 
 // Writes a line, and then this is the value, unless it would be line 100,001.
-#[tactic(auto, unfolding(sequence_terms::specs::Calls::lined, sequence_terms::specs::Direct::direct), using(crate::proofs::DirectLemmas::known_more, crate::proofs::DirectLemmas::knows_more, crate::proofs::DirectLemmas::knows_part))]
+#[tactic(auto, unfolding(sequence_terms::specs::Calls::lined, sequence_terms::specs::Direct::direct), using(sequence_terms::proofs::KnownLemmas::known_more, sequence_terms::proofs::KnownLemmas::knows_more, sequence_terms::proofs::KnownLemmas::knows_part))]
 fn lined<K: Sink>(
     line: Result<Line, OutOfMemory>,
     value: u64,

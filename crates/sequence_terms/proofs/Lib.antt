@@ -6,12 +6,14 @@ pub mod Starting
 pub mod Same
 pub mod LoopLemmas
 pub mod Made
+pub mod OutcomeLemmas
 pub mod Limits
 pub mod Watching
 pub mod Writing
 pub mod Cuts
 pub mod Completing
 pub mod CompleteSteps
+pub mod KnownLemmas
 pub mod LineLemmas
 pub mod PollLemmas
 pub mod VariableLemmas

@@ -15,6 +15,7 @@ use Rattle.sequence_terms.specs.Machine.{Over, State, Out}
 use Rattle.sequence_terms.specs.Runs.{Program, Outcome, outcome_over, outcome_of, outcome, outcome_within}
 use Rattle.sequence_terms.proofs.Adding.{adds_direct}
 use Rattle.sequence_terms.proofs.LateLemmas.{grows_same, grows_on}
+use Rattle.sequence_terms.proofs.OutcomeLemmas.{over_calls, over_written}
 use Rattle.sequence_terms.proofs.Starting.{runs_alike}
 use Rattle.sequence_terms.proofs.Same.{same_binds, none_is, here_is}
 
@@ -135,18 +136,6 @@ module _ (m : ℕ) where
 
   short_by : (o : Outcome) (k : ℕ) (t : Now) (r : State ℕ Now) → o.calls ≡ t.calls → o.written ≡ t.written → CutHere m k t r.rest → IsCutShort m o (outcome_over machine.Unanswered r)
   short_by o k t r e f h = record { ending = refl; units = h.units; more = h.more; calls = e ∙ h.calls; lines = rw f h.lines }
-
-  over_calls : (e : Over) (s : State ℕ Now) → (outcome_over e s).calls ≡ s.rest.calls
-  over_calls (machine.Halted cause) s = refl
-  over_calls (machine.Faulted call) s = refl
-  over_calls machine.Unanswered s = refl
-  over_calls machine.Lost s = refl
-
-  over_written : (e : Over) (s : State ℕ Now) → (outcome_over e s).written ≡ s.rest.written
-  over_written (machine.Halted cause) s = refl
-  over_written (machine.Faulted call) s = refl
-  over_written machine.Unanswered s = refl
-  over_written machine.Lost s = refl
 
   ends_whole : (e : Over) (s : State ℕ Now) (over : Over) (r : State ℕ Now) → Limit (Err (e, s)) (Err (over, r)) → WholeOrShort (Err (e, s)) (Err (over, r))
   ends_whole e s (machine.Halted cause) r h = inl (rw h.0 (record { units = few _ _ _ h.1.rest; same = rw (same_binds s.rest s.globals r.globals h.1.globals, h.1.rest.same) refl }))

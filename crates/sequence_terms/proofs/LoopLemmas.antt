@@ -1,7 +1,7 @@
--- Loops over lists and turns, scopes, and calls of sequences, on any machine: what is left of the whole after one item more. For runners
--- that go over a list by an index, count turns down, and swap the variables of a sequence.
-use Rattle.std.proofs.Common.{◌≡◌, ℕ, zero, suc, ◌+◌, ◌-◌, ◌<◌, ◌≤◌, Bool, true, false, cond, List, [], ◌∷◌, ◌++◌, length, drop, take, get_or, Option, None, Some, unwrap_or, Ok, codes, refl, sym, ap, subst, ◌∙◌, arith}
-use Rattle.std.proofs.lemmas.List.{drop_more}
+-- Loops over lists and turns, scopes, and calls of sequences, on any machine: what is left of the whole after one item more, and after a
+-- part whose value is dropped. For runners that go over a list by an index, count turns down, and swap the variables of a sequence.
+use Rattle.std.proofs.Common.{◌≡◌, ℕ, zero, suc, ◌+◌, ◌-◌, ◌<◌, ◌≤◌, Bool, true, false, cond, List, [], ◌∷◌, ◌++◌, length, drop, take, get_or, Option, None, Some, unwrap_or, Ok, Err, codes, refl, sym, ap, subst, ◌∙◌, arith}
+use Rattle.std.proofs.lemmas.List.{drop_all, drop_more}
 use Rattle.dap_base.specs.Outcome.{◌>>=◌}
 use Rattle.expr_grammar.specs.declared.code.Arg.{Arg}
 use Rattle.expr_grammar.specs.declared.code.Name.{Name}
@@ -17,11 +17,33 @@ use Rattle.sequence_terms.specs.Variables.{bound, value_in, set_in}
 use Rattle.sequence_terms.specs.Steps.{in_order, counted, after_counted, declared, inside, block, step, done, turn, turns, entered, steps_at, sequence_at}
 use Rattle.sequence_terms.specs.Steps as steps
 
-drop_end : {X : Type 0} (xs : List X) (i : ℕ) → length xs ≤ i → drop i xs ≡ []
-drop_end [] zero h = refl
-drop_end [] (suc i) h = refl
-drop_end (x ∷ xs) zero h = absurd (omega arith)
-drop_end (x ∷ xs) (suc i) h = drop_end xs i (omega arith)
+-- the way back from a called sequence, one change after the other
+pub back : {V T : Type 0} (s r q p o : State V T) (a b c : V) (locals : List (Binding V))
+    → r ≡ with_variables s (set_in s.globals (codes "__dp") a) s.locals
+    → q ≡ with_variables r (set_in r.globals (codes "__ap") b) r.locals
+    → p ≡ with_variables q (set_in q.globals (codes "__errorcontrol") c) q.locals
+    → o ≡ with_locals p locals
+    → o ≡ with_variables s (set_in (set_in (set_in s.globals (codes "__dp") a) (codes "__ap") b) (codes "__errorcontrol") c) locals
+back s r q p o a b c locals hr hq hp ho =
+    ho ∙ ap (λ x. with_locals x locals)
+    (hp ∙ ap (λ x. with_variables x (set_in x.globals (codes "__errorcontrol") c) x.locals)
+    (hq ∙ ap (λ x. with_variables x (set_in x.globals (codes "__ap") b) x.locals) hr))
+
+-- ---- the rest after a part whose value is dropped
+
+abbrev pub dropped_value : {V T B : Type 0} → B × State V T → Out V T (Unit {0})
+dropped_value y = Ok (tt, y.1)
+
+abbrev pub rest_of : {V T B C : Type 0} → (State V T → Out V T C) → B × State V T → Out V T C
+rest_of g y = g y.1
+
+tail_one : {V T B C : Type 0} (p : Out V T B) (g : State V T → Out V T C) → (p >>= rest_of {B = B} {C = C} g) ≡ ((p >>= dropped_value {B = B}) >>= rest_of {B = Unit {0}} {C = C} g)
+tail_one (Ok x) g = refl
+tail_one (Err e) g = refl
+
+pub tail_two : {V T A B C : Type 0} (o : Out V T A) (f : A × State V T → Out V T B) (g : State V T → Out V T C) → (o >>= λ x. f x >>= rest_of {B = B} {C = C} g) ≡ ((o >>= λ x. f x >>= dropped_value {B = B}) >>= rest_of {B = Unit {0}} {C = C} g)
+tail_two (Ok x) f g = tail_one (f x) g
+tail_two (Err e) f g = refl
 
 module _ {V T : Type 0} (m : Machine V T) where
   -- ---- lists
@@ -39,7 +61,7 @@ module _ {V T : Type 0} (m : Machine V T) where
 
     pub args_over : (total : Out V T (List V)) (xs : List Arg) (i : ℕ) (got : List V) (s : State V T) → total ≡ arguments m seq (arg_trees (drop i xs)) got s → length xs ≤ i → total ≡ Ok (got, s)
     unfolding arguments
-    args_over total xs i got s same h = same ∙ rw (drop_end xs i h) refl
+    args_over total xs i got s same h = same ∙ rw (drop_all i xs h) refl
 
     module _ (turn_us : ℕ) where
       pub block_more : (xs : List statement.Stmt) (i : ℕ) (d : statement.Stmt) (s : State V T) → i < length xs
@@ -54,7 +76,7 @@ module _ {V T : Type 0} (m : Machine V T) where
 
       pub block_over : (total : Out V T (Unit {0})) (xs : List statement.Stmt) (i : ℕ) (s : State V T) → total ≡ block m turn_us seq (code_trees (drop i xs)) s → length xs ≤ i → total ≡ Ok (tt, s)
       unfolding block
-      block_over total xs i s same h = same ∙ rw (drop_end xs i h) refl
+      block_over total xs i s same h = same ∙ rw (drop_all i xs h) refl
 
       pub done_more : (xs : List CheckedStep) (i : ℕ) (d : CheckedStep) (s : State V T) → i < length xs
           → done m turn_us seq (steps_tree (drop i xs)) s ≡ in_order m (step m turn_us seq (step_tree (get_or xs i d)) s) (λ r. done m turn_us seq (steps_tree (drop (i + 1) xs)) r)
@@ -68,7 +90,7 @@ module _ {V T : Type 0} (m : Machine V T) where
 
       pub done_over : (total : Out V T (Unit {0})) (xs : List CheckedStep) (i : ℕ) (s : State V T) → total ≡ done m turn_us seq (steps_tree (drop i xs)) s → length xs ≤ i → total ≡ Ok (tt, s)
       unfolding done
-      done_over total xs i s same h = same ∙ rw (drop_end xs i h) refl
+      done_over total xs i s same h = same ∙ rw (drop_all i xs h) refl
 
   -- ---- turns
 

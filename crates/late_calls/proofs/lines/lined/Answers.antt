@@ -3,7 +3,8 @@ use Rattle.std.specs.Io.KnownBytes.{Appends}
 use Rattle.access_calls.specs.Reported.{world_from}
 use Rattle.sequence_terms.specs.Known.{known_part}
 use Rattle.late_calls.specs.Held.{seen}
-use Rattle.late_calls.proofs.LineLemmas.{line_on, line_fails, line_stops, line_refused, known_more}
+use Rattle.sequence_terms.proofs.KnownLemmas.{known_more}
+use Rattle.late_calls.proofs.LineLemmas.{line_on, line_fails, line_stops, line_refused}
 use Rattle.late_calls.proofs.lines.lined.Goals as goal
 
 pub returns-in-Err-clause-gives : goal.returns-in-Err-clause-gives

@@ -1,5 +1,5 @@
+use Rattle.sequence_terms.proofs.LoopLemmas.{back}
 use Rattle.late_calls.specs.Held.{state_of}
-use Rattle.late_calls.proofs.HeldLemmas.{back}
 use Rattle.late_calls.proofs.held.Held.give_back.Goals as goal
 
 pub returns-clause-state : goal.returns-clause-state

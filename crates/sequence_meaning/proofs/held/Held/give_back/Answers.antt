@@ -1,5 +1,5 @@
+use Rattle.sequence_terms.proofs.LoopLemmas.{back}
 use Rattle.sequence_meaning.specs.Held.{state_of}
-use Rattle.sequence_meaning.proofs.HeldLemmas.{back}
 use Rattle.sequence_meaning.proofs.held.Held.give_back.Goals as goal
 
 pub returns-clause-state : goal.returns-clause-state
