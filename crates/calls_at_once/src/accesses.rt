@@ -132,6 +132,7 @@ pub(crate) fn has_faulted(outcome: Outcome) -> bool
 }
 
 // Makes accesses in order, up to one that faults: what the last one answered.
+#[inline(always)]
 pub(crate) fn make_all(target: &mut Target, accesses: &[RegAccess]) -> Outcome
     ensures { record { outcome = result; next = target.new } ≡ in_order target.old (map Makes accesses.now) }
 {

@@ -32,6 +32,7 @@ fn is_skipped(made: Made, forgive: bool, unit: Unit) -> bool
 }
 
 // An access. After a fault that it forgives, ABORT is written.
+#[inline(always)]
 fn access_at_once(
     target: &mut Target,
     unit: Unit,
@@ -68,6 +69,7 @@ pub fn command_at_once(target: &mut Target, call: ProbeCall) -> u32
 /// forgiven.
 ///
 /// `OutOfMemory` comes only at a memory access over 0xFFFFFFFF through a port that is not in the list; then nothing was made.
+#[inline(always)]
 pub fn call_at_once(
     target: &mut Target,
     call: Call,

@@ -56,6 +56,7 @@ fn poll(target: &mut Target, mask: u32, requested: u32, turns: u32) -> Outcome
 }
 
 // The accesses of a memory access, once it is known whether its AP has large addresses.
+#[inline(always)]
 fn transfer(
     target: &mut Target,
     is_large: bool,
@@ -150,6 +151,7 @@ fn wide_memory(
 }
 
 // A memory access that forgives nothing.
+#[inline(always)]
 fn plain_memory(
     target: &mut Target,
     large: &mut Vec<u8>,
@@ -195,6 +197,7 @@ fn plain_poll(target: &mut Target, mask: u32, value: u32, turns: u32) -> Made
 }
 
 // An access that forgives nothing.
+#[inline(always)]
 pub(crate) fn make_plain(
     target: &mut Target,
     unit: Unit,

@@ -23,6 +23,7 @@ pub(crate) struct Port {
 }
 
 // The variables that a memory or AP call uses.
+#[inline(always)]
 pub(crate) fn port_of(held: &Held) -> Port
     ensures { (s : State ℕ Now) → s.globals ≡ bindings_of held.now.globals
         → c.port (direct false) s ≡ Ok (record { ap = result.ap; forgive = result.forgive; dp = result.dp }, s) }
@@ -43,6 +44,7 @@ pub(crate) fn debug_port(held: &Held) -> u64
 
 // An access as a unit, made at once, unless it would be number 1,000,001.
 #[tactic(auto, unfolding(sequence_terms::specs::Calls::ask, sequence_terms::specs::Calls::answered, sequence_terms::specs::Direct::direct, sequence_terms::specs::Direct::made))]
+#[inline(always)]
 pub(crate) fn ask(
     unit: Unit,
     forgive: bool,
@@ -86,6 +88,7 @@ pub(crate) fn ask(
 
 // A read has its value, and a write 0.
 #[tactic(auto, unfolding(sequence_terms::specs::Calls::if_read, sequence_terms::specs::Calls::zero_of, sequence_terms::specs::Direct::direct), using(crate::proofs::StopLemmas::ends_if_read))]
+#[inline(always)]
 pub(crate) fn asked(
     read: bool,
     unit: Unit,

@@ -4,6 +4,7 @@ ghost use Rattle.expr_grammar.specs.Tree.{tree, arg_tree, arg_trees, stmt_tree, 
 ghost use Rattle.seq_check.specs.Answers.{checked_trees};
 ghost use Rattle.call_terms.specs.World.{World};
 ghost use Rattle.sequence_code.specs.Trees.{NoSteps, steps_named, steps_tree};
+ghost use Rattle.function_table.specs.Lookup.{function_named};
 ghost use Rattle.function_table.specs.declared.function.Function.{Function};
 ghost use Rattle.sequence_terms.specs.Direct.{direct};
 ghost use Rattle.sequence_terms.specs.Steps as m;
@@ -26,6 +27,7 @@ impl Runner<'_> {
     // An argument is evaluated; a text is none.
     #[cycle(eval)]
     #[tactic(auto, unfolding(sequence_terms::specs::Values::argument))]
+    #[inline(always)]
     fn argument<K: Sink>(
         &self,
         arg: &Arg,
@@ -49,6 +51,7 @@ impl Runner<'_> {
     // A value after others.
     #[cycle(eval)]
     #[tactic(auto, unfolding(sequence_terms::specs::Values::appended), using(crate::proofs::StopLemmas::ends_appended, crate::proofs::StopLemmas::append_refused, crate::proofs::StopLemmas::cause_on))]
+    #[inline(always)]
     fn push_value<K: Sink>(
         &self,
         expr: &Expr,
@@ -63,7 +66,7 @@ impl Runner<'_> {
         ensures made { (w : World) → IsMade w held.old target.old → IsMade w held.new target.new }
         ensures cause { IsCaused result (K.faults sink.old) (K.faults sink.new) }
     {
-        let number = self.value(expr, depth, held, target, sink)?;
+        let number = self.operand(expr, depth, held, target, sink)?;
         match numbers.push(number) {
             Ok(()) => Ok(()),
             Err(_) => Err(End::OutOfMemory),
@@ -73,6 +76,7 @@ impl Runner<'_> {
     // The arguments of a call, in order.
     #[cycle(eval)]
     #[tactic(auto, unfolding(sequence_terms::specs::Values::arguments), using(crate::proofs::Loops::loops, crate::proofs::StopLemmas::cause_on))]
+    #[inline(always)]
     fn arguments<K: Sink>(
         &self,
         args: &[Arg],
@@ -99,6 +103,7 @@ impl Runner<'_> {
     // A call: its arguments, and then the function. The numbers among them go into an empty list.
     #[cycle(eval)]
     #[tactic(auto, unfolding(sequence_terms::specs::Values::call_of, sequence_terms::specs::Calls::guarded, sequence_terms::specs::Values::numbers_of, sequence_terms::specs::Direct::direct), using(crate::proofs::StopLemmas::ends_call, crate::proofs::DirectLemmas::numbers_used, crate::proofs::StopLemmas::cause_on))]
+    #[inline(always)]
     fn call_with<K: Sink>(
         &self,
         name: &Name,
@@ -117,7 +122,7 @@ impl Runner<'_> {
     {
         self.arguments(args, numbers, depth, held, target, sink)?;
         self.called(
-            function_of(name.text.as_str()),
+            function_at(name.text.as_str()),
             text_of(args),
             numbers.as_slice(),
             depth,
@@ -129,6 +134,7 @@ impl Runner<'_> {
 
     // A call. The list for its numbers is the one of the call before, so that no memory is taken and given back for each call.
     #[cycle(eval)]
+    #[inline(always)]
     pub(crate) fn call<K: Sink>(
         &self,
         name: &Name,
@@ -152,6 +158,7 @@ impl Runner<'_> {
     // The function of a call.
     #[cycle(eval)]
     #[tactic(auto, unfolding(sequence_terms::specs::Values::called, sequence_terms::specs::Calls::missing, sequence_terms::specs::Direct::direct))]
+    #[inline(always)]
     fn called<K: Sink>(
         &self,
         function: Option<Function>,
@@ -253,5 +260,16 @@ impl Runner<'_> {
             }
             Err(end) => Err(end),
         }
+    }
+}
+
+// The function of the name. The names that most calls have are compared first.
+fn function_at(name: &str) -> Option<Function>
+    ensures { result ≡ function_named name.now }
+{
+    match name {
+        "Read32" => Some(Function::Read32),
+        "Write32" => Some(Function::Write32),
+        _ => function_of(name),
     }
 }

@@ -51,6 +51,7 @@ fn lined<K: Sink>(
 }
 
 // The number at the index, 0 where there is none.
+#[inline(always)]
 fn number_at(numbers: &[u64], index: usize) -> u64
     ensures { result ≡ slice_index numbers.now index }
 {

@@ -69,6 +69,7 @@ impl Held {
     }
 
     /// The value of a visible variable, 0 where there is none.
+    #[inline(always)]
     pub fn visible(&self, name: &str) -> u64
         ensures { (s : State ℕ Now) → s.globals ≡ bindings_of self.now.globals → s.locals ≡ self.now.locals.items
             → result ≡ unwrap_or (visible name.now s) 0 }
@@ -80,6 +81,7 @@ impl Held {
     }
 
     /// Gives a visible variable a value.
+    #[inline(always)]
     pub fn store(&mut self, name: &str, value: u64)
         ensures state { (target : TargetState) (written : Option (List ℕ))
             → state_of self.new target written ≡ set_visible name.now value (state_of self.old target written) }
@@ -93,6 +95,7 @@ impl Held {
     }
 
     /// Takes an empty list for numbers out.
+    #[inline(always)]
     pub fn take_numbers(&mut self, alloc: Global) -> Vec<u64>
         ensures none { result.items ≡ [] }
         ensures state { (target : TargetState) (written : Option (List ℕ)) → state_of self.new target written ≡ state_of self.old target written }
@@ -104,6 +107,7 @@ impl Held {
     }
 
     /// Keeps a list for the numbers of later calls.
+    #[inline(always)]
     pub fn keep_numbers(&mut self, numbers: Vec<u64>)
         ensures state { (target : TargetState) (written : Option (List ℕ)) → state_of self.new target written ≡ state_of self.old target written }
         ensures made { (w : World) (target : TargetState) → IsMade w self.old target → IsMade w self.new target }

@@ -14,6 +14,7 @@ use target_machine::{HaltCause, Target, Unit};
 
 // A memory access of 1, 2 or 4 bytes; a value that is written is cut to its size.
 #[tactic(auto, unfolding(sequence_terms::specs::Calls::memory_unit))]
+#[inline(always)]
 fn memory_unit(size: u8, read: bool, ap: u8, address: u64, value: u64) -> Unit
     requires { (size ≡ 1) ⊎ ((size ≡ 2) ⊎ (size ≡ 4)) }
     ensures unit { result ≡ c.memory_unit size read ap address value }
@@ -96,6 +97,7 @@ fn two_units(
 
 // A memory call, with its halts in their order.
 #[tactic(auto, unfolding(sequence_terms::specs::Calls::memory_at, sequence_terms::specs::Calls::one_unit))]
+#[inline(always)]
 fn memory_at(
     size: u8,
     read: bool,
@@ -134,6 +136,7 @@ fn memory_at(
 
 // A memory call of `size` bytes, 1, 2, 4 or 8.
 #[tactic(auto, unfolding(sequence_terms::specs::Calls::memory))]
+#[inline(always)]
 pub(crate) fn memory(
     size: u8,
     read: bool,

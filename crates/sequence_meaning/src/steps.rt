@@ -108,6 +108,7 @@ impl Runner<'_> {
     // A statement.
     #[cycle(eval)]
     #[tactic(auto, unfolding(sequence_terms::specs::Steps::statement))]
+    #[inline(always)]
     fn statement<K: Sink>(
         &self,
         one: &Stmt,
@@ -162,6 +163,7 @@ impl Runner<'_> {
     // An expression whose value is dropped.
     #[cycle(eval)]
     #[tactic(auto, unfolding(sequence_terms::specs::Steps::after_counted, sequence_terms::specs::Steps::dropped), using(crate::proofs::StopLemmas::plain_first, crate::proofs::StopLemmas::plain_value, crate::proofs::StopLemmas::cause_on))]
+    #[inline(always)]
     fn plain<K: Sink>(
         &self,
         expr: &Expr,
@@ -188,6 +190,7 @@ impl Runner<'_> {
 
 // Counts a step.
 #[tactic(auto, unfolding(sequence_terms::specs::Steps::counted))]
+#[inline(always)]
 pub(crate) fn counted(held: &mut Held) -> Result<(), End>
     ensures gives { (target : TargetState) (written : Option (List ℕ)) → Gives result (state_of held.new target written) (m.counted (direct false) (state_of held.old target written)) }
     ensures made { (w : World) (target : TargetState) → IsMade w held.old target → IsMade w held.new target }

@@ -50,6 +50,29 @@ impl Runner<'_> {
         }
     }
 
+    // The value of an operand or an argument: a number as it is, without a way through all kinds of expressions.
+    #[cycle(eval)]
+    #[inline(always)]
+    #[tactic(auto, unfolding(sequence_terms::specs::Values::value))]
+    pub(crate) fn operand<K: Sink>(
+        &self,
+        expr: &Expr,
+        depth: u32,
+        held: &mut Held,
+        target: &mut Target,
+        sink: &mut K,
+    ) -> Result<u64, End>
+        ensures gives { (known : Bool) → Knows known (K.written sink.old) → Gives result (seen known held.new target.new (K.written sink.new)) (v.value (direct false) (calls_of self.now depth) (tree expr.now) (seen known held.old target.old (K.written sink.old))) }
+        ensures knows { (known : Bool) → Knows known (K.written sink.old) → Knows known (K.written sink.new) }
+        ensures made { (w : World) → IsMade w held.old target.old → IsMade w held.new target.new }
+        ensures cause { IsCaused result (K.faults sink.old) (K.faults sink.new) }
+    {
+        match expr {
+            Expr::Number(number) => Ok(*number),
+            _ => self.value(expr, depth, held, target, sink),
+        }
+    }
+
     // An operator before its operand.
     #[cycle(eval)]
     #[tactic(auto, unfolding(sequence_terms::specs::Values::of_unary, sequence_terms::specs::Values::used_now, sequence_terms::specs::Calls::use_now, sequence_terms::specs::Direct::direct), using(crate::proofs::StopLemmas::ends_unary, crate::proofs::StopLemmas::cause_on))]
