@@ -42,7 +42,7 @@ use Rattle.control_flow.specs.Answers.{EndBy, EndsAs, HasNeeds, IsAll, IsCut, Is
 use Rattle.sequence_terms.specs.Known.{Knows, known_part}
 use Rattle.target_machine.specs.Counts.{one_if}
 use Rattle.job_runs.proofs.FrontLemmas.{Covers, Meeting, call_within, covered, covers, get_some, meeting, meets, own_call, same_fault, same_first, same_made, same_numbers}
-use Rattle.job_runs.specs.Runs.{AccessKind, ComesTo, EndsAfter, HasStopped, IsBroken, IsFaultStop, IsFew, IsFewIf, IsLeftOff, IsNotOpened, IsRetryStop, IsStop, IsUnopened, IsWhole, Left, LeavesAs, Run, calls_in, calls_with, entries_in, known_after, needs_in, not_opened, opened, outcome_with}
+use Rattle.job_runs.specs.Runs.{AccessKind, ComesTo, EndsAfter, HasAsked, HasStopped, IsBroken, IsFaultStop, IsFew, IsFewIf, IsLeftOff, IsNotOpened, IsRetryStop, IsStop, IsUnopened, IsWhole, Left, LeavesAs, Run, calls_in, calls_with, entries_in, known_after, needs_in, not_opened, opened, outcome_with}
 use Rattle.job_runs.specs.Ends.{ending_of}
 use Rattle.bench_access.specs.Opening.{IsLoaded, IsNotBegun, IsOpened, RefusedBy}
 
@@ -155,7 +155,7 @@ module _ (access : AccessKind) (grows : JournalGrows access.journal) (settles : 
         asked = a.asks.calls;
         more = c.more;
         sent = a.confirmed;
-        front = record { written = part.written; entries = c.goes_on; beyond = c.beyond };
+        front = record { written = part.written; calls = part.calls; entries = c.goes_on; beyond = c.beyond };
         performed = at.performed;
         target = subst (λ (es : List Entry). Agree (target_of l.bench.probe) (target_after (target_of first.probe) es))
             (sym (ap (take a.confirmed) c.goes_on.joined ∙ take-append-le a.confirmed (entries a) c.goes_on.rest at.performed.within)) at.performed.target;
@@ -169,7 +169,7 @@ module _ (access : AccessKind) (grows : JournalGrows access.journal) (settles : 
       record {
         asked = a.asks.calls;
         more = c.more;
-        front = record { written = part.written; entries = c.goes_on; beyond = c.beyond };
+        front = record { written = part.written; calls = part.calls; entries = c.goes_on; beyond = c.beyond };
         stands = fault;
       }
 
@@ -206,6 +206,11 @@ module _ (access : AccessKind) (grows : JournalGrows access.journal) (settles : 
     performed = same_made r (entries a) (entries_in run calls) meet one (began first answered) l.bench performed;
   }
 
+  has_asked : (answered : Option ℕ) (o : Outcome) (a : Reported) (r : Report) (l : Left) → IsCut r.cause a.lines o (ran l.ended a.asks l.written) → l.ended.skipped ≡ a.skipped
+      → HasNumbers (entries a) a.asks.calls a.skipped a.lines r → HasPerformed (entries a) r.accesses (began first answered) l.bench → HasAsked run answered o a.asks.calls a.lines r l
+  has_asked answered o a r l cut skipped numbers performed =
+      record { calls = cut.calls; numbers = subst (λ (n : ℕ). HasNumbers (entries a) a.asks.calls n a.lines r) (sym skipped) numbers; performed = performed }
+
   is_fault_stop : (a : Reported) (r : Report) (l : Left) → r.cause ≡ Faulted → IsCut r.cause a.lines whole (ran l.ended a.asks l.written) → l.ended.skipped ≡ a.skipped
       → s.IsFaulted (entries a) r a (began first None) l.bench → IsFaultStop run r l
   is_fault_stop a r l cause cut skipped at =
@@ -219,8 +224,11 @@ module _ (access : AccessKind) (grows : JournalGrows access.journal) (settles : 
       let what = own_call a.asks.calls whole.calls whole.calls [] (r.unit - 1) r.what m (sym (append-nil whole.calls)) (let high = n.unit in omega (arith, units, high)) at.numbers.what in
       record {
         lines = a.lines;
+        asked = a.asks.calls;
         stopped = has_stopped None whole a r l (calls_in run) cut skipped at.numbers at.performed one meet what;
+        of_asked = has_asked None whole a r l cut skipped at.numbers at.performed;
         fault = same_fault r (entries a) (entries_in run (calls_in run)) meet one (target_of first.probe) at.first;
+        fault_asked = at.first;
         confirmed = at.confirmed;
         retries = at.retries;
       }
@@ -240,13 +248,16 @@ module _ (access : AccessKind) (grows : JournalGrows access.journal) (settles : 
       let one = retry_one r l.bench at.confirmed in
       record {
         lines = a.lines;
+        asked = a.asks.calls;
         more = more;
         after_all = after_all;
         stopped = has_stopped (Some a.lines) (short a.lines) a r l (calls_with run more) cut skipped at.numbers at.performed one meet what;
+        of_asked = has_asked (Some a.lines) (short a.lines) a r l cut skipped at.numbers at.performed;
         confirmed = at.confirmed;
         retries = at.retries;
         number = subst (λ (es : List Entry). number_of l.bench + 2 * commands_in es ≤ number_of first + 2 * grown_since (began first (Some a.lines)) l.bench + 1)
             (same_first r (entries a) (entries_in run (calls_with run more)) meet one) at.number;
+        number_asked = at.number;
       }
 
   -- where the next unit is not answered

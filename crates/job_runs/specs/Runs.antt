@@ -24,7 +24,7 @@ use Rattle.access_calls.specs.declared.stop.Report.{Report}
 use Rattle.access_calls.specs.declared.stop.StopCause.{StopCause}
 use Rattle.access_calls.specs.declared.stop.StopCause.TheVariants.{Faulted, NoAnswer}
 use Rattle.control_flow.specs.Answers as answers
-use Rattle.control_flow.specs.Answers.{StopsAfter, program_of, variables_of}
+use Rattle.control_flow.specs.Answers.{SharesCalls, StopsAfter, program_of, variables_of}
 use Rattle.job_check.specs.declared.running.ValidRun.{ValidRun}
 use Rattle.bench_access.specs.Opening.{IsOpened}
 use Rattle.sequence_terms.specs.Late.{Grows}
@@ -147,16 +147,26 @@ pub record HasStopped (run : Run) (answered : Option ℕ) (o : Outcome) (calls :
   pub numbers : HasNumbers (entries_in run calls) calls l.ended.skipped lines r
   pub performed : HasMade r.unit (entries_in run calls) r.accesses (began run.first answered) l.bench
 
+-- So it is in the journal of the calls that were asked too: these and the outcome's calls come first in one list of calls, the numbers
+-- are those of a stop among them, and by the probe's work exactly the accesses of the report were performed.
+pub record HasAsked (run : Run) (answered : Option ℕ) (o : Outcome) (asked : List Ask) (lines : ℕ) (r : Report) (l : Left) : Type 0 where
+  pub calls : SharesCalls asked o.calls
+  pub numbers : HasNumbers (entries_in run asked) asked l.ended.skipped lines r
+  pub performed : HasPerformed (entries_in run asked) r.accesses (began run.first answered) l.bench
+
 -- the outcome is Done or Halted, with so many units
 abbrev pub EndsAfter : ℕ → Outcome → Type 0
 EndsAfter units o = answers.IsWhole o.ending × (units_of o ≡ units)
 
--- At a fault: the outcome ends at a fault of the next unit, and the last performed access is the first of the journal of its calls that
--- gives a fault which its unit does not forgive. No retry ended.
+-- At a fault: the outcome ends at a fault of the next unit, and the last performed access is the first that gives a fault which its unit
+-- does not forgive, in the journal of the outcome's calls and in that of the calls that were asked. No retry ended.
 pub record IsFaultStop (run : Run) (r : Report) (l : Left) : Type 0 where
   pub lines : ℕ
+  pub asked : List Ask
   pub stopped : HasStopped run None (outcome_in run) (calls_in run) lines r l
+  pub of_asked : HasAsked run None (outcome_in run) asked lines r l
   pub fault : first_fault (target_in run) (entries_in run (calls_in run)) ≡ Some r.accesses
+  pub fault_asked : first_fault (target_in run) (entries_in run asked) ≡ Some r.accesses
   pub confirmed : r.accesses ≡ r.confirmed + 1
   pub retries : NoneEnded run l
 
@@ -166,12 +176,16 @@ pub record IsFaultStop (run : Run) (r : Report) (l : Left) : Type 0 where
 -- the run's.
 pub record IsRetryStop (run : Run) (r : Report) (l : Left) : Type 0 where
   pub lines : ℕ
+  pub asked : List Ask
   pub more : List Ask
   pub after_all : 0 < length more → EndsAfter lines (outcome_in run)
   pub stopped : HasStopped run (Some lines) (outcome_with run lines) (calls_with run more) lines r l
+  pub of_asked : HasAsked run (Some lines) (outcome_with run lines) asked lines r l
   pub confirmed : r.accesses ≡ r.confirmed + one_if (pending_of l.bench)
   pub retries : ended_retries_of l.bench.probe ≡ ended_retries_of run.first.probe + 1
   pub number : number_of l.bench + 2 * commands_in (take r.accesses (entries_in run (calls_with run more)))
+      ≤ number_of run.first + 2 * grown_since (began run.first (Some lines)) l.bench + 1
+  pub number_asked : number_of l.bench + 2 * commands_in (take r.accesses (entries_in run asked))
       ≤ number_of run.first + 2 * grown_since (began run.first (Some lines)) l.bench + 1
 
 -- by the cause
@@ -181,10 +195,12 @@ IsStop NoAnswer run r l = IsRetryStop run r l
 
 -- ---- left off
 
--- What was written comes first in the lines of the outcome. The entries of the calls that were asked come first in the journal of the
--- outcome's calls, and of more only where more were asked than these.
+-- What was written comes first in the lines of the outcome. The calls that were asked and the outcome's come first in one list of calls.
+-- The entries of the calls that were asked come first in the journal of the outcome's calls, and of more only where more were asked than
+-- these.
 pub record IsFront (run : Run) (asked more : List Ask) (l : Left) : Type 0 where
   pub written : Grows l.written (outcome_in run).written
+  pub calls : SharesCalls asked (outcome_in run).calls
   pub entries : GoesOnWith (length asked) (entries_in run asked) (entries_in run (calls_with run more))
   pub beyond : 0 < length more → units_of (outcome_in run) < length asked
 
