@@ -21,6 +21,3 @@ pub use ends::{Cut, FlightEnd};
 pub use flight::Flight;
 pub use poll::{Config, PollAsk};
 pub use slots::Slots;
-
-#[cfg(test)]
-mod tests;

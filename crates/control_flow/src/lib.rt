@@ -14,6 +14,3 @@ mod steps;
 mod values;
 
 pub use running::run;
-
-#[cfg(test)]
-mod tests;

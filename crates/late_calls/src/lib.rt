@@ -19,6 +19,3 @@ pub use held::Held;
 pub use performing::performed;
 pub use ports::debug_port;
 pub use uses::{both, number_of, numbers_of};
-
-#[cfg(test)]
-mod tests;

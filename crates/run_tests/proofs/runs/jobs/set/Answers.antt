@@ -1,6 +1,6 @@
 use Rattle.std.proofs.Common.{rules, ◌≡◌, map, [], ◌∷◌, codes, refl}
 use Rattle.std.specs.List.{IsDistinct}
-use Rattle.control_flow.proofs.tests.jobs.set.Goals as goal
+use Rattle.run_tests.proofs.runs.jobs.set.Goals as goal
 
 pub returns : goal.returns
 unfolding IsDistinct

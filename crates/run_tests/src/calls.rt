@@ -2,11 +2,11 @@
 
 ghost use Rattle.std.specs.Prelude.{◌≡◌, IfOk};
 
-use crate::{End, Held, both, number_of, numbers_of, performed};
 use access_calls::{Scripted, Stop};
 use call_terms::{Ask, Slot, Value};
 use dap_base::MemorySink;
 use function_table::Function;
+use late_calls::{End, Held, both, number_of, numbers_of, performed};
 use sequence_terms::Globals;
 use std::alloc::Global;
 use std::process::Abort;

@@ -1,9 +1,9 @@
 //! Runs of small sets over an access whose results are given. What they come to was worked out by hand.
 mod jobs;
 
-use crate::run;
 use access_calls::{Ended, Ending, Scripted};
 use call_terms::Ask;
+use control_flow::run;
 use dap_base::MemorySink;
 use jobs::{Piece, checked, settings};
 use std::alloc::Global;
