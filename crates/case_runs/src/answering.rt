@@ -1,8 +1,9 @@
 //! Whole calls of the program over objects in memory.
 
 use dap_base::{MemorySink, MemorySource, NameText, OutOfMemory, Words};
-use dapseq_tool::{Status, dapseq};
-use probe_core::FaultyBench;
+use dapseq_tool::{Status, dapseq, dapseq_over};
+use packed_access::Single;
+use probe_core::{FaultyBench, MemoryBench};
 use std::alloc::Global;
 
 /// The numbers of the calls that fail, from 1, of each object of a run.
@@ -37,4 +38,23 @@ pub fn answer(
     let mut bench = FaultyBench::new(alloc, failing.bench)?;
     let status = dapseq(alloc, words, &mut source, &mut sink, &mut bench);
     Ok((status, sink))
+}
+
+/// The same where no call fails, by the access that sends each register access by itself.
+pub fn answer_by_single(
+    alloc: Global,
+    words: &Words,
+    job: &[u8],
+) -> Result<(Status, MemorySink), OutOfMemory> {
+    let mut source = MemorySource::new(alloc, job, &[])?;
+    let mut sink = MemorySink::new(alloc, &[])?;
+    let bench = MemoryBench::new(alloc);
+    let over = dapseq_over::<MemorySource, MemorySink, MemoryBench, Single<MemoryBench>>(
+        alloc,
+        words,
+        &mut source,
+        &mut sink,
+        bench,
+    );
+    Ok((over.status, sink))
 }

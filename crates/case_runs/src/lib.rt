@@ -4,7 +4,7 @@
 mod answering;
 mod failing;
 
-use answering::{Failing, answer, words_of};
+use answering::{Failing, answer, answer_by_single, words_of};
 use dap_base::{OutOfMemory, Words};
 use failing::{Object, failing_calls};
 use std::io::ErrorKind;
@@ -53,6 +53,40 @@ pub fn run_case(rt: &HostRuntime, name: &str) -> io::Result<()> {
         println!(rt; "{name} {code} differs")?;
     }
     Ok(())
+}
+
+// What is written before the first packet of a trace.
+fn report_of(text: &[u8]) -> &[u8] {
+    for end in 1..text.len() {
+        if text[end - 1] == b'\n' && text[end] == b'>' {
+            return &text[..end];
+        }
+    }
+    text
+}
+
+/// Runs the same job by the access that sends each register access by itself, and prints the name, the exit status, and
+/// `as expected` where what was written is the content of `NAME.json.single`, else `differs`; and then whether its report
+/// is the one that is expected of the access that packs.
+///
+/// An error where a file cannot be read, standard output cannot be written, or memory is refused.
+pub fn run_single(rt: &HostRuntime, name: &str) -> io::Result<()> {
+    let Stored { job, words, text } = read_stored(rt, name)?;
+    let expected = fs::read(rt, format!(in rt.alloc(); "{name}.json.single")?)?;
+    let (status, sink) = answer_by_single(rt.alloc(), &words, &job).map_err(no_memory)?;
+    let written = sink.bytes();
+    let code = status.code();
+    let is = if written == expected.as_slice() {
+        "as expected"
+    } else {
+        "differs"
+    };
+    let report = if report_of(written) == report_of(text.as_slice()) {
+        "the same report"
+    } else {
+        "a report of its own"
+    };
+    println!(rt; "{name} {code} by Single {is}, {report}")
 }
 
 /// Runs the same job once for each call of its source, its sink and its bench, and lets that call fail. Prints the

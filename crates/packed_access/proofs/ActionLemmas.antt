@@ -27,13 +27,13 @@ use Rattle.calls_in_flight.proofs.SendLemmas.{action_sends}
 use Rattle.access_calls.specs.Standing.{WhereObservable}
 use Rattle.batch_packer.specs.Flying.{CanFly}
 use Rattle.packed_access.specs.Begun.{HasIssued, IsIssuing, most_weight}
-use Rattle.packed_access.specs.Flown.{CanCommand, CanCount, HasDone}
+use Rattle.bench_flights.specs.Flown.{CanCommand, CanCount, HasDone}
 use Rattle.packed_access.specs.Actions.{entry_of, log_done}
 use Rattle.packed_access.specs.Logs.{LogState}
 use Rattle.packed_access.specs.Marks.{unmarked_append, unmarked_last}
 use Rattle.packed_access.proofs.CameLemmas.{HaveCome, have_come}
 use Rattle.packed_access.proofs.PushLemmas.{take_more}
-use Rattle.access_regs.specs.declared.planner.Planner.TheVariants.{Managed}
+use Rattle.access_regs.specs.declared.planner.Planner.{Planner}
 
 -- ---- where nothing lies in the flight
 
@@ -41,12 +41,12 @@ none_in : (flying : List Entry) → actions_in flying ≡ [] → flying ≡ []
 none_in [] h = refl
 none_in (e ∷ es) h = absurd (cc)
 
-pub at_rest : (log : LogState) (rest : List Entry) (m0 m : BenchState) → (h : IsIssuing log [] rest m0 m) → IsSending Managed log.calls log.confirmed log.came [] rest [] (take log.known log.results) m0 m
-at_rest log rest m0 m h =
-    subst (λ (flying : List Entry). IsSending Managed log.calls log.confirmed log.came flying rest [] (take log.known log.results) m0 m) (none_in h.flying h.sending.on.flight) h.sending
+pub at_rest : (p : Planner) (log : LogState) (rest : List Entry) (m0 m : BenchState) → (h : IsIssuing p log [] rest m0 m) → IsSending p log.calls log.confirmed log.came [] rest [] (take log.known log.results) m0 m
+at_rest p log rest m0 m h =
+    subst (λ (flying : List Entry). IsSending p log.calls log.confirmed log.came flying rest [] (take log.known log.results) m0 m) (none_in h.flying h.sending.on.flight) h.sending
 
-pub at_rest_count : (log : LogState) (rest : List Entry) (m0 m : BenchState) → (h : IsIssuing log [] rest m0 m) → log.confirmed ≡ length log.entries
-at_rest_count log rest m0 m h = (let c = h.count in let n : length h.flying ≡ 0 = ap length (none_in h.flying h.sending.on.flight) in omega (arith, c, n))
+pub at_rest_count : (p : Planner) (log : LogState) (rest : List Entry) (m0 m : BenchState) → (h : IsIssuing p log [] rest m0 m) → log.confirmed ≡ length log.entries
+at_rest_count p log rest m0 m h = (let c = h.count in let n : length h.flying ≡ 0 = ap length (none_in h.flying h.sending.on.flight) in omega (arith, c, n))
 
 -- a number more in a list
 last_taken : (xs : List ℕ) (k : ℕ) → length xs ≡ k + 1 → xs ≡ take k xs ++ get_or xs k 0 ∷ []
@@ -59,8 +59,8 @@ and_false : (b : Bool) → b ≡ false → (b && true) ≡ false
 and_false true h = cc
 and_false false h = refl
 
-module _ (log : LogState) (calls : List Ask) (ask : Ask) (x : Action) (word : ℕ) (m0 m o : BenchState) (h : IsIssuing log [] (entry_of calls x ∷ []) m0 m) (d : HasDone x word m o) (are : log.calls ≡ calls ++ ask ∷ []) (came : log.came ≡ length calls)
-    (steps : length (issue_of Managed (target_by Managed (target_of m0.probe) calls) (kept_by Managed (target_of m0.probe) calls) ask).steps ≡ 1) (unmarked : ask.settled ≡ false) (mild : is_forgiving ask ≡ false)
+module _ (p : Planner) (log : LogState) (calls : List Ask) (ask : Ask) (x : Action) (word : ℕ) (m0 m o : BenchState) (h : IsIssuing p log [] (entry_of calls x ∷ []) m0 m) (d : HasDone x word m o) (are : log.calls ≡ calls ++ ask ∷ []) (came : log.came ≡ length calls)
+    (steps : length (issue_of p (target_by p (target_of m0.probe) calls) (kept_by p (target_of m0.probe) calls) ask).steps ≡ 1) (unmarked : ask.settled ≡ false) (mild : is_forgiving ask ≡ false)
     (large : small_now (start_world (target_of m0.probe) None) calls ask ≡ false) (light : weight (target_of m.probe) x ≤ most_weight) (long : length log.results ≡ length log.calls) (bounded : length log.entries < 2 ^ 32) where
   abbrev t0 : TargetState
   t0 = target_of m0.probe
@@ -68,11 +68,11 @@ module _ (log : LogState) (calls : List Ask) (ask : Ask) (x : Action) (word : �
   abbrev e : Entry
   e = entry_of calls x
 
-  rest_is : IsSending Managed log.calls log.confirmed log.came [] (entry_of calls x ∷ []) [] (take log.known log.results) m0 m
-  rest_is = at_rest log (entry_of calls x ∷ []) m0 m h
+  rest_is : IsSending p log.calls log.confirmed log.came [] (entry_of calls x ∷ []) [] (take log.known log.results) m0 m
+  rest_is = at_rest p log (entry_of calls x ∷ []) m0 m h
 
   here : log.confirmed ≡ length log.entries
-  here = at_rest_count log (entry_of calls x ∷ []) m0 m h
+  here = at_rest_count p log (entry_of calls x ∷ []) m0 m h
 
   unforgiven : is_unforgiven (target_of m.probe) (entry_of calls x) ≡ false
   unforgiven = and_false (is_fault (acted (target_of m.probe) x).outcome) d.good
@@ -83,10 +83,10 @@ module _ (log : LogState) (calls : List Ask) (ask : Ask) (x : Action) (word : �
   work_there : work_of o.probe ≤ 2 ^ 63 + most_weight * (length log.entries + 1)
   work_there = (let f = h.few in let w = (d.does counts).work in omega (arith, f, w, light))
 
-  sent : IsSending Managed log.calls (log.confirmed + 1) log.came [] [] [] (take log.known log.results) m0 o
-  sent = action_sends Managed log.calls log.confirmed log.came (entry_of calls x) [] (take log.known log.results) m0 m o rest_is (d.does counts) unforgiven (let w = work_there in omega (arith, w, bounded))
+  sent : IsSending p log.calls (log.confirmed + 1) log.came [] [] [] (take log.known log.results) m0 o
+  sent = action_sends p log.calls log.confirmed log.came (entry_of calls x) [] (take log.known log.results) m0 m o rest_is (d.does counts) unforgiven (let w = work_there in omega (arith, w, bounded))
 
-  all_there : issued Managed t0 log.calls ≡ sent.made
+  all_there : issued p t0 log.calls ≡ sent.made
   all_there = sent.on.are ∙ append-nil sent.made
 
   count_is : length log.calls ≡ length calls + 1
@@ -98,19 +98,19 @@ module _ (log : LogState) (calls : List Ask) (ask : Ask) (x : Action) (word : �
   first_before : take (length calls) log.calls ≡ calls
   first_before = ap (take (length calls)) are ∙ take-append_seam calls (ask ∷ [])
 
-  made_count : length (issued Managed t0 log.calls) ≡ length log.entries + 1
+  made_count : length (issued p t0 log.calls) ≡ length log.entries + 1
   made_count = (let a = ap length all_there in let c = sent.confirmed_is in let k = here in omega (arith, a, c, k))
 
-  own_count : (n : ℕ) → length (issued Managed t0 (take n (unmarked_last log.calls))) ≡ length (issued Managed t0 (take n log.calls))
-  own_count n = ap (λ (l : List Ask). length (issued Managed t0 (take n l))) (ap unmarked_last are ∙ unmarked_append calls ask unmarked ∙ sym are)
+  own_count : (n : ℕ) → length (issued p t0 (take n (unmarked_last log.calls))) ≡ length (issued p t0 (take n log.calls))
+  own_count n = ap (λ (l : List Ask). length (issued p t0 (take n l))) (ap unmarked_last are ∙ unmarked_append calls ask unmarked ∙ sym are)
 
-  come : HaveCome log.calls (length log.entries + 1) (length log.calls) m0
-  come = have_come log.calls sent.made [] (length log.entries + 1) (length log.calls) m0 h.sending.fresh h.sending.askable (omega arith) sent.on.are sent.on.passes (let c = sent.confirmed_is in let k = here in omega (arith, c, k))
-      (let f = ap (λ (l : List Ask). length (issued Managed t0 l)) first_all in let n = made_count in omega (arith, f, n))
+  come : HaveCome p log.calls (length log.entries + 1) (length log.calls) m0
+  come = have_come p log.calls sent.made [] (length log.entries + 1) (length log.calls) m0 h.sending.fresh h.sending.askable (omega arith) sent.on.are sent.on.passes (let c = sent.confirmed_is in let k = here in omega (arith, c, k))
+      (let f = ap (λ (l : List Ask). length (issued p t0 l)) first_all in let n = made_count in omega (arith, f, n))
 
-  come_before : HaveCome log.calls (length log.entries + 1) (length calls) m0
-  come_before = have_come log.calls sent.made [] (length log.entries + 1) (length calls) m0 h.sending.fresh h.sending.askable (let c = count_is in omega (arith, c)) sent.on.are sent.on.passes (let c = sent.confirmed_is in let k = here in omega (arith, c, k))
-      (let f = ap (λ (k : ℕ). length (issued Managed t0 (take k log.calls))) came in let n = h.came_made in let s = own_count log.came in let k = here in omega (arith, f, n, s, k))
+  come_before : HaveCome p log.calls (length log.entries + 1) (length calls) m0
+  come_before = have_come p log.calls sent.made [] (length log.entries + 1) (length calls) m0 h.sending.fresh h.sending.askable (let c = count_is in omega (arith, c)) sent.on.are sent.on.passes (let c = sent.confirmed_is in let k = here in omega (arith, c, k))
+      (let f = ap (λ (k : ℕ). length (issued p t0 (take k log.calls))) came in let n = h.came_made in let s = own_count log.came in let k = here in omega (arith, f, n, s, k))
 
   abbrev all : List ℕ
   all = results (start_world t0 None) log.calls
@@ -126,24 +126,24 @@ module _ (log : LogState) (calls : List Ask) (ask : Ask) (x : Action) (word : �
   stop_there : stop (start_world t0 None) (calls ++ ask ∷ []) ≡ None
   stop_there = subst (λ (l : List Ask). stop (start_world t0 None) l ≡ None) (first_all ∙ are) (come.none_stops.stops None tt)
 
-  seam : issued Managed t0 log.calls ≡ h.sending.made ++ entry_of calls x ∷ []
+  seam : issued p t0 log.calls ≡ h.sending.made ++ entry_of calls x ∷ []
   seam = h.sending.on.are ∙ ap (λ (l : List Entry). h.sending.made ++ (l ++ entry_of calls x ∷ [])) (none_in h.flying h.sending.on.flight)
 
   made_before : length h.sending.made ≡ length log.entries
   made_before = h.sending.confirmed_is ∙ here
 
-  grown : length (issued Managed t0 calls) + length (issue_of Managed (target_by Managed t0 calls) (kept_by Managed t0 calls) ask).steps ≡ length log.entries + 1
+  grown : length (issued p t0 calls) + length (issue_of p (target_by p t0 calls) (kept_by p t0 calls) ask).steps ≡ length log.entries + 1
   grown =
-      let l = ap length (ap (issued Managed t0) are ∙ (journal_grows Managed t0 calls ask unmarked).0) in
-      let k = length-append (issued Managed t0 calls) (numbered (length calls) (is_forgiving ask) (issue_of Managed (target_by Managed t0 calls) (kept_by Managed t0 calls) ask).steps) in
-      let n : length (numbered (length calls) (is_forgiving ask) (issue_of Managed (target_by Managed t0 calls) (kept_by Managed t0 calls) ask).steps) ≡ length (issue_of Managed (target_by Managed t0 calls) (kept_by Managed t0 calls) ask).steps = length-map (issue_of Managed (target_by Managed t0 calls) (kept_by Managed t0 calls) ask).steps _ in
+      let l = ap length (ap (issued p t0) are ∙ (journal_grows p t0 calls ask unmarked).0) in
+      let k = length-append (issued p t0 calls) (numbered (length calls) (is_forgiving ask) (issue_of p (target_by p t0 calls) (kept_by p t0 calls) ask).steps) in
+      let n : length (numbered (length calls) (is_forgiving ask) (issue_of p (target_by p t0 calls) (kept_by p t0 calls) ask).steps) ≡ length (issue_of p (target_by p t0 calls) (kept_by p t0 calls) ask).steps = length-map (issue_of p (target_by p t0 calls) (kept_by p t0 calls) ask).steps _ in
       let m = made_count in
       omega (arith, l, k, n, m)
 
   last_is : get_or (results (start_world t0 None) log.calls) (length calls) 0 ≡ result_of ask.call word
   last_is =
       ap (λ (l : List Ask). slice_index (results (start_world t0 None) l) (length calls)) are
-      ∙ result_given Managed t0 calls ask [] h.sending.made (entry_of calls x) [] h.sending.fresh (subst AreAskable are h.sending.askable) stop_there mild large (ap (issued Managed t0) (sym are) ∙ seam) (let g = grown in let b = made_before in omega (arith, g, b))
+      ∙ result_given p t0 calls ask [] h.sending.made (entry_of calls x) [] h.sending.fresh (subst AreAskable are h.sending.askable) stop_there mild large (ap (issued p t0) (sym are) ∙ seam) (let g = grown in let b = made_before in omega (arith, g, b))
       ∙ ap (λ (t : TargetState). result_of ask.call (given (acted t x).outcome)) (sym h.sending.on.target)
       ∙ ap (result_of ask.call) (sym d.word_is)
 
@@ -172,18 +172,18 @@ module _ (log : LogState) (calls : List Ask) (ask : Ask) (x : Action) (word : �
   entry_is : Issued
   entry_is = kept_of (entry_of calls x)
 
-  entries_now : log.entries ++ kept_of (entry_of calls x) ∷ [] ≡ map kept_of (take (length (log.entries ++ kept_of (entry_of calls x) ∷ [])) (issued Managed t0 log.calls))
+  entries_now : log.entries ++ kept_of (entry_of calls x) ∷ [] ≡ map kept_of (take (length (log.entries ++ kept_of (entry_of calls x) ∷ [])) (issued p t0 log.calls))
   entries_now =
-      let t = take_more h.sending.made (entry_of calls x) [] (issued Managed t0 log.calls) (length log.entries) seam made_before in
+      let t = take_more h.sending.made (entry_of calls x) [] (issued p t0 log.calls) (length log.entries) seam made_before in
       (λ j. (h.entries_are ∙ ap (map kept_of) t.0) j ++ kept_of (entry_of calls x) ∷ [])
       ∙ sym (map-append kept_of h.sending.made (entry_of calls x ∷ []))
       ∙ ap (map kept_of) (sym t.1)
-      ∙ ap (λ n. map kept_of (take n (issued Managed t0 log.calls))) (sym (length-append log.entries (kept_of (entry_of calls x) ∷ [])))
+      ∙ ap (λ n. map kept_of (take n (issued p t0 log.calls))) (sym (length-append log.entries (kept_of (entry_of calls x) ∷ [])))
 
   more_entries : length (log.entries ++ kept_of (entry_of calls x) ∷ []) ≡ length log.entries + 1
   more_entries = length-append log.entries (kept_of (entry_of calls x) ∷ [])
 
-  pub action_came : IsIssuing (log_done log (kept_of (entry_of calls x)) (length calls) (result_of ask.call word)) [] [] m0 o
+  pub action_came : IsIssuing p (log_done log (kept_of (entry_of calls x)) (length calls) (result_of ask.call word)) [] [] m0 o
   action_came = record {
     flying = [];
     sending = record {
@@ -202,8 +202,8 @@ module _ (log : LogState) (calls : List Ask) (ask : Ask) (x : Action) (word : �
     strict = tt;
     in_order = omega arith;
     within = omega arith;
-    came_made = (let f = ap (λ (l : List Ask). length (issued Managed t0 l)) first_all in let s = own_count (length log.calls) in let n = made_count in let k = more_entries in omega (arith, f, s, n, k));
-    whole_issued = (let f = ap (λ (l : List Ask). length (issued Managed t0 l)) first_all in let s = own_count (length log.calls) in let n = made_count in let k = more_entries in omega (arith, f, s, n, k));
+    came_made = (let f = ap (λ (l : List Ask). length (issued p t0 l)) first_all in let s = own_count (length log.calls) in let n = made_count in let k = more_entries in omega (arith, f, s, n, k));
+    whole_issued = (let f = ap (λ (l : List Ask). length (issued p t0 l)) first_all in let s = own_count (length log.calls) in let n = made_count in let k = more_entries in omega (arith, f, s, n, k));
     came_are = came_now ∙ ap (results (start_world t0 None)) (sym first_all);
     skipped_is = skipped_now;
     given = λ index low less. absurd (omega (arith, low, less));
@@ -219,18 +219,18 @@ where_flies None (Some o) call Q h = h
 where_flies (Some m) None call Q h = h
 where_flies (Some m) (Some o) call Q h = λ flies. h (inl flies)
 
-came_where : (x y : Option BenchState) (log new : LogState) (calls : List Ask) (ask : Ask) (action : Action) (word : ℕ) (m0 : BenchState) → WhereObservable x (λ m. IsIssuing log [] (entry_of calls action ∷ []) m0 m) → StepsTo (λ m o. CanFly m → HasDone action word m o) x y →
-    log.calls ≡ calls ++ ask ∷ [] → log.came ≡ length calls → length (issue_of Managed (target_by Managed (target_of m0.probe) calls) (kept_by Managed (target_of m0.probe) calls) ask).steps ≡ 1 → ask.settled ≡ false → is_forgiving ask ≡ false →
+came_where : (p : Planner) (x y : Option BenchState) (log new : LogState) (calls : List Ask) (ask : Ask) (action : Action) (word : ℕ) (m0 : BenchState) → WhereObservable x (λ m. IsIssuing p log [] (entry_of calls action ∷ []) m0 m) → StepsTo (λ m o. CanFly m → HasDone action word m o) x y →
+    log.calls ≡ calls ++ ask ∷ [] → log.came ≡ length calls → length (issue_of p (target_by p (target_of m0.probe) calls) (kept_by p (target_of m0.probe) calls) ask).steps ≡ 1 → ask.settled ≡ false → is_forgiving ask ≡ false →
     small_now (start_world (target_of m0.probe) None) calls ask ≡ false → ((m : BenchState) → weight (target_of m.probe) action ≤ most_weight) → length log.results ≡ length log.calls → length log.entries < 2 ^ 32 →
-    WhereObservable y (λ o. IsIssuing (log_done log (kept_of (entry_of calls action)) (length calls) (result_of ask.call word)) [] [] m0 o)
-came_where None y log new calls ask action word m0 h d are came steps unmarked mild large light long bounded = absurd h
-came_where (Some m) None log new calls ask action word m0 h d are came steps unmarked mild large light long bounded = absurd d
-came_where (Some m) (Some o) log new calls ask action word m0 h d are came steps unmarked mild large light long bounded = action_came log calls ask action word m0 m o h (d h.flies) are came steps unmarked mild large (light m) long bounded
+    WhereObservable y (λ o. IsIssuing p (log_done log (kept_of (entry_of calls action)) (length calls) (result_of ask.call word)) [] [] m0 o)
+came_where p None y log new calls ask action word m0 h d are came steps unmarked mild large light long bounded = absurd h
+came_where p (Some m) None log new calls ask action word m0 h d are came steps unmarked mild large light long bounded = absurd d
+came_where p (Some m) (Some o) log new calls ask action word m0 h d are came steps unmarked mild large light long bounded = action_came p log calls ask action word m0 m o h (d h.flies) are came steps unmarked mild large (light m) long bounded
 
 -- where the bench is observable
-pub action_has_come : (x y : Option BenchState) (log new : LogState) (calls : List Ask) (ask : Ask) (action : Action) (word : ℕ) (m0 : BenchState) → HasIssued x log [] (entry_of calls action ∷ []) m0 → StepsTo (λ m o. CanFly m → HasDone action word m o) x y →
-    log.calls ≡ calls ++ ask ∷ [] → log.came ≡ length calls → length (issue_of Managed (target_by Managed (target_of m0.probe) calls) (kept_by Managed (target_of m0.probe) calls) ask).steps ≡ 1 → ask.settled ≡ false → is_forgiving ask ≡ false →
+pub action_has_come : (p : Planner) (x y : Option BenchState) (log new : LogState) (calls : List Ask) (ask : Ask) (action : Action) (word : ℕ) (m0 : BenchState) → HasIssued p x log [] (entry_of calls action ∷ []) m0 → StepsTo (λ m o. CanFly m → HasDone action word m o) x y →
+    log.calls ≡ calls ++ ask ∷ [] → log.came ≡ length calls → length (issue_of p (target_by p (target_of m0.probe) calls) (kept_by p (target_of m0.probe) calls) ask).steps ≡ 1 → ask.settled ≡ false → is_forgiving ask ≡ false →
     small_now (start_world (target_of m0.probe) None) calls ask ≡ false → ((m : BenchState) → weight (target_of m.probe) action ≤ most_weight) → length log.results ≡ length log.calls → length log.entries < 2 ^ 32 →
-    new ≡ log_done log (kept_of (entry_of calls action)) (length calls) (result_of ask.call word) → HasIssued y new [] [] m0
-action_has_come x y log new calls ask action word m0 h d are came steps unmarked mild large light long bounded is =
-    subst (λ (l : LogState). HasIssued y l [] [] m0) (sym is) (record { so = came_where x y log new calls ask action word m0 h.so d are came steps unmarked mild large light long bounded })
+    new ≡ log_done log (kept_of (entry_of calls action)) (length calls) (result_of ask.call word) → HasIssued p y new [] [] m0
+action_has_come p x y log new calls ask action word m0 h d are came steps unmarked mild large light long bounded is =
+    subst (λ (l : LogState). HasIssued p y l [] [] m0) (sym is) (record { so = came_where p x y log new calls ask action word m0 h.so d are came steps unmarked mild large light long bounded })

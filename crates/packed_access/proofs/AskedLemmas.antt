@@ -41,17 +41,19 @@ use Rattle.packed_access.proofs.AskLemmas.{begun_asked}
 use Rattle.packed_access.proofs.BegunLemmas.{fact_of, open_facts}
 use Rattle.packed_access.proofs.CfgLemmas.{cancel_back, target_moves}
 use Rattle.packed_access.proofs.ReadLemmas.{seam_of}
-use Rattle.access_regs.specs.declared.planner.Planner.TheVariants.{Managed}
+use Rattle.access_regs.specs.declared.planner.Planner.{Planner}
+use Rattle.access_regs.specs.declared.planner.Planner.TheVariants.{Managed, Plain}
+use Rattle.access_regs.specs.Journal.{is_alone}
 
 -- ---- a call is asked
 
-pub begins_asked : (bench : BenchReported) (state : Option BenchState) (log new : LogState) (sent got : List ℕ) (kept : Kept) (accesses : List RegAccess) (ask : Ask) (m0 : BenchState) → HasBegun bench state log sent got kept accesses m0 → log.end ≡ None → IsAskable ask → ask.settled ≡ false →
-    length log.results ≡ length log.calls → length log.places ≡ length log.calls → new ≡ with_call log ask new.room → HasAsked state new accesses kept log.calls ask m0
-begins_asked bench state log new sent got kept accesses ask m0 h none ok unmarked long places is = record {
+pub begins_asked : (p : Planner) (bench : BenchReported) (state : Option BenchState) (log new : LogState) (sent got : List ℕ) (kept : Kept) (accesses : List RegAccess) (ask : Ask) (m0 : BenchState) → HasBegun p bench state log sent got kept accesses m0 → log.end ≡ None → IsAskable ask → ask.settled ≡ false →
+    length log.results ≡ length log.calls → length log.places ≡ length log.calls → new ≡ with_call log ask new.room → HasAsked p state new accesses kept log.calls ask m0
+begins_asked p bench state log new sent got kept accesses ask m0 h none ok unmarked long places is = record {
   are = ap (λ (l : LogState). l.calls) is;
   unmarked = unmarked;
-  kept_is = open_facts bench state log sent got kept accesses m0 h none;
-  issued = begun_asked bench state log new sent got kept accesses ask m0 h none ok unmarked long places is;
+  kept_is = open_facts p bench state log sent got kept accesses m0 h none;
+  issued = begun_asked p bench state log new sent got kept accesses ask m0 h none ok unmarked long places is;
 }
 
 -- ---- what is known where a call was asked
@@ -66,35 +68,64 @@ pub record AreSound (t : TargetState) (calls : List Ask) (ask : Ask) : Type 0 wh
   pub askable : AreAskable calls
   pub last : IsAskable ask
 
-pub asked_sound : (x : Option BenchState) (log : LogState) (accesses : List RegAccess) (k : Kept) (calls : List Ask) (ask : Ask) (m0 : BenchState) → HasAsked x log accesses k calls ask m0 → AreSound (target_of m0.probe) calls ask
-asked_sound x log accesses k calls ask m0 h =
-    fact_of x (λ m. IsIssuing log accesses (own_entries (target_of m0.probe) calls k ask) m0 m) (AreSound (target_of m0.probe) calls ask)
+pub asked_sound : (p : Planner) (x : Option BenchState) (log : LogState) (accesses : List RegAccess) (k : Kept) (calls : List Ask) (ask : Ask) (m0 : BenchState) → HasAsked p x log accesses k calls ask m0 → AreSound (target_of m0.probe) calls ask
+asked_sound p x log accesses k calls ask m0 h =
+    fact_of x (λ m. IsIssuing p log accesses (own_entries p (target_of m0.probe) calls k ask) m0 m) (AreSound (target_of m0.probe) calls ask)
     (λ m i. (let all : AreAskable (calls ++ ask ∷ []) = subst AreAskable h.are i.sending.askable in record { fresh = i.sending.fresh; askable = askable_first calls (ask ∷ []) all; last = askable_last calls ask all })) h.issued.so
 
 -- the target that the call finds
-pub asked_target : (x : Option BenchState) (log : LogState) (accesses : List RegAccess) (k : Kept) (calls : List Ask) (ask : Ask) (m0 : BenchState) → HasAsked x log accesses k calls ask m0 → target_issued log m0 ≡ target_by Managed (target_of m0.probe) calls
-asked_target x log accesses k calls ask m0 h =
-    let grown : issued Managed (target_of m0.probe) log.calls ≡ issued Managed (target_of m0.probe) calls ++ own_entries (target_of m0.probe) calls k ask =
-    ap (issued Managed (target_of m0.probe)) h.are ∙ (journal_grows Managed (target_of m0.probe) calls ask h.unmarked).0
-    ∙ ap (λ (q : Kept). issued Managed (target_of m0.probe) calls ++ own_entries (target_of m0.probe) calls q ask) h.kept_is in
+pub asked_target : (p : Planner) (x : Option BenchState) (log : LogState) (accesses : List RegAccess) (k : Kept) (calls : List Ask) (ask : Ask) (m0 : BenchState) → HasAsked p x log accesses k calls ask m0 → target_issued p log m0 ≡ target_by p (target_of m0.probe) calls
+asked_target p x log accesses k calls ask m0 h =
+    let grown : issued p (target_of m0.probe) log.calls ≡ issued p (target_of m0.probe) calls ++ own_entries p (target_of m0.probe) calls k ask =
+    ap (issued p (target_of m0.probe)) h.are ∙ (journal_grows p (target_of m0.probe) calls ask h.unmarked).0
+    ∙ ap (λ (q : Kept). issued p (target_of m0.probe) calls ++ own_entries p (target_of m0.probe) calls q ask) h.kept_is in
     ap (target_after (target_of m0.probe))
-    (cancel_back (take (length log.entries) (issued Managed (target_of m0.probe) log.calls)) (issued Managed (target_of m0.probe) calls) (own_entries (target_of m0.probe) calls k ask)
-    (sym (seam_of x log accesses (own_entries (target_of m0.probe) calls k ask) m0 h.issued.so).0 ∙ grown))
+    (cancel_back (take (length log.entries) (issued p (target_of m0.probe) log.calls)) (issued p (target_of m0.probe) calls) (own_entries p (target_of m0.probe) calls k ask)
+    (sym (seam_of p x log accesses (own_entries p (target_of m0.probe) calls k ask) m0 h.issued.so).0 ∙ grown))
 
 -- what a call that forgives nothing issues
-pub planned_issue : (t : TargetState) (k : Kept) (ask : Ask) (asked : AccessUnit) → ask.call ≡ Access asked → is_forgiving ask ≡ false → issue_of Managed t k ask ≡ planned t k asked
-planned_issue t k ask asked is mild =
-    ap (λ (c : Call). issue Managed t k ask.forgive c) is
-    ∙ ap (λ (b : Bool). cond b (after_settling t k (alone_at ask.forgive asked)) (planned t k asked)) (ap (λ (c : Call). ask.forgive && may_forgive c) (sym is) ∙ mild)
+pub planned_issue : (p : Planner) (t : TargetState) (k : Kept) (ask : Ask) (asked : AccessUnit) → ask.call ≡ Access asked → is_forgiving ask ≡ false → (is_alone p false && may_forgive (Access asked)) ≡ false → issue_of p t k ask ≡ planned t k asked
+planned_issue p t k ask asked is mild apart =
+    ap (λ (c : Call). issue p t k ask.forgive c) is
+    ∙ ap (λ (b : Bool). cond b (after_settling t k (alone_at ask.forgive asked)) (planned t k asked)) (by_planner p (ap (λ (c : Call). ask.forgive && may_forgive c) (sym is) ∙ mild) apart)
+  where
+    by_planner : (q : Planner) → (ask.forgive && may_forgive (Access asked)) ≡ false → (is_alone q false && may_forgive (Access asked)) ≡ false → (is_alone q ask.forgive && may_forgive (Access asked)) ≡ false
+    by_planner Managed forgiving alone = forgiving
+    by_planner Plain forgiving alone = alone
+
+-- which units are made alone
+
+pub alone_by : (p : Planner) (forgive : Bool) → (forgive || is_alone p false) ≡ is_alone p forgive
+alone_by Managed true = refl
+alone_by Managed false = refl
+alone_by Plain true = refl
+alone_by Plain false = refl
+
+pub and_true : (a b : Bool) → (a && b) ≡ true → (a ≡ true) × (b ≡ true)
+and_true true b e = (refl, e)
+and_true false b e = absurd (cc)
+
+and_never : (a b : Bool) → b ≡ false → (a && b) ≡ false
+and_never true b e = e
+and_never false b e = refl
+
+-- one that is not made alone where it forgives a fault is not made alone where it forgives nothing, and forgives nothing
+pub apart_planned : (p : Planner) (forgive may : Bool) → (is_alone p forgive && may) ≡ false → (is_alone p false && may) ≡ false
+apart_planned Managed forgive may e = refl
+apart_planned Plain forgive may e = e
+
+pub apart_mild : (p : Planner) (forgive may : Bool) → (is_alone p forgive && may) ≡ false → (forgive && may) ≡ false
+apart_mild Managed forgive may e = e
+apart_mild Plain forgive may e = and_never forgive may e
 
 -- what is left then
-pub planned_left : (x : Option BenchState) (log : LogState) (accesses : List RegAccess) (k : Kept) (calls : List Ask) (ask : Ask) (asked : AccessUnit) (m0 : BenchState) → ask.call ≡ Access asked → is_forgiving ask ≡ false → HasAsked x log accesses k calls ask m0 →
-    HasIssued x log accesses (steps_left log (planned (target_issued log m0) k asked).steps) m0
-planned_left x log accesses k calls ask asked m0 is mild h =
+pub planned_left : (p : Planner) (x : Option BenchState) (log : LogState) (accesses : List RegAccess) (k : Kept) (calls : List Ask) (ask : Ask) (asked : AccessUnit) (m0 : BenchState) → ask.call ≡ Access asked → is_forgiving ask ≡ false → (is_alone p false && may_forgive (Access asked)) ≡ false → HasAsked p x log accesses k calls ask m0 →
+    HasIssued p x log accesses (steps_left log (planned (target_issued p log m0) k asked).steps) m0
+planned_left p x log accesses k calls ask asked m0 is mild apart h =
     let count : length calls ≡ length log.calls - 1 = (let l = ap length h.are ∙ length-append calls (ask ∷ []) in omega (arith, l)) in
-    let same : issue_of Managed (target_by Managed (target_of m0.probe) calls) k ask ≡ planned (target_issued log m0) k asked =
-    planned_issue (target_by Managed (target_of m0.probe) calls) k ask asked is mild ∙ ap (λ (t : TargetState). planned t k asked) (sym (asked_target x log accesses k calls ask m0 h)) in
-    subst (λ (l : List Entry). HasIssued x log accesses l m0) (λ j. numbered (count j) (mild j) (same j).steps) h.issued
+    let same : issue_of p (target_by p (target_of m0.probe) calls) k ask ≡ planned (target_issued p log m0) k asked =
+    planned_issue p (target_by p (target_of m0.probe) calls) k ask asked is mild apart ∙ ap (λ (t : TargetState). planned t k asked) (sym (asked_target p x log accesses k calls ask m0 h)) in
+    subst (λ (l : List Entry). HasIssued p x log accesses l m0) (λ j. numbered (count j) (mild j) (same j).steps) h.issued
 
 -- ---- the settling
 
@@ -103,62 +134,62 @@ settles_numbered units [] = refl
 settles_numbered units (x ∷ xs) = ap (λ l. record { unit = units; part = Settles; forgiving = false; action = Makes x } ∷ l) (settles_numbered units xs)
 
 -- Nothing has to be settled any more: what is left by the registers and the calls as they are now.
-pub record IsReady (y : Option BenchState) (old mid : LogState) (accesses : List RegAccess) (k k' : Kept) (asked : AccessUnit) (m0 : BenchState) : Type 0 where
-  pub left : HasIssued y mid accesses (steps_left mid (by_cfg (target_issued mid m0) k' asked).steps) m0
-  pub kept : (by_cfg (target_issued mid m0) k' asked).kept ≡ (planned (target_issued old m0) k asked).kept
-  pub target : target_issued mid m0 ≡ target_before (target_issued old m0) k asked
+pub record IsReady (p : Planner) (y : Option BenchState) (old mid : LogState) (accesses : List RegAccess) (k k' : Kept) (asked : AccessUnit) (m0 : BenchState) : Type 0 where
+  pub left : HasIssued p y mid accesses (steps_left mid (by_cfg (target_issued p mid m0) k' asked).steps) m0
+  pub kept : (by_cfg (target_issued p mid m0) k' asked).kept ≡ (planned (target_issued p old m0) k asked).kept
+  pub target : target_issued p mid m0 ≡ target_before (target_issued p old m0) k asked
   pub known : k' ≡ settled_before k asked
 
 plain_is : (t : TargetState) (k : Kept) (asked : AccessUnit) → needs_settle k asked ≡ false → planned t k asked ≡ by_cfg t k asked
 plain_is t k asked needs = ap (λ (b : Bool). cond b (after_settling t k (λ u l. by_cfg u l asked)) (by_cfg t k asked)) needs
 
-pub plain_ready : (x : Option BenchState) (log : LogState) (accesses : List RegAccess) (k : Kept) (asked : AccessUnit) (m0 : BenchState) → needs_settle k asked ≡ false → HasIssued x log accesses (steps_left log (planned (target_issued log m0) k asked).steps) m0 →
-    IsReady x log log accesses k k asked m0
-plain_ready x log accesses k asked m0 needs h =
-    let is = plain_is (target_issued log m0) k asked needs in
+pub plain_ready : (p : Planner) (x : Option BenchState) (log : LogState) (accesses : List RegAccess) (k : Kept) (asked : AccessUnit) (m0 : BenchState) → needs_settle k asked ≡ false → HasIssued p x log accesses (steps_left log (planned (target_issued p log m0) k asked).steps) m0 →
+    IsReady p x log log accesses k k asked m0
+plain_ready p x log accesses k asked m0 needs h =
+    let is = plain_is (target_issued p log m0) k asked needs in
     record {
-      left = subst (λ (i : Issue). HasIssued x log accesses (steps_left log i.steps) m0) is h;
+      left = subst (λ (i : Issue). HasIssued p x log accesses (steps_left log i.steps) m0) is h;
       kept = ap (λ (i : Issue). i.kept) (sym is);
-      target = ap (λ (b : Bool). after (target_issued log m0) (making (cond b (settle k) []))) (sym needs);
+      target = ap (λ (b : Bool). after (target_issued p log m0) (making (cond b (settle k) []))) (sym needs);
       known = ap (λ (b : Bool). cond b (settled k) k) (sym needs);
     }
 
 settle_is : (t : TargetState) (k : Kept) (asked : AccessUnit) → needs_settle k asked ≡ true → planned t k asked ≡ before (steps_of Settles (settle k)) (by_cfg (after t (making (settle k))) (settled k) asked)
 settle_is t k asked needs = ap (λ (b : Bool). cond b (after_settling t k (λ u l. by_cfg u l asked)) (by_cfg t k asked)) needs
 
-pub settle_left : (x : Option BenchState) (log : LogState) (accesses : List RegAccess) (t : TargetState) (k : Kept) (asked : AccessUnit) (units : ℕ) (m0 : BenchState) → units ≡ length log.calls - 1 → needs_settle k asked ≡ true → HasIssued x log accesses (steps_left log (planned t k asked).steps) m0 →
-    HasIssued x log accesses (entries_of units Settles (settle k) ++ steps_left log (by_cfg (after t (making (settle k))) (settled k) asked).steps) m0
-settle_left x log accesses t k asked units m0 same needs h =
+pub settle_left : (p : Planner) (x : Option BenchState) (log : LogState) (accesses : List RegAccess) (t : TargetState) (k : Kept) (asked : AccessUnit) (units : ℕ) (m0 : BenchState) → units ≡ length log.calls - 1 → needs_settle k asked ≡ true → HasIssued p x log accesses (steps_left log (planned t k asked).steps) m0 →
+    HasIssued p x log accesses (entries_of units Settles (settle k) ++ steps_left log (by_cfg (after t (making (settle k))) (settled k) asked).steps) m0
+settle_left p x log accesses t k asked units m0 same needs h =
     let is : steps_left log (planned t k asked).steps ≡ entries_of units Settles (settle k) ++ steps_left log (by_cfg (after t (making (settle k))) (settled k) asked).steps =
     ap (λ (i : Issue). steps_left log i.steps) (settle_is t k asked needs)
     ∙ map-append _ (steps_of Settles (settle k)) (by_cfg (after t (making (settle k))) (settled k) asked).steps
     ∙ ap (λ (l : List Entry). l ++ steps_left log (by_cfg (after t (making (settle k))) (settled k) asked).steps) (settles_numbered (length log.calls - 1) (settle k))
     ∙ ap (λ (n : ℕ). entries_of n Settles (settle k) ++ steps_left log (by_cfg (after t (making (settle k))) (settled k) asked).steps) (sym same) in
-    subst (λ (l : List Entry). HasIssued x log accesses l m0) is h
+    subst (λ (l : List Entry). HasIssued p x log accesses l m0) is h
 
-pub settled_ready : (x y : Option BenchState) (old mid : LogState) (accesses accesses' : List RegAccess) (k k' : Kept) (asked : AccessUnit) (units : ℕ) (m0 : BenchState) → needs_settle k asked ≡ true →
-    HasIssued x old accesses (entries_of units Settles (settle k) ++ steps_left old (by_cfg (after (target_issued old m0) (making (settle k))) (settled k) asked).steps) m0 →
-    HasIssued y mid accesses' (steps_left old (by_cfg (after (target_issued old m0) (making (settle k))) (settled k) asked).steps) m0 → mid.calls ≡ old.calls → k' ≡ settled k → IsReady y old mid accesses' k k' asked m0
-settled_ready x y old mid accesses accesses' k k' asked units m0 needs first there calls kept =
-    let at = target_moves x y old mid accesses accesses' units Settles (settle k) (steps_left old (by_cfg (after (target_issued old m0) (making (settle k))) (settled k) asked).steps) m0 first there calls in
-    let is : by_cfg (target_issued mid m0) k' asked ≡ by_cfg (after (target_issued old m0) (making (settle k))) (settled k) asked = (λ j. by_cfg (at j) (kept j) asked) in
+pub settled_ready : (p : Planner) (x y : Option BenchState) (old mid : LogState) (accesses accesses' : List RegAccess) (k k' : Kept) (asked : AccessUnit) (units : ℕ) (m0 : BenchState) → needs_settle k asked ≡ true →
+    HasIssued p x old accesses (entries_of units Settles (settle k) ++ steps_left old (by_cfg (after (target_issued p old m0) (making (settle k))) (settled k) asked).steps) m0 →
+    HasIssued p y mid accesses' (steps_left old (by_cfg (after (target_issued p old m0) (making (settle k))) (settled k) asked).steps) m0 → mid.calls ≡ old.calls → k' ≡ settled k → IsReady p y old mid accesses' k k' asked m0
+settled_ready p x y old mid accesses accesses' k k' asked units m0 needs first there calls kept =
+    let at = target_moves p x y old mid accesses accesses' units Settles (settle k) (steps_left old (by_cfg (after (target_issued p old m0) (making (settle k))) (settled k) asked).steps) m0 first there calls in
+    let is : by_cfg (target_issued p mid m0) k' asked ≡ by_cfg (after (target_issued p old m0) (making (settle k))) (settled k) asked = (λ j. by_cfg (at j) (kept j) asked) in
     record {
-      left = subst (λ (l : List Entry). HasIssued y mid accesses' l m0) (λ j. numbered (length (sym calls j) - 1) false (sym is j).steps) there;
-      kept = ap (λ (i : Issue). i.kept) (is ∙ sym (ap (λ (b : Bool). cond b (by_cfg (after (target_issued old m0) (making (settle k))) (settled k) asked) (by_cfg (target_issued old m0) k asked)) needs))
+      left = subst (λ (l : List Entry). HasIssued p y mid accesses' l m0) (λ j. numbered (length (sym calls j) - 1) false (sym is j).steps) there;
+      kept = ap (λ (i : Issue). i.kept) (is ∙ sym (ap (λ (b : Bool). cond b (by_cfg (after (target_issued p old m0) (making (settle k))) (settled k) asked) (by_cfg (target_issued p old m0) k asked)) needs))
           ∙ planned_kept (needs_settle k asked);
-      target = at ∙ ap (λ (b : Bool). after (target_issued old m0) (making (cond b (settle k) []))) (sym needs);
+      target = at ∙ ap (λ (b : Bool). after (target_issued p old m0) (making (cond b (settle k) []))) (sym needs);
       known = kept ∙ ap (λ (b : Bool). cond b (settled k) k) (sym needs);
     }
   where
-    planned_kept : (b : Bool) → (cond b (by_cfg (after (target_issued old m0) (making (settle k))) (settled k) asked) (by_cfg (target_issued old m0) k asked)).kept ≡ (cond b (after_settling (target_issued old m0) k (λ u l. by_cfg u l asked)) (by_cfg (target_issued old m0) k asked)).kept
+    planned_kept : (b : Bool) → (cond b (by_cfg (after (target_issued p old m0) (making (settle k))) (settled k) asked) (by_cfg (target_issued p old m0) k asked)).kept ≡ (cond b (after_settling (target_issued p old m0) k (λ u l. by_cfg u l asked)) (by_cfg (target_issued p old m0) k asked)).kept
     planned_kept true = refl
     planned_kept false = refl
 
 -- before the first call nothing is unsettled
-pub first_calm : (x : Option BenchState) (log : LogState) (accesses : List RegAccess) (k : Kept) (calls : List Ask) (ask : Ask) (asked : AccessUnit) (m0 : BenchState) → HasAsked x log accesses k calls ask m0 → length log.calls - 1 ≡ 0 → needs_settle k asked ≡ false
-first_calm x log accesses k calls ask asked m0 h none = by_calls calls h.kept_is (let l = ap length h.are ∙ length-append calls (ask ∷ []) in omega (arith, l, none))
+pub first_calm : (p : Planner) (x : Option BenchState) (log : LogState) (accesses : List RegAccess) (k : Kept) (calls : List Ask) (ask : Ask) (asked : AccessUnit) (m0 : BenchState) → HasAsked p x log accesses k calls ask m0 → length log.calls - 1 ≡ 0 → needs_settle k asked ≡ false
+first_calm p x log accesses k calls ask asked m0 h none = by_calls calls h.kept_is (let l = ap length h.are ∙ length-append calls (ask ∷ []) in omega (arith, l, none))
   where
-    by_calls : (xs : List Ask) → kept_by Managed (target_of m0.probe) xs ≡ k → length xs ≡ 0 → needs_settle k asked ≡ false
+    by_calls : (xs : List Ask) → kept_by p (target_of m0.probe) xs ≡ k → length xs ≡ 0 → needs_settle k asked ≡ false
     by_calls [] is zero_is = ap (λ (q : Kept). needs_settle q asked) (sym is)
     by_calls (y ∷ xs) is zero_is = absurd (omega (arith, zero_is))
 
@@ -215,57 +246,57 @@ all_settled k size read n address value needs = by_needs (needs_settle k asked) 
           kept = ap (λ (b : Bool). cond b (settled k) k) e ∙ ap (settled_at k) (sym calm);
         }
 
-small_read : (t : TargetState) (calls : List Ask) (asked : AccessUnit) (forgive small : Bool) → IsFresh t → AreAskable calls → IsUnitInRange asked →
-    HasShown t calls (target_before (target_by Managed t calls) (kept_by Managed t calls) asked) (settled_before (kept_by Managed t calls) asked) asked small →
-    needs_cfg (settled_before (kept_by Managed t calls) asked) asked ≡ true → small ≡ small_now (start_world t None) calls (unit_ask asked forgive)
-small_read t calls (unit.Memory size read n address value) forgive small fresh ok range h e =
+small_read : (p : Planner) (t : TargetState) (calls : List Ask) (asked : AccessUnit) (forgive small : Bool) → IsFresh t → AreAskable calls → IsUnitInRange asked →
+    HasShown t calls (target_before (target_by p t calls) (kept_by p t calls) asked) (settled_before (kept_by p t calls) asked) asked small →
+    needs_cfg (settled_before (kept_by p t calls) asked) asked ≡ true → small ≡ small_now (start_world t None) calls (unit_ask asked forgive)
+small_read p t calls (unit.Memory size read n address value) forgive small fresh ok range h e =
     let asked : AccessUnit = unit.Memory size read n address value in
-    let k : Kept = kept_by Managed t calls in
-    let all = all_settled (kept_by Managed t calls) size read n address value (sym (same_needs (kept_by Managed t calls) (unit.Memory size read n address value)) ∙ e) in
-    let kept : settled_before (kept_by Managed t calls) (unit.Memory size read n address value) ≡ settled (kept_by Managed t calls) = all.kept in
-    let target : target_before (target_by Managed t calls) (kept_by Managed t calls) (unit.Memory size read n address value) ≡ after (target_by Managed t calls) (making (settle (kept_by Managed t calls))) =
-    ap (λ (xs : List RegAccess). after (target_by Managed t calls) (making xs)) all.accesses in
-    let there : HasShown t calls (after (target_by Managed t calls) (making (settle (kept_by Managed t calls)))) (settled (kept_by Managed t calls)) (unit.Memory size read n address value) small =
-    subst (λ (u : TargetState). HasShown t calls u (settled (kept_by Managed t calls)) (unit.Memory size read n address value) small) target
-    (subst (λ (q : Kept). HasShown t calls (target_before (target_by Managed t calls) (kept_by Managed t calls) (unit.Memory size read n address value)) q (unit.Memory size read n address value) small) kept h) in
-    let needs : needs_cfg (settled (kept_by Managed t calls)) (unit.Memory size read n address value) ≡ true = ap (λ (q : Kept). needs_cfg q (unit.Memory size read n address value)) (sym kept) ∙ e in
+    let k : Kept = kept_by p t calls in
+    let all = all_settled (kept_by p t calls) size read n address value (sym (same_needs (kept_by p t calls) (unit.Memory size read n address value)) ∙ e) in
+    let kept : settled_before (kept_by p t calls) (unit.Memory size read n address value) ≡ settled (kept_by p t calls) = all.kept in
+    let target : target_before (target_by p t calls) (kept_by p t calls) (unit.Memory size read n address value) ≡ after (target_by p t calls) (making (settle (kept_by p t calls))) =
+    ap (λ (xs : List RegAccess). after (target_by p t calls) (making xs)) all.accesses in
+    let there : HasShown t calls (after (target_by p t calls) (making (settle (kept_by p t calls)))) (settled (kept_by p t calls)) (unit.Memory size read n address value) small =
+    subst (λ (u : TargetState). HasShown t calls u (settled (kept_by p t calls)) (unit.Memory size read n address value) small) target
+    (subst (λ (q : Kept). HasShown t calls (target_before (target_by p t calls) (kept_by p t calls) (unit.Memory size read n address value)) q (unit.Memory size read n address value) small) kept h) in
+    let needs : needs_cfg (settled (kept_by p t calls)) (unit.Memory size read n address value) ≡ true = ap (λ (q : Kept). needs_cfg q (unit.Memory size read n address value)) (sym kept) ∙ e in
     there.shown
-    ∙ ap (λ (b : Bool). b && not (has_bit (gives (after (target_by Managed t calls) (making (settle (kept_by Managed t calls)))) (cfg_plan (settled (kept_by Managed t calls)) n)) 2)) needs
-    ∙ sym (small_by_cfg Managed t calls None size read n address value forgive fresh ok (there.whole needs) range.0 needs (there.good needs))
-small_read t calls (unit.Ap read n addr value) forgive small fresh ok range h e = absurd (cc)
-small_read t calls (unit.Dp read addr value) forgive small fresh ok range h e = absurd (cc)
-small_read t calls (unit.Poll mask value turns) forgive small fresh ok range h e = absurd (cc)
+    ∙ ap (λ (b : Bool). b && not (has_bit (gives (after (target_by p t calls) (making (settle (kept_by p t calls)))) (cfg_plan (settled (kept_by p t calls)) n)) 2)) needs
+    ∙ sym (small_by_cfg p t calls None size read n address value forgive fresh ok (there.whole needs) range.0 needs (there.good needs))
+small_read p t calls (unit.Ap read n addr value) forgive small fresh ok range h e = absurd (cc)
+small_read p t calls (unit.Dp read addr value) forgive small fresh ok range h e = absurd (cc)
+small_read p t calls (unit.Poll mask value turns) forgive small fresh ok range h e = absurd (cc)
 
 -- What is answered is whether the unit ends because its AP has no large addresses.
-small_shown : (t : TargetState) (calls : List Ask) (asked : AccessUnit) (forgive small : Bool) → IsFresh t → AreAskable calls → IsUnitInRange asked →
-    HasShown t calls (target_before (target_by Managed t calls) (kept_by Managed t calls) asked) (settled_before (kept_by Managed t calls) asked) asked small → small ≡ small_now (start_world t None) calls (unit_ask asked forgive)
-small_shown t calls asked forgive small fresh ok range h = by_needs (needs_cfg (settled_before (kept_by Managed t calls) asked) asked) refl
+small_shown : (p : Planner) (t : TargetState) (calls : List Ask) (asked : AccessUnit) (forgive small : Bool) → IsFresh t → AreAskable calls → IsUnitInRange asked →
+    HasShown t calls (target_before (target_by p t calls) (kept_by p t calls) asked) (settled_before (kept_by p t calls) asked) asked small → small ≡ small_now (start_world t None) calls (unit_ask asked forgive)
+small_shown p t calls asked forgive small fresh ok range h = by_needs (needs_cfg (settled_before (kept_by p t calls) asked) asked) refl
   where
     k : Kept
-    k = kept_by Managed t calls
+    k = kept_by p t calls
 
-    never : needs_cfg (settled_before (kept_by Managed t calls) asked) asked ≡ false → small ≡ small_now (start_world t None) calls (unit_ask asked forgive)
+    never : needs_cfg (settled_before (kept_by p t calls) asked) asked ≡ false → small ≡ small_now (start_world t None) calls (unit_ask asked forgive)
     never e =
-        h.shown ∙ ap (λ (b : Bool). b && not (has_bit (gives (target_before (target_by Managed t calls) (kept_by Managed t calls) asked) (cfg_plan (settled_before (kept_by Managed t calls) asked) (port_of asked))) 2)) e
-        ∙ sym (never_small Managed t calls None asked forgive fresh ok range (sym (same_needs (kept_by Managed t calls) asked) ∙ e))
+        h.shown ∙ ap (λ (b : Bool). b && not (has_bit (gives (target_before (target_by p t calls) (kept_by p t calls) asked) (cfg_plan (settled_before (kept_by p t calls) asked) (port_of asked))) 2)) e
+        ∙ sym (never_small p t calls None asked forgive fresh ok range (sym (same_needs (kept_by p t calls) asked) ∙ e))
 
-    by_needs : (b : Bool) → needs_cfg (settled_before (kept_by Managed t calls) asked) asked ≡ b → small ≡ small_now (start_world t None) calls (unit_ask asked forgive)
+    by_needs : (b : Bool) → needs_cfg (settled_before (kept_by p t calls) asked) asked ≡ b → small ≡ small_now (start_world t None) calls (unit_ask asked forgive)
     by_needs false e = never e
-    by_needs true e = small_read t calls asked forgive small fresh ok range h e
+    by_needs true e = small_read p t calls asked forgive small fresh ok range h e
 
-pub small_is : (x y : Option BenchState) (log mid : LogState) (accesses accesses' : List RegAccess) (k k' : Kept) (calls : List Ask) (ask : Ask) (asked : AccessUnit) (small : Bool) (m0 : BenchState) → ask.call ≡ Access asked → HasAsked x log accesses k calls ask m0 →
-    IsReady y log mid accesses' k k' asked m0 → HasShown (target_of m0.probe) calls (target_issued mid m0) k' asked small → small ≡ small_now (start_world (target_of m0.probe) None) calls ask
-small_is x y log mid accesses accesses' k k' calls ask asked small m0 is h r shown =
+pub small_is : (p : Planner) (x y : Option BenchState) (log mid : LogState) (accesses accesses' : List RegAccess) (k k' : Kept) (calls : List Ask) (ask : Ask) (asked : AccessUnit) (small : Bool) (m0 : BenchState) → ask.call ≡ Access asked → HasAsked p x log accesses k calls ask m0 →
+    IsReady p y log mid accesses' k k' asked m0 → HasShown (target_of m0.probe) calls (target_issued p mid m0) k' asked small → small ≡ small_now (start_world (target_of m0.probe) None) calls ask
+small_is p x y log mid accesses accesses' k k' calls ask asked small m0 is h r shown =
     let t0 : TargetState = target_of m0.probe in
-    let s = asked_sound x log accesses k calls ask m0 h in
-    let known_is : k' ≡ settled_before (kept_by Managed (target_of m0.probe) calls) asked = r.known ∙ ap (λ (q : Kept). settled_before q asked) (sym h.kept_is) in
-    let target : target_issued mid m0 ≡ target_before (target_by Managed (target_of m0.probe) calls) (kept_by Managed (target_of m0.probe) calls) asked =
-    r.target ∙ (λ j. target_before (asked_target x log accesses k calls ask m0 h j) (sym h.kept_is j) asked) in
-    let there : HasShown (target_of m0.probe) calls (target_before (target_by Managed (target_of m0.probe) calls) (kept_by Managed (target_of m0.probe) calls) asked) (settled_before (kept_by Managed (target_of m0.probe) calls) asked) asked small =
-    subst (λ (u : TargetState). HasShown (target_of m0.probe) calls u (settled_before (kept_by Managed (target_of m0.probe) calls) asked) asked small) target
-    (subst (λ (q : Kept). HasShown (target_of m0.probe) calls (target_issued mid m0) q asked small) known_is shown) in
+    let s = asked_sound p x log accesses k calls ask m0 h in
+    let known_is : k' ≡ settled_before (kept_by p (target_of m0.probe) calls) asked = r.known ∙ ap (λ (q : Kept). settled_before q asked) (sym h.kept_is) in
+    let target : target_issued p mid m0 ≡ target_before (target_by p (target_of m0.probe) calls) (kept_by p (target_of m0.probe) calls) asked =
+    r.target ∙ (λ j. target_before (asked_target p x log accesses k calls ask m0 h j) (sym h.kept_is j) asked) in
+    let there : HasShown (target_of m0.probe) calls (target_before (target_by p (target_of m0.probe) calls) (kept_by p (target_of m0.probe) calls) asked) (settled_before (kept_by p (target_of m0.probe) calls) asked) asked small =
+    subst (λ (u : TargetState). HasShown (target_of m0.probe) calls u (settled_before (kept_by p (target_of m0.probe) calls) asked) asked small) target
+    (subst (λ (q : Kept). HasShown (target_of m0.probe) calls (target_issued p mid m0) q asked small) known_is shown) in
     let range : IsUnitInRange asked = subst IsCallInRange is s.last.range in
-    small_shown (target_of m0.probe) calls asked ask.forgive small s.fresh s.askable range there
+    small_shown p (target_of m0.probe) calls asked ask.forgive small s.fresh s.askable range there
     ∙ ap (small_now (start_world (target_of m0.probe) None) calls) (λ j. record { call = sym is j; forgive = ask.forgive; settled = sym h.unmarked j })
 
 -- ---- need points
@@ -286,33 +317,47 @@ needs_like : (old mid : LogState) (n : ℕ) → asks_of mid ≡ asks_of old → 
 needs_like old mid zero same = same
 needs_like old mid (suc n) same = ap (λ a. record { calls = a.calls; needs = capped_sum a.needs (suc n); fence = length a.calls - 1 }) same
 
-pub needs_is : (x y : Option BenchState) (log mid new : LogState) (accesses accesses' : List RegAccess) (k k' : Kept) (calls : List Ask) (ask : Ask) (asked' : AccessUnit) (m0 : BenchState) → ask.call ≡ Access asked' → is_forgiving ask ≡ false → IsNoPoll asked' → HasAsked x log accesses k calls ask m0 →
-    IsReady y log mid accesses' k k' asked' m0 → asks_of mid ≡ asks_of log → asks_of new ≡ asks_of (with_needs mid (reads_before (target_issued mid m0) k' asked') (length mid.calls - 1)) →
-    asks_of new ≡ asked (cost_by Managed (target_of m0.probe) calls ask) ask (record { calls = calls; needs = log.needs; fence = log.fence })
-needs_is x y log mid new accesses accesses' k k' calls ask asked' m0 is mild no_poll h r same here =
-    let t : TargetState = target_by Managed (target_of m0.probe) calls in
-    let at : target_issued log m0 ≡ target_by Managed (target_of m0.probe) calls = asked_target x log accesses k calls ask m0 h in
-    let reads : reads_before (target_issued mid m0) k' asked' ≡ leading_reads (issue_of Managed (target_by Managed (target_of m0.probe) calls) (kept_by Managed (target_of m0.probe) calls) ask).steps =
+-- its cost: so many reads of CFG and CSW before it counts as asked, where the access counts need points
+planned_cost_is : (p : Planner) (t : TargetState) (calls : List Ask) (ask : Ask) (asked' : AccessUnit) → ask.call ≡ Access asked' → is_forgiving ask ≡ false → IsNoPoll asked' → (is_alone p false && may_forgive (Access asked')) ≡ false →
+    cost_by p t calls ask ≡ record { before = leading_reads (issue_of p (target_by p t calls) (kept_by p t calls) ask).steps; after = 0 }
+planned_cost_is Managed t calls ask asked' is mild no_poll apart =
+    ap (λ (b : Bool). record { before = leading_reads (issue_of Managed (target_by Managed t calls) (kept_by Managed t calls) ask).steps; after = cond b 5 (call_cost (kept_by Managed t calls) (target_by Managed t calls) ask.call) }) mild
+    ∙ ap (λ (n : ℕ). record { before = leading_reads (issue_of Managed (target_by Managed t calls) (kept_by Managed t calls) ask).steps; after = n })
+    (ap (call_cost (kept_by Managed t calls) (target_by Managed t calls)) is ∙ no_more (kept_by Managed t calls) (target_by Managed t calls) asked' no_poll)
+planned_cost_is Plain t calls ask asked' is mild no_poll apart =
+    ap (λ (n : ℕ). record { before = n; after = 0 })
+    (sym (ap (λ (i : Issue). leading_reads i.steps) (planned_issue Plain (target_by Plain t calls) (kept_by Plain t calls) ask asked' is mild apart)
+    ∙ planned_reads (target_by Plain t calls) (kept_by Plain t calls) asked' ∙ none_read asked' apart no_poll))
+  where
+    none_read : (unit_ : AccessUnit) → may_forgive (Access unit_) ≡ false → IsNoPoll unit_ → reads_before (target_before (target_by Plain t calls) (kept_by Plain t calls) unit_) (settled_before (kept_by Plain t calls) unit_) unit_ ≡ 0
+    none_read (unit.Memory size read n address value) may h = absurd (let x : ◌≡◌ {A = Bool} true false = may in cc)
+    none_read (unit.Ap read n addr value) may h = absurd (let x : ◌≡◌ {A = Bool} true false = may in cc)
+    none_read (unit.Dp read addr value) may h = refl
+    none_read (unit.Poll mask value turns) may h = absurd h
+
+pub needs_is : (p : Planner) (x y : Option BenchState) (log mid new : LogState) (accesses accesses' : List RegAccess) (k k' : Kept) (calls : List Ask) (ask : Ask) (asked' : AccessUnit) (m0 : BenchState) → ask.call ≡ Access asked' → is_forgiving ask ≡ false → IsNoPoll asked' →
+    (is_alone p false && may_forgive (Access asked')) ≡ false → HasAsked p x log accesses k calls ask m0 →
+    IsReady p y log mid accesses' k k' asked' m0 → asks_of mid ≡ asks_of log → asks_of new ≡ asks_of (with_needs mid (reads_before (target_issued p mid m0) k' asked') (length mid.calls - 1)) →
+    asks_of new ≡ asked (cost_by p (target_of m0.probe) calls ask) ask (record { calls = calls; needs = log.needs; fence = log.fence })
+needs_is p x y log mid new accesses accesses' k k' calls ask asked' m0 is mild no_poll apart h r same here =
+    let at : target_issued p log m0 ≡ target_by p (target_of m0.probe) calls = asked_target p x log accesses k calls ask m0 h in
+    let reads : reads_before (target_issued p mid m0) k' asked' ≡ leading_reads (issue_of p (target_by p (target_of m0.probe) calls) (kept_by p (target_of m0.probe) calls) ask).steps =
     (λ j. reads_before (r.target j) (r.known j) asked')
-    ∙ sym (planned_reads (target_issued log m0) k asked')
+    ∙ sym (planned_reads (target_issued p log m0) k asked')
     ∙ ap (λ (i : Issue). leading_reads i.steps)
-    ((λ j. planned (at j) (sym h.kept_is j) asked') ∙ sym (planned_issue (target_by Managed (target_of m0.probe) calls) (kept_by Managed (target_of m0.probe) calls) ask asked' is mild)) in
-    let cost : cost_by Managed (target_of m0.probe) calls ask ≡ record { before = leading_reads (issue_of Managed (target_by Managed (target_of m0.probe) calls) (kept_by Managed (target_of m0.probe) calls) ask).steps; after = 0 } =
-    ap (λ (b : Bool). record { before = leading_reads (issue_of Managed (target_by Managed (target_of m0.probe) calls) (kept_by Managed (target_of m0.probe) calls) ask).steps; after = cond b 5 (call_cost (kept_by Managed (target_of m0.probe) calls) (target_by Managed (target_of m0.probe) calls) ask.call) }) mild
-    ∙ ap (λ (n : ℕ). record { before = leading_reads (issue_of Managed (target_by Managed (target_of m0.probe) calls) (kept_by Managed (target_of m0.probe) calls) ask).steps; after = n })
-    (ap (call_cost (kept_by Managed (target_of m0.probe) calls) (target_by Managed (target_of m0.probe) calls)) is ∙ no_more (kept_by Managed (target_of m0.probe) calls) (target_by Managed (target_of m0.probe) calls) asked' no_poll) in
+    ((λ j. planned (at j) (sym h.kept_is j) asked') ∙ sym (planned_issue p (target_by p (target_of m0.probe) calls) (kept_by p (target_of m0.probe) calls) ask asked' is mild apart)) in
     here
-    ∙ needs_like log mid (reads_before (target_issued mid m0) k' asked') same
+    ∙ needs_like log mid (reads_before (target_issued p mid m0) k' asked') same
     ∙ ap (λ (n : ℕ). asks_of (with_needs log n (length log.calls - 1))) reads
     ∙ asked_by log calls ask _ h.are
-    ∙ ap (λ (c : Cost). asked c ask (record { calls = calls; needs = log.needs; fence = log.fence })) (sym cost)
+    ∙ ap (λ (c : Cost). asked c ask (record { calls = calls; needs = log.needs; fence = log.fence })) (sym (planned_cost_is p (target_of m0.probe) calls ask asked' is mild no_poll apart))
 
 -- ---- what is known after it
 
-pub kept_is : (x y : Option BenchState) (log mid : LogState) (accesses accesses' : List RegAccess) (k k' k'' : Kept) (calls : List Ask) (ask : Ask) (asked : AccessUnit) (m0 : BenchState) → ask.call ≡ Access asked → is_forgiving ask ≡ false → HasAsked x log accesses k calls ask m0 →
-    IsReady y log mid accesses' k k' asked m0 → k'' ≡ (by_cfg (target_issued mid m0) k' asked).kept → k'' ≡ (issue_of Managed (target_by Managed (target_of m0.probe) calls) k ask).kept
-kept_is x y log mid accesses accesses' k k' k'' calls ask asked m0 is mild h r here =
-    here ∙ r.kept ∙ ap (λ (i : Issue). i.kept) (ap (λ (t : TargetState). planned t k asked) (asked_target x log accesses k calls ask m0 h) ∙ sym (planned_issue (target_by Managed (target_of m0.probe) calls) k ask asked is mild))
+pub kept_is : (p : Planner) (x y : Option BenchState) (log mid : LogState) (accesses accesses' : List RegAccess) (k k' k'' : Kept) (calls : List Ask) (ask : Ask) (asked : AccessUnit) (m0 : BenchState) → ask.call ≡ Access asked → is_forgiving ask ≡ false → (is_alone p false && may_forgive (Access asked)) ≡ false → HasAsked p x log accesses k calls ask m0 →
+    IsReady p y log mid accesses' k k' asked m0 → k'' ≡ (by_cfg (target_issued p mid m0) k' asked).kept → k'' ≡ (issue_of p (target_by p (target_of m0.probe) calls) k ask).kept
+kept_is p x y log mid accesses accesses' k k' k'' calls ask asked m0 is mild apart h r here =
+    here ∙ r.kept ∙ ap (λ (i : Issue). i.kept) (ap (λ (t : TargetState). planned t k asked) (asked_target p x log accesses k calls ask m0 h) ∙ sym (planned_issue p (target_by p (target_of m0.probe) calls) k ask asked is mild apart))
 
 -- ---- clauses of a call's result
 

@@ -14,7 +14,8 @@ use Rattle.access_regs.specs.Journal.{making}
 use Rattle.access_calls.specs.Bounds.{block_words, capacity}
 use Rattle.flight_forms.specs.Forms.{all_write_drw, writes_drw}
 use Rattle.calls_in_flight.specs.Packets.{drw_writes_in, is_drw_write}
-use Rattle.packed_access.specs.Blocks.{AreBlocks, IsFull, transfer_accesses, changes_after, changes_in, differs, others_in}
+use Rattle.bench_flights.specs.Full.{IsFull, transfer_accesses}
+use Rattle.packed_access.specs.Blocks.{AreBlocks, changes_after, changes_in, differs, others_in}
 
 -- ---- more entries, and longer lists
 

@@ -33,18 +33,18 @@ use Rattle.calls_in_flight.proofs.OpenLemmas.{askable_first, whole_results}
 use Rattle.calls_in_flight.proofs.StopLemmas.{came_before}
 use Rattle.packed_access.specs.Marks.{length_unmarked, marked_unmarked, take_unmarked, unmarked_last, unmarked_same}
 use Rattle.packed_access.specs.Stands.{begins_with}
-use Rattle.access_regs.specs.declared.planner.Planner.TheVariants.{Managed}
+use Rattle.access_regs.specs.declared.planner.Planner.{Planner}
 
 -- what is known of the first calls, where all their entries were made: how many results they have, that these are theirs in each world
 -- that answers them, and that each later entry has their lines before it
-pub record HaveCome (calls : List Ask) (confirmed count : ℕ) (m0 : BenchState) : Type 0 where
+pub record HaveCome (p : Planner) (calls : List Ask) (confirmed count : ℕ) (m0 : BenchState) : Type 0 where
   pub none_stops : NoneStops (target_of m0.probe) [] (take count calls)
   pub length_is : length (results (start_world (target_of m0.probe) None) (take count calls)) ≡ count
   pub results_are : (n : Option ℕ) → AtLeast count n → take count (results (world_from m0 n) calls) ≡ results (start_world (target_of m0.probe) None) (take count calls)
-  pub lines : (k : ℕ) → confirmed ≤ k → (cut : IsCutAt (issued Managed (target_of m0.probe) calls) k (target_of m0.probe)) → count ≤ lines_before cut.entry
+  pub lines : (k : ℕ) → confirmed ≤ k → (cut : IsCutAt (issued p (target_of m0.probe) calls) k (target_of m0.probe)) → count ≤ lines_before cut.entry
 
-module _ (calls : List Ask) (made more : List Entry) (confirmed count : ℕ) (m0 : BenchState) (fresh : IsFresh (target_of m0.probe)) (askable : AreAskable calls) (within : count ≤ length calls)
-    (are : issued Managed (target_of m0.probe) calls ≡ made ++ more) (passes : Passes (target_of m0.probe) made) (confirmed_is : length made ≡ confirmed) (enough : length (issued Managed (target_of m0.probe) (take count calls)) ≤ confirmed) where
+module _ (p : Planner) (calls : List Ask) (made more : List Entry) (confirmed count : ℕ) (m0 : BenchState) (fresh : IsFresh (target_of m0.probe)) (askable : AreAskable calls) (within : count ≤ length calls)
+    (are : issued p (target_of m0.probe) calls ≡ made ++ more) (passes : Passes (target_of m0.probe) made) (confirmed_is : length made ≡ confirmed) (enough : length (issued p (target_of m0.probe) (take count calls)) ≤ confirmed) where
   abbrev t0 : TargetState
   t0 = target_of m0.probe
 
@@ -58,16 +58,16 @@ module _ (calls : List Ask) (made more : List Entry) (confirmed count : ℕ) (m0
   split = sym (take-append-drop count calls)
 
   others : List Entry
-  others = issued_from Managed (0 + length front) (kept_from Managed nothing_kept t0 front) (target_after t0 (issued Managed t0 front)) back
+  others = issued_from p (0 + length front) (kept_from p nothing_kept t0 front) (target_after t0 (issued p t0 front)) back
 
-  joined : issued Managed t0 calls ≡ issued Managed t0 front ++ issued_from Managed (0 + length front) (kept_from Managed nothing_kept t0 front) (target_after t0 (issued Managed t0 front)) back
-  joined = ap (issued Managed t0) split ∙ journal_joins Managed 0 nothing_kept t0 front back
+  joined : issued p t0 calls ≡ issued p t0 front ++ issued_from p (0 + length front) (kept_from p nothing_kept t0 front) (target_after t0 (issued p t0 front)) back
+  joined = ap (issued p t0) split ∙ journal_joins p 0 nothing_kept t0 front back
 
-  made_is : made ≡ issued Managed t0 front ++ take (length made - length (issued Managed t0 front)) (issued_from Managed (0 + length front) (kept_from Managed nothing_kept t0 front) (target_after t0 (issued Managed t0 front)) back)
-  made_is = begins_with (issued Managed t0 front) _ made more (sym joined ∙ are) (let a = enough in let b = confirmed_is in omega (arith, a, b))
+  made_is : made ≡ issued p t0 front ++ take (length made - length (issued p t0 front)) (issued_from p (0 + length front) (kept_from p nothing_kept t0 front) (target_after t0 (issued p t0 front)) back)
+  made_is = begins_with (issued p t0 front) _ made more (sym joined ∙ are) (let a = enough in let b = confirmed_is in omega (arith, a, b))
 
   none : NoneStops t0 [] front
-  none = passing_stops Managed t0 front fresh (askable_first front back (subst AreAskable split askable)) (pass_front t0 (issued Managed t0 front) _ (subst (Passes t0) made_is passes))
+  none = passing_stops p t0 front fresh (askable_first front back (subst AreAskable split askable)) (pass_front t0 (issued p t0 front) _ (subst (Passes t0) made_is passes))
 
   count_is : length front ≡ count
   count_is = length-take-le count calls within
@@ -84,13 +84,13 @@ module _ (calls : List Ask) (made more : List Entry) (confirmed count : ℕ) (m0
       ap (results w) split ∙ append_results w front back whole ∙ ap (λ (l : List ℕ). l ++ results (world_after w front) back) first in
       (λ j. take (sym results_count j) (parts j)) ∙ take-append_seam (results (start_world t0 None) front) (results (world_after w front) back)
 
-  first_lines : (k : ℕ) → confirmed ≤ k → (cut : IsCutAt (issued Managed t0 calls) k t0) → count ≤ lines_before cut.entry
+  first_lines : (k : ℕ) → confirmed ≤ k → (cut : IsCutAt (issued p t0 calls) k t0) → count ≤ lines_before cut.entry
   first_lines k low cut =
-      let there : IsCutAt (issued Managed t0 (front ++ back)) k t0 = record { front = cut.front; entry = cut.entry; more = cut.more; is = ap (issued Managed t0) (sym split) ∙ cut.is; at = cut.at; passes = cut.passes } in
-      let few : length front ≤ lines_before cut.entry = came_before Managed t0 front back k (omega (arith, low, enough)) there in
+      let there : IsCutAt (issued p t0 (front ++ back)) k t0 = record { front = cut.front; entry = cut.entry; more = cut.more; is = ap (issued p t0) (sym split) ∙ cut.is; at = cut.at; passes = cut.passes } in
+      let few : length front ≤ lines_before cut.entry = came_before p t0 front back k (omega (arith, low, enough)) there in
       omega (arith, few, count_is)
 
-  pub have_come : HaveCome calls confirmed count m0
+  pub have_come : HaveCome p calls confirmed count m0
   have_come = record { none_stops = none; length_is = results_count; results_are = first_results; lines = first_lines }
 
 -- ---- calls with a settling after the last one, which need not be made
@@ -118,22 +118,22 @@ settling_lines n k front e more is =
     let unit : e.unit ≡ n = numbered_unit n false (steps_of Settles (settle k)) front e more is ∙ ap (λ (b : Bool). cond b n (n + 1)) so in
     ap (λ (b : Bool). cond b e.unit (e.unit - 1)) so ∙ unit
 
-module _ (calls : List Ask) (made more : List Entry) (confirmed : ℕ) (m0 : BenchState) (fresh : IsFresh (target_of m0.probe)) (askable : AreAskable (settled_last calls))
-    (are : issued Managed (target_of m0.probe) (settled_last calls) ≡ made ++ more) (passes : Passes (target_of m0.probe) made) (confirmed_is : length made ≡ confirmed) (enough : length (issued Managed (target_of m0.probe) calls) ≤ confirmed) where
+module _ (p : Planner) (calls : List Ask) (made more : List Entry) (confirmed : ℕ) (m0 : BenchState) (fresh : IsFresh (target_of m0.probe)) (askable : AreAskable (settled_last calls))
+    (are : issued p (target_of m0.probe) (settled_last calls) ≡ made ++ more) (passes : Passes (target_of m0.probe) made) (confirmed_is : length made ≡ confirmed) (enough : length (issued p (target_of m0.probe) calls) ≤ confirmed) where
   abbrev u0 : TargetState
   u0 = target_of m0.probe
 
   settling : List Entry
-  settling = numbered (length calls) false (steps_of Settles (settle (kept_by Managed u0 calls)))
+  settling = numbered (length calls) false (steps_of Settles (settle (kept_by p u0 calls)))
 
-  grown : issued Managed u0 (settled_last calls) ≡ issued Managed u0 calls ++ numbered (length calls) false (steps_of Settles (settle (kept_by Managed u0 calls)))
-  grown = (journal_marks Managed u0 calls).0
+  grown : issued p u0 (settled_last calls) ≡ issued p u0 calls ++ numbered (length calls) false (steps_of Settles (settle (kept_by p u0 calls)))
+  grown = (journal_marks p u0 calls).0
 
-  made_all : made ≡ issued Managed u0 calls ++ take (length made - length (issued Managed u0 calls)) (numbered (length calls) false (steps_of Settles (settle (kept_by Managed u0 calls))))
-  made_all = begins_with (issued Managed u0 calls) _ made more (sym grown ∙ are) (omega (arith, enough, confirmed_is))
+  made_all : made ≡ issued p u0 calls ++ take (length made - length (issued p u0 calls)) (numbered (length calls) false (steps_of Settles (settle (kept_by p u0 calls))))
+  made_all = begins_with (issued p u0 calls) _ made more (sym grown ∙ are) (omega (arith, enough, confirmed_is))
 
   none_there : NoneStops u0 [] calls
-  none_there = passing_stops Managed u0 calls fresh (askable_unmarked calls askable) (pass_front u0 (issued Managed u0 calls) _ (subst (Passes u0) made_all passes))
+  none_there = passing_stops p u0 calls fresh (askable_unmarked calls askable) (pass_front u0 (issued p u0 calls) _ (subst (Passes u0) made_all passes))
 
   all_first : take (length calls) (settled_last calls) ≡ settled_last calls
   all_first = ap (λ (n : ℕ). take n (settled_last calls)) (sym (length_marked calls)) ∙ take-length (settled_last calls)
@@ -148,14 +148,14 @@ module _ (calls : List Ask) (made more : List Entry) (confirmed : ℕ) (m0 : Ben
       ∙ ap (λ (k : ℕ). take k (results (start_world u0 None) calls)) (sym all_results) ∙ take-length (results (start_world u0 None) calls)
       ∙ sym (results_marked (start_world u0 None) calls)
 
-  later_lines : (k : ℕ) → confirmed ≤ k → (cut : IsCutAt (issued Managed u0 (settled_last calls)) k u0) → length calls ≤ lines_before cut.entry
-  later_lines k low cut = by_seam (seam_in (issued Managed u0 calls) _ cut.front cut.entry cut.more (sym grown ∙ cut.is))
+  later_lines : (k : ℕ) → confirmed ≤ k → (cut : IsCutAt (issued p u0 (settled_last calls)) k u0) → length calls ≤ lines_before cut.entry
+  later_lines k low cut = by_seam (seam_in (issued p u0 calls) _ cut.front cut.entry cut.more (sym grown ∙ cut.is))
     where
-      by_seam : InFirst (issued Managed u0 calls) cut.front cut.entry ⊎ InSecond (issued Managed u0 calls) (numbered (length calls) false (steps_of Settles (settle (kept_by Managed u0 calls)))) cut.front cut.entry cut.more → length calls ≤ lines_before cut.entry
+      by_seam : InFirst (issued p u0 calls) cut.front cut.entry ⊎ InSecond (issued p u0 calls) (numbered (length calls) false (steps_of Settles (settle (kept_by p u0 calls)))) cut.front cut.entry cut.more → length calls ≤ lines_before cut.entry
       by_seam (inl s) = absurd (let a = ap length s.is ∙ length-append cut.front (cut.entry ∷ s.more) in let b = cut.at in omega (arith, a, b, low, enough))
-      by_seam (inr s) = (let a = settling_lines (length calls) (kept_by Managed u0 calls) s.back cut.entry cut.more s.is in omega (arith, a))
+      by_seam (inr s) = (let a = settling_lines (length calls) (kept_by p u0 calls) s.back cut.entry cut.more s.is in omega (arith, a))
 
-  come_marked : HaveCome (settled_last calls) confirmed (length calls) m0
+  come_marked : HaveCome p (settled_last calls) confirmed (length calls) m0
   come_marked = record {
     none_stops = subst (NoneStops u0 []) (sym all_first) (none_marked u0 [] calls none_there);
     length_is = ap (λ (l : List Ask). length (results (start_world u0 None) l)) all_first ∙ ap length (results_marked (start_world u0 None) calls) ∙ all_results;
@@ -164,28 +164,28 @@ module _ (calls : List Ask) (made more : List Entry) (confirmed : ℕ) (m0 : Ben
   }
 
 -- all their own entries were made
-pub have_come_own : (calls : List Ask) (made more : List Entry) (confirmed count : ℕ) (m0 : BenchState) → IsFresh (target_of m0.probe) → AreAskable calls → count ≤ length calls →
-    issued Managed (target_of m0.probe) calls ≡ made ++ more → Passes (target_of m0.probe) made → length made ≡ confirmed → length (issued Managed (target_of m0.probe) (take count (unmarked_last calls))) ≤ confirmed → HaveCome calls confirmed count m0
-have_come_own calls made more confirmed count m0 fresh askable within are passes confirmed_is enough = by_mark (is_settled calls) refl
+pub have_come_own : (p : Planner) (calls : List Ask) (made more : List Entry) (confirmed count : ℕ) (m0 : BenchState) → IsFresh (target_of m0.probe) → AreAskable calls → count ≤ length calls →
+    issued p (target_of m0.probe) calls ≡ made ++ more → Passes (target_of m0.probe) made → length made ≡ confirmed → length (issued p (target_of m0.probe) (take count (unmarked_last calls))) ≤ confirmed → HaveCome p calls confirmed count m0
+have_come_own p calls made more confirmed count m0 fresh askable within are passes confirmed_is enough = by_mark (is_settled calls) refl
   where
-    plain : take count (unmarked_last calls) ≡ take count calls → HaveCome calls confirmed count m0
-    plain same = have_come calls made more confirmed count m0 fresh askable within are passes confirmed_is (let e = ap (λ (l : List Ask). length (issued Managed (target_of m0.probe) l)) same in omega (arith, enough, e))
+    plain : take count (unmarked_last calls) ≡ take count calls → HaveCome p calls confirmed count m0
+    plain same = have_come p calls made more confirmed count m0 fresh askable within are passes confirmed_is (let e = ap (λ (l : List Ask). length (issued p (target_of m0.probe) l)) same in omega (arith, enough, e))
 
-    marked : is_settled calls ≡ true → length calls ≤ count → HaveCome calls confirmed count m0
+    marked : is_settled calls ≡ true → length calls ≤ count → HaveCome p calls confirmed count m0
     marked settled ge =
         let same : settled_last (unmarked_last calls) ≡ calls = marked_unmarked calls ∙ marked_same calls settled in
         let number : length (unmarked_last calls) ≡ count = (let l = length_unmarked calls in omega (arith, l, ge, within)) in
         let first : take count (unmarked_last calls) ≡ unmarked_last calls = ap (λ (n : ℕ). take n (unmarked_last calls)) (sym number) ∙ take-length (unmarked_last calls) in
-        let own : length (issued Managed (target_of m0.probe) (unmarked_last calls)) ≤ confirmed = (let e = ap (λ (l : List Ask). length (issued Managed (target_of m0.probe) l)) first in omega (arith, enough, e)) in
-        subst (λ (l : List Ask). HaveCome l confirmed count m0) same
-        (subst (λ (n : ℕ). HaveCome (settled_last (unmarked_last calls)) confirmed n m0) number
-        (come_marked (unmarked_last calls) made more confirmed m0 fresh (subst AreAskable (sym same) askable) (ap (issued Managed (target_of m0.probe)) same ∙ are) passes confirmed_is own))
+        let own : length (issued p (target_of m0.probe) (unmarked_last calls)) ≤ confirmed = (let e = ap (λ (l : List Ask). length (issued p (target_of m0.probe) l)) first in omega (arith, enough, e)) in
+        subst (λ (l : List Ask). HaveCome p l confirmed count m0) same
+        (subst (λ (n : ℕ). HaveCome p (settled_last (unmarked_last calls)) confirmed n m0) number
+        (come_marked p (unmarked_last calls) made more confirmed m0 fresh (subst AreAskable (sym same) askable) (ap (issued p (target_of m0.probe)) same ∙ are) passes confirmed_is own))
 
-    by_place : is_settled calls ≡ true → (count < length calls) ⊎ (length calls ≤ count) → HaveCome calls confirmed count m0
+    by_place : is_settled calls ≡ true → (count < length calls) ⊎ (length calls ≤ count) → HaveCome p calls confirmed count m0
     by_place settled (inl less) = plain (take_unmarked count calls less)
     by_place settled (inr ge) = marked settled ge
 
-    by_mark : (b : Bool) → is_settled calls ≡ b → HaveCome calls confirmed count m0
+    by_mark : (b : Bool) → is_settled calls ≡ b → HaveCome p calls confirmed count m0
     by_mark true settled = by_place settled (cases_lt count (length calls))
     by_mark false unsettled = plain (ap (take count) (unmarked_same calls unsettled))
 
@@ -198,14 +198,14 @@ take_through count asks ask more less =
     ∙ take-append-add asks (ask ∷ more) (suc (count - suc (length asks)))
 
 -- the last own entry of a call is among the entries of calls that begin with it
-pub place_within : (t : TargetState) (asks : List Ask) (ask : Ask) (more : List Ask) → length (issued Managed t asks) + length (issue_of Managed (target_by Managed t asks) (kept_by Managed t asks) ask).steps ≤ length (issued Managed t (asks ++ ask ∷ more))
-place_within t asks ask more =
-    let j = ap length (journal_joins Managed 0 nothing_kept t asks (ask ∷ more)) in
-    let own : List Entry = numbered (0 + length asks) (is_forgiving ask) (issue_of Managed (target_by Managed t asks) (kept_by Managed t asks) ask).steps in
-    let settling : List Entry = numbered ((0 + length asks) + 1) false (finish_of Managed (target_by Managed t asks) (kept_by Managed t asks) ask).steps in
-    let others : List Entry = issued_from Managed ((0 + length asks) + 1) (kept_at Managed (target_by Managed t asks) (kept_by Managed t asks) ask) (target_at Managed (target_by Managed t asks) (kept_by Managed t asks) ask) more in
-    let a = length-append (issued Managed t asks) ((own ++ settling) ++ others) in
+pub place_within : (p : Planner) (t : TargetState) (asks : List Ask) (ask : Ask) (more : List Ask) → length (issued p t asks) + length (issue_of p (target_by p t asks) (kept_by p t asks) ask).steps ≤ length (issued p t (asks ++ ask ∷ more))
+place_within p t asks ask more =
+    let j = ap length (journal_joins p 0 nothing_kept t asks (ask ∷ more)) in
+    let own : List Entry = numbered (0 + length asks) (is_forgiving ask) (issue_of p (target_by p t asks) (kept_by p t asks) ask).steps in
+    let settling : List Entry = numbered ((0 + length asks) + 1) false (finish_of p (target_by p t asks) (kept_by p t asks) ask).steps in
+    let others : List Entry = issued_from p ((0 + length asks) + 1) (kept_at p (target_by p t asks) (kept_by p t asks) ask) (target_at p (target_by p t asks) (kept_by p t asks) ask) more in
+    let a = length-append (issued p t asks) ((own ++ settling) ++ others) in
     let b = length-append (own ++ settling) others in
     let c = length-append own settling in
-    let d : length own ≡ length (issue_of Managed (target_by Managed t asks) (kept_by Managed t asks) ask).steps = length-map (issue_of Managed (target_by Managed t asks) (kept_by Managed t asks) ask).steps _ in
+    let d : length own ≡ length (issue_of p (target_by p t asks) (kept_by p t asks) ask).steps = length-map (issue_of p (target_by p t asks) (kept_by p t asks) ask).steps _ in
     omega (arith, j, a, b, c, d)

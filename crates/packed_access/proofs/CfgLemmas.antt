@@ -31,7 +31,7 @@ use Rattle.packed_access.proofs.ActionLemmas.{at_rest_count}
 use Rattle.packed_access.proofs.CameLemmas.{HaveCome, have_come_own}
 use Rattle.packed_access.proofs.PlannedLemmas.{leads_numbered}
 use Rattle.packed_access.proofs.ReadLemmas.{actions_of_entries, clear_of, seam_of}
-use Rattle.access_regs.specs.declared.planner.Planner.TheVariants.{Managed}
+use Rattle.access_regs.specs.declared.planner.Planner.{Planner}
 
 -- ---- what was issued from one moment to another
 
@@ -43,21 +43,21 @@ cancel_back xs ys zs same =
     let n : length xs ≡ length ys = omega (arith, l, a, b) in
     sym (take-append_seam xs zs) ∙ (λ j. take (n j) (same j)) ∙ take-append_seam ys zs
 
-issued_between : (x y : Option BenchState) (old new : LogState) (accesses accesses' : List RegAccess) (own rest : List Entry) (m0 : BenchState) → HasIssued x old accesses (own ++ rest) m0 → HasIssued y new accesses' rest m0 → new.calls ≡ old.calls →
-    take (length new.entries) (issued Managed (target_of m0.probe) new.calls) ≡ take (length old.entries) (issued Managed (target_of m0.probe) old.calls) ++ own
-issued_between x y old new accesses accesses' own rest m0 h k calls =
-    let a = (seam_of x old accesses (own ++ rest) m0 h.so).0 in
-    let b = (seam_of y new accesses' rest m0 k.so).0 in
-    cancel_back (take (length new.entries) (issued Managed (target_of m0.probe) new.calls)) (take (length old.entries) (issued Managed (target_of m0.probe) old.calls) ++ own) rest
-    (sym b ∙ ap (issued Managed (target_of m0.probe)) calls ∙ a ∙ sym (append_assoc (take (length old.entries) (issued Managed (target_of m0.probe) old.calls)) own rest))
+issued_between : (p : Planner) (x y : Option BenchState) (old new : LogState) (accesses accesses' : List RegAccess) (own rest : List Entry) (m0 : BenchState) → HasIssued p x old accesses (own ++ rest) m0 → HasIssued p y new accesses' rest m0 → new.calls ≡ old.calls →
+    take (length new.entries) (issued p (target_of m0.probe) new.calls) ≡ take (length old.entries) (issued p (target_of m0.probe) old.calls) ++ own
+issued_between p x y old new accesses accesses' own rest m0 h k calls =
+    let a = (seam_of p x old accesses (own ++ rest) m0 h.so).0 in
+    let b = (seam_of p y new accesses' rest m0 k.so).0 in
+    cancel_back (take (length new.entries) (issued p (target_of m0.probe) new.calls)) (take (length old.entries) (issued p (target_of m0.probe) old.calls) ++ own) rest
+    (sym b ∙ ap (issued p (target_of m0.probe)) calls ∙ a ∙ sym (append_assoc (take (length old.entries) (issued p (target_of m0.probe) old.calls)) own rest))
 
 -- the target moves by the accesses that were issued
-pub target_moves : (x y : Option BenchState) (old new : LogState) (accesses accesses' : List RegAccess) (unit : ℕ) (part : Part) (xs : List RegAccess) (rest : List Entry) (m0 : BenchState) →
-    HasIssued x old accesses (entries_of unit part xs ++ rest) m0 → HasIssued y new accesses' rest m0 → new.calls ≡ old.calls → target_issued new m0 ≡ after (target_issued old m0) (making xs)
-target_moves x y old new accesses accesses' unit part xs rest m0 h k calls =
-    ap (target_after (target_of m0.probe)) (issued_between x y old new accesses accesses' (entries_of unit part xs) rest m0 h k calls)
-    ∙ after_split (target_of m0.probe) (take (length old.entries) (issued Managed (target_of m0.probe) old.calls)) (entries_of unit part xs)
-    ∙ ap (after (target_issued old m0)) (actions_of_entries unit part xs)
+pub target_moves : (p : Planner) (x y : Option BenchState) (old new : LogState) (accesses accesses' : List RegAccess) (unit : ℕ) (part : Part) (xs : List RegAccess) (rest : List Entry) (m0 : BenchState) →
+    HasIssued p x old accesses (entries_of unit part xs ++ rest) m0 → HasIssued p y new accesses' rest m0 → new.calls ≡ old.calls → target_issued p new m0 ≡ after (target_issued p old m0) (making xs)
+target_moves p x y old new accesses accesses' unit part xs rest m0 h k calls =
+    ap (target_after (target_of m0.probe)) (issued_between p x y old new accesses accesses' (entries_of unit part xs) rest m0 h k calls)
+    ∙ after_split (target_of m0.probe) (take (length old.entries) (issued p (target_of m0.probe) old.calls)) (entries_of unit part xs)
+    ∙ ap (after (target_issued p old m0)) (actions_of_entries unit part xs)
 
 -- ---- accesses that pass
 
@@ -70,39 +70,39 @@ order_good m v [] good h = good
 order_good m v (x ∷ xs) good h = ap (λ (b : Bool). is_fault (order_from (cond b m (acted m.next x)) xs).outcome) good ∙ order_good (acted m.next x) v xs h.0 h.1
 
 -- what is confirmed passes, where nothing lies in the flight
-rest_passes : (y : Option BenchState) (log : LogState) (rest : List Entry) (m0 : BenchState) → WhereObservable y (λ m. IsIssuing log [] rest m0 m) →
-    Passes (target_of m0.probe) (take (length log.entries) (issued Managed (target_of m0.probe) log.calls))
-rest_passes None log rest m0 h = absurd h
-rest_passes (Some m) log rest m0 h =
-    let at : length h.sending.made ≡ length log.entries = h.sending.confirmed_is ∙ at_rest_count log rest m0 m h in
-    let first : take (length log.entries) (issued Managed (target_of m0.probe) log.calls) ≡ h.sending.made = (λ j. take (sym at j) (h.sending.on.are j)) ∙ take-append_seam h.sending.made (h.flying ++ rest) in
+rest_passes : (p : Planner) (y : Option BenchState) (log : LogState) (rest : List Entry) (m0 : BenchState) → WhereObservable y (λ m. IsIssuing p log [] rest m0 m) →
+    Passes (target_of m0.probe) (take (length log.entries) (issued p (target_of m0.probe) log.calls))
+rest_passes p None log rest m0 h = absurd h
+rest_passes p (Some m) log rest m0 h =
+    let at : length h.sending.made ≡ length log.entries = h.sending.confirmed_is ∙ at_rest_count p log rest m0 m h in
+    let first : take (length log.entries) (issued p (target_of m0.probe) log.calls) ≡ h.sending.made = (λ j. take (sym at j) (h.sending.on.are j)) ∙ take-append_seam h.sending.made (h.flying ++ rest) in
     subst (Passes (target_of m0.probe)) (sym first) h.sending.on.passes
 
 -- accesses that came do not fault
-pub came_good : (x y : Option BenchState) (old new : LogState) (accesses : List RegAccess) (unit : ℕ) (part : Part) (xs : List RegAccess) (rest : List Entry) (m0 : BenchState) →
-    HasIssued x old accesses (entries_of unit part xs ++ rest) m0 → HasIssued y new [] rest m0 → new.calls ≡ old.calls → is_fault (in_order (target_issued old m0) (making xs)).outcome ≡ false
-came_good x y old new accesses unit part xs rest m0 h k calls =
-    let first : List Entry = take (length old.entries) (issued Managed (target_of m0.probe) old.calls) in
-    let all : Passes (target_of m0.probe) (take (length old.entries) (issued Managed (target_of m0.probe) old.calls) ++ entries_of unit part xs) =
-    subst (Passes (target_of m0.probe)) (issued_between x y old new accesses [] (entries_of unit part xs) rest m0 h k calls) (rest_passes y new rest m0 k.so) in
-    order_good (done (target_issued old m0)) (after (target_issued old m0) (making xs)) (making xs) refl
-    (pass_to (target_issued old m0) unit part xs (pass_rest (target_of m0.probe) first (entries_of unit part xs) all))
+pub came_good : (p : Planner) (x y : Option BenchState) (old new : LogState) (accesses : List RegAccess) (unit : ℕ) (part : Part) (xs : List RegAccess) (rest : List Entry) (m0 : BenchState) →
+    HasIssued p x old accesses (entries_of unit part xs ++ rest) m0 → HasIssued p y new [] rest m0 → new.calls ≡ old.calls → is_fault (in_order (target_issued p old m0) (making xs)).outcome ≡ false
+came_good p x y old new accesses unit part xs rest m0 h k calls =
+    let first : List Entry = take (length old.entries) (issued p (target_of m0.probe) old.calls) in
+    let all : Passes (target_of m0.probe) (take (length old.entries) (issued p (target_of m0.probe) old.calls) ++ entries_of unit part xs) =
+    subst (Passes (target_of m0.probe)) (issued_between p x y old new accesses [] (entries_of unit part xs) rest m0 h k calls) (rest_passes p y new rest m0 k.so) in
+    order_good (done (target_issued p old m0)) (after (target_issued p old m0) (making xs)) (making xs) refl
+    (pass_to (target_issued p old m0) unit part xs (pass_rest (target_of m0.probe) first (entries_of unit part xs) all))
 
 -- and no call stops before the last one
-pub whole_before : (log : LogState) (rest : List Entry) (calls : List Ask) (ask : Ask) (m0 m : BenchState) → IsIssuing log [] rest m0 m → log.calls ≡ calls ++ ask ∷ [] → log.whole + 1 ≡ length log.calls → stop (start_world (target_of m0.probe) None) calls ≡ None
-whole_before log rest calls ask m0 m h are whole =
-    let here = at_rest_count log rest m0 m h in
-    let come : HaveCome log.calls log.confirmed log.whole m0 =
-    have_come_own log.calls h.sending.made (h.flying ++ rest) log.confirmed log.whole m0 h.sending.fresh h.sending.askable h.within h.sending.on.are h.sending.on.passes h.sending.confirmed_is (let w = h.whole_issued in omega (arith, w, here)) in
+pub whole_before : (p : Planner) (log : LogState) (rest : List Entry) (calls : List Ask) (ask : Ask) (m0 m : BenchState) → IsIssuing p log [] rest m0 m → log.calls ≡ calls ++ ask ∷ [] → log.whole + 1 ≡ length log.calls → stop (start_world (target_of m0.probe) None) calls ≡ None
+whole_before p log rest calls ask m0 m h are whole =
+    let here = at_rest_count p log rest m0 m h in
+    let come : HaveCome p log.calls log.confirmed log.whole m0 =
+    have_come_own p log.calls h.sending.made (h.flying ++ rest) log.confirmed log.whole m0 h.sending.fresh h.sending.askable h.within h.sending.on.are h.sending.on.passes h.sending.confirmed_is (let w = h.whole_issued in omega (arith, w, here)) in
     let at : log.whole ≡ length calls = (let l = ap length are ∙ length-append calls (ask ∷ []) in omega (arith, l, whole)) in
     subst (λ (l : List Ask). stop (start_world (target_of m0.probe) None) l ≡ None) ((λ j. take (at j) (are j)) ∙ take-append_seam calls (ask ∷ [])) (come.none_stops.stops None tt)
 
-whole_where : (y : Option BenchState) (log : LogState) (rest : List Entry) (calls : List Ask) (ask : Ask) (m0 : BenchState) → WhereObservable y (λ m. IsIssuing log [] rest m0 m) → log.calls ≡ calls ++ ask ∷ [] → log.whole + 1 ≡ length log.calls → stop (start_world (target_of m0.probe) None) calls ≡ None
-whole_where None log rest calls ask m0 h are whole = absurd h
-whole_where (Some m) log rest calls ask m0 h are whole = whole_before log rest calls ask m0 m h are whole
+whole_where : (p : Planner) (y : Option BenchState) (log : LogState) (rest : List Entry) (calls : List Ask) (ask : Ask) (m0 : BenchState) → WhereObservable y (λ m. IsIssuing p log [] rest m0 m) → log.calls ≡ calls ++ ask ∷ [] → log.whole + 1 ≡ length log.calls → stop (start_world (target_of m0.probe) None) calls ≡ None
+whole_where p None log rest calls ask m0 h are whole = absurd h
+whole_where p (Some m) log rest calls ask m0 h are whole = whole_before p log rest calls ask m0 m h are whole
 
-pub rest_whole : (y : Option BenchState) (log : LogState) (rest : List Entry) (calls : List Ask) (ask : Ask) (m0 : BenchState) → HasIssued y log [] rest m0 → log.calls ≡ calls ++ ask ∷ [] → log.whole + 1 ≡ length log.calls → stop (start_world (target_of m0.probe) None) calls ≡ None
-rest_whole y log rest calls ask m0 h are whole = whole_where y log rest calls ask m0 h.so are whole
+pub rest_whole : (p : Planner) (y : Option BenchState) (log : LogState) (rest : List Entry) (calls : List Ask) (ask : Ask) (m0 : BenchState) → HasIssued p y log [] rest m0 → log.calls ≡ calls ++ ask ∷ [] → log.whole + 1 ≡ length log.calls → stop (start_world (target_of m0.probe) None) calls ≡ None
+rest_whole p y log rest calls ask m0 h are whole = whole_where p y log rest calls ask m0 h.so are whole
 
 -- ---- the read of CFG
 
@@ -116,10 +116,10 @@ cfg_is t k asked needs = ap (λ (b : Bool). cond b (before (steps_of Leads (cfg_
 pub cfg_kept : (t : TargetState) (k : Kept) (asked : AccessUnit) → needs_cfg k asked ≡ true → (by_cfg t k asked).kept ≡ (after_cfg t k asked).kept
 cfg_kept t k asked needs = ap (λ (x : Issue). x.kept) (cfg_is t k asked needs)
 
-pub cfg_left : (x : Option BenchState) (log : LogState) (accesses : List RegAccess) (t : TargetState) (k : Kept) (asked : AccessUnit) (m0 : BenchState) → log.whole + 1 ≡ length log.calls → needs_cfg k asked ≡ true →
-    HasIssued x log accesses (steps_left log (by_cfg t k asked).steps) m0 →
-    HasIssued x log accesses (entries_of (length log.calls) Leads (cfg_plan k (port_of asked)) ++ steps_left log (after_cfg t k asked).steps) m0
-cfg_left x log accesses t k asked m0 whole needs h =
+pub cfg_left : (p : Planner) (x : Option BenchState) (log : LogState) (accesses : List RegAccess) (t : TargetState) (k : Kept) (asked : AccessUnit) (m0 : BenchState) → log.whole + 1 ≡ length log.calls → needs_cfg k asked ≡ true →
+    HasIssued p x log accesses (steps_left log (by_cfg t k asked).steps) m0 →
+    HasIssued p x log accesses (entries_of (length log.calls) Leads (cfg_plan k (port_of asked)) ++ steps_left log (after_cfg t k asked).steps) m0
+cfg_left p x log accesses t k asked m0 whole needs h =
     let units : ℕ = length log.calls - 1 in
     let same : (length log.calls - 1) + 1 ≡ length log.calls = omega (arith, whole) in
     let is : steps_left log (by_cfg t k asked).steps ≡ entries_of (length log.calls) Leads (cfg_plan k (port_of asked)) ++ steps_left log (after_cfg t k asked).steps =
@@ -127,17 +127,17 @@ cfg_left x log accesses t k asked m0 whole needs h =
     ∙ map-append _ (steps_of Leads (cfg_plan k (port_of asked))) (after_cfg t k asked).steps
     ∙ ap (λ (l : List Entry). l ++ steps_left log (after_cfg t k asked).steps) (leads_numbered (length log.calls - 1) (cfg_plan k (port_of asked)))
     ∙ ap (λ (n : ℕ). entries_of n Leads (cfg_plan k (port_of asked)) ++ steps_left log (after_cfg t k asked).steps) same in
-    subst (λ (l : List Entry). HasIssued x log accesses l m0) is h
+    subst (λ (l : List Entry). HasIssued p x log accesses l m0) is h
 
 -- it shows no large addresses
 none_is : (t : TargetState) (k : Kept) (asked : AccessUnit) → has_bit (gives t (cfg_plan k (port_of asked))) 2 ≡ false → after_cfg t k asked ≡ record { steps = []; kept = learned_cfg k (port_of asked) (gives t (cfg_plan k (port_of asked))) }
 none_is t k asked bit =
     ap (λ (b : Bool). cond b (by_csw (after t (making (cfg_plan k (port_of asked)))) (learned_cfg k (port_of asked) (gives t (cfg_plan k (port_of asked)))) asked) (record { steps = []; kept = learned_cfg k (port_of asked) (gives t (cfg_plan k (port_of asked))) })) bit
 
-pub none_left : (y : Option BenchState) (log mid : LogState) (accesses : List RegAccess) (t : TargetState) (k : Kept) (asked : AccessUnit) (m0 : BenchState) → has_bit (gives t (cfg_plan k (port_of asked))) 2 ≡ false → accesses ≡ [] →
-    HasIssued y mid [] (steps_left log (after_cfg t k asked).steps) m0 → HasIssued y mid accesses [] m0
-none_left y log mid accesses t k asked m0 bit empty h =
-    subst (λ (xs : List RegAccess). HasIssued y mid xs [] m0) (sym empty) (subst (λ (x : Issue). HasIssued y mid [] (steps_left log x.steps) m0) (none_is t k asked bit) h)
+pub none_left : (p : Planner) (y : Option BenchState) (log mid : LogState) (accesses : List RegAccess) (t : TargetState) (k : Kept) (asked : AccessUnit) (m0 : BenchState) → has_bit (gives t (cfg_plan k (port_of asked))) 2 ≡ false → accesses ≡ [] →
+    HasIssued p y mid [] (steps_left log (after_cfg t k asked).steps) m0 → HasIssued p y mid accesses [] m0
+none_left p y log mid accesses t k asked m0 bit empty h =
+    subst (λ (xs : List RegAccess). HasIssued p y mid xs [] m0) (sym empty) (subst (λ (x : Issue). HasIssued p y mid [] (steps_left log x.steps) m0) (none_is t k asked bit) h)
 
 pub none_kept : (t : TargetState) (k k' : Kept) (asked : AccessUnit) → needs_cfg k asked ≡ true → has_bit (gives t (cfg_plan k (port_of asked))) 2 ≡ false → k' ≡ learned_cfg k (port_of asked) (gives t (cfg_plan k (port_of asked))) → k' ≡ (by_cfg t k asked).kept
 none_kept t k k' asked needs bit is = is ∙ sym (cfg_kept t k asked needs ∙ ap (λ (x : Issue). x.kept) (none_is t k asked bit))
@@ -149,20 +149,20 @@ large_is t u k k' asked bit at is =
     ∙ sym (ap (λ (b : Bool). cond b (by_csw (after t (making (cfg_plan k (port_of asked)))) (learned_cfg k (port_of asked) (gives t (cfg_plan k (port_of asked)))) asked) (record { steps = []; kept = learned_cfg k (port_of asked) (gives t (cfg_plan k (port_of asked))) })) bit)
 
 -- The read was made, and it shows large addresses: what is left by the registers and the calls as they are now.
-pub record IsLarge (y : Option BenchState) (old mid : LogState) (accesses : List RegAccess) (k k' : Kept) (asked : AccessUnit) (m0 : BenchState) : Type 0 where
-  pub left : HasIssued y mid accesses (steps_left mid (by_csw (target_issued mid m0) k' asked).steps) m0
-  pub kept : (by_csw (target_issued mid m0) k' asked).kept ≡ (by_cfg (target_issued old m0) k asked).kept
+pub record IsLarge (p : Planner) (y : Option BenchState) (old mid : LogState) (accesses : List RegAccess) (k k' : Kept) (asked : AccessUnit) (m0 : BenchState) : Type 0 where
+  pub left : HasIssued p y mid accesses (steps_left mid (by_csw (target_issued p mid m0) k' asked).steps) m0
+  pub kept : (by_csw (target_issued p mid m0) k' asked).kept ≡ (by_cfg (target_issued p old m0) k asked).kept
 
-pub large_left : (x y : Option BenchState) (old mid : LogState) (accesses accesses' : List RegAccess) (k k' : Kept) (asked : AccessUnit) (m0 : BenchState) → needs_cfg k asked ≡ true → has_bit (gives (target_issued old m0) (cfg_plan k (port_of asked))) 2 ≡ true →
-    HasIssued x old accesses (entries_of (length old.calls) Leads (cfg_plan k (port_of asked)) ++ steps_left old (after_cfg (target_issued old m0) k asked).steps) m0 → HasIssued y mid [] (steps_left old (after_cfg (target_issued old m0) k asked).steps) m0 →
-    mid.calls ≡ old.calls → accesses' ≡ [] → k' ≡ learned_cfg k (port_of asked) (gives (target_issued old m0) (cfg_plan k (port_of asked))) → IsLarge y old mid accesses' k k' asked m0
-large_left x y old mid accesses accesses' k k' asked m0 needs bit first there calls empty kept =
-    let at = target_moves x y old mid accesses [] (length old.calls) Leads (cfg_plan k (port_of asked)) (steps_left old (after_cfg (target_issued old m0) k asked).steps) m0 first there calls in
-    let is : by_csw (target_issued mid m0) k' asked ≡ after_cfg (target_issued old m0) k asked = large_is (target_issued old m0) (target_issued mid m0) k k' asked bit at kept in
+pub large_left : (p : Planner) (x y : Option BenchState) (old mid : LogState) (accesses accesses' : List RegAccess) (k k' : Kept) (asked : AccessUnit) (m0 : BenchState) → needs_cfg k asked ≡ true → has_bit (gives (target_issued p old m0) (cfg_plan k (port_of asked))) 2 ≡ true →
+    HasIssued p x old accesses (entries_of (length old.calls) Leads (cfg_plan k (port_of asked)) ++ steps_left old (after_cfg (target_issued p old m0) k asked).steps) m0 → HasIssued p y mid [] (steps_left old (after_cfg (target_issued p old m0) k asked).steps) m0 →
+    mid.calls ≡ old.calls → accesses' ≡ [] → k' ≡ learned_cfg k (port_of asked) (gives (target_issued p old m0) (cfg_plan k (port_of asked))) → IsLarge p y old mid accesses' k k' asked m0
+large_left p x y old mid accesses accesses' k k' asked m0 needs bit first there calls empty kept =
+    let at = target_moves p x y old mid accesses [] (length old.calls) Leads (cfg_plan k (port_of asked)) (steps_left old (after_cfg (target_issued p old m0) k asked).steps) m0 first there calls in
+    let is : by_csw (target_issued p mid m0) k' asked ≡ after_cfg (target_issued p old m0) k asked = large_is (target_issued p old m0) (target_issued p mid m0) k k' asked bit at kept in
     record {
-      left = subst (λ (xs : List RegAccess). HasIssued y mid xs (steps_left mid (by_csw (target_issued mid m0) k' asked).steps) m0) (sym empty)
-          (subst (λ (l : List Entry). HasIssued y mid [] l m0) (λ j. numbered (length (sym calls j) - 1) false (sym is j).steps) there);
-      kept = ap (λ (x : Issue). x.kept) is ∙ sym (cfg_kept (target_issued old m0) k asked needs);
+      left = subst (λ (xs : List RegAccess). HasIssued p y mid xs (steps_left mid (by_csw (target_issued p mid m0) k' asked).steps) m0) (sym empty)
+          (subst (λ (l : List Entry). HasIssued p y mid [] l m0) (λ j. numbered (length (sym calls j) - 1) false (sym is j).steps) there);
+      kept = ap (λ (x : Issue). x.kept) is ∙ sym (cfg_kept (target_issued p old m0) k asked needs);
     }
 
 -- ---- what CFG shows

@@ -8,6 +8,7 @@ use Rattle.target_machine.specs.declared.unit.Call.TheVariants.{Probe}
 use Rattle.target_machine.specs.declared.unit.ProbeCall.{ProbeCall}
 use Rattle.target_machine.specs.declared.unit.ProbeCall.TheVariants as probe
 use Rattle.call_terms.specs.Asks.{probe_ask}
+use Rattle.call_terms.specs.NeedPoints.{Cost, asked, needed_more}
 use Rattle.call_terms.specs.Weights.{commands_for}
 use Rattle.call_terms.specs.World.{World, small_after, small_now, stop, world_after}
 use Rattle.call_terms.specs.declared.calls.Ask.{Ask}
@@ -17,7 +18,12 @@ use Rattle.access_calls.specs.declared.issued.Issued.{Issued}
 use Rattle.calls_in_flight.proofs.SmallLemmas.{not_small}
 use Rattle.packed_access.specs.Actions.{entry_of, log_done}
 use Rattle.packed_access.specs.Begun.{most_weight}
-use Rattle.packed_access.specs.Logs.{LogState, result_at, result_for}
+use Rattle.access_regs.specs.Costs.{command_cost, cost_by}
+use Rattle.access_regs.specs.declared.planner.Planner.{Planner}
+use Rattle.access_regs.specs.declared.planner.Planner.TheVariants.{Managed, Plain}
+use Rattle.packed_access.specs.Logs.{LogState, asks_of, result_at, result_for, with_needs}
+use Rattle.packed_access.specs.Sparing.{counted}
+use Rattle.packed_access.proofs.NeedLemmas.{needs_more}
 use Rattle.packed_access.proofs.AskLemmas.{set_here}
 
 -- it weighs little
@@ -56,3 +62,15 @@ done_result log new entry index result is less long =
     ap (λ (l : LogState). result_at l index) is
     ∙ ap (λ (b : Bool). cond b (get_or (set log.results index result) index 0) 0) (let e : nat_lt index (length log.calls) ≡ true = grind (arith, less) in e)
     ∙ set_here log.results index result (omega (arith, less, long))
+
+-- ---- need points
+
+command_cost_is : (p : Planner) (t : TargetState) (calls : List Ask) (call : ProbeCall) → record { before = 0; after = counted p (command_cost call) } ≡ cost_by p t calls (probe_ask call)
+command_cost_is Managed t calls call = refl
+command_cost_is Plain t calls call = refl
+
+pub command_needs : (p : Planner) (t : TargetState) (calls : List Ask) (call : ProbeCall) (points count needs fence : ℕ) (log new : LogState) → points ≡ counted p (command_cost call) → new ≡ with_needs log points count → count ≡ length log.calls →
+    asks_of log ≡ record { calls = calls ++ probe_ask call ∷ []; needs = needs; fence = fence } → asks_of new ≡ asked (cost_by p t calls (probe_ask call)) (probe_ask call) (record { calls = calls; needs = needs; fence = fence })
+command_needs p t calls call points count needs fence log new points_are is at asks =
+    ap asks_of is ∙ (λ j. asks_of (with_needs log (points_are j) (at j))) ∙ needs_more log (counted p (command_cost call)) ∙ ap (needed_more (counted p (command_cost call))) asks
+    ∙ ap (λ (c : Cost). asked c (probe_ask call) (record { calls = calls; needs = needs; fence = fence })) (command_cost_is p t calls call)

@@ -29,10 +29,10 @@ use Rattle.calls_in_flight.specs.Flights.{AreStrict}
 use Rattle.calls_in_flight.proofs.EndLemmas.{flight_ends, flight_fails}
 use Rattle.calls_in_flight.proofs.FlightLemmas.{flight_length}
 use Rattle.packed_access.specs.Begun.{HasEnded, HasIssued, IsIssuing, StopsThere}
-use Rattle.packed_access.specs.Flown.{BrokeOff, MayHaveFlown, WasCut}
+use Rattle.bench_flights.specs.Flown.{BrokeOff, MayHaveFlown, WasCut}
 use Rattle.packed_access.specs.Logs.{IsCause, IsLogCut, IsStopped, LogState, reported_by}
 use Rattle.packed_access.proofs.WholeLemmas.{take_first}
-use Rattle.access_regs.specs.declared.planner.Planner.TheVariants.{Managed}
+use Rattle.access_regs.specs.declared.planner.Planner.{Planner}
 
 -- ---- the numbers of a stop among more entries
 
@@ -66,7 +66,7 @@ numbers_longer entries n calls skipped lines r h le = record {
 abbrev log_cut : LogState → Report → ℕ → ℕ → LogState
 log_cut log r lines skipped = record log { end = Some (stop.Cut r); came = lines; lines = lines; skipped = skipped }
 
-module _ (bench : BenchReported) (state : Option BenchState) (sent got : List ℕ) (log : LogState) (accesses : List RegAccess) (rest : List Entry) (m0 m o : BenchState) (h : IsIssuing log accesses rest m0 m) where
+module _ (p : Planner) (bench : BenchReported) (state : Option BenchState) (sent got : List ℕ) (log : LogState) (accesses : List RegAccess) (rest : List Entry) (m0 m o : BenchState) (h : IsIssuing p log accesses rest m0 m) where
   module _ (cut : Cut) (r : Report) (lines skipped : ℕ) (broke : WasCut cut accesses m o) (cause : IsCause cut.response r.cause) (accesses_are : r.accesses ≡ log.confirmed + cut.performed) (confirmed_are : r.confirmed ≡ log.confirmed + cut.confirmed)
       (numbers : (all : List Entry) → AreKeptOf all log.entries → HasNumbers all log.calls skipped lines r) where
     abbrev b : Reported
@@ -74,16 +74,16 @@ module _ (bench : BenchReported) (state : Option BenchState) (sent got : List �
 
     few : r.accesses ≤ length log.entries
     few =
-        let p = broke.performed in
+        let part_is = broke.performed in
         let most = broke.flies.made.most in
         let l = flight_length h.flying accesses h.sending.on.flight in
         let n = h.count in
-        omega (arith, accesses_are, p, most, l, n)
+        omega (arith, accesses_are, part_is, most, l, n)
 
-    cut_off : IsCutOff Managed r b m0
+    cut_off : IsCutOff p r b m0
     cut_off = record {
       end = refl;
-      numbers = numbers_longer (issued Managed (target_of m0.probe) log.calls) (length log.entries) log.calls skipped lines r (numbers (take (length log.entries) (issued Managed (target_of m0.probe) log.calls)) h.entries_are) few;
+      numbers = numbers_longer (issued p (target_of m0.probe) log.calls) (length log.entries) log.calls skipped lines r (numbers (take (length log.entries) (issued p (target_of m0.probe) log.calls)) h.entries_are) few;
       came = refl;
     }
 
@@ -95,70 +95,70 @@ module _ (bench : BenchReported) (state : Option BenchState) (sent got : List �
     strict_at Faulted = h.strict
     strict_at NoAnswer = tt
 
-    pub cut_ends : EndsCut Managed r b log.came (take log.known log.results) m0 o
-    cut_ends = flight_ends Managed log.confirmed log.came h.flying rest accesses (take log.known log.results) m0 m o broke.part r b h.sending broke.flies (response_is r.cause cause) (strict_at r.cause)
-        (let p = broke.performed in omega (arith, accesses_are, p)) (let p = broke.confirmed in omega (arith, confirmed_are, p)) cut_off
+    pub cut_ends : EndsCut p r b log.came (take log.known log.results) m0 o
+    cut_ends = flight_ends p log.confirmed log.came h.flying rest accesses (take log.known log.results) m0 m o broke.part r b h.sending broke.flies (response_is r.cause cause) (strict_at r.cause)
+        (let part_is = broke.performed in omega (arith, accesses_are, part_is)) (let part_is = broke.confirmed in omega (arith, confirmed_are, part_is)) cut_off
 
   -- ---- the bench failed
 
   abbrev failed : LogState
   failed = record log { end = Some (stop.BenchFault (length log.entries) log.confirmed) }
 
-  pub bench_ends : MayHaveFlown accesses m o → IsEnded Managed (stop.BenchFault (length log.entries) log.confirmed) (reported_by bench state (record log { end = Some (stop.BenchFault (length log.entries) log.confirmed) }) sent got) (take log.known log.results) m0 o
+  pub bench_ends : MayHaveFlown accesses m o → IsEnded p (stop.BenchFault (length log.entries) log.confirmed) (reported_by bench state (record log { end = Some (stop.BenchFault (length log.entries) log.confirmed) }) sent got) (take log.known log.results) m0 o
   bench_ends broke =
-      subst (λ (n : ℕ). IsEnded Managed (stop.BenchFault n log.confirmed) (reported_by bench state (record log { end = Some (stop.BenchFault n log.confirmed) }) sent got) (take log.known log.results) m0 o) h.count
-      (flight_fails Managed log.confirmed log.came h.flying rest accesses (take log.known log.results) m0 m o broke.part
+      subst (λ (n : ℕ). IsEnded p (stop.BenchFault n log.confirmed) (reported_by bench state (record log { end = Some (stop.BenchFault n log.confirmed) }) sent got) (take log.known log.results) m0 o) h.count
+      (flight_fails p log.confirmed log.came h.flying rest accesses (take log.known log.results) m0 m o broke.part
       (reported_by bench state (record log { end = Some (stop.BenchFault (log.confirmed + length h.flying) log.confirmed) }) sent got)
       h.sending broke.either broke.never (record { end = refl; came = refl }))
 
 -- ---- any end
 
 -- what is so after an end
-pub record IsBrokenOff (s : Stop) (a : Reported) (log : LogState) (calls : List Ask) (m0 o : BenchState) : Type 0 where
-  pub ended : IsEnded Managed s a (take log.known log.results) m0 o
+pub record IsBrokenOff (p : Planner) (s : Stop) (a : Reported) (log : LogState) (calls : List Ask) (m0 o : BenchState) : Type 0 where
+  pub ended : IsEnded p s a (take log.known log.results) m0 o
   pub stops : (n : Option ℕ) → IsLeft a n → StopsThere m0 n calls log.lines s
 
-module _ (bench : BenchReported) (state : Option BenchState) (sent got : List ℕ) (log : LogState) (accesses : List RegAccess) (rest : List Entry) (m0 m o : BenchState) (h : IsIssuing log accesses rest m0 m) where
-  pub broken_off : (end : FlightEnd) (s : Stop) (new : LogState) → BrokeOff end accesses m o → IsStopped end log new s → IsBrokenOff s (reported_by bench state new sent got) new log.calls m0 o
+module _ (p : Planner) (bench : BenchReported) (state : Option BenchState) (sent got : List ℕ) (log : LogState) (accesses : List RegAccess) (rest : List Entry) (m0 m o : BenchState) (h : IsIssuing p log accesses rest m0 m) where
+  pub broken_off : (end : FlightEnd) (s : Stop) (new : LogState) → BrokeOff end accesses m o → IsStopped end log new s → IsBrokenOff p s (reported_by bench state new sent got) new log.calls m0 o
   broken_off (ends.Cut cut) (stop.Cut r) new broke is =
-      let e = cut_ends bench state sent got log accesses rest m0 m o h cut r new.lines new.skipped broke is.cause is.accesses is.confirmed_is is.numbers in
-      subst (λ (x : LogState). IsBrokenOff (stop.Cut r) (reported_by bench state x sent got) x log.calls m0 o) (sym is.next)
+      let e = cut_ends p bench state sent got log accesses rest m0 m o h cut r new.lines new.skipped broke is.cause is.accesses is.confirmed_is is.numbers in
+      subst (λ (x : LogState). IsBrokenOff p (stop.Cut r) (reported_by bench state x sent got) x log.calls m0 o) (sym is.next)
       (record { ended = e.ended; stops = λ n left. record { so = e.stops n left } })
   broken_off (ends.Cut cut) (stop.BenchFault issued confirmed) new broke is = absurd is
   broken_off (ends.Cut cut) stop.ReplyBad new broke is = absurd is
   broken_off (ends.Cut cut) stop.OutOfMemory new broke is = absurd is
   broken_off ends.BenchFault s new broke is =
-      let here : IsBrokenOff (stop.BenchFault (length log.entries) log.confirmed) (reported_by bench state (record log { end = Some (stop.BenchFault (length log.entries) log.confirmed) }) sent got) (record log { end = Some (stop.BenchFault (length log.entries) log.confirmed) }) log.calls m0 o =
-      record { ended = bench_ends bench state sent got log accesses rest m0 m o h broke; stops = λ n left. record { so = tt } } in
-      let at_s : IsBrokenOff s (reported_by bench state (record log { end = Some s }) sent got) (record log { end = Some s }) log.calls m0 o =
-      subst (λ (x : Stop). IsBrokenOff x (reported_by bench state (record log { end = Some x }) sent got) (record log { end = Some x }) log.calls m0 o) (sym is.0) here in
-      subst (λ (x : LogState). IsBrokenOff s (reported_by bench state x sent got) x log.calls m0 o) (sym is.1) at_s
+      let here : IsBrokenOff p (stop.BenchFault (length log.entries) log.confirmed) (reported_by bench state (record log { end = Some (stop.BenchFault (length log.entries) log.confirmed) }) sent got) (record log { end = Some (stop.BenchFault (length log.entries) log.confirmed) }) log.calls m0 o =
+      record { ended = bench_ends p bench state sent got log accesses rest m0 m o h broke; stops = λ n left. record { so = tt } } in
+      let at_s : IsBrokenOff p s (reported_by bench state (record log { end = Some s }) sent got) (record log { end = Some s }) log.calls m0 o =
+      subst (λ (x : Stop). IsBrokenOff p x (reported_by bench state (record log { end = Some x }) sent got) (record log { end = Some x }) log.calls m0 o) (sym is.0) here in
+      subst (λ (x : LogState). IsBrokenOff p s (reported_by bench state x sent got) x log.calls m0 o) (sym is.1) at_s
   broken_off ends.ReplyBad s new broke is = absurd broke
 
-broken_where : (x y : Option BenchState) (bench : BenchReported) (sent got : List ℕ) (log : LogState) (accesses : List RegAccess) (rest : List Entry) (m0 : BenchState) (end : FlightEnd) (s : Stop) (new : LogState) →
-    WhereObservable x (λ m. IsIssuing log accesses rest m0 m) → StepsTo (λ m o. CanFly m → BrokeOff end accesses m o) x y → IsStopped end log new s →
-    WhereObservable y (λ o. IsBrokenOff s (reported_by bench y new sent got) new log.calls m0 o)
-broken_where None y bench sent got log accesses rest m0 end s new h broke is = absurd h
-broken_where (Some m) None bench sent got log accesses rest m0 end s new h broke is = absurd broke
-broken_where (Some m) (Some o) bench sent got log accesses rest m0 end s new h broke is = broken_off bench (Some o) sent got log accesses rest m0 m o h end s new (broke h.flies) is
+broken_where : (p : Planner) (x y : Option BenchState) (bench : BenchReported) (sent got : List ℕ) (log : LogState) (accesses : List RegAccess) (rest : List Entry) (m0 : BenchState) (end : FlightEnd) (s : Stop) (new : LogState) →
+    WhereObservable x (λ m. IsIssuing p log accesses rest m0 m) → StepsTo (λ m o. CanFly m → BrokeOff end accesses m o) x y → IsStopped end log new s →
+    WhereObservable y (λ o. IsBrokenOff p s (reported_by bench y new sent got) new log.calls m0 o)
+broken_where p None y bench sent got log accesses rest m0 end s new h broke is = absurd h
+broken_where p (Some m) None bench sent got log accesses rest m0 end s new h broke is = absurd broke
+broken_where p (Some m) (Some o) bench sent got log accesses rest m0 end s new h broke is = broken_off p bench (Some o) sent got log accesses rest m0 m o h end s new (broke h.flies) is
 
-pub ended_in : (y : Option BenchState) (s : Stop) (a : Reported) (log : LogState) (calls : List Ask) (m0 : BenchState) → WhereObservable y (λ o. IsBrokenOff s a log calls m0 o) → WhereObservable y (λ o. IsEnded Managed s a (take log.known log.results) m0 o)
-ended_in None s a log calls m0 h = h
-ended_in (Some o) s a log calls m0 h = h.ended
+pub ended_in : (p : Planner) (y : Option BenchState) (s : Stop) (a : Reported) (log : LogState) (calls : List Ask) (m0 : BenchState) → WhereObservable y (λ o. IsBrokenOff p s a log calls m0 o) → WhereObservable y (λ o. IsEnded p s a (take log.known log.results) m0 o)
+ended_in p None s a log calls m0 h = h
+ended_in p (Some o) s a log calls m0 h = h.ended
 
-pub stops_in : (y : Option BenchState) (s : Stop) (a : Reported) (log : LogState) (calls : List Ask) (m0 : BenchState) (n : Option ℕ) → WhereObservable y (λ o. IsBrokenOff s a log calls m0 o) → IsLeft a n → StopsThere m0 n calls log.lines s
-stops_in None s a log calls m0 n h left = absurd h
-stops_in (Some o) s a log calls m0 n h left = h.stops n left
+pub stops_in : (p : Planner) (y : Option BenchState) (s : Stop) (a : Reported) (log : LogState) (calls : List Ask) (m0 : BenchState) (n : Option ℕ) → WhereObservable y (λ o. IsBrokenOff p s a log calls m0 o) → IsLeft a n → StopsThere m0 n calls log.lines s
+stops_in p None s a log calls m0 n h left = absurd h
+stops_in p (Some o) s a log calls m0 n h left = h.stops n left
 
 -- where the bench is observable, the access has ended so
-pub has_ended : (x y : Option BenchState) (bench : BenchReported) (sent got : List ℕ) (log : LogState) (accesses : List RegAccess) (rest : List Entry) (m0 : BenchState) (end : FlightEnd) (s : Stop) (new : LogState) →
-    HasIssued x log accesses rest m0 → StepsTo (λ m o. CanFly m → BrokeOff end accesses m o) x y → IsStopped end log new s →
-    HasEnded s (reported_by bench y new sent got) new m0
-has_ended x y bench sent got log accesses rest m0 end s new h broke is = record { so = ended_in y s (reported_by bench y new sent got) new log.calls m0 (broken_where x y bench sent got log accesses rest m0 end s new h.so broke is) }
+pub has_ended : (p : Planner) (x y : Option BenchState) (bench : BenchReported) (sent got : List ℕ) (log : LogState) (accesses : List RegAccess) (rest : List Entry) (m0 : BenchState) (end : FlightEnd) (s : Stop) (new : LogState) →
+    HasIssued p x log accesses rest m0 → StepsTo (λ m o. CanFly m → BrokeOff end accesses m o) x y → IsStopped end log new s →
+    HasEnded p s (reported_by bench y new sent got) new m0
+has_ended p x y bench sent got log accesses rest m0 end s new h broke is = record { so = ended_in p y s (reported_by bench y new sent got) new log.calls m0 (broken_where p x y bench sent got log accesses rest m0 end s new h.so broke is) }
 
 -- and there the calls stop
-pub stops_there : (x y : Option BenchState) (bench : BenchReported) (sent got : List ℕ) (log : LogState) (accesses : List RegAccess) (rest : List Entry) (m0 : BenchState) (end : FlightEnd) (s : Stop) (new : LogState) (n : Option ℕ) →
-    HasIssued x log accesses rest m0 → StepsTo (λ m o. CanFly m → BrokeOff end accesses m o) x y → IsStopped end log new s →
+pub stops_there : (p : Planner) (x y : Option BenchState) (bench : BenchReported) (sent got : List ℕ) (log : LogState) (accesses : List RegAccess) (rest : List Entry) (m0 : BenchState) (end : FlightEnd) (s : Stop) (new : LogState) (n : Option ℕ) →
+    HasIssued p x log accesses rest m0 → StepsTo (λ m o. CanFly m → BrokeOff end accesses m o) x y → IsStopped end log new s →
     IsLeft (reported_by bench y new sent got) n → StopsThere m0 n log.calls new.lines s
-stops_there x y bench sent got log accesses rest m0 end s new n h broke is left =
-    stops_in y s (reported_by bench y new sent got) new log.calls m0 n (broken_where x y bench sent got log accesses rest m0 end s new h.so broke is) left
+stops_there p x y bench sent got log accesses rest m0 end s new n h broke is left =
+    stops_in p y s (reported_by bench y new sent got) new log.calls m0 n (broken_where p x y bench sent got log accesses rest m0 end s new h.so broke is) left

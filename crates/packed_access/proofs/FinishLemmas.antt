@@ -37,7 +37,7 @@ use Rattle.packed_access.specs.Logs.{LogState, reported_by}
 use Rattle.packed_access.specs.Marks.{unmarked_last, unmarked_marked}
 use Rattle.packed_access.specs.Stands.{open_flying}
 use Rattle.packed_access.proofs.BegunLemmas.{issued_begun, none_stopped, open_facts, open_where}
-use Rattle.access_regs.specs.declared.planner.Planner.TheVariants.{Managed}
+use Rattle.access_regs.specs.declared.planner.Planner.{Planner}
 
 -- ---- the first calls, of which the last may be marked
 
@@ -70,10 +70,10 @@ small_marked : (x : Option ℕ) (w : World) (ask : Ask) → small_after x w (rec
 small_marked None w ask = refl
 small_marked (Some n) w ask = refl
 
-given_marked : (t : TargetState) (calls : List Ask) (index place : ℕ) → IsGivenAt t calls index place → IsGivenAt t (settled_last calls) index place
-given_marked t calls index place g = by_more g.more g.are
+given_marked : (p : Planner) (t : TargetState) (calls : List Ask) (index place : ℕ) → IsGivenAt p t calls index place → IsGivenAt p t (settled_last calls) index place
+given_marked p t calls index place g = by_more g.more g.are
   where
-    by_more : (more : List Ask) → calls ≡ g.asks ++ g.ask ∷ more → IsGivenAt t (settled_last calls) index place
+    by_more : (more : List Ask) → calls ≡ g.asks ++ g.ask ∷ more → IsGivenAt p t (settled_last calls) index place
     by_more [] are = record { asks = g.asks; ask = record g.ask { settled = true }; more = []; are = ap settled_last are ∙ marked_end g.asks g.ask; at = g.at; mild = g.mild; large = small_marked (stop (start_world t None) g.asks) (world_after (start_world t None) g.asks) g.ask ∙ g.large; place_is = g.place_is }
     by_more (x ∷ more) are = record { asks = g.asks; ask = g.ask; more = settled_last (x ∷ more); are = ap settled_last are ∙ marked_later g.asks g.ask x more; at = g.at; mild = g.mild; large = g.large; place_is = g.place_is }
 
@@ -83,17 +83,17 @@ settling_numbered units (x ∷ xs) = ap (λ l. record { unit = units; part = Set
 
 -- ---- the settling is still to be issued
 
-module _ (bench : BenchReported) (state : Option BenchState) (sent got : List ℕ) (log : LogState) (kept : Kept) (accesses : List RegAccess) (m0 m : BenchState) (h : IsOpenAt log kept accesses m0 m) where
+module _ (p : Planner) (bench : BenchReported) (state : Option BenchState) (sent got : List ℕ) (log : LogState) (kept : Kept) (accesses : List RegAccess) (m0 m : BenchState) (h : IsOpenAt p log kept accesses m0 m) where
   abbrev t0 : TargetState
   t0 = target_of m0.probe
 
-  flying_is : IsFlying Managed (reported_by bench state log sent got) kept accesses (take log.known log.results) m0 m
-  flying_is = open_flying bench state log sent got kept accesses m0 m h
+  flying_is : IsFlying p (reported_by bench state log sent got) kept accesses (take log.known log.results) m0 m
+  flying_is = open_flying p bench state log sent got kept accesses m0 m h
 
-  journal_is : issued Managed t0 (settled_last log.calls) ≡ issued Managed t0 log.calls ++ numbered (length log.calls) false (steps_of Settles (settle (kept_by Managed t0 log.calls)))
-  journal_is = (journal_marks Managed t0 log.calls).0
+  journal_is : issued p t0 (settled_last log.calls) ≡ issued p t0 log.calls ++ numbered (length log.calls) false (steps_of Settles (settle (kept_by p t0 log.calls)))
+  journal_is = (journal_marks p t0 log.calls).0
 
-  entries_within : length log.entries ≤ length (issued Managed t0 log.calls)
+  entries_within : length log.entries ≤ length (issued p t0 log.calls)
   entries_within =
       let f = flying_is in
       let l = ap length f.on.are in
@@ -102,15 +102,15 @@ module _ (bench : BenchReported) (state : Option BenchState) (sent got : List �
       let i = f.issued_is in
       omega (arith, l, k, n, i)
 
-  sending_is : IsSending Managed (settled_last log.calls) log.confirmed log.came flying_is.flying (entries_of (length log.calls) Settles (settle kept)) accesses (take log.known log.results) m0 m
+  sending_is : IsSending p (settled_last log.calls) log.confirmed log.came flying_is.flying (entries_of (length log.calls) Settles (settle kept)) accesses (take log.known log.results) m0 m
   sending_is =
-      subst (λ (rest : List Entry). IsSending Managed (settled_last log.calls) log.confirmed log.came flying_is.flying rest accesses (take log.known log.results) m0 m) (settling_numbered (length log.calls) (settle kept))
-      (finish_sends Managed (reported_by bench state log sent got) kept accesses (take log.known log.results) m0 m flying_is)
+      subst (λ (rest : List Entry). IsSending p (settled_last log.calls) log.confirmed log.came flying_is.flying rest accesses (take log.known log.results) m0 m) (settling_numbered (length log.calls) (settle kept))
+      (finish_sends p (reported_by bench state log sent got) kept accesses (take log.known log.results) m0 m flying_is)
 
-  own_calls : (n : ℕ) → length (issued Managed t0 (take n (unmarked_last (settled_last log.calls)))) ≡ length (issued Managed t0 (take n (unmarked_last log.calls)))
-  own_calls n = ap (λ (l : List Ask). length (issued Managed t0 (take n l))) (unmarked_marked log.calls)
+  own_calls : (n : ℕ) → length (issued p t0 (take n (unmarked_last (settled_last log.calls)))) ≡ length (issued p t0 (take n (unmarked_last log.calls)))
+  own_calls n = ap (λ (l : List Ask). length (issued p t0 (take n l))) (unmarked_marked log.calls)
 
-  pub finish_made : IsIssuing (record log { calls = settled_last log.calls }) accesses (entries_of (length log.calls) Settles (settle kept)) m0 m
+  pub finish_made : IsIssuing p (record log { calls = settled_last log.calls }) accesses (entries_of (length log.calls) Settles (settle kept)) m0 m
   finish_made = record {
     flying = flying_is.flying;
     sending = sending_is;
@@ -118,7 +118,7 @@ module _ (bench : BenchReported) (state : Option BenchState) (sent got : List �
     count = (let c = flying_is.confirmed in let i = flying_is.issued_is in omega (arith, c, i));
     entries_are =
         h.issuing.entries_are
-        ∙ ap (map kept_of) (sym (take-append-le (length log.entries) (issued Managed t0 log.calls) _ entries_within) ∙ ap (take (length log.entries)) (sym journal_is));
+        ∙ ap (map kept_of) (sym (take-append-le (length log.entries) (issued p t0 log.calls) _ entries_within) ∙ ap (take (length log.entries)) (sym journal_is));
     strict = flying_is.strict;
     in_order = h.issuing.in_order;
     within = (let w = h.issuing.within in let l = length_marked log.calls in omega (arith, w, l));
@@ -126,7 +126,7 @@ module _ (bench : BenchReported) (state : Option BenchState) (sent got : List �
     whole_issued = (let c = h.issuing.whole_issued in let s = own_calls log.whole in omega (arith, c, s));
     came_are = h.issuing.came_are ∙ sym (first_results (start_world t0 None) log.came log.calls);
     skipped_is = h.issuing.skipped_is ∙ sym (first_skips (start_world t0 None) log.came log.calls);
-    given = λ index low less. given_marked t0 log.calls index (slice_index log.places index) (h.issuing.given index low less);
+    given = λ index low less. given_marked p t0 log.calls index (slice_index log.places index) (h.issuing.given index low less);
     given_in = h.issuing.given_in;
     flies = h.issuing.flies;
     few = h.issuing.few;
@@ -134,34 +134,34 @@ module _ (bench : BenchReported) (state : Option BenchState) (sent got : List �
 
 -- ---- where the bench is observable
 
-finish_where : (x : Option BenchState) (bench : BenchReported) (state : Option BenchState) (sent got : List ℕ) (log : LogState) (kept : Kept) (accesses : List RegAccess) (m0 : BenchState) → WhereObservable x (λ m. IsOpenAt log kept accesses m0 m) →
-    WhereObservable x (λ m. IsIssuing (record log { calls = settled_last log.calls }) accesses (entries_of (length log.calls) Settles (settle kept)) m0 m)
-finish_where None bench state sent got log kept accesses m0 h = h
-finish_where (Some m) bench state sent got log kept accesses m0 h = finish_made bench state sent got log kept accesses m0 m h
+finish_where : (p : Planner) (x : Option BenchState) (bench : BenchReported) (state : Option BenchState) (sent got : List ℕ) (log : LogState) (kept : Kept) (accesses : List RegAccess) (m0 : BenchState) → WhereObservable x (λ m. IsOpenAt p log kept accesses m0 m) →
+    WhereObservable x (λ m. IsIssuing p (record log { calls = settled_last log.calls }) accesses (entries_of (length log.calls) Settles (settle kept)) m0 m)
+finish_where p None bench state sent got log kept accesses m0 h = h
+finish_where p (Some m) bench state sent got log kept accesses m0 h = finish_made p bench state sent got log kept accesses m0 m h
 
 -- the last call is marked
-pub begun_marked : (bench : BenchReported) (state : Option BenchState) (log new : LogState) (sent got : List ℕ) (kept : Kept) (accesses : List RegAccess) (count : ℕ) (m0 : BenchState) → HasBegun bench state log sent got kept accesses m0 → log.end ≡ None →
-    new ≡ record log { calls = settled_last log.calls } → count ≡ length new.calls → HasIssued state new accesses (entries_of count Settles (settle kept) ++ []) m0
-begun_marked bench state log new sent got kept accesses count m0 h none is number =
+pub begun_marked : (p : Planner) (bench : BenchReported) (state : Option BenchState) (log new : LogState) (sent got : List ℕ) (kept : Kept) (accesses : List RegAccess) (count : ℕ) (m0 : BenchState) → HasBegun p bench state log sent got kept accesses m0 → log.end ≡ None →
+    new ≡ record log { calls = settled_last log.calls } → count ≡ length new.calls → HasIssued p state new accesses (entries_of count Settles (settle kept) ++ []) m0
+begun_marked p bench state log new sent got kept accesses count m0 h none is number =
     let counts : length log.calls ≡ count = sym (number ∙ ap (λ (l : LogState). length l.calls) is ∙ length_marked log.calls) in
-    subst (λ (l : LogState). HasIssued state l accesses (entries_of count Settles (settle kept) ++ []) m0) (sym is)
-    (subst (λ (rest : List Entry). HasIssued state (record log { calls = settled_last log.calls }) accesses rest m0) (ap (λ (n : ℕ). entries_of n Settles (settle kept)) counts ∙ sym (append-nil (entries_of count Settles (settle kept))))
-    (record { so = finish_where state bench state sent got log kept accesses m0 (open_where bench state log sent got kept accesses m0 h none) }))
+    subst (λ (l : LogState). HasIssued p state l accesses (entries_of count Settles (settle kept) ++ []) m0) (sym is)
+    (subst (λ (rest : List Entry). HasIssued p state (record log { calls = settled_last log.calls }) accesses rest m0) (ap (λ (n : ℕ). entries_of n Settles (settle kept)) counts ∙ sym (append-nil (entries_of count Settles (settle kept))))
+    (record { so = finish_where p state bench state sent got log kept accesses m0 (open_where p bench state log sent got kept accesses m0 h none) }))
 
 -- all came
-pub begun_finished : (bench bench' : BenchReported) (state state' : Option BenchState) (log new : LogState) (sent got sent' got' : List ℕ) (kept kept' : Kept) (accesses accesses' : List RegAccess) (m0 : BenchState) → HasBegun bench state log sent got kept accesses m0 → log.end ≡ None →
-    HasIssued state' new [] [] m0 → new.calls ≡ settled_last log.calls → new.end ≡ None → new.whole ≡ length new.calls → new.came ≡ length new.calls → kept' ≡ settled kept → accesses' ≡ [] → HasBegun bench' state' new sent' got' kept' accesses' m0
-begun_finished bench bench' state state' log new sent got sent' got' kept kept' accesses accesses' m0 h none there calls none' whole came kept_is empty =
-    subst (λ (xs : List RegAccess). HasBegun bench' state' new sent' got' kept' xs m0) (sym empty)
-    (issued_begun bench' state' new sent' got' kept' [] m0 there none' whole
-    (ap (kept_by Managed (target_of m0.probe)) calls ∙ (journal_marks Managed (target_of m0.probe) log.calls).1 ∙ ap settled (open_facts bench state log sent got kept accesses m0 h none) ∙ sym kept_is)
+pub begun_finished : (p : Planner) (bench bench' : BenchReported) (state state' : Option BenchState) (log new : LogState) (sent got sent' got' : List ℕ) (kept kept' : Kept) (accesses accesses' : List RegAccess) (m0 : BenchState) → HasBegun p bench state log sent got kept accesses m0 → log.end ≡ None →
+    HasIssued p state' new [] [] m0 → new.calls ≡ settled_last log.calls → new.end ≡ None → new.whole ≡ length new.calls → new.came ≡ length new.calls → kept' ≡ settled kept → accesses' ≡ [] → HasBegun p bench' state' new sent' got' kept' accesses' m0
+begun_finished p bench bench' state state' log new sent got sent' got' kept kept' accesses accesses' m0 h none there calls none' whole came kept_is empty =
+    subst (λ (xs : List RegAccess). HasBegun p bench' state' new sent' got' kept' xs m0) (sym empty)
+    (issued_begun p bench' state' new sent' got' kept' [] m0 there none' whole
+    (ap (kept_by p (target_of m0.probe)) calls ∙ (journal_marks p (target_of m0.probe) log.calls).1 ∙ ap settled (open_facts p bench state log sent got kept accesses m0 h none) ∙ sym kept_is)
     (λ done. (came, refl)))
 
 -- and no call stops
-pub finished_whole : (bench' : BenchReported) (state' : Option BenchState) (log new : LogState) (sent' got' : List ℕ) (m0 : BenchState) (n : Option ℕ) → HasIssued state' new [] [] m0 → new.calls ≡ settled_last log.calls → new.end ≡ None → new.came ≡ length new.calls →
+pub finished_whole : (p : Planner) (bench' : BenchReported) (state' : Option BenchState) (log new : LogState) (sent' got' : List ℕ) (m0 : BenchState) (n : Option ℕ) → HasIssued p state' new [] [] m0 → new.calls ≡ settled_last log.calls → new.end ≡ None → new.came ≡ length new.calls →
     IsLeft (reported_by bench' state' new sent' got') n → stop (world_from m0 n) log.calls ≡ None
-finished_whole bench' state' log new sent' got' m0 n there calls none came left =
-    sym (stop_marked (world_from m0 n) log.calls) ∙ ap (stop (world_from m0 n)) (sym calls) ∙ none_stopped bench' state' new sent' got' [] m0 n there refl none came left
+finished_whole p bench' state' log new sent' got' m0 n there calls none came left =
+    sym (stop_marked (world_from m0 n) log.calls) ∙ ap (stop (world_from m0 n)) (sym calls) ∙ none_stopped p bench' state' new sent' got' [] m0 n there refl none came left
 
 -- At a cut the calls stop, or it came in the settling.
 pub stops_finished : (m0 : BenchState) (n : Option ℕ) (calls marked : List Ask) (lines : ℕ) (s : Stop) → marked ≡ settled_last calls → StopsThere m0 n marked lines s → StopsSettling (world_from m0 n) calls lines s

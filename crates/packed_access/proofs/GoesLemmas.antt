@@ -15,9 +15,8 @@ use Rattle.access_calls.specs.declared.stop.StopCause.{StopCause}
 use Rattle.access_calls.specs.declared.stop.StopCause.TheVariants.{Faulted, NoAnswer}
 use Rattle.batch_packer.specs.declared.ends.FlightEnd.{FlightEnd}
 use Rattle.batch_packer.specs.declared.ends.FlightEnd.TheVariants as ends
-use Rattle.packed_access.specs.Flown.{BenchGoesOn, HasEndCause, IsCutResponse, WasReplied}
+use Rattle.bench_flights.specs.Flown.{BenchGoesOn, HasEndCause, IsCutResponse, WasReplied}
 use Rattle.packed_access.specs.Logs.{IsCause, IsStopped, LogState, all_confirmed, all_taken, reported_by}
-use Rattle.access_regs.specs.declared.planner.Planner.TheVariants.{Managed}
 
 -- ---- how many calls may be answered
 

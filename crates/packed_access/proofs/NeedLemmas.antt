@@ -21,10 +21,10 @@ use Rattle.access_calls.specs.declared.stop.StopCause.TheVariants.{Faulted, NoAn
 use Rattle.calls_in_flight.specs.Ending.{IsEnded}
 use Rattle.packed_access.specs.Begun.{HasBegun, IsIssuing, IsOpenAt, IsSince}
 use Rattle.packed_access.specs.Logs.{LogState, asks_of, reported_by, with_asks, with_needs}
-use Rattle.access_regs.specs.declared.planner.Planner.TheVariants.{Managed}
+use Rattle.access_regs.specs.declared.planner.Planner.{Planner}
 
-pub issuing_needs : (log : LogState) (accesses : List RegAccess) (rest : List Entry) (m0 m : BenchState) (needs fence room : ℕ) → IsIssuing log accesses rest m0 m → IsIssuing (record log { needs = needs; fence = fence; room = room }) accesses rest m0 m
-issuing_needs log accesses rest m0 m needs fence room h = record {
+pub issuing_needs : (p : Planner) (log : LogState) (accesses : List RegAccess) (rest : List Entry) (m0 m : BenchState) (needs fence room : ℕ) → IsIssuing p log accesses rest m0 m → IsIssuing p (record log { needs = needs; fence = fence; room = room }) accesses rest m0 m
+issuing_needs p log accesses rest m0 m needs fence room h = record {
   flying = h.flying;
   sending = h.sending;
   known_is = h.known_is;
@@ -53,30 +53,30 @@ stands_needs (stops.BenchFault issued confirmed) entries a needs fence b m h = h
 stands_needs stops.ReplyBad entries a needs fence b m h = h
 stands_needs stops.OutOfMemory entries a needs fence b m h = h
 
-ended_needs : (s : Stop) (a : Reported) (came : List ℕ) (needs fence : ℕ) (m0 m : BenchState) → IsEnded Managed s a came m0 m → IsEnded Managed s (record a { asks = record a.asks { needs = needs; fence = fence } }) came m0 m
-ended_needs s a came needs fence m0 m h = record {
-  stands = λ n left. stands_needs s (issued Managed (target_of m0.probe) a.asks.calls) a needs fence (began m0 n) m (h.stands n (record { so = left.so }));
+ended_needs : (p : Planner) (s : Stop) (a : Reported) (came : List ℕ) (needs fence : ℕ) (m0 m : BenchState) → IsEnded p s a came m0 m → IsEnded p s (record a { asks = record a.asks { needs = needs; fence = fence } }) came m0 m
+ended_needs p s a came needs fence m0 m h = record {
+  stands = λ n left. stands_needs s (issued p (target_of m0.probe) a.asks.calls) a needs fence (began m0 n) m (h.stands n (record { so = left.so }));
   results_are = λ n left. h.results_are n (record { so = left.so });
 }
 
-since_needs : (e : Option Stop) (a : Reported) (log : LogState) (kept : Kept) (accesses : List RegAccess) (needs fence room : ℕ) (m0 m : BenchState) → IsSince e a log kept accesses m0 m →
-    IsSince e (record a { asks = record a.asks { needs = needs; fence = fence } }) (record log { needs = needs; fence = fence; room = room }) kept accesses m0 m
-since_needs None a log kept accesses needs fence room m0 m h = record { issuing = issuing_needs log accesses [] m0 m needs fence room h.issuing; whole_is = h.whole_is; kept_is = h.kept_is; calm = h.calm }
-since_needs (Some s) a log kept accesses needs fence room m0 m h = ended_needs s a (take log.known log.results) needs fence m0 m h
+since_needs : (p : Planner) (e : Option Stop) (a : Reported) (log : LogState) (kept : Kept) (accesses : List RegAccess) (needs fence room : ℕ) (m0 m : BenchState) → IsSince p e a log kept accesses m0 m →
+    IsSince p e (record a { asks = record a.asks { needs = needs; fence = fence } }) (record log { needs = needs; fence = fence; room = room }) kept accesses m0 m
+since_needs p None a log kept accesses needs fence room m0 m h = record { issuing = issuing_needs p log accesses [] m0 m needs fence room h.issuing; whole_is = h.whole_is; kept_is = h.kept_is; calm = h.calm }
+since_needs p (Some s) a log kept accesses needs fence room m0 m h = ended_needs p s a (take log.known log.results) needs fence m0 m h
 
-needs_where : (x : Option BenchState) (e : Option Stop) (a : Reported) (log : LogState) (kept : Kept) (accesses : List RegAccess) (needs fence room : ℕ) (m0 : BenchState) → WhereObservable x (λ m. IsSince e a log kept accesses m0 m) →
-    WhereObservable x (λ m. IsSince e (record a { asks = record a.asks { needs = needs; fence = fence } }) (record log { needs = needs; fence = fence; room = room }) kept accesses m0 m)
-needs_where None e a log kept accesses needs fence room m0 h = h
-needs_where (Some m) e a log kept accesses needs fence room m0 h = since_needs e a log kept accesses needs fence room m0 m h
+needs_where : (p : Planner) (x : Option BenchState) (e : Option Stop) (a : Reported) (log : LogState) (kept : Kept) (accesses : List RegAccess) (needs fence room : ℕ) (m0 : BenchState) → WhereObservable x (λ m. IsSince p e a log kept accesses m0 m) →
+    WhereObservable x (λ m. IsSince p e (record a { asks = record a.asks { needs = needs; fence = fence } }) (record log { needs = needs; fence = fence; room = room }) kept accesses m0 m)
+needs_where p None e a log kept accesses needs fence room m0 h = h
+needs_where p (Some m) e a log kept accesses needs fence room m0 h = since_needs p e a log kept accesses needs fence room m0 m h
 
 -- where the access began stays
-pub begun_needs : (bench : BenchReported) (state : Option BenchState) (log new : LogState) (sent got sent' got' : List ℕ) (kept : Kept) (accesses : List RegAccess) (m0 : BenchState) → HasBegun bench state log sent got kept accesses m0 →
-    sent' ≡ sent → got' ≡ got → new ≡ record log { needs = new.needs; fence = new.fence; room = new.room } → HasBegun bench state new sent' got' kept accesses m0
-begun_needs bench state log new sent got sent' got' kept accesses m0 h s g is =
-    subst (λ (l : LogState). HasBegun bench state l sent' got' kept accesses m0) (sym is)
-    (subst (λ (x : List ℕ). HasBegun bench state (record log { needs = new.needs; fence = new.fence; room = new.room }) x got' kept accesses m0) (sym s)
-    (subst (λ (x : List ℕ). HasBegun bench state (record log { needs = new.needs; fence = new.fence; room = new.room }) sent x kept accesses m0) (sym g)
-    (record { so = needs_where state log.end (reported_by bench state log sent got) log kept accesses new.needs new.fence new.room m0 h.so })))
+pub begun_needs : (p : Planner) (bench : BenchReported) (state : Option BenchState) (log new : LogState) (sent got sent' got' : List ℕ) (kept : Kept) (accesses : List RegAccess) (m0 : BenchState) → HasBegun p bench state log sent got kept accesses m0 →
+    sent' ≡ sent → got' ≡ got → new ≡ record log { needs = new.needs; fence = new.fence; room = new.room } → HasBegun p bench state new sent' got' kept accesses m0
+begun_needs p bench state log new sent got sent' got' kept accesses m0 h s g is =
+    subst (λ (l : LogState). HasBegun p bench state l sent' got' kept accesses m0) (sym is)
+    (subst (λ (x : List ℕ). HasBegun p bench state (record log { needs = new.needs; fence = new.fence; room = new.room }) x got' kept accesses m0) (sym s)
+    (subst (λ (x : List ℕ). HasBegun p bench state (record log { needs = new.needs; fence = new.fence; room = new.room }) sent x kept accesses m0) (sym g)
+    (record { so = needs_where p state log.end (reported_by bench state log sent got) log kept accesses new.needs new.fence new.room m0 h.so })))
 
 -- and so do the worlds that are left
 pub left_needs : (bench : BenchReported) (state : Option BenchState) (log new : LogState) (sent got sent' got' : List ℕ) (n : Option ℕ) → new ≡ record log { needs = new.needs; fence = new.fence; room = new.room } → IsLeft (reported_by bench state new sent' got') n → IsLeft (reported_by bench state log sent got) n

@@ -11,9 +11,10 @@ use Rattle.call_terms.specs.NeedPoints.{Asks, Cost, asked, capped_sum, needed, n
 use Rattle.call_terms.specs.declared.calls.Ask.{Ask}
 use Rattle.call_terms.specs.declared.calls.Slot.{Slot}
 use Rattle.access_regs.specs.Costs.{cost_by}
-use Rattle.access_regs.specs.declared.planner.Planner.TheVariants.{Managed}
 use Rattle.packed_access.specs.Logs.{LogState, asks_of, with_asks, with_needs}
 use Rattle.packed_access.specs.Sparing.{AreNeeded, first_cost, marks_in}
+use Rattle.access_regs.specs.declared.planner.Planner.{Planner}
+use Rattle.access_regs.specs.declared.planner.Planner.TheVariants.{Managed, Plain}
 
 -- ---- the calls
 
@@ -32,10 +33,11 @@ marks_more calls ask unmarked =
     let b = ap one_if unmarked in
     omega (arith, a, b)
 
-first_marked : (t : TargetState) (calls : List Ask) → first_cost t (settled_last calls) ≡ first_cost t calls
-first_marked t [] = refl
-first_marked t (c ∷ []) = refl
-first_marked t (c ∷ d ∷ cs) = refl
+first_marked : (p : Planner) (t : TargetState) (calls : List Ask) → first_cost p t (settled_last calls) ≡ first_cost p t calls
+first_marked p t [] = refl
+first_marked Managed t (c ∷ []) = refl
+first_marked Plain t (c ∷ []) = refl
+first_marked p t (c ∷ d ∷ cs) = refl
 
 -- ---- need points
 
@@ -51,58 +53,63 @@ covers_same : (x needs needs' : ℕ) → min x (2 ^ 64 - 1) ≤ needs → min ne
 covers_same x needs needs' h le = omega (arith, h, le)
 
 -- the calls stay, and need points may come
-pub needed_same : (t : TargetState) (a b : Asks) → AreNeeded t a → b.calls ≡ a.calls → min a.needs (2 ^ 64 - 1) ≤ b.needs → AreNeeded t b
-needed_same t a b h calls le =
-    record { so = subst (λ (l : List Ask). capped_sum (first_cost t l) (marks_in l) ≤ b.needs) (sym calls) (covers_same (first_cost t a.calls + marks_in a.calls) a.needs b.needs h.so le) }
+pub needed_same : (p : Planner) (t : TargetState) (a b : Asks) → AreNeeded p t a → b.calls ≡ a.calls → min a.needs (2 ^ 64 - 1) ≤ b.needs → AreNeeded p t b
+needed_same p t a b h calls le =
+    record { so = subst (λ (l : List Ask). capped_sum (first_cost p t l) (marks_in l) ≤ b.needs) (sym calls) (covers_same (first_cost p t a.calls + marks_in a.calls) a.needs b.needs h.so le) }
 
 -- a call is asked
-pub needed_asked : (t : TargetState) (a b : Asks) (ask : Ask) → AreNeeded t a → ask.settled ≡ false → b.calls ≡ a.calls ++ ask ∷ [] → min (a.needs + (cost_by Managed t a.calls ask).before) (2 ^ 64 - 1) ≤ b.needs → AreNeeded t b
-needed_asked t a b ask h unmarked calls le =
-    record { so = subst (λ (l : List Ask). capped_sum (first_cost t l) (marks_in l) ≤ b.needs) (sym calls) (by_calls a.calls h.so le) }
+pub needed_asked : (p : Planner) (t : TargetState) (a b : Asks) (ask : Ask) → AreNeeded p t a → ask.settled ≡ false → b.calls ≡ a.calls ++ ask ∷ [] → min (a.needs + (cost_by p t a.calls ask).before) (2 ^ 64 - 1) ≤ b.needs → AreNeeded p t b
+needed_asked p t a b ask h unmarked calls le =
+    record { so = subst (λ (l : List Ask). capped_sum (first_cost p t l) (marks_in l) ≤ b.needs) (sym calls) (by_calls a.calls h.so le) }
   where
-    by_calls : (l : List Ask) → capped_sum (first_cost t l) (marks_in l) ≤ a.needs → min (a.needs + (cost_by Managed t l ask).before) (2 ^ 64 - 1) ≤ b.needs → capped_sum (first_cost t (l ++ ask ∷ [])) (marks_in (l ++ ask ∷ [])) ≤ b.needs
+    by_calls : (l : List Ask) → capped_sum (first_cost p t l) (marks_in l) ≤ a.needs → min (a.needs + (cost_by p t l ask).before) (2 ^ 64 - 1) ≤ b.needs → capped_sum (first_cost p t (l ++ ask ∷ [])) (marks_in (l ++ ask ∷ [])) ≤ b.needs
     by_calls [] k le = (let m = marks_more [] ask unmarked in omega (arith, k, le, m))
     by_calls (c ∷ cs) k le = (let m = marks_more (c ∷ cs) ask unmarked in omega (arith, k, le, m))
 
 -- by the need points that it makes
-pub needed_by : (t : TargetState) (a b : Asks) (ask : Ask) → AreNeeded t a → ask.settled ≡ false → b ≡ asked (cost_by Managed t a.calls ask) ask a → AreNeeded t b
-needed_by t a b ask h unmarked is = subst (λ (x : Asks). AreNeeded t x) (sym is) (by_cost (cost_by Managed t a.calls ask) refl)
+pub needed_by : (p : Planner) (t : TargetState) (a b : Asks) (ask : Ask) → AreNeeded p t a → ask.settled ≡ false → b ≡ asked (cost_by p t a.calls ask) ask a → AreNeeded p t b
+needed_by p t a b ask h unmarked is = subst (λ (x : Asks). AreNeeded p t x) (sym is) (by_cost (cost_by p t a.calls ask) refl)
   where
-    by_cost : (c : Cost) → c ≡ cost_by Managed t a.calls ask → AreNeeded t (asked c ask a)
+    by_cost : (c : Cost) → c ≡ cost_by p t a.calls ask → AreNeeded p t (asked c ask a)
     by_cost c same =
         let mid : Asks = with_call ask (needed_more c.before a) in
-        needed_asked t a (asked c ask a) ask h unmarked (more_calls c.after mid ∙ ap (λ (l : List Ask). l ++ ask ∷ []) (more_calls c.before a))
+        needed_asked p t a (asked c ask a) ask h unmarked (more_calls c.after mid ∙ ap (λ (l : List Ask). l ++ ask ∷ []) (more_calls c.before a))
         (let x = most_needs c.before a in let y = most_needs c.after mid in let z = ap (λ (k : Cost). k.before) same in omega (arith, x, y, z))
 
+-- a command makes none before it counts as asked
+none_before : (p : Planner) (t : TargetState) (calls : List Ask) (call : ProbeCall) → (cost_by p t calls (probe_ask call)).before ≡ 0
+none_before Managed t calls call = refl
+none_before Plain t calls call = refl
+
 -- a command
-pub needed_command : (t : TargetState) (a : Asks) (log new : LogState) (call : ProbeCall) (points count : ℕ) → AreNeeded t a → log.calls ≡ a.calls ++ probe_ask call ∷ [] → log.needs ≡ a.needs → new ≡ with_needs log points count → AreNeeded t (asks_of new)
-needed_command t a log new call points count h calls needs is =
-    subst (λ (l : LogState). AreNeeded t (asks_of l)) (sym is) (by_points points)
+pub needed_command : (p : Planner) (t : TargetState) (a : Asks) (log new : LogState) (call : ProbeCall) (points count : ℕ) → AreNeeded p t a → log.calls ≡ a.calls ++ probe_ask call ∷ [] → log.needs ≡ a.needs → new ≡ with_needs log points count → AreNeeded p t (asks_of new)
+needed_command p t a log new call points count h calls needs is =
+    subst (λ (l : LogState). AreNeeded p t (asks_of l)) (sym is) (by_points points)
   where
-    by_points : (n : ℕ) → AreNeeded t (asks_of (with_needs log n count))
-    by_points zero = needed_asked t a (asks_of log) (probe_ask call) h refl calls (omega (arith, needs))
-    by_points (suc n) = needed_asked t a (asks_of (with_needs log (suc n) count)) (probe_ask call) h refl calls (omega (arith, needs))
+    by_points : (n : ℕ) → AreNeeded p t (asks_of (with_needs log n count))
+    by_points zero = needed_asked p t a (asks_of log) (probe_ask call) h refl calls (let none = none_before p t a.calls call in omega (arith, needs, none))
+    by_points (suc n) = needed_asked p t a (asks_of (with_needs log (suc n) count)) (probe_ask call) h refl calls (let none = none_before p t a.calls call in omega (arith, needs, none))
 
 -- need points at a flight that was sent
-pub needed_points : (t : TargetState) (a : Asks) (log new : LogState) (points count : ℕ) → AreNeeded t a → log.calls ≡ a.calls → log.needs ≡ a.needs → new ≡ with_needs log points count → AreNeeded t (asks_of new)
-needed_points t a log new points count h calls needs is =
-    subst (λ (l : LogState). AreNeeded t (asks_of l)) (sym is) (by_points points)
+pub needed_points : (p : Planner) (t : TargetState) (a : Asks) (log new : LogState) (points count : ℕ) → AreNeeded p t a → log.calls ≡ a.calls → log.needs ≡ a.needs → new ≡ with_needs log points count → AreNeeded p t (asks_of new)
+needed_points p t a log new points count h calls needs is =
+    subst (λ (l : LogState). AreNeeded p t (asks_of l)) (sym is) (by_points points)
   where
-    by_points : (n : ℕ) → AreNeeded t (asks_of (with_needs log n count))
-    by_points zero = needed_same t a (asks_of log) h calls (omega (arith, needs))
-    by_points (suc n) = needed_same t a (asks_of (with_needs log (suc n) count)) h calls (omega (arith, needs))
+    by_points : (n : ℕ) → AreNeeded p t (asks_of (with_needs log n count))
+    by_points zero = needed_same p t a (asks_of log) h calls (omega (arith, needs))
+    by_points (suc n) = needed_same p t a (asks_of (with_needs log (suc n) count)) h calls (omega (arith, needs))
 
 -- a `finish` is made after the last call
-pub needed_finished : (t : TargetState) (a : Asks) (log new : LogState) (count : ℕ) → AreNeeded t a → log.calls ≡ settled_last a.calls → log.needs ≡ a.needs → new ≡ with_needs log 1 count → AreNeeded t (asks_of new)
-needed_finished t a log new count h calls needs is =
-    subst (λ (l : LogState). AreNeeded t (asks_of l)) (sym is)
-    (record { so = subst (λ (l : List Ask). capped_sum (first_cost t l) (marks_in l) ≤ min (log.needs + 1) (2 ^ 64 - 1)) (sym calls) (let k = h.so in let f = first_marked t a.calls in let m = marks_upto a.calls in omega (arith, k, f, m, needs)) })
+pub needed_finished : (p : Planner) (t : TargetState) (a : Asks) (log new : LogState) (count : ℕ) → AreNeeded p t a → log.calls ≡ settled_last a.calls → log.needs ≡ a.needs → new ≡ with_needs log 1 count → AreNeeded p t (asks_of new)
+needed_finished p t a log new count h calls needs is =
+    subst (λ (l : LogState). AreNeeded p t (asks_of l)) (sym is)
+    (record { so = subst (λ (l : List Ask). capped_sum (first_cost p t l) (marks_in l) ≤ min (log.needs + 1) (2 ^ 64 - 1)) (sym calls) (let k = h.so in let f = first_marked p t a.calls in let m = marks_upto a.calls in omega (arith, k, f, m, needs)) })
 
 -- a slot is used
-pub needed_used : (t : TargetState) (a : Asks) (log new : LogState) (slot : Slot) → AreNeeded t a → log.calls ≡ a.calls → log.needs ≡ a.needs → new ≡ with_asks log (used slot (asks_of log)) → AreNeeded t (asks_of new)
-needed_used t a log new slot h calls needs is =
-    subst (λ (l : LogState). AreNeeded t (asks_of l)) (sym is) (by_fence (nat_lt slot.index log.fence))
+pub needed_used : (p : Planner) (t : TargetState) (a : Asks) (log new : LogState) (slot : Slot) → AreNeeded p t a → log.calls ≡ a.calls → log.needs ≡ a.needs → new ≡ with_asks log (used slot (asks_of log)) → AreNeeded p t (asks_of new)
+needed_used p t a log new slot h calls needs is =
+    subst (λ (l : LogState). AreNeeded p t (asks_of l)) (sym is) (by_fence (nat_lt slot.index log.fence))
   where
-    by_fence : (b : Bool) → AreNeeded t (asks_of (with_asks log (cond b (asks_of log) (needed (asks_of log)))))
-    by_fence true = needed_same t a (asks_of log) h calls (omega (arith, needs))
-    by_fence false = needed_same t a (needed (asks_of log)) h calls (omega (arith, needs))
+    by_fence : (b : Bool) → AreNeeded p t (asks_of (with_asks log (cond b (asks_of log) (needed (asks_of log)))))
+    by_fence true = needed_same p t a (asks_of log) h calls (omega (arith, needs))
+    by_fence false = needed_same p t a (needed (asks_of log)) h calls (omega (arith, needs))

@@ -1,4 +1,4 @@
--- How an access begins over a bench.
+-- Where an access begins.
 use Rattle.std.proofs.Common.{◌≡◌, ◌∙◌, ℕ, ◌%◌, ◌≤◌, true, false, List, [], ◌∷◌, Option, Some, None, Ok, Err, Result, IfOk, MatchResult, refl, sym, ap, subst, arith}
 use Rattle.std.specs.Prelude.{bit_and, ◌==◌}
 use Rattle.std.proofs.lemmas.Grind.{common_steps}
@@ -27,50 +27,12 @@ use Rattle.target_machine.specs.declared.access.RegAccess.{RegAccess}
 use Rattle.access_regs.specs.Kept.{Kept, nothing_kept}
 use Rattle.packed_access.specs.Begun.{HasBegun, IsIssuing}
 use Rattle.packed_access.specs.Logs.{LogState, nothing_logged}
-use Rattle.packed_access.specs.Opening.{HasOpened, MayBegin, least_of}
-use Rattle.packed_access.proofs.ReplyReads.{info_read}
+use Rattle.bench_flights.specs.Opening.{HasOpened, MayBegin, least_of}
+use Rattle.bench_flights.proofs.OpeningLemmas.{opened_flies, opened_target}
+use Rattle.access_regs.specs.declared.planner.Planner.{Planner}
 
--- ---- the least number of a reply
-
-least_shown : (c : CommandValue) (n : ℕ) (reply : List ℕ) (found : Option Shown) → shown_in (reply_read c reply) ≡ found → Ok n ≡ number_by c found → least_of c ≤ n
-least_shown c n reply None is e = absurd (cc)
-least_shown (command.Info id) n reply (Some view) is e = (let same : n ≡ number_in (command.Info id) view = cc in let l = info_read id reply view is in omega (arith, same, l))
-least_shown (command.Configure idle retry matches) n reply (Some view) is e = omega arith
-least_shown (command.Transfer requests) n reply (Some view) is e = omega arith
-least_shown (command.WriteBlock request words) n reply (Some view) is e = omega arith
-least_shown (command.Abort word) n reply (Some view) is e = omega arith
-least_shown (command.Delay time) n reply (Some view) is e = omega arith
-least_shown (command.Pins output select wait) n reply (Some view) is e = omega arith
-least_shown (command.Clock clock) n reply (Some view) is e = omega arith
-least_shown (command.Line count bits) n reply (Some view) is e = omega arith
-
-least_read : (c : CommandValue) (n : ℕ) (replies : List (List ℕ)) → Ok n ≡ number_read c replies → least_of c ≤ n
-least_read c n [] e = absurd (cc)
-least_read c n (reply ∷ []) e = least_shown c n reply (shown_in (reply_read c reply)) refl e
-least_read c n (reply ∷ other ∷ replies) e = absurd (cc)
-
-pub number_least : (c : CommandValue) (result : Result ℕ FlightEnd) (e : Option FlightEnd) (replies : List (List ℕ)) → MatchResult result (λ _. e ≡ None) (λ end. e ≡ Some end) → (got_replies e ≡ true → result ≡ number_read c replies) → IfOk result (λ n. least_of c ≤ n)
-number_least c (Err end) e replies is read = tt
-number_least c (Ok n) e replies is read = least_read c n replies (read (ap got_replies is))
-
--- ---- the access has begun
-
-opened_target : (config : Config) (m o : BenchState) → HasOpened config m o → target_of o.probe ≡ target_of m.probe
-opened_target config m o h = ap (λ (e : ExecutorState). e.transfers.line.target) h.executor
-
-opened_flies : (config : Config) (m o : BenchState) → MayBegin m → HasOpened config m o → CanFly o
-opened_flies config m o b h = record {
-  guard = record {
-    mask = ap (λ (e : ExecutorState). e.transfers.mask) h.executor ∙ b.mask;
-    matches = ap (λ (e : ExecutorState). e.transfers.setting.matches) h.executor;
-    dpidr = ap (λ (n : ℕ). bit_and n 1 == 0) (ap (λ (e : ExecutorState). e.transfers.line.target.dpidr) h.executor) ∙ b.dpidr;
-    clear = ap (λ (e : ExecutorState). e.transfers.line.target.sticky) h.executor ∙ b.fresh.clear;
-  };
-  in_range = subst IsInRange (sym (opened_target config m o h)) b.in_range;
-}
-
-issuing_at : (config : Config) (m o : BenchState) → MayBegin m → HasOpened config m o → IsIssuing nothing_logged [] [] m o
-issuing_at config m o b h =
+issuing_at : (p : Planner) (config : Config) (m o : BenchState) → MayBegin m → HasOpened config m o → IsIssuing p nothing_logged [] [] m o
+issuing_at p config m o b h =
     let flies : CanFly o = opened_flies config m o b h in
     let work : work_of o.probe ≡ work_of m.probe = ap (λ (e : ExecutorState). e.transfers.work) h.executor in
     let ended : o.probe.executor.transfers.ended_retries ≡ m.probe.executor.transfers.ended_retries = ap (λ (e : ExecutorState). e.transfers.ended_retries) h.executor in
@@ -114,45 +76,25 @@ issuing_at config m o b h =
       few = (let w = b.work in omega (arith, w, work));
     }
 
-begun_at : (bench : BenchReported) (config : Config) (m o : BenchState) (sent got : List ℕ) → MayBegin m → HasOpened config m o → HasBegun bench (Some o) nothing_logged sent got nothing_kept [] m
-begun_at bench config m o sent got b h = record {
+begun_at : (p : Planner) (bench : BenchReported) (config : Config) (m o : BenchState) (sent got : List ℕ) → MayBegin m → HasOpened config m o → HasBegun p bench (Some o) nothing_logged sent got nothing_kept [] m
+begun_at p bench config m o sent got b h = record {
   so = record {
-    issuing = issuing_at config m o b h;
+    issuing = issuing_at p config m o b h;
     whole_is = refl;
     kept_is = refl;
     calm = λ settled. (refl, refl);
   };
 }
 
-begun_where : (x y : Option BenchState) (bench : BenchReported) (config : Config) (sent got : List ℕ) → StepsTo (λ m o. IsInRange (target_of m.probe) → HasOpened config m o) x y → StepsTo (λ m o. MayBegin m → HasBegun bench y nothing_logged sent got nothing_kept [] m) x y
-begun_where None None bench config sent got h = tt
-begun_where None (Some o) bench config sent got h = absurd h
-begun_where (Some m) None bench config sent got h = absurd h
-begun_where (Some m) (Some o) bench config sent got h = λ b. begun_at bench config m o sent got b (h b.in_range)
+begun_where : (p : Planner) (x y : Option BenchState) (bench : BenchReported) (config : Config) (sent got : List ℕ) → StepsTo (λ m o. IsInRange (target_of m.probe) → HasOpened config m o) x y → StepsTo (λ m o. MayBegin m → HasBegun p bench y nothing_logged sent got nothing_kept [] m) x y
+begun_where p None None bench config sent got h = tt
+begun_where p None (Some o) bench config sent got h = absurd h
+begun_where p (Some m) None bench config sent got h = absurd h
+begun_where p (Some m) (Some o) bench config sent got h = λ b. begun_at p bench config m o sent got b (h b.in_range)
 
-pub has_begun : (x y : Option BenchState) (bench : BenchReported) (config : Config) (log : LogState) (sent got : List ℕ) (kept : Kept) (accesses : List RegAccess) → log ≡ nothing_logged → kept ≡ nothing_kept → accesses ≡ [] →
-    StepsTo (λ m o. IsInRange (target_of m.probe) → HasOpened config m o) x y → StepsTo (λ m o. MayBegin m → HasBegun bench y log sent got kept accesses m) x y
-has_begun x y bench config log sent got kept accesses none nothing empty h =
-    subst (λ (l : LogState). StepsTo (λ m o. MayBegin m → HasBegun bench y l sent got kept accesses m) x y) (sym none)
-    (subst (λ (k : Kept). StepsTo (λ m o. MayBegin m → HasBegun bench y nothing_logged sent got k accesses m) x y) (sym nothing)
-    (subst (λ (a : List RegAccess). StepsTo (λ m o. MayBegin m → HasBegun bench y nothing_logged sent got nothing_kept a m) x y) (sym empty) (begun_where x y bench config sent got h)))
-
--- the same from an equal state
-pub steps_from : (P : BenchState → BenchState → Type 0) (x w y : Option BenchState) → x ≡ w → StepsTo P x y → StepsTo P w y
-steps_from P x w y same h = subst (λ (z : Option BenchState). StepsTo P z y) same h
-
--- ---- after a load
-
-odd_bit : (n : ℕ) → n % 2 ≡ 1 → (bit_and n 1 == 0) ≡ false
-odd_bit n odd = (let low : bit_and n 1 ≡ n % 2 = grind (arith, common_steps) in ap (λ (k : ℕ). k == 0) (low ∙ odd))
-
-pub loaded_may_begin : (job : BenchJob) → IsBenchJob job → IsJobInRange job.target → MayBegin (fresh job)
-unfolding start
-loaded_may_begin job sound ranges = record {
-  mask = refl;
-  dpidr = odd_bit job.target.dpidr sound.target.dpidr;
-  fresh = start_is_fresh job.target sound.target;
-  in_range = start_in_range job.target sound.target ranges;
-  work = omega arith;
-  retries = omega arith;
-}
+pub has_begun : (p : Planner) (x y : Option BenchState) (bench : BenchReported) (config : Config) (log : LogState) (sent got : List ℕ) (kept : Kept) (accesses : List RegAccess) → log ≡ nothing_logged → kept ≡ nothing_kept → accesses ≡ [] →
+    StepsTo (λ m o. IsInRange (target_of m.probe) → HasOpened config m o) x y → StepsTo (λ m o. MayBegin m → HasBegun p bench y log sent got kept accesses m) x y
+has_begun p x y bench config log sent got kept accesses none nothing empty h =
+    subst (λ (l : LogState). StepsTo (λ m o. MayBegin m → HasBegun p bench y l sent got kept accesses m) x y) (sym none)
+    (subst (λ (k : Kept). StepsTo (λ m o. MayBegin m → HasBegun p bench y nothing_logged sent got k accesses m) x y) (sym nothing)
+    (subst (λ (a : List RegAccess). StepsTo (λ m o. MayBegin m → HasBegun p bench y nothing_logged sent got nothing_kept a m) x y) (sym empty) (begun_where p x y bench config sent got h)))

@@ -9,9 +9,9 @@ use Rattle.probe_core.specs.declared.job.Config.{Config}
 use Rattle.access_calls.specs.declared.stop.Stop.{Stop}
 use Rattle.access_calls.specs.declared.stop.Stop.TheVariants as stop
 use Rattle.bench_access.specs.Opening.{IsLoaded, IsNotBegun, IsOpened, RefusedBy}
-use Rattle.packed_access.specs.Flown.{BenchGoesOn}
-use Rattle.packed_access.specs.Opening.{HasOpened, HasTried, IsRefusal, MayBegin, opened}
-use Rattle.packed_access.proofs.OpeningLemmas.{loaded_may_begin}
+use Rattle.bench_flights.specs.Flown.{BenchGoesOn}
+use Rattle.bench_flights.specs.Opening.{HasOpened, HasTried, IsRefusal, MayBegin, opened}
+use Rattle.bench_flights.proofs.OpeningLemmas.{loaded_may_begin}
 
 may_begin : (job : BenchJob) (x : Option BenchState) → IsLoaded job x → MayBegin (fresh job)
 may_begin job x h = loaded_may_begin job h.sound h.in_range

@@ -15,6 +15,7 @@ use Rattle.access_regs.specs.Plan.{first_plan, last_access, leads, learned, made
 use Rattle.probe_core.specs.Bench.{BenchState}
 use Rattle.packed_access.specs.Begun.{HasIssued, IsNoPoll, entries_of}
 use Rattle.packed_access.specs.Logs.{LogState}
+use Rattle.access_regs.specs.declared.planner.Planner.{Planner}
 
 pub leads_numbered : (units : ℕ) (xs : List RegAccess) → numbered units false (steps_of Leads xs) ≡ entries_of (units + 1) Leads xs
 leads_numbered units [] = refl
@@ -64,9 +65,9 @@ csw_left count t k asked some no_poll needs =
     ∙ (let e : (count - 1) + 1 ≡ count = omega (arith, some) in ap (λ (n : ℕ). entries_of n Leads (first_plan k (port_of asked)) ++ plan_entries n (learned k (port_of asked) (gives t (first_plan k (port_of asked)))) asked) e)
 
 -- the same entries, by the registers and the calls as they are now
-pub plan_now : (x : Option BenchState) (log : LogState) (accesses accesses' : List RegAccess) (k k' : Kept) (asked : AccessUnit) (count : ℕ) (m0 : BenchState) → HasIssued x log accesses (plan_entries count k asked) m0 → accesses' ≡ accesses → k' ≡ k → length log.calls ≡ count →
-    HasIssued x log accesses' (plan_entries (length log.calls) k' asked) m0
-plan_now x log accesses accesses' k k' asked count m0 h same kept counts =
-    subst (λ (xs : List RegAccess). HasIssued x log xs (plan_entries (length log.calls) k' asked) m0) (sym same)
-    (subst (λ (q : Kept). HasIssued x log accesses (plan_entries (length log.calls) q asked) m0) (sym kept)
-    (subst (λ (n : ℕ). HasIssued x log accesses (plan_entries n k asked) m0) (sym counts) h))
+pub plan_now : (p : Planner) (x : Option BenchState) (log : LogState) (accesses accesses' : List RegAccess) (k k' : Kept) (asked : AccessUnit) (count : ℕ) (m0 : BenchState) → HasIssued p x log accesses (plan_entries count k asked) m0 → accesses' ≡ accesses → k' ≡ k → length log.calls ≡ count →
+    HasIssued p x log accesses' (plan_entries (length log.calls) k' asked) m0
+plan_now p x log accesses accesses' k k' asked count m0 h same kept counts =
+    subst (λ (xs : List RegAccess). HasIssued p x log xs (plan_entries (length log.calls) k' asked) m0) (sym same)
+    (subst (λ (q : Kept). HasIssued p x log accesses (plan_entries (length log.calls) q asked) m0) (sym kept)
+    (subst (λ (n : ℕ). HasIssued p x log accesses (plan_entries n k asked) m0) (sym counts) h))

@@ -24,6 +24,7 @@ use Rattle.packed_access.specs.Begun.{HasBegun, IsOpenAt}
 use Rattle.packed_access.specs.Logs.{LogState, reported_by}
 use Rattle.packed_access.proofs.BegunLemmas.{enough_left, fact_of, open_where}
 use Rattle.packed_access.proofs.GoesLemmas.{least_less}
+use Rattle.access_regs.specs.declared.planner.Planner.{Planner}
 
 -- ---- from world to world
 
@@ -82,8 +83,8 @@ same_seam (x ∷ xs) (y ∷ ys) a b more more' is at =
     ((λ j. head j ∷ r.0 j), r.1)
 
 -- it has come where it ended so
-small_came : (log : LogState) (kept : Kept) (accesses : List RegAccess) (calls : List Ask) (ask : Ask) (m0 m : BenchState) → IsOpenAt log kept accesses m0 m → log.calls ≡ calls ++ ask ∷ [] → small_now (start_world (target_of m0.probe) None) calls ask ≡ true → length calls ≤ log.came
-small_came log kept accesses calls ask m0 m h are small = by_place (cases_lt (length calls) log.came)
+small_came : (p : Planner) (log : LogState) (kept : Kept) (accesses : List RegAccess) (calls : List Ask) (ask : Ask) (m0 m : BenchState) → IsOpenAt p log kept accesses m0 m → log.calls ≡ calls ++ ask ∷ [] → small_now (start_world (target_of m0.probe) None) calls ask ≡ true → length calls ≤ log.came
+small_came p log kept accesses calls ask m0 m h are small = by_place (cases_lt (length calls) log.came)
   where
     count : length log.calls ≡ length calls + 1
     count = ap length are ∙ length-append calls (ask ∷ [])
@@ -96,11 +97,11 @@ small_came log kept accesses calls ask m0 m h are small = by_place (cases_lt (le
         absurd (clash (small_now (start_world (target_of m0.probe) None) calls ask) small ((λ j. small_now (start_world (target_of m0.probe) None) (same.0 j) (same.1 j)) ∙ g.large))
 
 -- so it is answered in each world that is left
-pub small_left : (bench : BenchReported) (state : Option BenchState) (log : LogState) (sent got : List ℕ) (kept : Kept) (accesses : List RegAccess) (calls : List Ask) (ask : Ask) (m0 : BenchState) (n : Option ℕ) → HasBegun bench state log sent got kept accesses m0 → log.end ≡ None → log.calls ≡ calls ++ ask ∷ [] →
+pub small_left : (p : Planner) (bench : BenchReported) (state : Option BenchState) (log : LogState) (sent got : List ℕ) (kept : Kept) (accesses : List RegAccess) (calls : List Ask) (ask : Ask) (m0 : BenchState) (n : Option ℕ) → HasBegun p bench state log sent got kept accesses m0 → log.end ≡ None → log.calls ≡ calls ++ ask ∷ [] →
     IsLeft (reported_by bench state log sent got) n → small_now (world_from m0 n) calls ask ≡ small_now (start_world (target_of m0.probe) None) calls ask
-small_left bench state log sent got kept accesses calls ask m0 n h none are left =
+small_left p bench state log sent got kept accesses calls ask m0 n h none are left =
     small_in (target_of m0.probe) n calls ask
-    (λ small. least_less n (length calls) log.came (fact_of state (λ m. IsOpenAt log kept accesses m0 m) (length calls ≤ log.came) (λ m k. small_came log kept accesses calls ask m0 m k are small) (open_where bench state log sent got kept accesses m0 h none)) (enough_left bench state log sent got n none left))
+    (λ small. least_less n (length calls) log.came (fact_of state (λ m. IsOpenAt p log kept accesses m0 m) (length calls ≤ log.came) (λ m k. small_came p log kept accesses calls ask m0 m k are small) (open_where p bench state log sent got kept accesses m0 h none)) (enough_left bench state log sent got n none left))
 
 -- only accesses of wide addresses end so
 pub small_wide : (t : TargetState) (calls : List Ask) (asked : AccessUnit) (forgive : Bool) → (small_now (start_world t None) calls (unit_ask asked forgive) && is_wide asked) ≡ small_now (start_world t None) calls (unit_ask asked forgive)

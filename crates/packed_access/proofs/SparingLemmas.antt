@@ -22,7 +22,6 @@ use Rattle.call_terms.specs.Weights.{registers_in, registers_of}
 use Rattle.call_terms.specs.declared.calls.Ask.{Ask}
 use Rattle.call_terms.proofs.EntryLemmas.{registers_append}
 use Rattle.access_regs.specs.Journal.{issued, making}
-use Rattle.access_regs.specs.declared.planner.Planner.TheVariants.{Managed}
 use Rattle.access_calls.specs.Bounds.{capacity}
 use Rattle.access_calls.specs.Standing.{WhereObservable}
 use Rattle.flight_forms.proofs.Capacity.{few_fit_transfer, none_fits}
@@ -37,62 +36,20 @@ use Rattle.calls_in_flight.proofs.BlockLemmas.{full_by_form}
 use Rattle.dap_messages.specs.Responses.{response_of}
 use Rattle.dap_messages.specs.declared.request.Response.{Response}
 use Rattle.packed_access.specs.Begun.{HasIssued, IsIssuing}
-use Rattle.packed_access.specs.Blocks.{IsFull, transfer_accesses}
-use Rattle.packed_access.specs.Clearing.{is_fault_end}
-use Rattle.packed_access.specs.Flown.{HasCome}
+use Rattle.bench_flights.specs.Full.{IsFull, transfer_accesses}
+use Rattle.bench_flights.specs.Clearing.{is_fault_end}
+use Rattle.bench_flights.specs.Flown.{HasCome, SendsFew}
 use Rattle.packed_access.specs.Forgiving.{closed}
 use Rattle.packed_access.specs.Logs.{IsFurther, LogState, nothing_logged, with_needs}
 use Rattle.call_terms.specs.NeedPoints.{capped_sum}
-use Rattle.packed_access.specs.Opening.{HasOpened, MayBegin}
+use Rattle.bench_flights.specs.Opening.{HasOpened, MayBegin}
 use Rattle.probe_core.specs.declared.job.Config.{Config as OpenConfig}
-use Rattle.packed_access.specs.Sparing.{HasPaid, HasSpared, IsSpared, SendsFew}
+use Rattle.packed_access.specs.Sparing.{HasPaid, HasSpared, IsSpared, counted}
 use Rattle.packed_access.proofs.BlockLemmas.{blocks_full, blocks_grown, head_same, sum_longer, sum_upto}
-use Rattle.packed_access.proofs.SendLemmas.{counted_few}
-use Rattle.packed_access.proofs.WireLemmas.{steps_map}
-
--- ---- over a bench
-
--- what one Transfer does not hold is more than this
-transfer_full : (limits : Limits) (accesses : List RegAccess) (next : RegAccess) → AreLimits limits → form_of limits.packet_size limits.packet_count (accesses ++ next ∷ []) ≡ None → transfer_accesses limits ≤ length accesses
-transfer_full limits accesses next fits none = by_size (cases_lt (length accesses) (transfer_accesses limits))
-  where
-    refused : fits_transfer limits.packet_size (accesses ++ next ∷ []) ≡ false
-    refused = (none_fits limits.packet_size limits.packet_count (accesses ++ next ∷ []) none).0
-
-    by_size : (length accesses < transfer_accesses limits) ⊎ (transfer_accesses limits ≤ length accesses) → transfer_accesses limits ≤ length accesses
-    by_size (inl less) =
-        let more = length-append accesses (next ∷ []) in
-        let held : fits_transfer limits.packet_size (accesses ++ next ∷ []) ≡ true = few_fit_transfer limits.packet_size (accesses ++ next ∷ []) fits.size_high (let low = fits.size_low in omega (arith, more, less, low)) in
-        absurd (let e : true ≡ false = sym held ∙ refused in cc)
-    by_size (inr le) = le
-
--- a flight for which there is no room for one more has the capacity
-pub room_full : (limits : Limits) (accesses : List RegAccess) (next : RegAccess) → AreLimits limits → has_room limits accesses next ≡ false → IsFull limits accesses next
-room_full limits accesses next fits none = by_form (form_of limits.packet_size limits.packet_count (accesses ++ next ∷ [])) refl none
-  where
-    by_form : (f : Option Form) → form_of limits.packet_size limits.packet_count (accesses ++ next ∷ []) ≡ f → is_some f ≡ false → IsFull limits accesses next
-    by_form None is empty = (let f = full_by_form limits accesses next fits is in record { many = f.0; words = f.1; wide = transfer_full limits accesses next fits is })
-    by_form (Some form) is empty = absurd (cc)
-
--- a flight that was cut by a fault was one starting packet
-cut_few : (form : Form) (accesses : List RegAccess) (end : FlightEnd) (values : List (Option ℕ)) (m o : BenchState) → is_fault_end end ≡ true → SentBy (Some form) accesses (Some end) values m o → SendsFew 1 m o
-cut_few form accesses ends.BenchFault values m o fault h = absurd (cc)
-cut_few form accesses ends.ReplyBad values m o fault h = absurd (cc)
-cut_few form accesses (ends.Cut cut) values m o fault h = by_response (response_of cut.response) h
-  where
-    by_response : (r : Option Response) → FlewCut form accesses cut values r m o → SendsFew 1 m o
-    by_response None k = absurd k
-    by_response (Some response) k = counted_few m o k.1.starting
-
-cut_few_by : (form : Option Form) (accesses : List RegAccess) (end : FlightEnd) (values : List (Option ℕ)) (m o : BenchState) → is_fault_end end ≡ true → SentBy form accesses (Some end) values m o → SendsFew 1 m o
-cut_few_by None accesses end values m o fault h = absurd (let e = h.1 in cc)
-cut_few_by (Some form) accesses end values m o fault h = cut_few form accesses end values m o fault h
-
-pub cuts_few : {A : Type 0} (x y : Option BenchState) (limits : Limits) (accesses : List RegAccess) (values : List (Option ℕ)) (e : Option FlightEnd) (result : Result A FlightEnd) → MatchResult result (λ _. e ≡ None) (λ end. e ≡ Some end) →
-    StepsTo (λ m n. CanFly m → SentBy (sent_form limits accesses) accesses e values m n) x y → IfErr result (λ end. is_fault_end end ≡ true → StepsTo (λ m o. CanFly m → SendsFew 1 m o) x y)
-cuts_few x y limits accesses values e (Ok done) is h = tt
-cuts_few x y limits accesses values e (Err end) is h = λ fault.
-    steps_map _ _ (λ m o f flies. cut_few_by (sent_form limits accesses) accesses end values m o fault (subst (λ (n : Option FlightEnd). SentBy (sent_form limits accesses) accesses n values m o) is (f flies))) x y h
+use Rattle.bench_flights.proofs.SendLemmas.{counted_few}
+use Rattle.bench_flights.proofs.WireLemmas.{steps_map}
+use Rattle.access_regs.specs.declared.planner.Planner.{Planner}
+use Rattle.access_regs.specs.declared.planner.Planner.TheVariants.{Managed, Plain}
 
 -- ---- register accesses of entries
 
@@ -114,15 +71,15 @@ flight_registers (x ∷ es) (a ∷ accesses) e =
     sum_by-cons (λ (y : Entry). registers_of y.action) x es ∙ (λ j. registers_of (p.0 j) + flight_registers es accesses p.1 j) ∙ omega arith
 
 -- those that are confirmed once the flight came
-flight_adds : (log : LogState) (accesses : List RegAccess) (rest : List Entry) (m0 m : BenchState) → IsIssuing log accesses rest m0 m →
-    registers_in (take (length log.entries) (issued Managed (target_of m0.probe) log.calls)) ≡ registers_in (take log.confirmed (issued Managed (target_of m0.probe) log.calls)) + length accesses
-flight_adds log accesses rest m0 m h =
+flight_adds : (p : Planner) (log : LogState) (accesses : List RegAccess) (rest : List Entry) (m0 m : BenchState) → IsIssuing p log accesses rest m0 m →
+    registers_in (take (length log.entries) (issued p (target_of m0.probe) log.calls)) ≡ registers_in (take log.confirmed (issued p (target_of m0.probe) log.calls)) + length accesses
+flight_adds p log accesses rest m0 m h =
     let made : List Entry = h.sending.made in
-    let are : issued Managed (target_of m0.probe) log.calls ≡ made ++ (h.flying ++ rest) = h.sending.on.are in
-    let all : issued Managed (target_of m0.probe) log.calls ≡ (made ++ h.flying) ++ rest = are ∙ sym (append_assoc made h.flying rest) in
+    let are : issued p (target_of m0.probe) log.calls ≡ made ++ (h.flying ++ rest) = h.sending.on.are in
+    let all : issued p (target_of m0.probe) log.calls ≡ (made ++ h.flying) ++ rest = are ∙ sym (append_assoc made h.flying rest) in
     let count : length log.entries ≡ length (made ++ h.flying) = (let c = h.count in let k = h.sending.confirmed_is in let l = length-append made h.flying in omega (arith, c, k, l)) in
-    let front : take log.confirmed (issued Managed (target_of m0.probe) log.calls) ≡ made = (λ j. take (sym h.sending.confirmed_is j) (are j)) ∙ take-append_seam made (h.flying ++ rest) in
-    let whole : take (length log.entries) (issued Managed (target_of m0.probe) log.calls) ≡ made ++ h.flying = (λ j. take (count j) (all j)) ∙ take-append_seam (made ++ h.flying) rest in
+    let front : take log.confirmed (issued p (target_of m0.probe) log.calls) ≡ made = (λ j. take (sym h.sending.confirmed_is j) (are j)) ∙ take-append_seam made (h.flying ++ rest) in
+    let whole : take (length log.entries) (issued p (target_of m0.probe) log.calls) ≡ made ++ h.flying = (λ j. take (count j) (all j)) ∙ take-append_seam (made ++ h.flying) rest in
     let a = ap registers_in front in
     let b = ap registers_in whole in
     let c = registers_append made h.flying in
@@ -132,32 +89,32 @@ flight_adds log accesses rest m0 m h =
 -- ---- packets that were sent
 
 -- some packets came, and entries were confirmed
-pub grown_spared : (limits given limits' given' : Limits) (log new : LogState) (points extra : ℕ) (m0 m o : BenchState) → IsSpared limits given log points m0 m → SendsFew extra m o → new.calls ≡ log.calls → log.confirmed ≤ new.confirmed → limits' ≡ limits → given' ≡ given →
-    IsSpared limits' given' new (points + extra) m0 o
-grown_spared limits given limits' given' log new points extra m0 m o h sent calls more same there = record {
+pub grown_spared : (p : Planner) (limits given limits' given' : Limits) (log new : LogState) (points extra : ℕ) (m0 m o : BenchState) → IsSpared p limits given log points m0 m → SendsFew extra m o → new.calls ≡ log.calls → log.confirmed ≤ new.confirmed → limits' ≡ limits → given' ≡ given →
+    IsSpared p limits' given' new (points + extra) m0 o
+grown_spared p limits given limits' given' log new points extra m0 m o h sent calls more same there = record {
   full = h.full;
   few = (let f = h.few in let s = sent.few in omega (arith, f, s));
   filled = (let f = h.filled in
-      let u = registers_upto log.confirmed new.confirmed (issued Managed (target_of m0.probe) log.calls) more in
-      let c = ap (λ (l : List Ask). registers_in (take new.confirmed (issued Managed (target_of m0.probe) l))) calls in
+      let u = registers_upto log.confirmed new.confirmed (issued p (target_of m0.probe) log.calls) more in
+      let c = ap (λ (l : List Ask). registers_in (take new.confirmed (issued p (target_of m0.probe) l))) calls in
       let k = ap (λ (l : Limits). h.full * capacity l) same in
       omega (arith, f, u, c, k));
   counts = sent.counts h.counts;
   limits_are = same ∙ h.limits_are ∙ sym there;
   fits = subst AreLimits (sym same) h.fits;
-  blocks = blocks_grown h.full limits limits' (issued Managed (target_of m0.probe) log.calls) (issued Managed (target_of m0.probe) new.calls) [] log.confirmed new.confirmed h.blocks same
-      (ap (issued Managed (target_of m0.probe)) calls ∙ sym (append-nil (issued Managed (target_of m0.probe) log.calls))) more;
+  blocks = blocks_grown h.full limits limits' (issued p (target_of m0.probe) log.calls) (issued p (target_of m0.probe) new.calls) [] log.confirmed new.confirmed h.blocks same
+      (ap (issued p (target_of m0.probe)) calls ∙ sym (append-nil (issued p (target_of m0.probe) log.calls))) more;
 }
 
 -- a flight was sent for which there was no room for one access more
-pub full_spared : (limits given limits' given' : Limits) (log new : LogState) (accesses : List RegAccess) (e : Entry) (next : RegAccess) (rest : List Entry) (points : ℕ) (m0 m o : BenchState) → IsIssuing log accesses (e ∷ rest) m0 m → e.action ≡ Makes next → IsSpared limits given log points m0 m → SendsFew 1 m o →
-    IsFull limits accesses next → new.calls ≡ log.calls → new.confirmed ≡ length log.entries → limits' ≡ limits → given' ≡ given → IsSpared limits' given' new points m0 o
-full_spared limits given limits' given' log new accesses e next rest points m0 m o i makes h sent is_full calls all same there = record {
+pub full_spared : (p : Planner) (limits given limits' given' : Limits) (log new : LogState) (accesses : List RegAccess) (e : Entry) (next : RegAccess) (rest : List Entry) (points : ℕ) (m0 m o : BenchState) → IsIssuing p log accesses (e ∷ rest) m0 m → e.action ≡ Makes next → IsSpared p limits given log points m0 m → SendsFew 1 m o →
+    IsFull limits accesses next → new.calls ≡ log.calls → new.confirmed ≡ length log.entries → limits' ≡ limits → given' ≡ given → IsSpared p limits' given' new points m0 o
+full_spared p limits given limits' given' log new accesses e next rest points m0 m o i makes h sent is_full calls all same there = record {
   full = h.full + 1;
   few = (let f = h.few in let s = sent.few in omega (arith, f, s));
   filled = (let f = h.filled in
-      let u = flight_adds log accesses (e ∷ rest) m0 m i in
-      let c : registers_in (take new.confirmed (issued Managed (target_of m0.probe) new.calls)) ≡ registers_in (take (length log.entries) (issued Managed (target_of m0.probe) log.calls)) = (λ j. registers_in (take (all j) (issued Managed (target_of m0.probe) (calls j)))) in
+      let u = flight_adds p log accesses (e ∷ rest) m0 m i in
+      let c : registers_in (take new.confirmed (issued p (target_of m0.probe) new.calls)) ≡ registers_in (take (length log.entries) (issued p (target_of m0.probe) log.calls)) = (λ j. registers_in (take (all j) (issued p (target_of m0.probe) (calls j)))) in
       let k = ap (λ (l : Limits). (h.full + 1) * capacity l) same in
       let d : (h.full + 1) * capacity limits ≡ h.full * capacity limits + capacity limits = omega arith in
       let many = is_full.many in
@@ -165,93 +122,93 @@ full_spared limits given limits' given' log new accesses e next rest points m0 m
   counts = sent.counts h.counts;
   limits_are = same ∙ h.limits_are ∙ sym there;
   fits = subst AreLimits (sym same) h.fits;
-  blocks = blocks_full h.full limits limits' i.sending.made i.flying rest (issued Managed (target_of m0.probe) log.calls) (issued Managed (target_of m0.probe) new.calls) e next accesses log.confirmed new.confirmed h.blocks i.sending.on.are i.sending.confirmed_is
-      i.sending.on.flight makes is_full same (ap (issued Managed (target_of m0.probe)) calls) (all ∙ sym i.count);
+  blocks = blocks_full h.full limits limits' i.sending.made i.flying rest (issued p (target_of m0.probe) log.calls) (issued p (target_of m0.probe) new.calls) e next accesses log.confirmed new.confirmed h.blocks i.sending.on.are i.sending.confirmed_is
+      i.sending.on.flight makes is_full same (ap (issued p (target_of m0.probe)) calls) (all ∙ sym i.count);
 }
 
-grown_where : (x y : Option BenchState) (limits given limits' given' : Limits) (log new : LogState) (accesses : List RegAccess) (rest : List Entry) (points extra : ℕ) (m0 : BenchState) → WhereObservable x (λ m. IsIssuing log accesses rest m0 m) → WhereObservable x (λ m. IsSpared limits given log points m0 m) →
-    StepsTo (λ m o. CanFly m → SendsFew extra m o) x y → new.calls ≡ log.calls → log.confirmed ≤ new.confirmed → limits' ≡ limits → given' ≡ given → WhereObservable y (λ m. IsSpared limits' given' new (points + extra) m0 m)
-grown_where None y limits given limits' given' log new accesses rest points extra m0 i h sent calls more same there = absurd h
-grown_where (Some m) None limits given limits' given' log new accesses rest points extra m0 i h sent calls more same there = absurd sent
-grown_where (Some m) (Some o) limits given limits' given' log new accesses rest points extra m0 i h sent calls more same there = grown_spared limits given limits' given' log new points extra m0 m o h (sent i.flies) calls more same there
+grown_where : (p : Planner) (x y : Option BenchState) (limits given limits' given' : Limits) (log new : LogState) (accesses : List RegAccess) (rest : List Entry) (points extra : ℕ) (m0 : BenchState) → WhereObservable x (λ m. IsIssuing p log accesses rest m0 m) → WhereObservable x (λ m. IsSpared p limits given log points m0 m) →
+    StepsTo (λ m o. CanFly m → SendsFew extra m o) x y → new.calls ≡ log.calls → log.confirmed ≤ new.confirmed → limits' ≡ limits → given' ≡ given → WhereObservable y (λ m. IsSpared p limits' given' new (points + extra) m0 m)
+grown_where p None y limits given limits' given' log new accesses rest points extra m0 i h sent calls more same there = absurd h
+grown_where p (Some m) None limits given limits' given' log new accesses rest points extra m0 i h sent calls more same there = absurd sent
+grown_where p (Some m) (Some o) limits given limits' given' log new accesses rest points extra m0 i h sent calls more same there = grown_spared p limits given limits' given' log new points extra m0 m o h (sent i.flies) calls more same there
 
-full_where : (x y : Option BenchState) (limits given limits' given' : Limits) (log new : LogState) (accesses : List RegAccess) (e : Entry) (next : RegAccess) (rest : List Entry) (points : ℕ) (m0 : BenchState) → WhereObservable x (λ m. IsIssuing log accesses (e ∷ rest) m0 m) → e.action ≡ Makes next → WhereObservable x (λ m. IsSpared limits given log points m0 m) →
-    StepsTo (λ m o. CanFly m → SendsFew 1 m o) x y → IsFull limits accesses next → new.calls ≡ log.calls → new.confirmed ≡ length log.entries → limits' ≡ limits → given' ≡ given → WhereObservable y (λ m. IsSpared limits' given' new points m0 m)
-full_where None y limits given limits' given' log new accesses e next rest points m0 i makes h sent is_full calls all same there = absurd h
-full_where (Some m) None limits given limits' given' log new accesses e next rest points m0 i makes h sent is_full calls all same there = absurd sent
-full_where (Some m) (Some o) limits given limits' given' log new accesses e next rest points m0 i makes h sent is_full calls all same there = full_spared limits given limits' given' log new accesses e next rest points m0 m o i makes h (sent i.flies) is_full calls all same there
+full_where : (p : Planner) (x y : Option BenchState) (limits given limits' given' : Limits) (log new : LogState) (accesses : List RegAccess) (e : Entry) (next : RegAccess) (rest : List Entry) (points : ℕ) (m0 : BenchState) → WhereObservable x (λ m. IsIssuing p log accesses (e ∷ rest) m0 m) → e.action ≡ Makes next → WhereObservable x (λ m. IsSpared p limits given log points m0 m) →
+    StepsTo (λ m o. CanFly m → SendsFew 1 m o) x y → IsFull limits accesses next → new.calls ≡ log.calls → new.confirmed ≡ length log.entries → limits' ≡ limits → given' ≡ given → WhereObservable y (λ m. IsSpared p limits' given' new points m0 m)
+full_where p None y limits given limits' given' log new accesses e next rest points m0 i makes h sent is_full calls all same there = absurd h
+full_where p (Some m) None limits given limits' given' log new accesses e next rest points m0 i makes h sent is_full calls all same there = absurd sent
+full_where p (Some m) (Some o) limits given limits' given' log new accesses e next rest points m0 i makes h sent is_full calls all same there = full_spared p limits given limits' given' log new accesses e next rest points m0 m o i makes h (sent i.flies) is_full calls all same there
 
 -- where the bench is observable
-pub has_grown : (x y : Option BenchState) (limits given limits' given' : Limits) (log new : LogState) (accesses : List RegAccess) (rest : List Entry) (points extra : ℕ) (m0 : BenchState) → HasIssued x log accesses rest m0 → HasSpared limits given x log points m0 →
-    StepsTo (λ m o. CanFly m → SendsFew extra m o) x y → new.calls ≡ log.calls → log.confirmed ≤ new.confirmed → limits' ≡ limits → given' ≡ given → HasSpared limits' given' y new (points + extra) m0
-has_grown x y limits given limits' given' log new accesses rest points extra m0 i h sent calls more same there =
-    record { so = grown_where x y limits given limits' given' log new accesses rest points extra m0 i.so h.so sent calls more same there }
+pub has_grown : (p : Planner) (x y : Option BenchState) (limits given limits' given' : Limits) (log new : LogState) (accesses : List RegAccess) (rest : List Entry) (points extra : ℕ) (m0 : BenchState) → HasIssued p x log accesses rest m0 → HasSpared p limits given x log points m0 →
+    (p ≡ Managed → StepsTo (λ m o. CanFly m → SendsFew extra m o) x y) → new.calls ≡ log.calls → log.confirmed ≤ new.confirmed → limits' ≡ limits → given' ≡ given → HasSpared p limits' given' y new (points + extra) m0
+has_grown p x y limits given limits' given' log new accesses rest points extra m0 i h sent calls more same there =
+    record { so = λ managed. grown_where p x y limits given limits' given' log new accesses rest points extra m0 i.so (h.so managed) (sent managed) calls more same there }
 
-pub has_sent : (x y : Option BenchState) (limits given limits' given' : Limits) (log new : LogState) (accesses : List RegAccess) (rest : List Entry) (values : List (Option ℕ)) (points : ℕ) (m0 : BenchState) → HasIssued x log accesses rest m0 → HasSpared limits given x log points m0 →
-    StepsTo (λ m o. CanFly m → HasCome accesses values m o) x y → new.calls ≡ log.calls → log.confirmed ≤ new.confirmed → limits' ≡ limits → given' ≡ given → HasSpared limits' given' y new (points + 1) m0
-has_sent x y limits given limits' given' log new accesses rest values points m0 i h sent calls more same there =
-    has_grown x y limits given limits' given' log new accesses rest points 1 m0 i h (steps_map _ _ (λ m o f flies. (f flies).starting) x y sent) calls more same there
+pub has_sent : (p : Planner) (x y : Option BenchState) (limits given limits' given' : Limits) (log new : LogState) (accesses : List RegAccess) (rest : List Entry) (values : List (Option ℕ)) (points : ℕ) (m0 : BenchState) → HasIssued p x log accesses rest m0 → HasSpared p limits given x log points m0 →
+    StepsTo (λ m o. CanFly m → HasCome accesses values m o) x y → new.calls ≡ log.calls → log.confirmed ≤ new.confirmed → limits' ≡ limits → given' ≡ given → HasSpared p limits' given' y new (points + 1) m0
+has_sent p x y limits given limits' given' log new accesses rest values points m0 i h sent calls more same there =
+    has_grown p x y limits given limits' given' log new accesses rest points 1 m0 i h (λ managed. steps_map _ _ (λ m o f flies. (f flies).starting) x y sent) calls more same there
 
-pub has_filled : (x y : Option BenchState) (limits given limits' given' : Limits) (log new : LogState) (accesses : List RegAccess) (e : Entry) (next : RegAccess) (rest : List Entry) (values : List (Option ℕ)) (points : ℕ) (m0 : BenchState) → HasIssued x log accesses (e ∷ rest) m0 → e.action ≡ Makes next → HasSpared limits given x log points m0 →
-    StepsTo (λ m o. CanFly m → HasCome accesses values m o) x y → IsFull limits accesses next → new.calls ≡ log.calls → new.confirmed ≡ length log.entries → limits' ≡ limits → given' ≡ given → HasSpared limits' given' y new points m0
-has_filled x y limits given limits' given' log new accesses e next rest values points m0 i makes h sent is_full calls all same there =
-    record { so = full_where x y limits given limits' given' log new accesses e next rest points m0 i.so makes h.so (steps_map _ _ (λ m o f flies. (f flies).starting) x y sent) is_full calls all same there }
+pub has_filled : (p : Planner) (x y : Option BenchState) (limits given limits' given' : Limits) (log new : LogState) (accesses : List RegAccess) (e : Entry) (next : RegAccess) (rest : List Entry) (values : List (Option ℕ)) (points : ℕ) (m0 : BenchState) → HasIssued p x log accesses (e ∷ rest) m0 → e.action ≡ Makes next → HasSpared p limits given x log points m0 →
+    StepsTo (λ m o. CanFly m → HasCome accesses values m o) x y → (p ≡ Managed → IsFull limits accesses next) → new.calls ≡ log.calls → new.confirmed ≡ length log.entries → limits' ≡ limits → given' ≡ given → HasSpared p limits' given' y new points m0
+has_filled p x y limits given limits' given' log new accesses e next rest values points m0 i makes h sent is_full calls all same there =
+    record { so = λ managed. full_where p x y limits given limits' given' log new accesses e next rest points m0 i.so makes (h.so managed) (steps_map _ _ (λ m o f flies. (f flies).starting) x y sent) (is_full managed) calls all same there }
 
 -- where nothing was sent and nothing confirmed
-pub has_same : (x x' : Option BenchState) (limits given limits' given' : Limits) (log new : LogState) (points : ℕ) (m0 : BenchState) → HasSpared limits given x log points m0 → x' ≡ x → new.calls ≡ log.calls → new.confirmed ≡ log.confirmed → limits' ≡ limits → given' ≡ given →
-    HasSpared limits' given' x' new points m0
-has_same x x' limits given limits' given' log new points m0 h state calls confirmed same there =
-    subst (λ (s : Option BenchState). HasSpared limits' given' s new points m0) (sym state) (record { so = by_state x h.so })
+pub has_same : (p : Planner) (x x' : Option BenchState) (limits given limits' given' : Limits) (log new : LogState) (points : ℕ) (m0 : BenchState) → HasSpared p limits given x log points m0 → x' ≡ x → new.calls ≡ log.calls → new.confirmed ≡ log.confirmed → limits' ≡ limits → given' ≡ given →
+    HasSpared p limits' given' x' new points m0
+has_same p x x' limits given limits' given' log new points m0 h state calls confirmed same there =
+    subst (λ (s : Option BenchState). HasSpared p limits' given' s new points m0) (sym state) (record { so = λ managed. by_state x (h.so managed) })
   where
-    by_state : (y : Option BenchState) → WhereObservable y (λ m. IsSpared limits given log points m0 m) → WhereObservable y (λ m. IsSpared limits' given' new points m0 m)
+    by_state : (y : Option BenchState) → WhereObservable y (λ m. IsSpared p limits given log points m0 m) → WhereObservable y (λ m. IsSpared p limits' given' new points m0 m)
     by_state None k = k
     by_state (Some m) k = record {
       full = k.full;
       few = k.few;
       filled = (let f = k.filled in
-          let c : registers_in (take new.confirmed (issued Managed (target_of m0.probe) new.calls)) ≡ registers_in (take log.confirmed (issued Managed (target_of m0.probe) log.calls)) = (λ j. registers_in (take (confirmed j) (issued Managed (target_of m0.probe) (calls j)))) in
+          let c : registers_in (take new.confirmed (issued p (target_of m0.probe) new.calls)) ≡ registers_in (take log.confirmed (issued p (target_of m0.probe) log.calls)) = (λ j. registers_in (take (confirmed j) (issued p (target_of m0.probe) (calls j)))) in
           let l = ap (λ (a : Limits). k.full * capacity a) same in
           omega (arith, f, c, l));
       counts = k.counts;
       limits_are = same ∙ k.limits_are ∙ sym there;
       fits = subst AreLimits (sym same) k.fits;
-      blocks = blocks_grown k.full limits limits' (issued Managed (target_of m0.probe) log.calls) (issued Managed (target_of m0.probe) new.calls) [] log.confirmed new.confirmed k.blocks same
-          (ap (issued Managed (target_of m0.probe)) calls ∙ sym (append-nil (issued Managed (target_of m0.probe) log.calls))) (omega (arith, confirmed));
+      blocks = blocks_grown k.full limits limits' (issued p (target_of m0.probe) log.calls) (issued p (target_of m0.probe) new.calls) [] log.confirmed new.confirmed k.blocks same
+          (ap (issued p (target_of m0.probe)) calls ∙ sym (append-nil (issued p (target_of m0.probe) log.calls))) (omega (arith, confirmed));
     }
 
 -- where more entries were asked
-pub has_grows : (x : Option BenchState) (limits given : Limits) (log new : LogState) (points : ℕ) (m0 : BenchState) (more : List Entry) → HasSpared limits given x log points m0 → issued Managed (target_of m0.probe) new.calls ≡ issued Managed (target_of m0.probe) log.calls ++ more →
-    new.confirmed ≡ log.confirmed → HasSpared limits given x new points m0
-has_grows x limits given log new points m0 more h longer same = record { so = by_state x h.so }
+pub has_grows : (p : Planner) (x : Option BenchState) (limits given : Limits) (log new : LogState) (points : ℕ) (m0 : BenchState) (more : List Entry) → HasSpared p limits given x log points m0 → issued p (target_of m0.probe) new.calls ≡ issued p (target_of m0.probe) log.calls ++ more →
+    new.confirmed ≡ log.confirmed → HasSpared p limits given x new points m0
+has_grows p x limits given log new points m0 more h longer same = record { so = λ managed. by_state x (h.so managed) }
   where
-    by_state : (y : Option BenchState) → WhereObservable y (λ m. IsSpared limits given log points m0 m) → WhereObservable y (λ m. IsSpared limits given new points m0 m)
+    by_state : (y : Option BenchState) → WhereObservable y (λ m. IsSpared p limits given log points m0 m) → WhereObservable y (λ m. IsSpared p limits given new points m0 m)
     by_state None k = k
     by_state (Some m) k = record {
       full = k.full;
       few = k.few;
       filled = (let f = k.filled in
-          let l = registers_longer log.confirmed (issued Managed (target_of m0.probe) log.calls) more in
-          let c : registers_in (take new.confirmed (issued Managed (target_of m0.probe) new.calls)) ≡ registers_in (take log.confirmed (issued Managed (target_of m0.probe) log.calls ++ more)) = (λ j. registers_in (take (same j) (longer j))) in
+          let l = registers_longer log.confirmed (issued p (target_of m0.probe) log.calls) more in
+          let c : registers_in (take new.confirmed (issued p (target_of m0.probe) new.calls)) ≡ registers_in (take log.confirmed (issued p (target_of m0.probe) log.calls ++ more)) = (λ j. registers_in (take (same j) (longer j))) in
           omega (arith, f, l, c));
       counts = k.counts;
       limits_are = k.limits_are;
       fits = k.fits;
-      blocks = blocks_grown k.full limits limits (issued Managed (target_of m0.probe) log.calls) (issued Managed (target_of m0.probe) new.calls) more log.confirmed new.confirmed k.blocks refl longer (omega (arith, same));
+      blocks = blocks_grown k.full limits limits (issued p (target_of m0.probe) log.calls) (issued p (target_of m0.probe) new.calls) more log.confirmed new.confirmed k.blocks refl longer (omega (arith, same));
     }
 
 -- ---- need points that come after what they pay for
 
 -- where more entries are confirmed, whatever is paid
-pub has_later : (x : Option BenchState) (limits given : Limits) (log new : LogState) (points more : ℕ) (m0 : BenchState) → HasSpared limits given x log points m0 → new.calls ≡ log.calls → log.confirmed ≤ new.confirmed → points ≤ more → HasSpared limits given x new more m0
-has_later x limits given log new points more m0 h calls later le = record { so = by_state x h.so }
+pub has_later : (p : Planner) (x : Option BenchState) (limits given : Limits) (log new : LogState) (points more : ℕ) (m0 : BenchState) → HasSpared p limits given x log points m0 → new.calls ≡ log.calls → log.confirmed ≤ new.confirmed → points ≤ more → HasSpared p limits given x new more m0
+has_later p x limits given log new points more m0 h calls later le = record { so = λ managed. by_state x (h.so managed) }
   where
     none_few : (m : BenchState) → SendsFew 0 m m
     none_few m = record { few = omega arith; counts = λ few. few }
 
-    by_state : (y : Option BenchState) → WhereObservable y (λ m. IsSpared limits given log points m0 m) → WhereObservable y (λ m. IsSpared limits given new more m0 m)
+    by_state : (y : Option BenchState) → WhereObservable y (λ m. IsSpared p limits given log points m0 m) → WhereObservable y (λ m. IsSpared p limits given new more m0 m)
     by_state None k = k
     by_state (Some m) k =
-        let s : IsSpared limits given new (points + 0) m0 m = grown_spared limits given limits given log new points 0 m0 m m k (none_few m) calls later refl refl in
+        let s : IsSpared p limits given new (points + 0) m0 m = grown_spared p limits given limits given log new points 0 m0 m m k (none_few m) calls later refl refl in
         record { full = s.full; few = (let f = s.few in omega (arith, f, le)); filled = s.filled; counts = s.counts; limits_are = s.limits_are; fits = s.fits; blocks = s.blocks }
 
 needs_cover : (log : LogState) (points count : ℕ) → (capped_sum log.needs points ≤ (with_needs log points count).needs) × (((with_needs log points count).calls ≡ log.calls) × ((with_needs log points count).confirmed ≡ log.confirmed))
@@ -262,40 +219,48 @@ covers_more : (paid left needs points now : ℕ) → min (paid + left) (2 ^ 64 -
 covers_more paid left needs points now before after = omega (arith, before, after)
 
 -- the need points come
-pub has_paid : (x : Option BenchState) (limits given : Limits) (log new : LogState) (needs paid points count left : ℕ) (m0 : BenchState) → HasSpared limits given x log (paid + points) m0 → capped_sum paid left ≤ needs → log.needs ≡ needs → new ≡ with_needs log points count → HasPaid limits given x new left m0
-has_paid x limits given log new needs paid points count left m0 h covers same is =
+pub has_paid : (p : Planner) (x : Option BenchState) (limits given : Limits) (log new : LogState) (needs paid points count left : ℕ) (m0 : BenchState) → HasSpared p limits given x log (paid + points) m0 → (p ≡ Managed → capped_sum paid left ≤ needs) → log.needs ≡ needs → new ≡ with_needs log points count → HasPaid p limits given x new left m0
+has_paid p x limits given log new needs paid points count left m0 h covers same is =
     let c = needs_cover log points count in
     record {
       paid = paid + points;
-      spared = has_later x limits given log new (paid + points) (paid + points) m0 h (ap (λ (l : LogState). l.calls) is ∙ c.1.0) (let k = ap (λ (l : LogState). l.confirmed) is ∙ c.1.1 in omega (arith, k)) (omega arith);
-      covers = (let n = subst (λ (l : LogState). capped_sum needs points ≤ l.needs) (sym is) (subst (λ (n : ℕ). capped_sum n points ≤ (with_needs log points count).needs) same c.0) in covers_more paid left needs points new.needs covers n);
+      spared = has_later p x limits given log new (paid + points) (paid + points) m0 h (ap (λ (l : LogState). l.calls) is ∙ c.1.0) (let k = ap (λ (l : LogState). l.confirmed) is ∙ c.1.1 in omega (arith, k)) (omega arith);
+      covers = λ managed. (let n = subst (λ (l : LogState). capped_sum needs points ≤ l.needs) (sym is) (subst (λ (n : ℕ). capped_sum n points ≤ (with_needs log points count).needs) same c.0) in covers_more paid left needs points new.needs (covers managed) n);
     }
 
 -- where none came the need points are the same
-pub spared_further : {A E : Type 0} (x : Option BenchState) (limits given : Limits) (log new : LogState) (paid left : ℕ) (result : Result A E) (m0 : BenchState) → capped_sum paid left ≤ log.needs → OnOk result (IsFurther log new) → OnOk result (HasSpared limits given x new paid m0) →
-    OnOk result (HasPaid limits given x new left m0)
-spared_further x limits given log new paid left (Err e) m0 covers further h = tt
-spared_further x limits given log new paid left (Ok v) m0 covers further h = record { paid = paid; spared = h; covers = subst (λ (n : ℕ). capped_sum paid left ≤ n) (sym further.needs) covers }
+pub spared_further : (p : Planner) → {A E : Type 0} (x : Option BenchState) (limits given : Limits) (log new : LogState) (paid left : ℕ) (result : Result A E) (m0 : BenchState) → (p ≡ Managed → capped_sum paid left ≤ log.needs) → OnOk result (IsFurther log new) → OnOk result (HasSpared p limits given x new paid m0) →
+    OnOk result (HasPaid p limits given x new left m0)
+spared_further p x limits given log new paid left (Err e) m0 covers further h = tt
+spared_further p x limits given log new paid left (Ok v) m0 covers further h = record { paid = paid; spared = h; covers = λ managed. subst (λ (n : ℕ). capped_sum paid left ≤ n) (sym further.needs) (covers managed) }
 
-pub spared_same : (x : Option BenchState) (limits given : Limits) (log new : LogState) (paid left : ℕ) (m0 : BenchState) → capped_sum paid left ≤ log.needs → IsFurther log new → HasSpared limits given x new paid m0 → HasPaid limits given x new left m0
-spared_same x limits given log new paid left m0 covers further h = record { paid = paid; spared = h; covers = subst (λ (n : ℕ). capped_sum paid left ≤ n) (sym further.needs) covers }
+pub spared_same : (p : Planner) (x : Option BenchState) (limits given : Limits) (log new : LogState) (paid left : ℕ) (m0 : BenchState) → (p ≡ Managed → capped_sum paid left ≤ log.needs) → IsFurther log new → HasSpared p limits given x new paid m0 → HasPaid p limits given x new left m0
+spared_same p x limits given log new paid left m0 covers further h = record { paid = paid; spared = h; covers = λ managed. subst (λ (n : ℕ). capped_sum paid left ≤ n) (sym further.needs) (covers managed) }
+
+-- by the managed planner all of them are counted
+pub all_counted : (p : Planner) (n : ℕ) → p ≡ Managed → counted p n ≡ n
+all_counted Managed n managed = refl
+all_counted Plain n managed = absurd (cc)
+
+pub counted_spared : (p : Planner) (x : Option BenchState) (limits given : Limits) (log : LogState) (paid n points : ℕ) (m0 : BenchState) → HasSpared p limits given x log (paid + n) m0 → points ≡ counted p n → HasSpared p limits given x log (paid + points) m0
+counted_spared p x limits given log paid n points m0 h is = record { so = λ managed. subst (λ (k : ℕ). WhereObservable x (λ m. IsSpared p limits given log (paid + k) m0 m)) (sym (is ∙ all_counted p n managed)) (h.so managed) }
 
 -- where more entries are confirmed
-pub has_more : (x : Option BenchState) (limits given : Limits) (log new : LogState) (left : ℕ) (m0 : BenchState) → HasPaid limits given x log left m0 → new.calls ≡ log.calls → log.confirmed ≤ new.confirmed → new.needs ≡ log.needs → HasPaid limits given x new left m0
-has_more x limits given log new left m0 h calls more same = record {
+pub has_more : (p : Planner) (x : Option BenchState) (limits given : Limits) (log new : LogState) (left : ℕ) (m0 : BenchState) → HasPaid p limits given x log left m0 → new.calls ≡ log.calls → log.confirmed ≤ new.confirmed → new.needs ≡ log.needs → HasPaid p limits given x new left m0
+has_more p x limits given log new left m0 h calls more same = record {
   paid = h.paid;
-  spared = has_later x limits given log new h.paid h.paid m0 h.spared calls more (omega arith);
-  covers = subst (λ (n : ℕ). capped_sum h.paid left ≤ n) (sym same) h.covers;
+  spared = has_later p x limits given log new h.paid h.paid m0 h.spared calls more (omega arith);
+  covers = λ managed. subst (λ (n : ℕ). capped_sum h.paid left ≤ n) (sym same) (h.covers managed);
 }
 
 -- ---- polls and commands
 
 -- a call that costs so many need points, one of which is for the send before it
-pub has_cost : (x y : Option BenchState) (limits given limits' given' : Limits) (log new : LogState) (accesses : List RegAccess) (rest : List Entry) (paid points : ℕ) (m0 : BenchState) → HasIssued x log accesses rest m0 → HasSpared limits given x log (paid + 1) m0 → 1 ≤ points →
-    StepsTo (λ m o. CanFly m → SendsFew (points - 1) m o) x y → new.calls ≡ log.calls → log.confirmed ≤ new.confirmed → limits' ≡ limits → given' ≡ given → HasSpared limits' given' y new (paid + points) m0
-has_cost x y limits given limits' given' log new accesses rest paid points m0 i h some sent calls more same there =
+pub has_cost : (p : Planner) (x y : Option BenchState) (limits given limits' given' : Limits) (log new : LogState) (accesses : List RegAccess) (rest : List Entry) (paid points : ℕ) (m0 : BenchState) → HasIssued p x log accesses rest m0 → HasSpared p limits given x log (paid + 1) m0 → 1 ≤ points →
+    StepsTo (λ m o. CanFly m → SendsFew (points - 1) m o) x y → new.calls ≡ log.calls → log.confirmed ≤ new.confirmed → limits' ≡ limits → given' ≡ given → HasSpared p limits' given' y new (paid + points) m0
+has_cost p x y limits given limits' given' log new accesses rest paid points m0 i h some sent calls more same there =
     let sum : (paid + 1) + (points - 1) ≡ paid + points = omega (arith, some) in
-    subst (λ (n : ℕ). HasSpared limits' given' y new n m0) sum (has_grown x y limits given limits' given' log new accesses rest (paid + 1) (points - 1) m0 i h sent calls more same there)
+    subst (λ (n : ℕ). HasSpared p limits' given' y new n m0) sum (has_grown p x y limits given limits' given' log new accesses rest (paid + 1) (points - 1) m0 i h (λ managed. sent) calls more same there)
 
 command_some : (call : ProbeCall) → 1 ≤ command_cost call
 command_some (probe.Delay micros) = omega arith
@@ -304,10 +269,10 @@ command_some (probe.Pins output select wait) = omega arith
 command_some (probe.Clock hertz) = omega arith
 command_some (probe.Line count bits) = omega arith
 
-pub has_commanded : (x y : Option BenchState) (limits given limits' given' : Limits) (log new : LogState) (accesses : List RegAccess) (rest : List Entry) (call : ProbeCall) (points : ℕ) (m0 : BenchState) → HasIssued x log accesses rest m0 → HasSpared limits given x log (points + 1) m0 →
-    StepsTo (λ m o. IsInRange (target_of m.probe) → SendsFew (command_cost call - 1) m o) x y → new.calls ≡ log.calls → log.confirmed ≤ new.confirmed → limits' ≡ limits → given' ≡ given → HasSpared limits' given' y new (points + command_cost call) m0
-has_commanded x y limits given limits' given' log new accesses rest call points m0 i h sent calls more same there =
-    has_cost x y limits given limits' given' log new accesses rest points (command_cost call) m0 i h (command_some call) (steps_map _ _ (λ m o f flies. f flies.in_range) x y sent) calls more same there
+pub has_commanded : (p : Planner) (x y : Option BenchState) (limits given limits' given' : Limits) (log new : LogState) (accesses : List RegAccess) (rest : List Entry) (call : ProbeCall) (points : ℕ) (m0 : BenchState) → HasIssued p x log accesses rest m0 → HasSpared p limits given x log (points + 1) m0 →
+    StepsTo (λ m o. IsInRange (target_of m.probe) → SendsFew (command_cost call - 1) m o) x y → new.calls ≡ log.calls → log.confirmed ≤ new.confirmed → limits' ≡ limits → given' ≡ given → HasSpared p limits' given' y new (points + command_cost call) m0
+has_commanded p x y limits given limits' given' log new accesses rest call points m0 i h sent calls more same there =
+    has_cost p x y limits given limits' given' log new accesses rest points (command_cost call) m0 i h (command_some call) (steps_map _ _ (λ m o f flies. f flies.in_range) x y sent) calls more same there
 
 -- a poll by value matches
 pub polled_few : (x y : Option BenchState) (zero_is : Bool) (turns points : ℕ) → zero_is ≡ true → points ≡ 1 + portions turns → StepsTo (λ m o. CanFly m → bank (target_of m.probe) ≡ 0 → SendsFew (portions turns) m o) x y →
@@ -327,30 +292,30 @@ closed_confirmed : (w : Option ℕ) (log : LogState) → ((closed w log).confirm
 closed_confirmed None log = (refl, refl)
 closed_confirmed (Some v) log = (refl, refl)
 
-pub spared_closed : (x : Option BenchState) (limits given : Limits) (w : Option ℕ) (log new : LogState) (points more : ℕ) (m0 : BenchState) → HasSpared limits given x log points m0 → new ≡ closed w log → log.confirmed ≤ length log.entries → points ≤ more → HasSpared limits given x new more m0
-spared_closed x limits given w log new points more m0 h is within le =
-    has_later x limits given log new points more m0 h (ap (λ (l : LogState). l.calls) is ∙ (closed_confirmed w log).1) (let k = ap (λ (l : LogState). l.confirmed) is in let c = (closed_confirmed w log).0 in omega (arith, k, c, within)) le
+pub spared_closed : (p : Planner) (x : Option BenchState) (limits given : Limits) (w : Option ℕ) (log new : LogState) (points more : ℕ) (m0 : BenchState) → HasSpared p limits given x log points m0 → new ≡ closed w log → log.confirmed ≤ length log.entries → points ≤ more → HasSpared p limits given x new more m0
+spared_closed p x limits given w log new points more m0 h is within le =
+    has_later p x limits given log new points more m0 h (ap (λ (l : LogState). l.calls) is ∙ (closed_confirmed w log).1) (let k = ap (λ (l : LogState). l.confirmed) is in let c = (closed_confirmed w log).0 in omega (arith, k, c, within)) le
 
 -- ---- where the access begins
 
-begun_spared : (limits given : Limits) (m o : BenchState) → o.starting ≤ m.starting + 3 → o.starting < 2 ^ 64 → limits ≡ given → AreLimits limits → IsSpared limits given nothing_logged 0 m o
-begun_spared limits given m o few counts same fits = record { full = 0; few = omega (arith, few); filled = omega arith; counts = counts; limits_are = same; fits = fits; blocks = record { blocks = 0; mixed = 0; bare = 0; all = omega arith; written = omega arith; changing = omega arith; others = omega arith; sizes = omega arith } }
+begun_spared : (p : Planner) (limits given : Limits) (m o : BenchState) → o.starting ≤ m.starting + 3 → o.starting < 2 ^ 64 → limits ≡ given → AreLimits limits → IsSpared p limits given nothing_logged 0 m o
+begun_spared p limits given m o few counts same fits = record { full = 0; few = omega (arith, few); filled = omega arith; counts = counts; limits_are = same; fits = fits; blocks = record { blocks = 0; mixed = 0; bare = 0; all = omega arith; written = omega arith; changing = omega arith; others = omega arith; sizes = omega arith } }
 
-paid_where : (x y : Option BenchState) (config : OpenConfig) (reported : BenchReported) (limits given job : Limits) → AreLimits limits → given ≡ job → reported.limits ≡ job → IfSome x (AgreesWith reported) → StepsTo (λ m o. IsInRange (target_of m.probe) → HasOpened config m o) x y →
-    StepsTo (λ m o. IsInRange (target_of m.probe) → m.probe.executor.limits ≡ job → limits ≡ job) x y → StepsTo (λ m o. MayBegin m → HasPaid limits given y nothing_logged 0 m) x y
-paid_where None None config reported limits given job fits same is agrees h l = tt
-paid_where None (Some o) config reported limits given job fits same is agrees h l = absurd h
-paid_where (Some m) None config reported limits given job fits same is agrees h l = absurd h
-paid_where (Some m) (Some o) config reported limits given job fits same is agrees h l = λ b. record {
+paid_where : (p : Planner) (x y : Option BenchState) (config : OpenConfig) (reported : BenchReported) (limits given job : Limits) → AreLimits limits → given ≡ job → reported.limits ≡ job → IfSome x (AgreesWith reported) → StepsTo (λ m o. IsInRange (target_of m.probe) → HasOpened config m o) x y →
+    StepsTo (λ m o. IsInRange (target_of m.probe) → m.probe.executor.limits ≡ job → limits ≡ job) x y → StepsTo (λ m o. MayBegin m → HasPaid p limits given y nothing_logged 0 m) x y
+paid_where p None None config reported limits given job fits same is agrees h l = tt
+paid_where p None (Some o) config reported limits given job fits same is agrees h l = absurd h
+paid_where p (Some m) None config reported limits given job fits same is agrees h l = absurd h
+paid_where p (Some m) (Some o) config reported limits given job fits same is agrees h l = λ b. record {
   paid = 0;
-  spared = record { so = begun_spared limits given m o (h b.in_range).starting (h b.in_range).counts (l b.in_range (sym agrees.limits ∙ is) ∙ sym same) fits };
-  covers = omega arith;
+  spared = record { so = λ managed. begun_spared p limits given m o (h b.in_range).starting (h b.in_range).counts (l b.in_range (sym agrees.limits ∙ is) ∙ sym same) fits };
+  covers = λ managed. omega arith;
 }
 
-pub has_paid_none : (x y : Option BenchState) (config : OpenConfig) (reported : BenchReported) (limits given job : Limits) (log : LogState) → AreLimits limits → log ≡ nothing_logged → given ≡ job → reported.limits ≡ job → IfSome x (AgreesWith reported) → StepsTo (λ m o. IsInRange (target_of m.probe) → HasOpened config m o) x y →
-    StepsTo (λ m o. IsInRange (target_of m.probe) → m.probe.executor.limits ≡ job → limits ≡ job) x y → StepsTo (λ m o. MayBegin m → HasPaid limits given y log 0 m) x y
-has_paid_none x y config reported limits given job log fits none same is agrees h l =
-    subst (λ (k : LogState). StepsTo (λ m o. MayBegin m → HasPaid limits given y k 0 m) x y) (sym none) (paid_where x y config reported limits given job fits same is agrees h l)
+pub has_paid_none : (p : Planner) (x y : Option BenchState) (config : OpenConfig) (reported : BenchReported) (limits given job : Limits) (log : LogState) → AreLimits limits → log ≡ nothing_logged → given ≡ job → reported.limits ≡ job → IfSome x (AgreesWith reported) → StepsTo (λ m o. IsInRange (target_of m.probe) → HasOpened config m o) x y →
+    StepsTo (λ m o. IsInRange (target_of m.probe) → m.probe.executor.limits ≡ job → limits ≡ job) x y → StepsTo (λ m o. MayBegin m → HasPaid p limits given y log 0 m) x y
+has_paid_none p x y config reported limits given job log fits none same is agrees h l =
+    subst (λ (k : LogState). StepsTo (λ m o. MayBegin m → HasPaid p limits given y k 0 m) x y) (sym none) (paid_where p x y config reported limits given job fits same is agrees h l)
 
 -- ---- the last need point came where all calls before it had come, or one is left
 

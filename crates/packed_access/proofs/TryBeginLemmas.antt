@@ -23,7 +23,6 @@ use Rattle.access_regs.specs.Follows.{Follows}
 use Rattle.access_regs.specs.Journal.{Issue, Step, after_settling, alone_at, issue_of, issued, large_of, making, numbered, planned, steps_of}
 use Rattle.access_regs.specs.Kept.{Kept}
 use Rattle.access_regs.specs.Plan.{settle, settled}
-use Rattle.access_regs.specs.declared.planner.Planner.TheVariants.{Managed}
 use Rattle.access_regs.proofs.AllCalls.{journal_follows}
 use Rattle.access_regs.proofs.EntryLemmas.{journal_grows}
 use Rattle.access_regs.proofs.Seams.{after_split}
@@ -38,30 +37,29 @@ use Rattle.packed_access.proofs.BegunLemmas.{fact_of, where_same}
 use Rattle.packed_access.specs.Marks.{unmarked_last}
 use Rattle.packed_access.proofs.CameLemmas.{HaveCome, have_come_own}
 use Rattle.packed_access.proofs.TryStepLemmas.{numbered_both}
+use Rattle.access_regs.specs.declared.planner.Planner.{Planner}
+use Rattle.access_regs.specs.Journal.{is_alone}
 
 -- ---- the call
 
-both_true : (a b : Bool) → (a && b) ≡ true → (a ≡ true) × (b ≡ true)
-both_true true b e = (refl, e)
-both_true false b e = absurd (cc)
+pub both_hold : (a b : Bool) → a ≡ true → b ≡ true → (a && b) ≡ true
+both_hold a b e f = (λ j. e j && f j)
 
-pub ask_is : (ask : Ask) (asked : AccessUnit) → ask.call ≡ Access asked → is_forgiving ask ≡ true → ask.settled ≡ false → ask ≡ unit_ask asked true
-ask_is ask asked call forgives unmarked = (λ j. record { call = call j; forgive = (both_true ask.forgive (may_forgive ask.call) forgives).0 j; settled = unmarked j })
-
-pub may_is : (ask : Ask) (asked : AccessUnit) → ask.call ≡ Access asked → is_forgiving ask ≡ true → may_forgive (Access asked) ≡ true
-may_is ask asked call forgives = ap may_forgive (sym call) ∙ (both_true ask.forgive (may_forgive ask.call) forgives).1
+and_same : (b c : Bool) → c ≡ true → (b && c) ≡ b
+and_same true c e = e
+and_same false c e = refl
 
 -- the target where the accesses of the unit begin
-abbrev pub target_settled : TargetState → List Ask → Kept → TargetState
-target_settled t calls k = after (target_by Managed t calls) (making (settle k))
+abbrev pub target_settled : Planner → TargetState → List Ask → Kept → TargetState
+target_settled p t calls k = after (target_by p t calls) (making (settle k))
 
 -- what the unit issues after the settling
-abbrev pub alone_issue : TargetState → List Ask → Kept → AccessUnit → Issue
-alone_issue t calls k asked = alone_at true asked (target_settled t calls k) (settled k)
+abbrev pub alone_issue : (p : Planner) (forgive : Bool) → TargetState → List Ask → Kept → AccessUnit → Issue
+alone_issue p forgive t calls k asked = alone_at forgive asked (target_settled p t calls k) (settled k)
 
-pub issue_is : (t : TargetState) (calls : List Ask) (k : Kept) (asked : AccessUnit) → may_forgive (Access asked) ≡ true →
-    issue_of Managed (target_by Managed t calls) k (unit_ask asked true) ≡ after_settling (target_by Managed t calls) k (alone_at true asked)
-issue_is t calls k asked may = ap (λ (b : Bool). cond (true && b) (after_settling (target_by Managed t calls) k (alone_at true asked)) (planned (target_by Managed t calls) k asked)) may
+pub issue_is : (p : Planner) (forgive : Bool) (t : TargetState) (calls : List Ask) (k : Kept) (asked : AccessUnit) → is_alone p forgive ≡ true → may_forgive (Access asked) ≡ true →
+    issue_of p (target_by p t calls) k (unit_ask asked forgive) ≡ after_settling (target_by p t calls) k (alone_at forgive asked)
+issue_is p forgive t calls k asked alone may = ap (λ (b : Bool). cond b (after_settling (target_by p t calls) k (alone_at forgive asked)) (planned (target_by p t calls) k asked)) (both_hold (is_alone p forgive) (may_forgive (Access asked)) alone may)
 
 settles_numbered : (units : ℕ) (b : Bool) (xs : List RegAccess) → numbered units b (steps_of Settles xs) ≡ entries_of units Settles xs
 settles_numbered units true [] = refl
@@ -70,26 +68,26 @@ settles_numbered units true (x ∷ xs) = ap (λ l. record { unit = units; part =
 settles_numbered units false (x ∷ xs) = ap (λ l. record { unit = units; part = Settles; forgiving = false; action = Makes x } ∷ l) (settles_numbered units false xs)
 
 -- its entries: those that settle, and then its own
-pub entries_are : (t : TargetState) (calls : List Ask) (k : Kept) (asked : AccessUnit) → may_forgive (Access asked) ≡ true →
-    own_entries t calls k (unit_ask asked true) ≡ entries_of (length calls) Settles (settle k) ++ numbered (length calls) true (alone_issue t calls k asked).steps
-entries_are t calls k asked may =
-    (λ j. numbered (length calls) (may j) (issue_is t calls k asked may j).steps)
-    ∙ numbered_both (length calls) true (steps_of Settles (settle k)) (alone_issue t calls k asked).steps
-    ∙ ap (λ (l : List Entry). l ++ numbered (length calls) true (alone_issue t calls k asked).steps) (settles_numbered (length calls) true (settle k))
+pub entries_are : (p : Planner) (forgive : Bool) (t : TargetState) (calls : List Ask) (k : Kept) (asked : AccessUnit) → is_alone p forgive ≡ true → may_forgive (Access asked) ≡ true →
+    own_entries p t calls k (unit_ask asked forgive) ≡ entries_of (length calls) Settles (settle k) ++ numbered (length calls) forgive (alone_issue p forgive t calls k asked).steps
+entries_are p forgive t calls k asked alone may =
+    (λ j. numbered (length calls) (and_same forgive (may_forgive (Access asked)) may j) (issue_is p forgive t calls k asked alone may j).steps)
+    ∙ numbered_both (length calls) forgive (steps_of Settles (settle k)) (alone_issue p forgive t calls k asked).steps
+    ∙ ap (λ (l : List Entry). l ++ numbered (length calls) forgive (alone_issue p forgive t calls k asked).steps) (settles_numbered (length calls) forgive (settle k))
 
 -- an access port is unsettled only after a call
-settle_unit : (t : TargetState) (calls : List Ask) (u : ℕ) → (0 < length calls → u ≡ length calls) → entries_of (length calls) Settles (settle (kept_by Managed t calls)) ≡ entries_of u Settles (settle (kept_by Managed t calls))
-settle_unit t [] u is = refl
-settle_unit t (c ∷ calls) u is = ap (λ (n : ℕ). entries_of n Settles (settle (kept_by Managed t (c ∷ calls)))) (sym (is (omega arith)))
+settle_unit : (p : Planner) (t : TargetState) (calls : List Ask) (u : ℕ) → (0 < length calls → u ≡ length calls) → entries_of (length calls) Settles (settle (kept_by p t calls)) ≡ entries_of u Settles (settle (kept_by p t calls))
+settle_unit p t [] u is = refl
+settle_unit p t (c ∷ calls) u is = ap (λ (n : ℕ). entries_of n Settles (settle (kept_by p t (c ∷ calls)))) (sym (is (omega arith)))
 
 -- the settling is to be issued, and then the unit
-pub begin_settling : (x : Option BenchState) (log : LogState) (accesses : List RegAccess) (kept : Kept) (calls : List Ask) (ask : Ask) (asked : AccessUnit) (m0 : BenchState) (u : ℕ) → HasAsked x log accesses kept calls ask m0 → ask.call ≡ Access asked → is_forgiving ask ≡ true →
-    (0 < length calls → u ≡ length calls) → HasIssued x log accesses (entries_of u Settles (settle kept) ++ numbered (length calls) true (alone_issue (target_of m0.probe) calls kept asked).steps) m0
-begin_settling x log accesses kept calls ask asked m0 u h call forgives is =
-    subst (λ (l : List Entry). HasIssued x log accesses l m0)
-    (ap (own_entries (target_of m0.probe) calls kept) (ask_is ask asked call forgives h.unmarked) ∙ entries_are (target_of m0.probe) calls kept asked (may_is ask asked call forgives)
-    ∙ ap (λ (l : List Entry). l ++ numbered (length calls) true (alone_issue (target_of m0.probe) calls kept asked).steps)
-    (subst (λ (q : Kept). entries_of (length calls) Settles (settle q) ≡ entries_of u Settles (settle q)) h.kept_is (settle_unit (target_of m0.probe) calls u is)))
+pub begin_settling : (p : Planner) (forgive : Bool) (x : Option BenchState) (log : LogState) (accesses : List RegAccess) (kept : Kept) (calls : List Ask) (ask : Ask) (asked : AccessUnit) (m0 : BenchState) (u : ℕ) → HasAsked p x log accesses kept calls ask m0 → ask ≡ unit_ask asked forgive → is_alone p forgive ≡ true → may_forgive (Access asked) ≡ true →
+    (0 < length calls → u ≡ length calls) → HasIssued p x log accesses (entries_of u Settles (settle kept) ++ numbered (length calls) forgive (alone_issue p forgive (target_of m0.probe) calls kept asked).steps) m0
+begin_settling p forgive x log accesses kept calls ask asked m0 u h same alone may is =
+    subst (λ (l : List Entry). HasIssued p x log accesses l m0)
+    (ap (own_entries p (target_of m0.probe) calls kept) same ∙ entries_are p forgive (target_of m0.probe) calls kept asked alone may
+    ∙ ap (λ (l : List Entry). l ++ numbered (length calls) forgive (alone_issue p forgive (target_of m0.probe) calls kept asked).steps)
+    (subst (λ (q : Kept). entries_of (length calls) Settles (settle q) ≡ entries_of u Settles (settle q)) h.kept_is (settle_unit p (target_of m0.probe) calls u is)))
     h.issued
 
 -- ---- where the calls before it are
@@ -103,25 +101,25 @@ pub record IsBefore (t : TargetState) (calls : List Ask) (ask : Ask) : Type 0 wh
 pub first_before : (log : LogState) (calls : List Ask) (ask : Ask) → log.calls ≡ calls ++ ask ∷ [] → take (length calls) log.calls ≡ calls
 first_before log calls ask are = ap (take (length calls)) are ∙ take-append_seam calls (ask ∷ [])
 
-before_at : (log : LogState) (calls : List Ask) (ask : Ask) (rest : List Entry) (m0 m : BenchState) → IsIssuing log [] rest m0 m → log.calls ≡ calls ++ ask ∷ [] → log.came ≡ length calls → IsBefore (target_of m0.probe) calls ask
-before_at log calls ask rest m0 m h are came =
-    let s = at_rest log rest m0 m h in
+before_at : (p : Planner) (log : LogState) (calls : List Ask) (ask : Ask) (rest : List Entry) (m0 m : BenchState) → IsIssuing p log [] rest m0 m → log.calls ≡ calls ++ ask ∷ [] → log.came ≡ length calls → IsBefore (target_of m0.probe) calls ask
+before_at p log calls ask rest m0 m h are came =
+    let s = at_rest p log rest m0 m h in
     let count : length log.calls ≡ length calls + 1 = ap length are ∙ length-append calls (ask ∷ []) in
-    let c : HaveCome log.calls log.confirmed (length calls) m0 = have_come_own log.calls s.made rest log.confirmed (length calls) m0 s.fresh s.askable (omega (arith, count)) s.on.are s.on.passes s.confirmed_is
-    (let f = ap (λ (k : ℕ). length (issued Managed (target_of m0.probe) (take k (unmarked_last log.calls)))) came in let n = h.came_made in omega (arith, f, n)) in
+    let c : HaveCome p log.calls log.confirmed (length calls) m0 = have_come_own p log.calls s.made rest log.confirmed (length calls) m0 s.fresh s.askable (omega (arith, count)) s.on.are s.on.passes s.confirmed_is
+    (let f = ap (λ (k : ℕ). length (issued p (target_of m0.probe) (take k (unmarked_last log.calls)))) came in let n = h.came_made in omega (arith, f, n)) in
     record {
       fresh = s.fresh;
       askable = subst AreAskable are s.askable;
       whole = subst (λ (l : List Ask). stop (start_world (target_of m0.probe) None) l ≡ None) (first_before log calls ask are) (c.none_stops.stops None tt);
     }
 
-pub is_before : (x : Option BenchState) (log : LogState) (calls : List Ask) (ask : Ask) (rest : List Entry) (m0 : BenchState) → HasIssued x log [] rest m0 → log.calls ≡ calls ++ ask ∷ [] → log.came ≡ length calls → IsBefore (target_of m0.probe) calls ask
-is_before x log calls ask rest m0 h are came = fact_of x (λ m. IsIssuing log [] rest m0 m) _ (λ m i. before_at log calls ask rest m0 m i are came) h.so
+pub is_before : (p : Planner) (x : Option BenchState) (log : LogState) (calls : List Ask) (ask : Ask) (rest : List Entry) (m0 : BenchState) → HasIssued p x log [] rest m0 → log.calls ≡ calls ++ ask ∷ [] → log.came ≡ length calls → IsBefore (target_of m0.probe) calls ask
+is_before p x log calls ask rest m0 h are came = fact_of x (λ m. IsIssuing p log [] rest m0 m) _ (λ m i. before_at p log calls ask rest m0 m i are came) h.so
 
 -- after the settling the target follows the one after the calls alone
-pub record IsCalm (t : TargetState) (calls : List Ask) : Type 0 where
-  pub pass : PassTo (target_by Managed t calls) (making (settle (kept_by Managed t calls))) (target_settled t calls (kept_by Managed t calls))
-  pub follows : Follows (settled (kept_by Managed t calls)) (large_of_all t [] calls) (alone_after t [] calls) (target_settled t calls (kept_by Managed t calls))
+pub record IsCalm (p : Planner) (t : TargetState) (calls : List Ask) : Type 0 where
+  pub pass : PassTo (target_by p t calls) (making (settle (kept_by p t calls))) (target_settled p t calls (kept_by p t calls))
+  pub follows : Follows (settled (kept_by p t calls)) (large_of_all t [] calls) (alone_after t [] calls) (target_settled p t calls (kept_by p t calls))
 
 pub askable_front : (calls : List Ask) (ask : Ask) → AreAskable (calls ++ ask ∷ []) → AreAskable calls
 askable_front [] ask h = tt
@@ -131,15 +129,15 @@ pub askable_last : (calls : List Ask) (ask : Ask) → AreAskable (calls ++ ask �
 askable_last [] ask h = h.0
 askable_last (c ∷ calls) ask h = askable_last calls ask h.1
 
-pub is_calm : (t : TargetState) (calls : List Ask) (ask : Ask) → IsBefore t calls ask → IsCalm t calls
-is_calm t calls ask b =
+pub is_calm : (p : Planner) (t : TargetState) (calls : List Ask) (ask : Ask) → IsBefore t calls ask → IsCalm p t calls
+is_calm p t calls ask b =
     let s : NeverStops t [] None calls = never_stops t [] None calls b.whole in
-    let follows : Follows (kept_by Managed t calls) (large_of_all t [] calls) (alone_after t [] calls) (target_by Managed t calls) = journal_follows Managed t calls b.fresh (askable_front calls ask b.askable) s.none in
-    let g = settles (kept_by Managed t calls) (large_of_all t [] calls) (alone_after t [] calls) (target_by Managed t calls) follows in
-    let at : after (target_by Managed t calls) (making (settle (kept_by Managed t calls))) ≡ g.at = pass_after (target_by Managed t calls) g.at (making (settle (kept_by Managed t calls))) g.pass in
+    let follows : Follows (kept_by p t calls) (large_of_all t [] calls) (alone_after t [] calls) (target_by p t calls) = journal_follows p t calls b.fresh (askable_front calls ask b.askable) s.none in
+    let g = settles (kept_by p t calls) (large_of_all t [] calls) (alone_after t [] calls) (target_by p t calls) follows in
+    let at : after (target_by p t calls) (making (settle (kept_by p t calls))) ≡ g.at = pass_after (target_by p t calls) g.at (making (settle (kept_by p t calls))) g.pass in
     record {
-      pass = subst (PassTo (target_by Managed t calls) (making (settle (kept_by Managed t calls)))) (sym at) g.pass;
-      follows = subst (Follows (settled (kept_by Managed t calls)) (large_of_all t [] calls) (alone_after t [] calls)) (sym at) g.follows;
+      pass = subst (PassTo (target_by p t calls) (making (settle (kept_by p t calls)))) (sym at) g.pass;
+      follows = subst (Follows (settled (kept_by p t calls)) (large_of_all t [] calls) (alone_after t [] calls)) (sym at) g.follows;
     }
 
 -- ---- its first access
@@ -164,43 +162,43 @@ some_actions t large (unit.Ap read n addr value) may none = cc
 some_actions t large (unit.Dp read addr value) may none = (let x : ◌≡◌ {A = Bool} false true = may in cc)
 some_actions t large (unit.Poll mask value turns) may none = (let x : ◌≡◌ {A = Bool} false true = may in cc)
 
-trying_at : (log : LogState) (calls : List Ask) (asked : AccessUnit) (m0 m : BenchState) → may_forgive (Access asked) ≡ true → log.calls ≡ calls ++ unit_ask asked true ∷ [] →
-    IsIssuing log [] (numbered (length calls) true (alone_issue (target_of m0.probe) calls (kept_by Managed (target_of m0.probe) calls) asked).steps) m0 m →
-    IsTrying log asked (settled (kept_by Managed (target_of m0.probe) calls)) (target_settled (target_of m0.probe) calls (kept_by Managed (target_of m0.probe) calls)) []
-    (call_actions (target_settled (target_of m0.probe) calls (kept_by Managed (target_of m0.probe) calls)) (large_of (settled (kept_by Managed (target_of m0.probe) calls)) asked) (Access asked)) m0 m
-trying_at log calls asked m0 m may are h =
+trying_at : (p : Planner) (forgive : Bool) (log : LogState) (calls : List Ask) (asked : AccessUnit) (m0 m : BenchState) → is_alone p forgive ≡ true → may_forgive (Access asked) ≡ true → log.calls ≡ calls ++ unit_ask asked forgive ∷ [] →
+    IsIssuing p log [] (numbered (length calls) forgive (alone_issue p forgive (target_of m0.probe) calls (kept_by p (target_of m0.probe) calls) asked).steps) m0 m →
+    IsTrying p forgive log asked (settled (kept_by p (target_of m0.probe) calls)) (target_settled p (target_of m0.probe) calls (kept_by p (target_of m0.probe) calls)) []
+    (call_actions (target_settled p (target_of m0.probe) calls (kept_by p (target_of m0.probe) calls)) (large_of (settled (kept_by p (target_of m0.probe) calls)) asked) (Access asked)) m0 m
+trying_at p forgive log calls asked m0 m alone may are h =
     let t0 : TargetState = target_of m0.probe in
-    let k : Kept = kept_by Managed (target_of m0.probe) calls in
-    let steps : List Step = (alone_issue (target_of m0.probe) calls (kept_by Managed (target_of m0.probe) calls) asked).steps in
-    let own : List Entry = numbered (length calls) true steps in
-    let calming : List Entry = entries_of (length calls) Settles (settle (kept_by Managed (target_of m0.probe) calls)) in
-    let s = at_rest log (numbered (length calls) true (alone_issue (target_of m0.probe) calls (kept_by Managed (target_of m0.probe) calls) asked).steps) m0 m h in
-    let count : length log.calls - 1 ≡ length calls = (let c = ap length are ∙ length-append calls (unit_ask asked true ∷ []) in omega (arith, c)) in
-    let grown : issued Managed (target_of m0.probe) log.calls ≡ (issued Managed (target_of m0.probe) calls ++ calming) ++ own =
-    ap (issued Managed (target_of m0.probe)) are ∙ (journal_grows Managed (target_of m0.probe) calls (unit_ask asked true) refl).0
-    ∙ ap (λ (l : List Entry). issued Managed (target_of m0.probe) calls ++ l) (entries_are (target_of m0.probe) calls (kept_by Managed (target_of m0.probe) calls) asked may)
-    ∙ sym (append_assoc (issued Managed (target_of m0.probe) calls) calming own) in
-    let made : s.made ≡ issued Managed (target_of m0.probe) calls ++ calming = cancel_back s.made (issued Managed (target_of m0.probe) calls ++ calming) own (sym s.on.are ∙ grown) in
+    let k : Kept = kept_by p (target_of m0.probe) calls in
+    let steps : List Step = (alone_issue p forgive (target_of m0.probe) calls (kept_by p (target_of m0.probe) calls) asked).steps in
+    let own : List Entry = numbered (length calls) forgive steps in
+    let calming : List Entry = entries_of (length calls) Settles (settle (kept_by p (target_of m0.probe) calls)) in
+    let s = at_rest p log (numbered (length calls) forgive (alone_issue p forgive (target_of m0.probe) calls (kept_by p (target_of m0.probe) calls) asked).steps) m0 m h in
+    let count : length log.calls - 1 ≡ length calls = (let c = ap length are ∙ length-append calls (unit_ask asked forgive ∷ []) in omega (arith, c)) in
+    let grown : issued p (target_of m0.probe) log.calls ≡ (issued p (target_of m0.probe) calls ++ calming) ++ own =
+    ap (issued p (target_of m0.probe)) are ∙ (journal_grows p (target_of m0.probe) calls (unit_ask asked forgive) refl).0
+    ∙ ap (λ (l : List Entry). issued p (target_of m0.probe) calls ++ l) (entries_are p forgive (target_of m0.probe) calls (kept_by p (target_of m0.probe) calls) asked alone may)
+    ∙ sym (append_assoc (issued p (target_of m0.probe) calls) calming own) in
+    let made : s.made ≡ issued p (target_of m0.probe) calls ++ calming = cancel_back s.made (issued p (target_of m0.probe) calls ++ calming) own (sym s.on.are ∙ grown) in
     record {
       left = steps;
-      issuing = subst (λ (n : ℕ). IsIssuing log [] (numbered n true (alone_issue (target_of m0.probe) calls (kept_by Managed (target_of m0.probe) calls) asked).steps) m0 m) (sym count) h;
+      issuing = subst (λ (n : ℕ). IsIssuing p log [] (numbered n forgive (alone_issue p forgive (target_of m0.probe) calls (kept_by p (target_of m0.probe) calls) asked).steps) m0 m) (sym count) h;
       actions = refl;
       steps = refl;
       good = tt;
-      target = s.on.target ∙ ap (target_after (target_of m0.probe)) made ∙ after_split (target_of m0.probe) (issued Managed (target_of m0.probe) calls) calming
-          ∙ ap (after (target_by Managed (target_of m0.probe) calls)) (settles_in (length calls) (settle (kept_by Managed (target_of m0.probe) calls)));
+      target = s.on.target ∙ ap (target_after (target_of m0.probe)) made ∙ after_split (target_of m0.probe) (issued p (target_of m0.probe) calls) calming
+          ∙ ap (after (target_by p (target_of m0.probe) calls)) (settles_in (length calls) (settle (kept_by p (target_of m0.probe) calls)));
       end = λ none. absurd (some_actions _ _ asked may none);
     }
 
 -- where the bench is observable
-pub begin_trying : (x : Option BenchState) (log : LogState) (kept : Kept) (calls : List Ask) (asked : AccessUnit) (m0 : BenchState) → kept_by Managed (target_of m0.probe) calls ≡ kept → may_forgive (Access asked) ≡ true → log.calls ≡ calls ++ unit_ask asked true ∷ [] →
-    HasIssued x log [] (numbered (length calls) true (alone_issue (target_of m0.probe) calls kept asked).steps) m0 →
-    HasTried x log asked (settled kept) (target_settled (target_of m0.probe) calls kept) [] (call_actions (target_settled (target_of m0.probe) calls kept) (large_of (settled kept) asked) (Access asked)) m0
-begin_trying x log kept calls asked m0 kept_is may are =
-    subst (λ (q : Kept). HasIssued x log [] (numbered (length calls) true (alone_issue (target_of m0.probe) calls q asked).steps) m0 →
-    HasTried x log asked (settled q) (target_settled (target_of m0.probe) calls q) [] (call_actions (target_settled (target_of m0.probe) calls q) (large_of (settled q) asked) (Access asked)) m0) kept_is
-    (λ h. record { so = where_same x _ _ (λ m i. trying_at log calls asked m0 m may are i) h.so })
+pub begin_trying : (p : Planner) (forgive : Bool) (x : Option BenchState) (log : LogState) (kept : Kept) (calls : List Ask) (asked : AccessUnit) (m0 : BenchState) → kept_by p (target_of m0.probe) calls ≡ kept → is_alone p forgive ≡ true → may_forgive (Access asked) ≡ true → log.calls ≡ calls ++ unit_ask asked forgive ∷ [] →
+    HasIssued p x log [] (numbered (length calls) forgive (alone_issue p forgive (target_of m0.probe) calls kept asked).steps) m0 →
+    HasTried p forgive x log asked (settled kept) (target_settled p (target_of m0.probe) calls kept) [] (call_actions (target_settled p (target_of m0.probe) calls kept) (large_of (settled kept) asked) (Access asked)) m0
+begin_trying p forgive x log kept calls asked m0 kept_is alone may are =
+    subst (λ (q : Kept). HasIssued p x log [] (numbered (length calls) forgive (alone_issue p forgive (target_of m0.probe) calls q asked).steps) m0 →
+    HasTried p forgive x log asked (settled q) (target_settled p (target_of m0.probe) calls q) [] (call_actions (target_settled p (target_of m0.probe) calls q) (large_of (settled q) asked) (Access asked)) m0) kept_is
+    (λ h. record { so = where_same x _ _ (λ m i. trying_at p forgive log calls asked m0 m alone may are i) h.so })
 
 -- what is known of 256 access ports
-pub settled_table : (t : TargetState) (kept : Kept) (calls : List Ask) (ask : Ask) → kept_by Managed t calls ≡ kept → IsBefore t calls ask → length (settled kept).ports ≡ 256
-settled_table t kept calls ask kept_is b = subst (λ (q : Kept). length (settled q).ports ≡ 256) kept_is (is_calm t calls ask b).follows.table
+pub settled_table : (p : Planner) (t : TargetState) (kept : Kept) (calls : List Ask) (ask : Ask) → kept_by p t calls ≡ kept → IsBefore t calls ask → length (settled kept).ports ≡ 256
+settled_table p t kept calls ask kept_is b = subst (λ (q : Kept). length (settled q).ports ≡ 256) kept_is (is_calm p t calls ask b).follows.table

@@ -11,7 +11,6 @@ use Rattle.probe_core.specs.Probe.{target_of}
 use Rattle.call_terms.specs.World.{World, done_now, next_world, one_if_skipped, results, skips, start_world, stops_here}
 use Rattle.call_terms.specs.declared.calls.Ask.{Ask}
 use Rattle.access_regs.specs.Journal.{issued}
-use Rattle.access_regs.specs.declared.planner.Planner.TheVariants.{Managed}
 use Rattle.packed_access.specs.Begun.{HasIssued, IsIssuing}
 use Rattle.packed_access.specs.Forgiving.{closed}
 use Rattle.packed_access.specs.Logs.{LogState, all_confirmed, all_issued, asks_of, result_for, with_result}
@@ -21,10 +20,11 @@ use Rattle.packed_access.proofs.CameLemmas.{HaveCome, have_come}
 use Rattle.packed_access.proofs.CommandLemmas.{last_there}
 use Rattle.packed_access.proofs.BegunLemmas.{fact_of, where_same}
 use Rattle.packed_access.proofs.TryBeginLemmas.{first_before}
+use Rattle.access_regs.specs.declared.planner.Planner.{Planner}
 
 -- ---- what is kept of the last call
 
-module _ (log : LogState) (calls : List Ask) (ask : Ask) (r s : ℕ) (m0 m : BenchState) (h : IsIssuing log [] [] m0 m) (are : log.calls ≡ calls ++ ask ∷ []) (unmarked : ask.settled ≡ false) (came : log.came ≡ length calls)
+module _ (p : Planner) (log : LogState) (calls : List Ask) (ask : Ask) (r s : ℕ) (m0 m : BenchState) (h : IsIssuing p log [] [] m0 m) (are : log.calls ≡ calls ++ ask ∷ []) (unmarked : ask.settled ≡ false) (came : log.came ≡ length calls)
     (results_are : results (start_world (target_of m0.probe) None) (calls ++ ask ∷ []) ≡ results (start_world (target_of m0.probe) None) calls ++ r ∷ [])
     (skips_are : skips (start_world (target_of m0.probe) None) (calls ++ ask ∷ []) ≡ skips (start_world (target_of m0.probe) None) calls + s) (long : length log.results ≡ length log.calls) where
   abbrev t0 : TargetState
@@ -43,13 +43,13 @@ module _ (log : LogState) (calls : List Ask) (ask : Ask) (r s : ℕ) (m0 m : Ben
   first_came = ap (λ (n : ℕ). take n log.calls) came ∙ first_before log calls ask are
 
   here : log.confirmed ≡ length log.entries
-  here = at_rest_count log [] m0 m h
+  here = at_rest_count p log [] m0 m h
 
-  come : HaveCome log.calls (length log.entries) (length log.calls) m0
+  come : HaveCome p log.calls (length log.entries) (length log.calls) m0
   come =
-      let rest = at_rest log [] m0 m h in
-      have_come log.calls rest.made [] (length log.entries) (length log.calls) m0 rest.fresh rest.askable (omega arith) rest.on.are rest.on.passes (rest.confirmed_is ∙ here)
-      (let f = ap (λ (l : List Ask). length (issued Managed t0 l)) first_all in let a = ap length rest.on.are in let n = ap length (append-nil rest.made) in let c = rest.confirmed_is in let k = here in omega (arith, f, a, n, c, k))
+      let rest = at_rest p log [] m0 m h in
+      have_come p log.calls rest.made [] (length log.entries) (length log.calls) m0 rest.fresh rest.askable (omega arith) rest.on.are rest.on.passes (rest.confirmed_is ∙ here)
+      (let f = ap (λ (l : List Ask). length (issued p t0 l)) first_all in let a = ap length rest.on.are in let n = ap length (append-nil rest.made) in let c = rest.confirmed_is in let k = here in omega (arith, f, a, n, c, k))
 
   index_is : length log.calls - 1 ≡ length calls
   index_is = (let c = count_is in omega (arith, c))
@@ -67,14 +67,14 @@ module _ (log : LogState) (calls : List Ask) (ask : Ask) (r s : ℕ) (m0 m : Ben
   own_calls : unmarked_last log.calls ≡ log.calls
   own_calls = ap unmarked_last are ∙ unmarked_append calls ask unmarked ∙ sym are
 
-  made_count : length (issued Managed t0 (take (length log.calls) (unmarked_last log.calls))) ≤ length log.entries
+  made_count : length (issued p t0 (take (length log.calls) (unmarked_last log.calls))) ≤ length log.entries
   made_count =
-      (let rest = at_rest log [] m0 m h in
-      let f = ap (λ (l : List Ask). length (issued Managed t0 l)) (ap (take (length log.calls)) own_calls ∙ first_all) in let a = ap length rest.on.are in let n = ap length (append-nil rest.made) in let c = rest.confirmed_is in let k = here in omega (arith, f, a, n, c, k))
+      (let rest = at_rest p log [] m0 m h in
+      let f = ap (λ (l : List Ask). length (issued p t0 l)) (ap (take (length log.calls)) own_calls ∙ first_all) in let a = ap length rest.on.are in let n = ap length (append-nil rest.made) in let c = rest.confirmed_is in let k = here in omega (arith, f, a, n, c, k))
 
-  pub closed_at : IsIssuing (record (all_confirmed (with_result (all_issued log) (length log.calls - 1) r)) { skipped = log.skipped + s }) [] [] m0 m
+  pub closed_at : IsIssuing p (record (all_confirmed (with_result (all_issued log) (length log.calls - 1) r)) { skipped = log.skipped + s }) [] [] m0 m
   closed_at =
-      let rest = at_rest log [] m0 m h in
+      let rest = at_rest p log [] m0 m h in
       record {
         flying = [];
         sending = record {
@@ -131,12 +131,12 @@ skipped_by (Some v) = 0
 skipped_by None = 1
 
 -- what the access keeps of it
-pub has_closed : (word : Option ℕ) (x : Option BenchState) (log new : LogState) (calls : List Ask) (ask : Ask) (m0 : BenchState) → HasIssued x log [] [] m0 → log.calls ≡ calls ++ ask ∷ [] → ask.settled ≡ false → log.came ≡ length calls →
+pub has_closed : (p : Planner) (word : Option ℕ) (x : Option BenchState) (log new : LogState) (calls : List Ask) (ask : Ask) (m0 : BenchState) → HasIssued p x log [] [] m0 → log.calls ≡ calls ++ ask ∷ [] → ask.settled ≡ false → log.came ≡ length calls →
     results (start_world (target_of m0.probe) None) (calls ++ ask ∷ []) ≡ results (start_world (target_of m0.probe) None) calls ++ result_of ask.call (unwrap_or word 0) ∷ [] →
-    skips (start_world (target_of m0.probe) None) (calls ++ ask ∷ []) ≡ skips (start_world (target_of m0.probe) None) calls + skipped_by word → length log.results ≡ length log.calls → length log.calls ≤ 10000000 → new ≡ closed word log → HasIssued x new [] [] m0
-has_closed word x log new calls ask m0 h are unmarked came results_are skips_are long few is =
-    subst (λ (l : LogState). HasIssued x l [] [] m0) (sym (is ∙ by_word word skips_are))
-    (record { so = where_same x _ _ (λ m i. closed_at log calls ask (result_of ask.call (unwrap_or word 0)) (skipped_by word) m0 m i are unmarked came results_are skips_are long) h.so })
+    skips (start_world (target_of m0.probe) None) (calls ++ ask ∷ []) ≡ skips (start_world (target_of m0.probe) None) calls + skipped_by word → length log.results ≡ length log.calls → length log.calls ≤ 10000000 → new ≡ closed word log → HasIssued p x new [] [] m0
+has_closed p word x log new calls ask m0 h are unmarked came results_are skips_are long few is =
+    subst (λ (l : LogState). HasIssued p x l [] [] m0) (sym (is ∙ by_word word skips_are))
+    (record { so = where_same x _ _ (λ m i. closed_at p log calls ask (result_of ask.call (unwrap_or word 0)) (skipped_by word) m0 m i are unmarked came results_are skips_are long) h.so })
   where
     count : length log.calls - 1 ≡ length calls
     count = (let c = ap length are ∙ length-append calls (ask ∷ []) in omega (arith, c))
@@ -146,7 +146,7 @@ has_closed word x log new calls ask m0 h are unmarked came results_are skips_are
 
     skipped_few : log.skipped ≤ 10000000
     skipped_few =
-        let a : log.skipped ≡ skips (start_world (target_of m0.probe) None) (take log.came log.calls) = fact_of x (λ m. IsIssuing log [] [] m0 m) _ (λ m i. i.skipped_is) h.so in
+        let a : log.skipped ≡ skips (start_world (target_of m0.probe) None) (take log.came log.calls) = fact_of x (λ m. IsIssuing p log [] [] m0 m) _ (λ m i. i.skipped_is) h.so in
         let b : take log.came log.calls ≡ calls = ap (λ (n : ℕ). take n log.calls) came ∙ first_before log calls ask are in
         let c = ap (skips (start_world (target_of m0.probe) None)) b in
         let d = skips_few (start_world (target_of m0.probe) None) calls in

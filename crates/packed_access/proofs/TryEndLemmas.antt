@@ -14,7 +14,6 @@ use Rattle.call_terms.specs.Weights.{performed}
 use Rattle.call_terms.specs.World.{results}
 use Rattle.access_regs.specs.Journal.{issued}
 use Rattle.access_regs.specs.Kept.{Kept}
-use Rattle.access_regs.specs.declared.planner.Planner.TheVariants.{Managed}
 use Rattle.access_calls.specs.Issued.{AreKeptOf}
 use Rattle.access_calls.specs.Numbers.{HasNumbers}
 use Rattle.access_calls.specs.Reported.{Reported, began, world_from}
@@ -34,87 +33,94 @@ use Rattle.calls_in_flight.specs.Sending.{IsSending}
 use Rattle.calls_in_flight.proofs.CutLemmas.{front_length, front_target, has_at, has_part, split as cut_split, take_front}
 use Rattle.calls_in_flight.proofs.EndLemmas.{flight_ends, flight_fails}
 use Rattle.calls_in_flight.proofs.FlightLemmas.{flight_length}
-use Rattle.packed_access.specs.Clearing.{ClearedOff, is_fault_end}
-use Rattle.packed_access.specs.Flown.{BrokeOff, DidLess, HasDone, IsCutResponse, MayHaveFlown, WasCut}
+use Rattle.bench_flights.specs.Clearing.{ClearedOff, is_fault_end}
+use Rattle.bench_flights.specs.Flown.{BrokeOff, DidLess, HasDone, IsCutResponse, MayHaveFlown, WasCut}
 use Rattle.packed_access.specs.Forgiving.{IsNext, IsTrying}
 use Rattle.packed_access.specs.Logs.{IsCause, IsStopped, LogState, reported_by}
 use Rattle.packed_access.proofs.EndLemmas.{IsBrokenOff, numbers_longer}
 use Rattle.packed_access.proofs.TryLemmas.{abort, abort_room, cleared, flying, flying_abort}
+use Rattle.access_regs.specs.declared.planner.Planner.{Planner}
+use Rattle.calls_in_flight.specs.Flights.{AreStrict}
 
 -- ---- a retry ended, or the bench failed
-
-no_fault : (response : ℕ) (cause : StopCause) → IsCause response cause → response ≡ 0x02 → cause ≡ NoAnswer
-no_fault response Faulted not two = absurd (not two)
-no_fault response NoAnswer is two = refl
 
 two_left : (response : ℕ) → (response ≡ 0x02) ⊎ (response ≡ 0x04) → eqb response 0x04 ≡ false → response ≡ 0x02
 two_left response (inl two) not = two
 two_left response (inr four) not = absurd (let x : ◌≡◌ {A = Bool} true false = sym (ap (λ (n : ℕ). eqb n 0x04) four) ∙ not in cc)
 
-module _ (bench : BenchReported) (state : Option BenchState) (sent got : List ℕ) (log : LogState) (entries : List Issued) (accesses : List RegAccess) (flying more : List Entry) (m0 m o : BenchState)
-    (s : IsSending Managed log.calls log.confirmed log.came flying more accesses (take log.known log.results) m0 m) (are : AreKeptOf (take (length entries) (issued Managed (target_of m0.probe) log.calls)) entries) (count : log.confirmed + length flying ≡ length entries) where
+-- at a fault the flight has only entries whose faults are not forgiven: else it would go on
+strict_at : (response : ℕ) (cause : StopCause) (flying : List Entry) → IsCause response cause → (response ≡ 0x02) ⊎ (response ≡ 0x04) → (eqb response 0x04 ≡ false) ⊎ AreStrict flying → IsStrictAt cause flying
+strict_at response NoAnswer flying is either free = tt
+strict_at response Faulted flying is either (inr strict) = strict
+strict_at response Faulted flying is either (inl not) = absurd (is (two_left response either not))
+
+response_by : (cut : Cut) (accesses : List RegAccess) (m o : BenchState) (broke : WasCut cut accesses m o) (x : StopCause) → IsCause cut.response x → broke.part.response ≡ response_of_cause x
+response_by cut accesses m o broke Faulted is = broke.fault is
+response_by cut accesses m o broke NoAnswer is = broke.wait is
+
+module _ (p : Planner) (forgive : Bool) (bench : BenchReported) (state : Option BenchState) (sent got : List ℕ) (log : LogState) (entries : List Issued) (accesses : List RegAccess) (flying more : List Entry) (m0 m o : BenchState)
+    (s : IsSending p log.calls log.confirmed log.came flying more accesses (take log.known log.results) m0 m) (are : AreKeptOf (take (length entries) (issued p (target_of m0.probe) log.calls)) entries) (count : log.confirmed + length flying ≡ length entries) where
   abbrev log1 : LogState
   log1 = record log { entries = entries }
 
-  module _ (cut : Cut) (r : Report) (lines skipped : ℕ) (broke : WasCut cut accesses m o) (two : cut.response ≡ 0x02) (cause : r.cause ≡ NoAnswer) (accesses_are : r.accesses ≡ log.confirmed + cut.performed) (confirmed_are : r.confirmed ≡ log.confirmed + cut.confirmed)
+  module _ (cut : Cut) (r : Report) (lines skipped : ℕ) (broke : WasCut cut accesses m o) (cause : IsCause cut.response r.cause) (strict : IsStrictAt r.cause flying) (accesses_are : r.accesses ≡ log.confirmed + cut.performed) (confirmed_are : r.confirmed ≡ log.confirmed + cut.confirmed)
       (numbers : (all : List Entry) → AreKeptOf all entries → HasNumbers all log.calls skipped lines r) where
     abbrev b : Reported
     b = reported_by bench state (record log1 { end = Some (stop.Cut r); came = lines; lines = lines; skipped = skipped }) sent got
 
     few : r.accesses ≤ length entries
-    few = (let p = broke.performed in let most = broke.flies.made.most in let l = flight_length flying accesses s.on.flight in omega (arith, accesses_are, p, most, l, count))
+    few = (let part_is = broke.performed in let most = broke.flies.made.most in let l = flight_length flying accesses s.on.flight in omega (arith, accesses_are, part_is, most, l, count))
 
-    cut_off : IsCutOff Managed r b m0
+    cut_off : IsCutOff p r b m0
     cut_off = record {
       end = refl;
-      numbers = numbers_longer (issued Managed (target_of m0.probe) log.calls) (length entries) log.calls skipped lines r (numbers (take (length entries) (issued Managed (target_of m0.probe) log.calls)) are) few;
+      numbers = numbers_longer (issued p (target_of m0.probe) log.calls) (length entries) log.calls skipped lines r (numbers (take (length entries) (issued p (target_of m0.probe) log.calls)) are) few;
       came = refl;
     }
 
-    pub wait_ends : EndsCut Managed r b log.came (take log.known log.results) m0 o
-    wait_ends = flight_ends Managed log.confirmed log.came flying more accesses (take log.known log.results) m0 m o broke.part r b s broke.flies (broke.wait two ∙ ap response_of_cause (sym cause)) (subst (λ (x : StopCause). IsStrictAt x flying) (sym cause) tt)
-        (let p = broke.performed in omega (arith, accesses_are, p)) (let p = broke.confirmed in omega (arith, confirmed_are, p)) cut_off
+    pub wait_ends : EndsCut p r b log.came (take log.known log.results) m0 o
+    wait_ends = flight_ends p log.confirmed log.came flying more accesses (take log.known log.results) m0 m o broke.part r b s broke.flies (response_by cut accesses m o broke r.cause cause) strict
+        (let part_is = broke.performed in omega (arith, accesses_are, part_is)) (let part_is = broke.confirmed in omega (arith, confirmed_are, part_is)) cut_off
 
-  pub bench_ends : MayHaveFlown accesses m o → IsEnded Managed (stop.BenchFault (length entries) log.confirmed) (reported_by bench state (record log1 { end = Some (stop.BenchFault (length entries) log.confirmed) }) sent got) (take log.known log.results) m0 o
+  pub bench_ends : MayHaveFlown accesses m o → IsEnded p (stop.BenchFault (length entries) log.confirmed) (reported_by bench state (record log1 { end = Some (stop.BenchFault (length entries) log.confirmed) }) sent got) (take log.known log.results) m0 o
   bench_ends broke =
-      subst (λ (n : ℕ). IsEnded Managed (stop.BenchFault n log.confirmed) (reported_by bench state (record log1 { end = Some (stop.BenchFault n log.confirmed) }) sent got) (take log.known log.results) m0 o) count
-      (flight_fails Managed log.confirmed log.came flying more accesses (take log.known log.results) m0 m o broke.part
+      subst (λ (n : ℕ). IsEnded p (stop.BenchFault n log.confirmed) (reported_by bench state (record log1 { end = Some (stop.BenchFault n log.confirmed) }) sent got) (take log.known log.results) m0 o) count
+      (flight_fails p log.confirmed log.came flying more accesses (take log.known log.results) m0 m o broke.part
       (reported_by bench state (record log1 { end = Some (stop.BenchFault (log.confirmed + length flying) log.confirmed) }) sent got)
       s broke.either broke.never (record { end = refl; came = refl }))
 
-  pub not_forgiven : (end : FlightEnd) (z : Stop) (new : LogState) → BrokeOff end accesses m o → is_fault_end end ≡ false → IsCutResponse end → IsStopped end log1 new z → IsBrokenOff z (reported_by bench state new sent got) new log.calls m0 o
+  pub not_forgiven : (end : FlightEnd) (z : Stop) (new : LogState) → BrokeOff end accesses m o → (is_fault_end end ≡ false) ⊎ AreStrict flying → IsCutResponse end → IsStopped end log1 new z → IsBrokenOff p z (reported_by bench state new sent got) new log.calls m0 o
   not_forgiven (ends.Cut cut) (stop.Cut r) new broke not either is =
-      let two : cut.response ≡ 0x02 = two_left cut.response either not in
-      let e = wait_ends cut r new.lines new.skipped broke two (no_fault cut.response r.cause is.cause two) is.accesses is.confirmed_is is.numbers in
-      subst (λ (x : LogState). IsBrokenOff (stop.Cut r) (reported_by bench state x sent got) x log.calls m0 o) (sym is.next)
+      let e = wait_ends cut r new.lines new.skipped broke is.cause (strict_at cut.response r.cause flying is.cause either not) is.accesses is.confirmed_is is.numbers in
+      subst (λ (x : LogState). IsBrokenOff p (stop.Cut r) (reported_by bench state x sent got) x log.calls m0 o) (sym is.next)
       (record { ended = e.ended; stops = λ n left. record { so = e.stops n left } })
   not_forgiven (ends.Cut cut) (stop.BenchFault issued confirmed) new broke not either is = absurd is
   not_forgiven (ends.Cut cut) stop.ReplyBad new broke not either is = absurd is
   not_forgiven (ends.Cut cut) stop.OutOfMemory new broke not either is = absurd is
   not_forgiven ends.BenchFault z new broke not either is =
-      let here : IsBrokenOff (stop.BenchFault (length entries) log.confirmed) (reported_by bench state (record log1 { end = Some (stop.BenchFault (length entries) log.confirmed) }) sent got) (record log1 { end = Some (stop.BenchFault (length entries) log.confirmed) }) log.calls m0 o =
+      let here : IsBrokenOff p (stop.BenchFault (length entries) log.confirmed) (reported_by bench state (record log1 { end = Some (stop.BenchFault (length entries) log.confirmed) }) sent got) (record log1 { end = Some (stop.BenchFault (length entries) log.confirmed) }) log.calls m0 o =
       record { ended = bench_ends broke; stops = λ n left. record { so = tt } } in
-      let at_z : IsBrokenOff z (reported_by bench state (record log1 { end = Some z }) sent got) (record log1 { end = Some z }) log.calls m0 o =
-      subst (λ (x : Stop). IsBrokenOff x (reported_by bench state (record log1 { end = Some x }) sent got) (record log1 { end = Some x }) log.calls m0 o) (sym is.0) here in
-      subst (λ (x : LogState). IsBrokenOff z (reported_by bench state x sent got) x log.calls m0 o) (sym is.1) at_z
+      let at_z : IsBrokenOff p z (reported_by bench state (record log1 { end = Some z }) sent got) (record log1 { end = Some z }) log.calls m0 o =
+      subst (λ (x : Stop). IsBrokenOff p x (reported_by bench state (record log1 { end = Some x }) sent got) (record log1 { end = Some x }) log.calls m0 o) (sym is.0) here in
+      subst (λ (x : LogState). IsBrokenOff p z (reported_by bench state x sent got) x log.calls m0 o) (sym is.1) at_z
   not_forgiven ends.ReplyBad z new broke not either is = absurd broke
 
 -- ---- the bench failed in the write of ABORT
 
-module _ (bench : BenchReported) (state : Option BenchState) (sent got : List ℕ) (log : LogState) (asked : AccessUnit) (k : Kept) (t : TargetState) (made leads : List RegAccess) (last : RegAccess) (for_end : Bool) (rest more : List Action) (m0 m : BenchState)
-    (h : IsTrying log asked k t made rest m0 m) (n : IsNext asked t made leads last for_end rest more) (few : length (leads ++ last ∷ []) ≤ 4) (bounded : length log.entries < 2 ^ 32)
-    (o : BenchState) (part : Part) (flies : Flies (leads ++ last ∷ []) part m o) (answer : part.response ≡ Fault) (q : BenchState) where
+module _ (p : Planner) (forgive : Bool) (bench : BenchReported) (state : Option BenchState) (sent got : List ℕ) (log : LogState) (asked : AccessUnit) (k : Kept) (t : TargetState) (made leads : List RegAccess) (last : RegAccess) (for_end : Bool) (rest more : List Action) (m0 m : BenchState)
+    (h : IsTrying p forgive log asked k t made rest m0 m) (n : IsNext asked t made leads last for_end rest more) (few : length (leads ++ last ∷ []) ≤ 4) (bounded : length log.entries < 2 ^ 32)
+    (o : BenchState) (part : Part) (flies : Flies (leads ++ last ∷ []) part m o) (answer : part.response ≡ Fault) (forgives_it : forgive ≡ true) (q : BenchState) where
   abbrev fly : List Entry
-  fly = flying log asked k t made leads last for_end rest more m0 m h n few bounded
+  fly = flying p forgive log asked k t made leads last for_end rest more m0 m h n few bounded
 
   abbrev ab : Entry
-  ab = abort log asked k t made leads last for_end rest more m0 m h n few bounded o part flies answer
+  ab = abort p forgive log asked k t made leads last for_end rest more m0 m h n few bounded o part flies answer forgives_it
 
-  abbrev s : IsSending Managed log.calls log.confirmed log.came fly (ab ∷ []) (leads ++ last ∷ []) (take log.known log.results) m0 m
-  s = flying_abort log asked k t made leads last for_end rest more m0 m h n few bounded o part flies answer
+  abbrev s : IsSending p log.calls log.confirmed log.came fly (ab ∷ []) (leads ++ last ∷ []) (take log.known log.results) m0 m
+  s = flying_abort p forgive log asked k t made leads last for_end rest more m0 m h n few bounded o part flies answer forgives_it
 
   abbrev journal : List Entry
-  journal = issued Managed (target_of m0.probe) log.calls
+  journal = issued p (target_of m0.probe) log.calls
 
   long : length journal ≡ log.confirmed + length fly + 1
   long = (let a = ap length s.on.are in let b = length-append s.made (fly ++ ab ∷ []) in let c = length-append fly (ab ∷ []) in let d = s.confirmed_is in omega (arith, a, b, c, d))
@@ -124,31 +130,31 @@ module _ (bench : BenchReported) (state : Option BenchState) (sent got : List �
 
   -- so far it was performed
   performed_ends : (many : ℕ) → many ≡ log.confirmed + length fly + 1 → (count : ℕ) → log.confirmed ≤ count → count ≤ log.confirmed + length fly + 1 → ((w : Option ℕ) → HasPerformed journal count (began m0 w) q) → (entries : List Issued) →
-      IsEnded Managed (stop.BenchFault many log.confirmed) (reported_by bench state (record log { entries = entries; end = Some (stop.BenchFault many log.confirmed) }) sent got) (take log.known log.results) m0 q
-  performed_ends many is count low high p entries = record {
+      IsEnded p (stop.BenchFault many log.confirmed) (reported_by bench state (record log { entries = entries; end = Some (stop.BenchFault many log.confirmed) }) sent got) (take log.known log.results) m0 q
+  performed_ends many is count low high part_is entries = record {
     stands = λ w left. record {
       count = count;
-      count_is = (p w).count_is;
+      count_is = (part_is w).count_is;
       low = low;
       high = (omega (arith, high, is));
       within = (let l = long in omega (arith, l, is));
-      target = inl (p w).target;
+      target = inl (part_is w).target;
     };
     results_are = λ w left. ap (λ (k : ℕ). take k (results (world_from m0 w) log.calls)) s.length_is ∙ s.results_are w left.so;
   }
 
   whole_done : (word : ℕ) → HasDone (Commands forgives) word o q → (w : Option ℕ) → HasPerformed journal (log.confirmed + length fly + 1) (began m0 w) q
   whole_done word d w =
-      let c = cleared log asked k t made leads last for_end rest more m0 m h n few bounded o part flies answer q word d in
+      let c = cleared p forgive log asked k t made leads last for_end rest more m0 m h n few bounded o part flies answer forgives_it q word d in
       has_at journal c.made [] (log.confirmed + length fly + 1) w m0 q c.on.are c.on.weighty c.confirmed_is c.on.work c.on.target
 
   none_done : DidLess (Commands forgives) o q → (w : Option ℕ) → HasPerformed journal (length s.made + part.performed) (began m0 w) q
   none_done d w =
-      let p = has_part journal s.made fly (ab ∷ []) (leads ++ last ∷ []) w m0 m o part s.on flies in
-      let work : work_of q.probe ≡ work_of o.probe = (let a = d.work_is (abort_room log asked k t made leads last for_end rest more m0 m h n few bounded o part flies) in let b : d.work < 1 = d.less in omega (arith, a, b)) in
+      let part_is = has_part journal s.made fly (ab ∷ []) (leads ++ last ∷ []) w m0 m o part s.on flies in
+      let work : work_of q.probe ≡ work_of o.probe = (let a = d.work_is (abort_room p forgive log asked k t made leads last for_end rest more m0 m h n few bounded o part flies) in let b : d.work < 1 = d.less in omega (arith, a, b)) in
       record {
-        count_is = p.count_is ∙ ap (λ (x : ℕ). performed (target_of m0.probe) journal (x - work_of m0.probe)) (sym work);
-        within = p.within;
+        count_is = part_is.count_is ∙ ap (λ (x : ℕ). performed (target_of m0.probe) journal (x - work_of m0.probe)) (sym work);
+        within = part_is.within;
         target = agrees d.target;
       }
     where
@@ -166,21 +172,21 @@ module _ (bench : BenchReported) (state : Option BenchState) (sent got : List �
       agrees (inl same) = subst (Agree (target_of q.probe)) there same
       agrees (inr part) = absurd part
 
-  pub not_cleared : (entries : List Issued) → length entries ≡ log.confirmed + length fly + 1 → (end : FlightEnd) (z : Stop) (new : LogState) → ClearedOff end o q → IsStopped end (record log { entries = entries }) new z → IsBrokenOff z (reported_by bench state new sent got) new log.calls m0 q
+  pub not_cleared : (entries : List Issued) → length entries ≡ log.confirmed + length fly + 1 → (end : FlightEnd) (z : Stop) (new : LogState) → ClearedOff end o q → IsStopped end (record log { entries = entries }) new z → IsBrokenOff p z (reported_by bench state new sent got) new log.calls m0 q
   not_cleared entries count (ends.Cut cut) z new left is = absurd left
   not_cleared entries count ends.ReplyBad z new left is = absurd left
   not_cleared entries count ends.BenchFault z new left is =
       let low : log.confirmed ≤ length s.made + part.performed = (let c = s.confirmed_is in omega (arith, c)) in
       let high : length s.made + part.performed ≤ log.confirmed + length fly + 1 = (let c = s.confirmed_is in let most = flies.made.most in let l = same_length in omega (arith, c, most, l)) in
-      let here : IsEnded Managed (stop.BenchFault (length entries) log.confirmed) (reported_by bench state (record log { entries = entries; end = Some (stop.BenchFault (length entries) log.confirmed) }) sent got) (take log.known log.results) m0 q =
+      let here : IsEnded p (stop.BenchFault (length entries) log.confirmed) (reported_by bench state (record log { entries = entries; end = Some (stop.BenchFault (length entries) log.confirmed) }) sent got) (take log.known log.results) m0 q =
       by_left left low high in
-      let at_s : IsBrokenOff (stop.BenchFault (length entries) log.confirmed) (reported_by bench state (record log { entries = entries; end = Some (stop.BenchFault (length entries) log.confirmed) }) sent got) (record log { entries = entries; end = Some (stop.BenchFault (length entries) log.confirmed) }) log.calls m0 q =
+      let at_s : IsBrokenOff p (stop.BenchFault (length entries) log.confirmed) (reported_by bench state (record log { entries = entries; end = Some (stop.BenchFault (length entries) log.confirmed) }) sent got) (record log { entries = entries; end = Some (stop.BenchFault (length entries) log.confirmed) }) log.calls m0 q =
       record { ended = here; stops = λ n left. record { so = tt } } in
-      let at_z : IsBrokenOff z (reported_by bench state (record log { entries = entries; end = Some z }) sent got) (record log { entries = entries; end = Some z }) log.calls m0 q =
-      subst (λ (x : Stop). IsBrokenOff x (reported_by bench state (record log { entries = entries; end = Some x }) sent got) (record log { entries = entries; end = Some x }) log.calls m0 q) (sym is.0) at_s in
-      subst (λ (x : LogState). IsBrokenOff z (reported_by bench state x sent got) x log.calls m0 q) (sym is.1) at_z
+      let at_z : IsBrokenOff p z (reported_by bench state (record log { entries = entries; end = Some z }) sent got) (record log { entries = entries; end = Some z }) log.calls m0 q =
+      subst (λ (x : Stop). IsBrokenOff p x (reported_by bench state (record log { entries = entries; end = Some x }) sent got) (record log { entries = entries; end = Some x }) log.calls m0 q) (sym is.0) at_s in
+      subst (λ (x : LogState). IsBrokenOff p z (reported_by bench state x sent got) x log.calls m0 q) (sym is.1) at_z
     where
       by_left : HasDone (Commands forgives) 0 o q ⊎ DidLess (Commands forgives) o q → log.confirmed ≤ length s.made + part.performed → length s.made + part.performed ≤ log.confirmed + length fly + 1 →
-          IsEnded Managed (stop.BenchFault (length entries) log.confirmed) (reported_by bench state (record log { entries = entries; end = Some (stop.BenchFault (length entries) log.confirmed) }) sent got) (take log.known log.results) m0 q
+          IsEnded p (stop.BenchFault (length entries) log.confirmed) (reported_by bench state (record log { entries = entries; end = Some (stop.BenchFault (length entries) log.confirmed) }) sent got) (take log.known log.results) m0 q
       by_left (inl d) low high = performed_ends (length entries) count (log.confirmed + length fly + 1) (omega arith) (omega arith) (whole_done 0 d) entries
       by_left (inr d) low high = performed_ends (length entries) count (length s.made + part.performed) low high (none_done d) entries

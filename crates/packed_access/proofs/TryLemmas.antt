@@ -20,7 +20,6 @@ use Rattle.call_terms.specs.declared.journal.Part.TheVariants.{Ends, Leads, Skip
 use Rattle.access_regs.specs.Entries.{NoneFault}
 use Rattle.access_regs.specs.Journal.{Step, is_early, issued, is_last, making, numbered}
 use Rattle.access_regs.specs.Kept.{Kept}
-use Rattle.access_regs.specs.declared.planner.Planner.TheVariants.{Managed}
 use Rattle.access_regs.proofs.Seams.{after_split}
 use Rattle.access_regs.proofs.Select.{making_append}
 use Rattle.access_calls.specs.Issued.{AreKeptOf, kept_of}
@@ -33,12 +32,15 @@ use Rattle.calls_in_flight.proofs.CutLemmas.{Cutting, cut, faults, work_is}
 use Rattle.calls_in_flight.proofs.FlightLemmas.{flight_length, makes_after}
 use Rattle.calls_in_flight.proofs.SendLemmas.{forgiven_sends, whole_sends}
 use Rattle.packed_access.specs.Begun.{IsIssuing}
-use Rattle.packed_access.specs.Flown.{HasCome, HasDone}
+use Rattle.bench_flights.specs.Flown.{HasCome, HasDone}
 use Rattle.packed_access.specs.Forgiving.{IsForgiven, IsNext, IsTrying}
 use Rattle.packed_access.specs.Logs.{LogState, all_confirmed}
 use Rattle.packed_access.proofs.ActionLemmas.{at_rest, at_rest_count}
 use Rattle.packed_access.proofs.SlotLemmas.{slot_gives}
 use Rattle.packed_access.proofs.TryStepLemmas.{IsSplit, after_making, none_at, none_both, none_clear, none_last, none_with, numbered_both, split_steps, steps_both, unit_actions_in, unit_forgiving}
+use Rattle.access_regs.specs.declared.planner.Planner.{Planner}
+use Rattle.calls_in_flight.specs.Actions.{AreForgiving}
+use Rattle.calls_in_flight.specs.Forgiving.{after_fault}
 
 clash : (b : Bool) → b ≡ true → b ≡ false → ⊥
 clash true e f = cc
@@ -47,21 +49,21 @@ clash false e f = cc
 -- ---- entries that are issued where nothing lies in the flight
 
 -- those that come next, as what is kept of them
-pub entries_more : (log : LogState) (ys zs : List Entry) (m0 m : BenchState) → IsIssuing log [] (ys ++ zs) m0 m → AreKeptOf (take (length (log.entries ++ map kept_of ys)) (issued Managed (target_of m0.probe) log.calls)) (log.entries ++ map kept_of ys)
-entries_more log ys zs m0 m h =
-    let s = at_rest log (ys ++ zs) m0 m h in
-    let at : length s.made ≡ length log.entries = s.confirmed_is ∙ at_rest_count log (ys ++ zs) m0 m h in
-    let front : take (length log.entries) (issued Managed (target_of m0.probe) log.calls) ≡ s.made = (λ j. take (sym at j) (s.on.are j)) ∙ take-append_seam s.made (ys ++ zs) in
+pub entries_more : (p : Planner) (log : LogState) (ys zs : List Entry) (m0 m : BenchState) → IsIssuing p log [] (ys ++ zs) m0 m → AreKeptOf (take (length (log.entries ++ map kept_of ys)) (issued p (target_of m0.probe) log.calls)) (log.entries ++ map kept_of ys)
+entries_more p log ys zs m0 m h =
+    let s = at_rest p log (ys ++ zs) m0 m h in
+    let at : length s.made ≡ length log.entries = s.confirmed_is ∙ at_rest_count p log (ys ++ zs) m0 m h in
+    let front : take (length log.entries) (issued p (target_of m0.probe) log.calls) ≡ s.made = (λ j. take (sym at j) (s.on.are j)) ∙ take-append_seam s.made (ys ++ zs) in
     let count : length (log.entries ++ map kept_of ys) ≡ length s.made + length ys = (let a = length-append log.entries (map kept_of ys) in let b : length (map kept_of ys) ≡ length ys = length-map ys kept_of in omega (arith, a, b, at)) in
-    let all : take (length (log.entries ++ map kept_of ys)) (issued Managed (target_of m0.probe) log.calls) ≡ s.made ++ ys =
+    let all : take (length (log.entries ++ map kept_of ys)) (issued p (target_of m0.probe) log.calls) ≡ s.made ++ ys =
     (λ j. take (count j) (s.on.are j)) ∙ take-append-add s.made (ys ++ zs) (length ys) ∙ ap (λ (l : List Entry). s.made ++ l) (take-append_seam ys zs) in
     (λ j. (h.entries_are ∙ ap (map kept_of) front) j ++ map kept_of ys) ∙ sym (map-append kept_of s.made ys) ∙ ap (map kept_of) (sym all)
 
 -- they lie in the flight
-pub flying_is : (log : LogState) (accesses : List RegAccess) (flying more : List Entry) (m0 m : BenchState) → IsIssuing log [] (flying ++ more) m0 m → actions_in flying ≡ making accesses → length accesses ≤ 4 → length log.entries < 2 ^ 32 →
-    IsSending Managed log.calls log.confirmed log.came flying more accesses (take log.known log.results) m0 m
-flying_is log accesses flying more m0 m h flight few bounded =
-    let s = at_rest log (flying ++ more) m0 m h in
+pub flying_is : (p : Planner) (forgive : Bool) (log : LogState) (accesses : List RegAccess) (flying more : List Entry) (m0 m : BenchState) → IsIssuing p log [] (flying ++ more) m0 m → actions_in flying ≡ making accesses → length accesses ≤ 4 → length log.entries < 2 ^ 32 →
+    IsSending p log.calls log.confirmed log.came flying more accesses (take log.known log.results) m0 m
+flying_is p forgive log accesses flying more m0 m h flight few bounded =
+    let s = at_rest p log (flying ++ more) m0 m h in
     record {
       fresh = s.fresh;
       askable = s.askable;
@@ -86,18 +88,18 @@ flying_is log accesses flying more m0 m h flight few bounded =
     }
 
 -- all of them were made, where all calls that were issued whole have come
-pub all_made : (log : LogState) (ys zs : List Entry) (m0 m o : BenchState) → IsIssuing log [] (ys ++ zs) m0 m → IsSending Managed log.calls (log.confirmed + length ys) log.came [] zs [] (take log.known log.results) m0 o → log.came ≡ log.whole → CanFly o →
-    work_of o.probe ≤ work_of m.probe + length ys → IsIssuing (all_confirmed (record log { entries = log.entries ++ map kept_of ys })) [] zs m0 o
-all_made log ys zs m0 m o h sent came flies work =
-    subst (λ (l : LogState). IsIssuing l [] zs m0 o) (λ j. record log { entries = log.entries ++ map kept_of ys; confirmed = length (log.entries ++ map kept_of ys); came = came j; known = (h.known_is ∙ came) j }) so
+pub all_made : (p : Planner) (forgive : Bool) (log : LogState) (ys zs : List Entry) (m0 m o : BenchState) → IsIssuing p log [] (ys ++ zs) m0 m → IsSending p log.calls (log.confirmed + length ys) log.came [] zs [] (take log.known log.results) m0 o → log.came ≡ log.whole → CanFly o →
+    work_of o.probe ≤ work_of m.probe + length ys → IsIssuing p (all_confirmed (record log { entries = log.entries ++ map kept_of ys })) [] zs m0 o
+all_made p forgive log ys zs m0 m o h sent came flies work =
+    subst (λ (l : LogState). IsIssuing p l [] zs m0 o) (λ j. record log { entries = log.entries ++ map kept_of ys; confirmed = length (log.entries ++ map kept_of ys); came = came j; known = (h.known_is ∙ came) j }) so
   where
     here : log.confirmed ≡ length log.entries
-    here = at_rest_count log (ys ++ zs) m0 m h
+    here = at_rest_count p log (ys ++ zs) m0 m h
 
     count : length (log.entries ++ map kept_of ys) ≡ length log.entries + length ys
     count = (let a = length-append log.entries (map kept_of ys) in let b : length (map kept_of ys) ≡ length ys = length-map ys kept_of in omega (arith, a, b))
 
-    so : IsIssuing (record log { entries = log.entries ++ map kept_of ys; confirmed = length (log.entries ++ map kept_of ys) }) [] zs m0 o
+    so : IsIssuing p (record log { entries = log.entries ++ map kept_of ys; confirmed = length (log.entries ++ map kept_of ys) }) [] zs m0 o
     so = record {
       flying = [];
       sending = record {
@@ -112,7 +114,7 @@ all_made log ys zs m0 m o h sent came flies work =
       };
       known_is = h.known_is;
       count = omega arith;
-      entries_are = entries_more log ys zs m0 m h;
+      entries_are = entries_more p log ys zs m0 m h;
       strict = tt;
       in_order = h.in_order;
       within = h.within;
@@ -128,34 +130,34 @@ all_made log ys zs m0 m o h sent came flies work =
 
 -- ---- a flight of a unit
 
-module _ (log : LogState) (asked : AccessUnit) (k : Kept) (t : TargetState) (made leads : List RegAccess) (last : RegAccess) (ends : Bool) (rest more : List Action) (m0 m : BenchState)
-    (h : IsTrying log asked k t made rest m0 m) (n : IsNext asked t made leads last ends rest more) (few : length (leads ++ last ∷ []) ≤ 4) (bounded : length log.entries < 2 ^ 32) where
+module _ (p : Planner) (forgive : Bool) (log : LogState) (asked : AccessUnit) (k : Kept) (t : TargetState) (made leads : List RegAccess) (last : RegAccess) (ends : Bool) (rest more : List Action) (m0 m : BenchState)
+    (h : IsTrying p forgive log asked k t made rest m0 m) (n : IsNext asked t made leads last ends rest more) (few : length (leads ++ last ∷ []) ≤ 4) (bounded : length log.entries < 2 ^ 32) where
   abbrev pub xs : List RegAccess
   xs = leads ++ last ∷ []
 
   abbrev pub units : ℕ
   units = length log.calls - 1
 
-  abbrev pub split : IsSplit asked t made leads last h.left more
-  split = split_steps asked k t made leads last ends h.left rest more h.actions h.steps h.good n
+  abbrev pub split : IsSplit forgive asked t made leads last h.left more
+  split = split_steps forgive asked k t made leads last ends h.left rest more h.actions h.steps h.good n
 
   abbrev pub flying : List Entry
-  flying = numbered units true (steps_of_unit asked xs)
+  flying = numbered units forgive (steps_of_unit asked xs)
 
   abbrev pub later : List Entry
-  later = numbered units true split.tail
+  later = numbered units forgive split.tail
 
-  pub issuing : IsIssuing log [] (flying ++ later) m0 m
-  issuing = subst (λ (l : List Entry). IsIssuing log [] l m0 m) (ap (numbered units true) split.is ∙ numbered_both units true (steps_of_unit asked xs) split.tail) h.issuing
+  pub issuing : IsIssuing p log [] (flying ++ later) m0 m
+  issuing = subst (λ (l : List Entry). IsIssuing p log [] l m0 m) (ap (numbered units forgive) split.is ∙ numbered_both units forgive (steps_of_unit asked xs) split.tail) h.issuing
 
   flight : actions_in flying ≡ making xs
-  flight = unit_actions_in units asked xs
+  flight = unit_actions_in forgive units asked xs
 
   count : length flying ≡ length xs
   count = flight_length flying xs flight
 
-  pub sending : IsSending Managed log.calls log.confirmed log.came flying later xs (take log.known log.results) m0 m
-  sending = flying_is log xs flying later m0 m issuing flight few bounded
+  pub sending : IsSending p log.calls log.confirmed log.came flying later xs (take log.known log.results) m0 m
+  sending = flying_is p forgive log xs flying later m0 m issuing flight few bounded
 
   none_there : NoneFault (target_of m.probe) leads
   none_there = subst (λ (u : TargetState). NoneFault u leads) (sym h.target) n.good
@@ -181,21 +183,21 @@ module _ (log : LogState) (asked : AccessUnit) (k : Kept) (t : TargetState) (mad
     fine : is_fault (acted (after t (making (made ++ leads))) (Makes last)).outcome ≡ false
     fine = ap (λ (u : TargetState). is_fault (acted u (Makes last)).outcome) (sym at_last) ∙ none_last (target_of m.probe) leads last none_all
 
-    sent : IsSending Managed log.calls (log.confirmed + length flying) log.came [] later [] (take log.known log.results) m0 o
-    sent = whole_sends Managed log.calls log.confirmed log.came flying later xs (take log.known log.results) m0 m o c.part sending c.flies c.good
+    sent : IsSending p log.calls (log.confirmed + length flying) log.came [] later [] (take log.known log.results) m0 o
+    sent = whole_sends p log.calls log.confirmed log.came flying later xs (take log.known log.results) m0 m o c.part sending c.flies c.good
 
     grown : work_of o.probe ≡ work_of m.probe + c.part.performed
-    grown = work_is (issued Managed (target_of m0.probe) log.calls) sending.made flying later xs None m0 m o c.part sending.on c.flies
+    grown = work_is (issued p (target_of m0.probe) log.calls) sending.made flying later xs None m0 m o c.part sending.on c.flies
 
     target_now : target_of o.probe ≡ after t (making (made ++ xs))
     target_now =
-        c.flies.made.target ∙ ap (one_at_a_time (target_of m.probe)) (take_all c.part.performed xs (let p = performed_all in omega (arith, p))) ∙ sym (makes_after (target_of m.probe) xs)
+        c.flies.made.target ∙ ap (one_at_a_time (target_of m.probe)) (take_all c.part.performed xs (let part_is = performed_all in omega (arith, part_is))) ∙ sym (makes_after (target_of m.probe) xs)
         ∙ ap (λ (u : TargetState). after u (making xs)) h.target ∙ sym (after_making t made xs)
 
-    pub flight_came : IsTrying (all_confirmed (record log { entries = log.entries ++ map kept_of flying })) asked k t (made ++ xs) more m0 o
+    pub flight_came : IsTrying p forgive (all_confirmed (record log { entries = log.entries ++ map kept_of flying })) asked k t (made ++ xs) more m0 o
     flight_came = record {
       left = split.tail;
-      issuing = all_made log flying later m0 m o issuing sent came c.next (let g = grown in let p = performed_all in let l = count in omega (arith, g, p, l));
+      issuing = all_made p forgive log flying later m0 m o issuing sent came c.next (let g = grown in let part_is = performed_all in let l = count in omega (arith, g, part_is, l));
       actions = h.actions ∙ ap (λ (l : List Action). making made ++ l) n.are ∙ sym (append_assoc (making made) (making xs) more) ∙ ap (λ (l : List Action). l ++ more) (sym (making_append made xs));
       steps = h.steps ∙ ap (λ (l : List Step). steps_of_unit asked made ++ l) split.is ∙ sym (append_assoc (steps_of_unit asked made) (steps_of_unit asked xs) split.tail) ∙ ap (λ (l : List Step). l ++ split.tail) (sym (steps_both asked made xs));
       good = none_both t made xs h.good (subst (λ (u : TargetState). NoneFault u xs) h.target none_all);
@@ -205,35 +207,35 @@ module _ (log : LogState) (asked : AccessUnit) (k : Kept) (t : TargetState) (mad
 
     -- what the last access gave
     front_entries : List Entry
-    front_entries = numbered units true (steps_of_unit asked leads)
+    front_entries = numbered units forgive (steps_of_unit asked leads)
 
     abbrev last_part_is : EntryPart
     last_part_is = if is_last asked last then Ends else Leads
 
     abbrev last_entry : Entry
-    last_entry = record { unit = if settles last_part_is then units else units + 1; part = last_part_is; forgiving = true && not (settles last_part_is); action = Makes last }
+    last_entry = record { unit = if settles last_part_is then units else units + 1; part = last_part_is; forgiving = forgive && not (settles last_part_is); action = Makes last }
 
-    front_flying : flying ≡ numbered units true (steps_of_unit asked leads) ++ last_entry ∷ []
-    front_flying = ap (numbered units true) (steps_both asked leads (last ∷ [])) ∙ numbered_both units true (steps_of_unit asked leads) (steps_of_unit asked (last ∷ []))
+    front_flying : flying ≡ numbered units forgive (steps_of_unit asked leads) ++ last_entry ∷ []
+    front_flying = ap (numbered units forgive) (steps_both asked leads (last ∷ [])) ∙ numbered_both units forgive (steps_of_unit asked leads) (steps_of_unit asked (last ∷ []))
 
-    seam : issued Managed (target_of m0.probe) log.calls ≡ (sending.made ++ numbered units true (steps_of_unit asked leads)) ++ last_entry ∷ later
+    seam : issued p (target_of m0.probe) log.calls ≡ (sending.made ++ numbered units forgive (steps_of_unit asked leads)) ++ last_entry ∷ later
     seam =
         sending.on.are ∙ ap (λ (l : List Entry). sending.made ++ (l ++ later)) front_flying
-        ∙ ap (λ (l : List Entry). sending.made ++ l) (append_assoc (numbered units true (steps_of_unit asked leads)) (last_entry ∷ []) later)
-        ∙ sym (append_assoc sending.made (numbered units true (steps_of_unit asked leads)) (last_entry ∷ later))
+        ∙ ap (λ (l : List Entry). sending.made ++ l) (append_assoc (numbered units forgive (steps_of_unit asked leads)) (last_entry ∷ []) later)
+        ∙ sym (append_assoc sending.made (numbered units forgive (steps_of_unit asked leads)) (last_entry ∷ later))
 
-    front_count : length (numbered units true (steps_of_unit asked leads)) ≡ length leads
-    front_count = flight_length (numbered units true (steps_of_unit asked leads)) leads (unit_actions_in units asked leads)
+    front_count : length (numbered units forgive (steps_of_unit asked leads)) ≡ length leads
+    front_count = flight_length (numbered units forgive (steps_of_unit asked leads)) leads (unit_actions_in forgive units asked leads)
 
-    target_there : target_after (target_of m0.probe) (sending.made ++ numbered units true (steps_of_unit asked leads)) ≡ after t (making (made ++ leads))
+    target_there : target_after (target_of m0.probe) (sending.made ++ numbered units forgive (steps_of_unit asked leads)) ≡ after t (making (made ++ leads))
     target_there =
-        after_split (target_of m0.probe) sending.made (numbered units true (steps_of_unit asked leads))
-        ∙ (λ j. after (sym sending.on.target j) (unit_actions_in units asked leads j)) ∙ at_last
+        after_split (target_of m0.probe) sending.made (numbered units forgive (steps_of_unit asked leads))
+        ∙ (λ j. after (sym sending.on.target j) (unit_actions_in forgive units asked leads j)) ∙ at_last
 
     pub value_came : unwrap_or (slot_at values (length leads)) 0 ≡ given (acted (after t (making (made ++ leads))) (Makes last)).outcome
     value_came =
-        slot_gives (issued Managed (target_of m0.probe) log.calls) sending.made flying later xs m0 m o c.part values (sending.made ++ numbered units true (steps_of_unit asked leads)) last_entry later (length leads)
-        sending.on c.flies c.good c.values_are seam (length-append sending.made (numbered units true (steps_of_unit asked leads)) ∙ ap (λ (k : ℕ). length sending.made + k) front_count)
+        slot_gives (issued p (target_of m0.probe) log.calls) sending.made flying later xs m0 m o c.part values (sending.made ++ numbered units forgive (steps_of_unit asked leads)) last_entry later (length leads)
+        sending.on c.flies c.good c.values_are seam (length-append sending.made (numbered units forgive (steps_of_unit asked leads)) ∙ ap (λ (k : ℕ). length sending.made + k) front_count)
         (let l = count in let a = length-append leads (last ∷ []) in omega (arith, l, a))
         ∙ ap (λ (u : TargetState). given (acted u (Makes last)).outcome) target_there
 
@@ -241,7 +243,7 @@ module _ (log : LogState) (asked : AccessUnit) (k : Kept) (t : TargetState) (mad
 
   module _ (o : BenchState) (part : Part) (flies : Flies xs part m o) where
     fault_grown : work_of o.probe ≡ work_of m.probe + part.performed
-    fault_grown = work_is (issued Managed (target_of m0.probe) log.calls) sending.made flying later xs None m0 m o part sending.on flies
+    fault_grown = work_is (issued p (target_of m0.probe) log.calls) sending.made flying later xs None m0 m o part sending.on flies
 
     pub work_few : work_of o.probe ≤ work_of m.probe + length xs
     work_few = (let g = fault_grown in let most = flies.made.most in omega (arith, g, most))
@@ -250,7 +252,7 @@ module _ (log : LogState) (asked : AccessUnit) (k : Kept) (t : TargetState) (mad
     pub abort_room : work_of o.probe + 1 < 2 ^ 64
     abort_room = (let w = work_few in let f = h.issuing.few in omega (arith, w, f, few, bounded))
 
-  module _ (o : BenchState) (part : Part) (flies : Flies xs part m o) (answer : part.response ≡ Fault) where
+  module _ (o : BenchState) (part : Part) (flies : Flies xs part m o) (answer : part.response ≡ Fault) (forgives_it : forgive ≡ true) where
     short : part.confirmed < length xs
     short = flies.made.short (λ good. absurd (let x : ◌≡◌ {A = Response} Good Fault = sym good ∙ answer in cc))
 
@@ -261,7 +263,7 @@ module _ (log : LogState) (asked : AccessUnit) (k : Kept) (t : TargetState) (mad
         by_fault : (b : Bool) → is_fault (acted (after t (making (made ++ leads))) (Makes last)).outcome ≡ b → is_fault (acted (after t (making (made ++ leads))) (Makes last)).outcome ≡ true
         by_fault true e = e
         by_fault false e =
-            let journal : List Entry = issued Managed (target_of m0.probe) log.calls in
+            let journal : List Entry = issued p (target_of m0.probe) log.calls in
             let x : Cutting part.confirmed flying = cut journal sending.made flying later xs None m0 m o part sending.on flies answer short in
             let all : NoneFault (target_of m.probe) xs = none_with (target_of m.probe) leads last none_there (ap (λ (u : TargetState). is_fault (acted u (Makes last)).outcome) at_last ∙ e) in
             let good : is_fault (acted (after (target_of m.probe) (actions_in x.front)) x.entry.action).outcome ≡ false = none_at (target_of m.probe) x.front x.entry x.back xs all (ap actions_in (sym x.is) ∙ flight) in
@@ -273,31 +275,38 @@ module _ (log : LogState) (asked : AccessUnit) (k : Kept) (t : TargetState) (mad
     abbrev pub abort : Entry
     abort = record { unit = units + 1; part = Skips (is_early asked (making (made ++ xs))); forgiving = true; action = Commands forgives }
 
+    tail_is : split.tail ≡ abort_after asked (made ++ xs) ∷ []
+    tail_is = split.bad bad ∙ ap (λ (b : Bool). after_fault b asked (made ++ xs)) forgives_it
+
     pub later_is : later ≡ abort ∷ []
-    later_is = ap (numbered units true) (split.bad bad)
+    later_is = (λ j. numbered units (forgives_it j) (tail_is j))
 
-    pub flying_abort : IsSending Managed log.calls log.confirmed log.came flying (abort ∷ []) xs (take log.known log.results) m0 m
-    flying_abort = subst (λ (l : List Entry). IsSending Managed log.calls log.confirmed log.came flying l xs (take log.known log.results) m0 m) later_is sending
+    forgiving_all : AreForgiving flying
+    forgiving_all = subst (λ (b : Bool). AreForgiving (numbered units b (steps_of_unit asked xs))) (sym forgives_it) (unit_forgiving units asked xs)
 
-    pub issuing_abort : IsIssuing log [] ((flying ++ abort ∷ []) ++ []) m0 m
-    issuing_abort = subst (λ (l : List Entry). IsIssuing log [] l m0 m) (ap (λ (l : List Entry). flying ++ l) later_is ∙ sym (append-nil (flying ++ abort ∷ []))) issuing
+    pub flying_abort : IsSending p log.calls log.confirmed log.came flying (abort ∷ []) xs (take log.known log.results) m0 m
+    flying_abort = subst (λ (l : List Entry). IsSending p log.calls log.confirmed log.came flying l xs (take log.known log.results) m0 m) later_is sending
+
+    pub issuing_abort : IsIssuing p log [] ((flying ++ abort ∷ []) ++ []) m0 m
+    issuing_abort = subst (λ (l : List Entry). IsIssuing p log [] l m0 m) (ap (λ (l : List Entry). flying ++ l) later_is ∙ sym (append-nil (flying ++ abort ∷ []))) issuing
 
     -- ABORT was written
     module _ (q : BenchState) (word : ℕ) (d : HasDone (Commands forgives) word o q) where
       done_work : work_of q.probe ≡ work_of o.probe + 1
       done_work = (d.does (abort_room o part flies)).work
 
-      pub cleared : IsSending Managed log.calls (log.confirmed + length flying + 1) log.came [] [] [] (take log.known log.results) m0 q
-      cleared = forgiven_sends Managed log.calls log.confirmed log.came flying abort [] leads last (take log.known log.results) m0 m o q part flying_abort flies answer none_there (unit_forgiving units asked xs) refl refl (d.does (abort_room o part flies)) (let r = abort_room o part flies in let w = done_work in omega (arith, r, w))
+      pub cleared : IsSending p log.calls (log.confirmed + length flying + 1) log.came [] [] [] (take log.known log.results) m0 q
+      cleared = forgiven_sends p log.calls log.confirmed log.came flying abort [] leads last (take log.known log.results) m0 m o q part flying_abort flies answer none_there forgiving_all refl refl (d.does (abort_room o part flies)) (let r = abort_room o part flies in let w = done_work in omega (arith, r, w))
 
       both_count : log.confirmed + length flying + 1 ≡ log.confirmed + length (flying ++ abort ∷ [])
       both_count = (let l = length-append flying (abort ∷ []) in omega (arith, l))
 
-      pub flight_forgiven : log.came ≡ log.whole → IsForgiven (all_confirmed (record log { entries = log.entries ++ map kept_of (flying ++ abort ∷ []) })) asked k t (made ++ leads) last m0 q
+      pub flight_forgiven : log.came ≡ log.whole → IsForgiven p forgive (all_confirmed (record log { entries = log.entries ++ map kept_of (flying ++ abort ∷ []) })) asked k t (made ++ leads) last m0 q
       flight_forgiven came = record {
-        issuing = all_made log (flying ++ abort ∷ []) [] m0 m q issuing_abort (subst (λ (c : ℕ). IsSending Managed log.calls c log.came [] [] [] (take log.known log.results) m0 q) both_count cleared) came d.next
+        forgives = forgives_it;
+        issuing = all_made p forgive log (flying ++ abort ∷ []) [] m0 m q issuing_abort (subst (λ (c : ℕ). IsSending p log.calls c log.came [] [] [] (take log.known log.results) m0 q) both_count cleared) came d.next
             (let w = work_few o part flies in let g = done_work in let l = count in let a = length-append flying (abort ∷ []) in omega (arith, w, g, l, a));
-        steps = h.steps ∙ ap (λ (l : List Step). steps_of_unit asked made ++ l) (split.is ∙ ap (λ (l : List Step). steps_of_unit asked xs ++ l) (split.bad bad))
+        steps = h.steps ∙ ap (λ (l : List Step). steps_of_unit asked made ++ l) (split.is ∙ ap (λ (l : List Step). steps_of_unit asked xs ++ l) tail_is)
             ∙ sym (append_assoc (steps_of_unit asked made) (steps_of_unit asked xs) (abort_after asked (made ++ xs) ∷ [])) ∙ ap (λ (l : List Step). l ++ abort_after asked (made ++ xs) ∷ []) (sym (steps_both asked made xs))
             ∙ ap (λ (l : List RegAccess). steps_of_unit asked l ++ abort_after asked l ∷ []) (sym (append_assoc made leads (last ∷ [])));
         good = none_both t made leads h.good n.good;

@@ -25,13 +25,14 @@ use Rattle.packed_access.specs.Forgiving.{CameTo, HasBroken, HasTried, IsNext, I
 use Rattle.packed_access.specs.Logs.{LogState}
 use Rattle.packed_access.proofs.BegunLemmas.{fact_of}
 use Rattle.packed_access.proofs.TryStepLemmas.{after_making}
+use Rattle.access_regs.specs.declared.planner.Planner.{Planner}
 
 -- STICKYERR is clear, and none of the accesses faulted
-pub tried_clear : (x : Option BenchState) (log : LogState) (asked : AccessUnit) (k : Kept) (t : TargetState) (made : List RegAccess) (rest : List Action) (m0 : BenchState) → HasTried x log asked k t made rest m0 → (after t (making made)).sticky ≡ false
-tried_clear x log asked k t made rest m0 h = fact_of x (λ m. IsTrying log asked k t made rest m0 m) _ (λ m i. ap (λ (u : TargetState). u.sticky) (sym i.target) ∙ i.issuing.sending.on.clear) h.so
+pub tried_clear : (p : Planner) (forgive : Bool) (x : Option BenchState) (log : LogState) (asked : AccessUnit) (k : Kept) (t : TargetState) (made : List RegAccess) (rest : List Action) (m0 : BenchState) → HasTried p forgive x log asked k t made rest m0 → (after t (making made)).sticky ≡ false
+tried_clear p forgive x log asked k t made rest m0 h = fact_of x (λ m. IsTrying p forgive log asked k t made rest m0 m) _ (λ m i. ap (λ (u : TargetState). u.sticky) (sym i.target) ∙ i.issuing.sending.on.clear) h.so
 
-pub tried_good : (x : Option BenchState) (log : LogState) (asked : AccessUnit) (k : Kept) (t : TargetState) (made : List RegAccess) (rest : List Action) (m0 : BenchState) → HasTried x log asked k t made rest m0 → NoneFault t made
-tried_good x log asked k t made rest m0 h = fact_of x (λ m. IsTrying log asked k t made rest m0 m) _ (λ m i. i.good) h.so
+pub tried_good : (p : Planner) (forgive : Bool) (x : Option BenchState) (log : LogState) (asked : AccessUnit) (k : Kept) (t : TargetState) (made : List RegAccess) (rest : List Action) (m0 : BenchState) → HasTried p forgive x log asked k t made rest m0 → NoneFault t made
+tried_good p forgive x log asked k t made rest m0 h = fact_of x (λ m. IsTrying p forgive log asked k t made rest m0 m) _ (λ m i. i.good) h.so
 
 none_rest : (u : TargetState) (xs ys : List RegAccess) → NoneFault u (xs ++ ys) → NoneFault (after u (making xs)) ys
 none_rest u [] ys h = h
@@ -61,8 +62,8 @@ memory_leads large size address csw =
 abbrev pub csw_read : TargetState → ℕ → ℕ
 csw_read u n = given (in_order u (csw_actions n)).outcome
 
-module _ (x : Option BenchState) (log : LogState) (k : Kept) (t : TargetState) (made : List RegAccess) (rest : List Action) (m0 : BenchState) (large : Bool) (size : ℕ) (read : Bool) (n address value : ℕ)
-    (h : HasTried x log (unit.Memory size read n address value) k t made rest m0) (lt : n < 256) (quiet : list_any (is_end (unit.Memory size read n address value)) (making made) ≡ false) (is : rest ≡ memory_actions (after t (making made)) large size read n address value) where
+module _ (p : Planner) (forgive : Bool) (x : Option BenchState) (log : LogState) (k : Kept) (t : TargetState) (made : List RegAccess) (rest : List Action) (m0 : BenchState) (large : Bool) (size : ℕ) (read : Bool) (n address value : ℕ)
+    (h : HasTried p forgive x log (unit.Memory size read n address value) k t made rest m0) (lt : n < 256) (quiet : list_any (is_end (unit.Memory size read n address value)) (making made) ≡ false) (is : rest ≡ memory_actions (after t (making made)) large size read n address value) where
   abbrev pub unit_is : AccessUnit
   unit_is = unit.Memory size read n address value
 
@@ -70,7 +71,7 @@ module _ (x : Option BenchState) (log : LogState) (k : Kept) (t : TargetState) (
   u = after t (making made)
 
   clear : u.sticky ≡ false
-  clear = tried_clear x log unit_is k t made rest m0 h
+  clear = tried_clear p forgive x log unit_is k t made rest m0 h
 
   none_select : NoneFault u (select_of n 0 ∷ [])
   none_select = select_is_good u n 0 lt (omega arith) clear
@@ -78,6 +79,7 @@ module _ (x : Option BenchState) (log : LogState) (k : Kept) (t : TargetState) (
   pub csw_next : IsNext unit_is t made (select_of n 0 ∷ []) (ap_access_of true 0 0) false rest (transfer_actions large size read address value (csw_read u n))
   csw_next = record {
     may = refl;
+    first = ap not quiet;
     are = is;
     parts = refl;
     early = early_at unit_is made (csw_flight n) false quiet refl;
@@ -91,12 +93,12 @@ module _ (x : Option BenchState) (log : LogState) (k : Kept) (t : TargetState) (
 
   -- ---- the transfer
 
-  module _ (y : Option BenchState) (log2 : LogState) (csw : ℕ) (h2 : HasTried y log2 unit_is k t (made ++ (select_of n 0 ∷ [] ++ ap_access_of true 0 0 ∷ [])) (transfer_actions large size read address value (csw_read u n)) m0) (csw_is : csw ≡ csw_read u n) where
+  module _ (y : Option BenchState) (log2 : LogState) (csw : ℕ) (h2 : HasTried p forgive y log2 unit_is k t (made ++ (select_of n 0 ∷ [] ++ ap_access_of true 0 0 ∷ [])) (transfer_actions large size read address value (csw_read u n)) m0) (csw_is : csw ≡ csw_read u n) where
     abbrev pub made2 : List RegAccess
     made2 = made ++ (select_of n 0 ∷ [] ++ ap_access_of true 0 0 ∷ [])
 
     none_csw : NoneFault u (csw_flight n)
-    none_csw = none_rest t made (csw_flight n) (tried_good y log2 unit_is k t made2 (transfer_actions large size read address value (csw_read u n)) m0 h2)
+    none_csw = none_rest t made (csw_flight n) (tried_good p forgive y log2 unit_is k t made2 (transfer_actions large size read address value (csw_read u n)) m0 h2)
 
     there : after t (making made2) ≡ (attempt (attempt u (select_of n 0)).next (ap_access_of true csw_register 0)).next
     there = after_making t made (csw_flight n)
@@ -107,6 +109,7 @@ module _ (x : Option BenchState) (log : LogState) (k : Kept) (t : TargetState) (
     pub drw_next : (b : Bool) → large ≡ b → IsNext unit_is t made2 (memory_leads b size address csw) (drw_of read address value) true (transfer_actions large size read address value (csw_read u n)) []
     drw_next true e = record {
       may = refl;
+      first = ap not quiet2;
       are = (λ j. transfer_actions (e j) size read address value (sym csw_is j));
       parts = refl;
       early = early_at unit_is made2 (memory_leads true size address csw ++ drw_of read address value ∷ []) true quiet2 refl;
@@ -114,6 +117,7 @@ module _ (x : Option BenchState) (log : LogState) (k : Kept) (t : TargetState) (
     }
     drw_next false e = record {
       may = refl;
+      first = ap not quiet2;
       are = (λ j. transfer_actions (e j) size read address value (sym csw_is j));
       parts = refl;
       early = early_at unit_is made2 (memory_leads false size address csw ++ drw_of read address value ∷ []) true quiet2 refl;
@@ -122,18 +126,18 @@ module _ (x : Option BenchState) (log : LogState) (k : Kept) (t : TargetState) (
 
 -- ---- what it came to
 
-pub went_came : (w : Option ℕ) (x : Option BenchState) (log : LogState) (asked : AccessUnit) (k : Kept) (t : TargetState) (made leads : List RegAccess) (last : RegAccess) (m0 : BenchState) → WentTo w x log asked k t made leads last [] m0 → CameTo w x log asked k t m0
-went_came None x log asked k t made leads last m0 h = record { made = made ++ leads; last = last; forgiven = h }
-went_came (Some v) x log asked k t made leads last m0 h = record {
+pub went_came : (p : Planner) (forgive : Bool) (w : Option ℕ) (x : Option BenchState) (log : LogState) (asked : AccessUnit) (k : Kept) (t : TargetState) (made leads : List RegAccess) (last : RegAccess) (m0 : BenchState) → WentTo p forgive w x log asked k t made leads last [] m0 → CameTo p forgive w x log asked k t m0
+went_came p forgive None x log asked k t made leads last m0 h = record { made = made ++ leads; last = last; forgiven = h }
+went_came p forgive (Some v) x log asked k t made leads last m0 h = record {
   made = made ++ leads;
   last = last;
-  tried = subst (λ (l : List RegAccess). HasTried x log asked k t l [] m0) (sym (append_assoc made leads (last ∷ []))) h.0;
+  tried = subst (λ (l : List RegAccess). HasTried p forgive x log asked k t l [] m0) (sym (append_assoc made leads (last ∷ []))) h.0;
   value = h.1;
 }
 
-pub went_skipped : (w : Option ℕ) (x : Option BenchState) (log : LogState) (asked : AccessUnit) (k : Kept) (t : TargetState) (made leads : List RegAccess) (last : RegAccess) (more : List Action) (m0 : BenchState) → w ≡ None → WentTo w x log asked k t made leads last more m0 → CameTo None x log asked k t m0
-went_skipped w x log asked k t made leads last more m0 is h =
-    record { made = made ++ leads; last = last; forgiven = subst (λ (v : Option ℕ). WentTo v x log asked k t made leads last more m0) is h }
+pub went_skipped : (p : Planner) (forgive : Bool) (w : Option ℕ) (x : Option BenchState) (log : LogState) (asked : AccessUnit) (k : Kept) (t : TargetState) (made leads : List RegAccess) (last : RegAccess) (more : List Action) (m0 : BenchState) → w ≡ None → WentTo p forgive w x log asked k t made leads last more m0 → CameTo p forgive None x log asked k t m0
+went_skipped p forgive w x log asked k t made leads last more m0 is h =
+    record { made = made ++ leads; last = last; forgiven = subst (λ (v : Option ℕ). WentTo p forgive v x log asked k t made leads last more m0) is h }
 
 pub on_ok : {A E : Type 0} → (r : Result A E) (P Q : A → Type 0) → ((a : A) → P a → Q a) → IfOk r P → IfOk r Q
 on_ok (Ok a) P Q f h = f a h
@@ -144,5 +148,5 @@ on_err (Ok a) P Q f h = tt
 on_err (Err e) P Q f h = f e h
 
 -- the calls by another name
-pub broken_calls : (s : Stop) (a : Reported) (log : LogState) (calls calls' : List Ask) (m0 : BenchState) → calls ≡ calls' → HasBroken s a log calls m0 → HasBroken s a log calls' m0
-broken_calls s a log calls calls' m0 same h = subst (λ (l : List Ask). HasBroken s a log l m0) same h
+pub broken_calls : (p : Planner) (s : Stop) (a : Reported) (log : LogState) (calls calls' : List Ask) (m0 : BenchState) → calls ≡ calls' → HasBroken p s a log calls m0 → HasBroken p s a log calls' m0
+broken_calls p s a log calls calls' m0 same h = subst (λ (l : List Ask). HasBroken p s a log l m0) same h

@@ -27,7 +27,6 @@ use Rattle.access_regs.specs.Journal.{Issue, Step, actions_of, is_last, issued, 
 use Rattle.access_regs.specs.Kept.{Kept, known}
 use Rattle.access_regs.specs.Plan.{needs_cfg, settle, settled}
 use Rattle.access_regs.specs.Skips.{own_steps}
-use Rattle.access_regs.specs.declared.planner.Planner.TheVariants.{Managed}
 use Rattle.access_regs.proofs.EntryLemmas.{journal_grows}
 use Rattle.access_regs.proofs.Seams.{after_split}
 use Rattle.access_regs.proofs.SkipLemmas.{fault_skips}
@@ -40,6 +39,9 @@ use Rattle.packed_access.specs.Begun.{entries_of}
 use Rattle.packed_access.specs.Forgiving.{CfgShows}
 use Rattle.packed_access.proofs.TryBeginLemmas.{IsBefore, IsCalm, alone_issue, askable_front, askable_last, entries_are, is_calm, issue_is, settles_in, target_settled}
 use Rattle.packed_access.proofs.TryStepLemmas.{numbered_both, steps_both, unit_actions_in}
+use Rattle.access_regs.specs.declared.planner.Planner.{Planner}
+use Rattle.packed_access.proofs.TryBeginLemmas.{both_hold}
+use Rattle.access_regs.specs.Journal.{is_alone}
 
 -- ---- lists of steps
 
@@ -75,105 +77,108 @@ if_units asked last units = cond (settles (if_last asked last)) units (units + 1
 
 -- ---- the unit as the last call
 
-module _ (t : TargetState) (calls : List Ask) (unit_ : AccessUnit) (may : may_forgive (Access unit_) ≡ true) (b : IsBefore t calls (unit_ask unit_ true)) where
+module _ (p : Planner) (forgive : Bool) (t : TargetState) (calls : List Ask) (unit_ : AccessUnit) (alone : is_alone p forgive ≡ true) (may : may_forgive (Access unit_) ≡ true) (b : IsBefore t calls (unit_ask unit_ forgive)) where
   abbrev pub the_ask : Ask
-  the_ask = unit_ask unit_ true
+  the_ask = unit_ask unit_ forgive
 
   abbrev pub k : Kept
-  k = kept_by Managed t calls
+  k = kept_by p t calls
 
   abbrev pub u : TargetState
-  u = target_settled t calls k
+  u = target_settled p t calls k
 
   abbrev pub steps : List Step
-  steps = (alone_issue t calls k unit_).steps
+  steps = (alone_issue p forgive t calls k unit_).steps
 
-  calm : IsCalm t calls
-  calm = is_calm t calls the_ask b
+  calm : IsCalm p t calls
+  calm = is_calm p t calls the_ask b
 
-  own_are : own_steps Managed t calls the_ask ≡ steps_of Settles (settle k) ++ steps
-  own_are = ap (λ (i : Issue). i.steps) (issue_is t calls k unit_ may)
+  own_are : own_steps p t calls the_ask ≡ steps_of Settles (settle k) ++ steps
+  own_are = ap (λ (i : Issue). i.steps) (issue_is p forgive t calls k unit_ alone may)
 
   -- the accesses that passed, with the settling
-  settled_pass : (xs : List RegAccess) → NoneFault u xs → PassTo (target_by Managed t calls) (actions_of (steps_of Settles (settle k) ++ steps_of_unit unit_ xs)) (after u (making xs))
+  settled_pass : (xs : List RegAccess) → NoneFault u xs → PassTo (target_by p t calls) (actions_of (steps_of Settles (settle k) ++ steps_of_unit unit_ xs)) (after u (making xs))
   settled_pass xs good =
-      subst (λ (l : List Action). PassTo (target_by Managed t calls) l (after u (making xs)))
+      subst (λ (l : List Action). PassTo (target_by p t calls) l (after u (making xs)))
       (sym (map-append (λ (s : Step). s.action) (steps_of Settles (settle k)) (steps_of_unit unit_ xs) ∙ (λ j. steps_in Settles (settle k) j ++ unit_steps_in unit_ xs j)))
-      (pass_both (target_by Managed t calls) u (after u (making xs)) (making (settle k)) (making xs) calm.pass (pass_makes u xs good))
+      (pass_both (target_by p t calls) u (after u (making xs)) (making (settle k)) (making xs) calm.pass (pass_makes u xs good))
 
   -- ---- it was skipped
 
-  module _ (made : List RegAccess) (last : RegAccess) (are : steps ≡ steps_of_unit unit_ (made ++ last ∷ []) ++ abort_after unit_ (made ++ last ∷ []) ∷ []) (good : NoneFault u made) (bad : is_fault (acted (after u (making made)) (Makes last)).outcome ≡ true) where
+  module _ (made : List RegAccess) (last : RegAccess) (forgives : forgive ≡ true) (are : steps ≡ steps_of_unit unit_ (made ++ last ∷ []) ++ abort_after unit_ (made ++ last ∷ []) ∷ []) (good : NoneFault u made) (bad : is_fault (acted (after u (making made)) (Makes last)).outcome ≡ true) where
+    forgives_it : (forgive && may_forgive (Access unit_)) ≡ true
+    forgives_it = both_hold forgive (may_forgive (Access unit_)) forgives may
+
     abbrev step : Step
     step = record { part = if_last unit_ last; action = Makes last }
 
-    cut : own_steps Managed t calls the_ask ≡ (steps_of Settles (settle k) ++ steps_of_unit unit_ made) ++ step ∷ (abort_after unit_ (made ++ last ∷ []) ∷ [])
+    cut : own_steps p t calls the_ask ≡ (steps_of Settles (settle k) ++ steps_of_unit unit_ made) ++ step ∷ (abort_after unit_ (made ++ last ∷ []) ∷ [])
     cut =
         own_are ∙ ap (λ (l : List Step). steps_of Settles (settle k) ++ l) (are ∙ ap (λ (l : List Step). l ++ abort_after unit_ (made ++ last ∷ []) ∷ []) (steps_both unit_ made (last ∷ [])) ∙ append_assoc (steps_of_unit unit_ made) (step ∷ []) (abort_after unit_ (made ++ last ∷ []) ∷ []))
         ∙ sym (append_assoc (steps_of Settles (settle k)) (steps_of_unit unit_ made) (step ∷ abort_after unit_ (made ++ last ∷ []) ∷ []))
 
     pub skip_outcome : (skips (start_world t None) (calls ++ the_ask ∷ []) ≡ skips (start_world t None) calls + 1) × (results (start_world t None) (calls ++ the_ask ∷ []) ≡ results (start_world t None) calls ++ 0 ∷ [])
-    skip_outcome = skip_comes Managed t calls the_ask (steps_of Settles (settle k) ++ steps_of_unit unit_ made) step (abort_after unit_ (made ++ last ∷ []) ∷ []) (after u (making made)) b.fresh b.askable b.whole may cut (settled_pass made good) bad
+    skip_outcome = skip_comes p t calls the_ask (steps_of Settles (settle k) ++ steps_of_unit unit_ made) step (abort_after unit_ (made ++ last ∷ []) ∷ []) (after u (making made)) b.fresh b.askable b.whole forgives_it cut (settled_pass made good) bad
 
     pub skip_not_small : small_now (start_world t None) calls the_ask ≡ false
     skip_not_small =
         one_small (start_world t None) calls the_ask b.whole
-        ∙ ap is_small_end (alone_is t calls the_ask b.whole ∙ fault_skips Managed t calls the_ask (steps_of Settles (settle k) ++ steps_of_unit unit_ made) step (abort_after unit_ (made ++ last ∷ []) ∷ []) (after u (making made)) b.fresh b.askable (never t calls the_ask b.whole).none may cut (settled_pass made good) bad)
+        ∙ ap is_small_end (alone_is t calls the_ask b.whole ∙ fault_skips p t calls the_ask (steps_of Settles (settle k) ++ steps_of_unit unit_ made) step (abort_after unit_ (made ++ last ∷ []) ∷ []) (after u (making made)) b.fresh b.askable (never t calls the_ask b.whole).none forgives_it cut (settled_pass made good) bad)
 
   -- ---- it came
 
   module _ (made : List RegAccess) (last : RegAccess) (are : steps ≡ steps_of_unit unit_ (made ++ last ∷ [])) (good : NoneFault u (made ++ last ∷ [])) where
-    whole_pass : PassTo (target_by Managed t calls) (actions_of (own_steps Managed t calls the_ask)) (after u (making (made ++ last ∷ [])))
-    whole_pass = subst (λ (l : List Step). PassTo (target_by Managed t calls) (actions_of l) (after u (making (made ++ last ∷ [])))) (sym (own_are ∙ ap (λ (l : List Step). steps_of Settles (settle k) ++ l) are)) (settled_pass (made ++ last ∷ []) good)
+    whole_pass : PassTo (target_by p t calls) (actions_of (own_steps p t calls the_ask)) (after u (making (made ++ last ∷ [])))
+    whole_pass = subst (λ (l : List Step). PassTo (target_by p t calls) (actions_of l) (after u (making (made ++ last ∷ [])))) (sym (own_are ∙ ap (λ (l : List Step). steps_of Settles (settle k) ++ l) are)) (settled_pass (made ++ last ∷ []) good)
 
     pub pass_skips : skips (start_world t None) (calls ++ the_ask ∷ []) ≡ skips (start_world t None) calls
-    pass_skips = pass_comes Managed t calls the_ask (after u (making (made ++ last ∷ []))) b.fresh b.askable b.whole whole_pass
+    pass_skips = pass_comes p t calls the_ask (after u (making (made ++ last ∷ []))) b.fresh b.askable b.whole whole_pass
 
     abbrev last_entry : Entry
-    last_entry = record { unit = if_units unit_ last (length calls); part = if_last unit_ last; forgiving = true && not (settles (if_last unit_ last)); action = Makes last }
+    last_entry = record { unit = if_units unit_ last (length calls); part = if_last unit_ last; forgiving = forgive && not (settles (if_last unit_ last)); action = Makes last }
 
     abbrev front : List Entry
-    front = issued Managed t calls ++ (entries_of (length calls) Settles (settle k) ++ numbered (length calls) true (steps_of_unit unit_ made))
+    front = issued p t calls ++ (entries_of (length calls) Settles (settle k) ++ numbered (length calls) forgive (steps_of_unit unit_ made))
 
-    journal : issued Managed t (calls ++ the_ask ∷ []) ≡ front ++ last_entry ∷ []
+    journal : issued p t (calls ++ the_ask ∷ []) ≡ front ++ last_entry ∷ []
     journal =
-        (journal_grows Managed t calls the_ask refl).0 ∙ ap (λ (l : List Entry). issued Managed t calls ++ l)
-        (entries_are t calls k unit_ may ∙ ap (λ (l : List Step). entries_of (length calls) Settles (settle k) ++ numbered (length calls) true l) (are ∙ steps_both unit_ made (last ∷ []))
-        ∙ ap (λ (l : List Entry). entries_of (length calls) Settles (settle k) ++ l) (numbered_both (length calls) true (steps_of_unit unit_ made) (steps_of_unit unit_ (last ∷ [])))
-        ∙ sym (append_assoc (entries_of (length calls) Settles (settle k)) (numbered (length calls) true (steps_of_unit unit_ made)) (last_entry ∷ [])))
-        ∙ sym (append_assoc (issued Managed t calls) (entries_of (length calls) Settles (settle k) ++ numbered (length calls) true (steps_of_unit unit_ made)) (last_entry ∷ []))
+        (journal_grows p t calls the_ask refl).0 ∙ ap (λ (l : List Entry). issued p t calls ++ l)
+        (entries_are p forgive t calls k unit_ alone may ∙ ap (λ (l : List Step). entries_of (length calls) Settles (settle k) ++ numbered (length calls) forgive l) (are ∙ steps_both unit_ made (last ∷ []))
+        ∙ ap (λ (l : List Entry). entries_of (length calls) Settles (settle k) ++ l) (numbered_both (length calls) forgive (steps_of_unit unit_ made) (steps_of_unit unit_ (last ∷ [])))
+        ∙ sym (append_assoc (entries_of (length calls) Settles (settle k)) (numbered (length calls) forgive (steps_of_unit unit_ made)) (last_entry ∷ [])))
+        ∙ sym (append_assoc (issued p t calls) (entries_of (length calls) Settles (settle k) ++ numbered (length calls) forgive (steps_of_unit unit_ made)) (last_entry ∷ []))
 
-    place : length front + 1 ≡ length (issued Managed t calls) + length (own_steps Managed t calls the_ask)
+    place : length front + 1 ≡ length (issued p t calls) + length (own_steps p t calls the_ask)
     place =
-        let g = ap length ((journal_grows Managed t calls the_ask refl).0) in
+        let g = ap length ((journal_grows p t calls the_ask refl).0) in
         let j = ap length journal in
-        let a = length-append (issued Managed t calls) (numbered (length calls) (true && may_forgive (Access unit_)) (own_steps Managed t calls the_ask)) in
-        let n : length (numbered (length calls) (true && may_forgive (Access unit_)) (own_steps Managed t calls the_ask)) ≡ length (own_steps Managed t calls the_ask) = length-map (own_steps Managed t calls the_ask) _ in
+        let a = length-append (issued p t calls) (numbered (length calls) (forgive && may_forgive (Access unit_)) (own_steps p t calls the_ask)) in
+        let n : length (numbered (length calls) (forgive && may_forgive (Access unit_)) (own_steps p t calls the_ask)) ≡ length (own_steps p t calls the_ask) = length-map (own_steps p t calls the_ask) _ in
         let c = length-append front (last_entry ∷ []) in
         omega (arith, g, j, a, n, c)
 
     target_there : target_after t front ≡ after u (making made)
     target_there =
-        after_split t (issued Managed t calls) (entries_of (length calls) Settles (settle k) ++ numbered (length calls) true (steps_of_unit unit_ made))
-        ∙ after_split (target_by Managed t calls) (entries_of (length calls) Settles (settle k)) (numbered (length calls) true (steps_of_unit unit_ made))
-        ∙ (λ j. after (after (target_by Managed t calls) (settles_in (length calls) (settle k) j)) (unit_actions_in (length calls) unit_ made j))
+        after_split t (issued p t calls) (entries_of (length calls) Settles (settle k) ++ numbered (length calls) forgive (steps_of_unit unit_ made))
+        ∙ after_split (target_by p t calls) (entries_of (length calls) Settles (settle k)) (numbered (length calls) forgive (steps_of_unit unit_ made))
+        ∙ (λ j. after (after (target_by p t calls) (settles_in (length calls) (settle k) j)) (unit_actions_in forgive (length calls) unit_ made j))
 
     pub pass_results : small_now (start_world t None) calls the_ask ≡ false → results (start_world t None) (calls ++ the_ask ∷ []) ≡ results (start_world t None) calls ++ result_of (Access unit_) (given (acted (after u (making made)) (Makes last)).outcome) ∷ []
     pass_results large =
-        pass_given Managed t calls the_ask front last_entry [] (after u (making (made ++ last ∷ []))) b.fresh b.askable b.whole whole_pass large journal place
+        pass_given p t calls the_ask front last_entry [] (after u (making (made ++ last ∷ []))) b.fresh b.askable b.whole whole_pass large journal place
         ∙ ap (λ (v : TargetState). results (start_world t None) calls ++ result_of (Access unit_) (given (acted v (Makes last)).outcome) ∷ []) target_there
 
 -- ---- whether its access port has no large addresses
 
 -- bit 1 of CFG says it, where that was read
-pub small_shown : (t : TargetState) (calls : List Ask) (unit_ : AccessUnit) (b : IsBefore t calls (unit_ask unit_ true)) (large : Bool) → needs_cfg (settled (kept_by Managed t calls)) unit_ ≡ true → CfgShows unit_ (target_settled t calls (kept_by Managed t calls)) large →
-    small_now (start_world t None) calls (unit_ask unit_ true) ≡ not large
-small_shown t calls (unit.Memory size read n address value) b large wide shows =
-    small_alone Managed t calls None size read n address value true b.fresh (askable_front calls (unit_ask (unit.Memory size read n address value) true) b.askable) b.whole (askable_last calls (unit_ask (unit.Memory size read n address value) true) b.askable).range.0 wide shows.0
+pub small_shown : (p : Planner) (forgive : Bool) (t : TargetState) (calls : List Ask) (unit_ : AccessUnit) (b : IsBefore t calls (unit_ask unit_ forgive)) (large : Bool) → needs_cfg (settled (kept_by p t calls)) unit_ ≡ true → CfgShows unit_ (target_settled p t calls (kept_by p t calls)) large →
+    small_now (start_world t None) calls (unit_ask unit_ forgive) ≡ not large
+small_shown p forgive t calls (unit.Memory size read n address value) b large wide shows =
+    small_alone p t calls None size read n address value forgive b.fresh (askable_front calls (unit_ask (unit.Memory size read n address value) forgive) b.askable) b.whole (askable_last calls (unit_ask (unit.Memory size read n address value) forgive) b.askable).range.0 wide shows.0
     ∙ ap not shows.1
-small_shown t calls (unit.Ap read n addr value) b large wide shows = absurd (let x : ◌≡◌ {A = Bool} false true = wide in cc)
-small_shown t calls (unit.Dp read addr value) b large wide shows = absurd (let x : ◌≡◌ {A = Bool} false true = wide in cc)
-small_shown t calls (unit.Poll mask value turns) b large wide shows = absurd (let x : ◌≡◌ {A = Bool} false true = wide in cc)
+small_shown p forgive t calls (unit.Ap read n addr value) b large wide shows = absurd (let x : ◌≡◌ {A = Bool} false true = wide in cc)
+small_shown p forgive t calls (unit.Dp read addr value) b large wide shows = absurd (let x : ◌≡◌ {A = Bool} false true = wide in cc)
+small_shown p forgive t calls (unit.Poll mask value turns) b large wide shows = absurd (let x : ◌≡◌ {A = Bool} false true = wide in cc)
 
 and_false : (x y : Bool) → x ≡ false → (x && y) ≡ false
 and_false true y e = absurd (cc)
@@ -190,15 +195,15 @@ done_small : (t : TargetState) (large : List ℕ) (forgive : Bool) (call : Call)
 unfolding call_done
 done_small t large forgive call none = not_small _ _ (is_small t large call) _ _ _ _ none
 
-pub small_unread : (t : TargetState) (calls : List Ask) (unit_ : AccessUnit) (b : IsBefore t calls (unit_ask unit_ true)) → needs_cfg (settled (kept_by Managed t calls)) unit_ ≡ false → small_now (start_world t None) calls (unit_ask unit_ true) ≡ false
-small_unread t calls unit_ b none =
-    let c : IsCalm t calls = is_calm t calls (unit_ask unit_ true) b in
-    one_small (start_world t None) calls (unit_ask unit_ true) b.whole
-    ∙ ap is_small_end (alone_is t calls (unit_ask unit_ true) b.whole)
-    ∙ done_small (alone_after t [] calls) (large_of_all t [] calls) true (Access unit_)
-    (none_small (alone_after t [] calls) (large_of_all t [] calls) (settled (kept_by Managed t calls)) unit_ (askable_last calls (unit_ask unit_ true) b.askable).range c.follows.larges none)
+pub small_unread : (p : Planner) (forgive : Bool) (t : TargetState) (calls : List Ask) (unit_ : AccessUnit) (b : IsBefore t calls (unit_ask unit_ forgive)) → needs_cfg (settled (kept_by p t calls)) unit_ ≡ false → small_now (start_world t None) calls (unit_ask unit_ forgive) ≡ false
+small_unread p forgive t calls unit_ b none =
+    let c : IsCalm p t calls = is_calm p t calls (unit_ask unit_ forgive) b in
+    one_small (start_world t None) calls (unit_ask unit_ forgive) b.whole
+    ∙ ap is_small_end (alone_is t calls (unit_ask unit_ forgive) b.whole)
+    ∙ done_small (alone_after t [] calls) (large_of_all t [] calls) forgive (Access unit_)
+    (none_small (alone_after t [] calls) (large_of_all t [] calls) (settled (kept_by p t calls)) unit_ (askable_last calls (unit_ask unit_ forgive) b.askable).range c.follows.larges none)
 
 -- its address is too large for its access port
-pub small_outcome : (t : TargetState) (calls : List Ask) (unit_ : AccessUnit) (b : IsBefore t calls (unit_ask unit_ true)) → small_now (start_world t None) calls (unit_ask unit_ true) ≡ true →
-    (skips (start_world t None) (calls ++ unit_ask unit_ true ∷ []) ≡ skips (start_world t None) calls) × (results (start_world t None) (calls ++ unit_ask unit_ true ∷ []) ≡ results (start_world t None) calls ++ 0 ∷ [])
-small_outcome t calls unit_ b small = small_given t calls (unit_ask unit_ true) b.whole small
+pub small_outcome : (forgive : Bool) (t : TargetState) (calls : List Ask) (unit_ : AccessUnit) (b : IsBefore t calls (unit_ask unit_ forgive)) → small_now (start_world t None) calls (unit_ask unit_ forgive) ≡ true →
+    (skips (start_world t None) (calls ++ unit_ask unit_ forgive ∷ []) ≡ skips (start_world t None) calls) × (results (start_world t None) (calls ++ unit_ask unit_ forgive ∷ []) ≡ results (start_world t None) calls ++ 0 ∷ [])
+small_outcome forgive t calls unit_ b small = small_given t calls (unit_ask unit_ forgive) b.whole small

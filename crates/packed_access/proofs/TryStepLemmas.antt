@@ -22,6 +22,8 @@ use Rattle.calls_in_flight.specs.Forgiving.{BeginsWith, abort_after, steps_of_un
 use Rattle.calls_in_flight.proofs.FlightLemmas.{clear_good, clear_head, head_makes}
 use Rattle.calls_in_flight.proofs.ForgivingLemmas.{alone_flight}
 use Rattle.packed_access.specs.Forgiving.{IsNext, last_part}
+use Rattle.calls_in_flight.specs.Flights.{AreStrict}
+use Rattle.calls_in_flight.specs.Forgiving.{after_fault}
 
 -- ---- accesses that do not fault
 
@@ -65,9 +67,9 @@ pub cancel : {A : Type 0} → (xs ys zs : List A) → xs ++ ys ≡ xs ++ zs → 
 cancel [] ys zs e = e
 cancel (x ∷ xs) ys zs e = cancel xs ys zs (let r : xs ++ ys ≡ xs ++ zs = cc in r)
 
-pub unit_actions_in : (n : ℕ) (asked : AccessUnit) (xs : List RegAccess) → actions_in (numbered n true (steps_of_unit asked xs)) ≡ making xs
-unit_actions_in n asked [] = refl
-unit_actions_in n asked (x ∷ xs) = ap (λ l. Makes x ∷ l) (unit_actions_in n asked xs)
+pub unit_actions_in : (forgive : Bool) (n : ℕ) (asked : AccessUnit) (xs : List RegAccess) → actions_in (numbered n forgive (steps_of_unit asked xs)) ≡ making xs
+unit_actions_in forgive n asked [] = refl
+unit_actions_in forgive n asked (x ∷ xs) = ap (λ l. Makes x ∷ l) (unit_actions_in forgive n asked xs)
 
 never_settles : (b : Bool) (n : ℕ) (x : Action) → AreForgiving (numbered n true (record { part = last_part b; action = x } ∷ []))
 never_settles true n x = (refl, tt)
@@ -77,38 +79,43 @@ pub unit_forgiving : (n : ℕ) (asked : AccessUnit) (xs : List RegAccess) → Ar
 unit_forgiving n asked [] = tt
 unit_forgiving n asked (x ∷ xs) = ((never_settles (is_last asked x) n (Makes x)).0, unit_forgiving n asked xs)
 
-leads_kept : (n : ℕ) (leads : List RegAccess) → map kept_of (numbered n true (steps_of Leads leads)) ≡ map (λ (a : RegAccess). record { unit = n + 1; part = Leads }) leads
-leads_kept n [] = refl
-leads_kept n (x ∷ leads) = ap (λ (l : List Issued). record { unit = n + 1; part = Leads } ∷ l) (leads_kept n leads)
+leads_kept : (forgive : Bool) (n : ℕ) (leads : List RegAccess) → map kept_of (numbered n forgive (steps_of Leads leads)) ≡ map (λ (a : RegAccess). record { unit = n + 1; part = Leads }) leads
+leads_kept forgive n [] = refl
+leads_kept forgive n (x ∷ leads) = ap (λ (l : List Issued). record { unit = n + 1; part = Leads } ∷ l) (leads_kept forgive n leads)
 
-last_kept : (n : ℕ) (b : Bool) (last : RegAccess) → map kept_of (numbered n true (record { part = last_part b; action = Makes last } ∷ [])) ≡ record { unit = n + 1; part = last_part b } ∷ []
-last_kept n true last = refl
-last_kept n false last = refl
+last_kept : (forgive : Bool) (n : ℕ) (b : Bool) (last : RegAccess) → map kept_of (numbered n forgive (record { part = last_part b; action = Makes last } ∷ [])) ≡ record { unit = n + 1; part = last_part b } ∷ []
+last_kept forgive n true last = refl
+last_kept forgive n false last = refl
+
+pub unit_strict : (n : ℕ) (asked : AccessUnit) (xs : List RegAccess) → AreStrict (numbered n false (steps_of_unit asked xs))
+unit_strict n asked [] = tt
+unit_strict n asked (x ∷ xs) = (refl, unit_strict n asked xs)
 
 -- what is kept of the entries of a flight
-pub flight_kept : (n : ℕ) (asked : AccessUnit) (leads : List RegAccess) (last : RegAccess) (b : Bool) → steps_of_unit asked (leads ++ last ∷ []) ≡ steps_of Leads leads ++ record { part = last_part b; action = Makes last } ∷ [] →
-    map kept_of (numbered n true (steps_of_unit asked (leads ++ last ∷ []))) ≡ map (λ (a : RegAccess). record { unit = n + 1; part = Leads }) leads ++ record { unit = n + 1; part = last_part b } ∷ []
-flight_kept n asked leads last b is =
-    ap (λ (l : List Step). map kept_of (numbered n true l)) is ∙ ap (map kept_of) (numbered_both n true (steps_of Leads leads) (record { part = last_part b; action = Makes last } ∷ []))
-    ∙ map-append kept_of (numbered n true (steps_of Leads leads)) (numbered n true (record { part = last_part b; action = Makes last } ∷ []))
-    ∙ (λ j. leads_kept n leads j ++ last_kept n b last j)
+pub flight_kept : (forgive : Bool) (n : ℕ) (asked : AccessUnit) (leads : List RegAccess) (last : RegAccess) (b : Bool) → steps_of_unit asked (leads ++ last ∷ []) ≡ steps_of Leads leads ++ record { part = last_part b; action = Makes last } ∷ [] →
+    map kept_of (numbered n forgive (steps_of_unit asked (leads ++ last ∷ []))) ≡ map (λ (a : RegAccess). record { unit = n + 1; part = Leads }) leads ++ record { unit = n + 1; part = last_part b } ∷ []
+flight_kept forgive n asked leads last b is =
+    ap (λ (l : List Step). map kept_of (numbered n forgive l)) is ∙ ap (map kept_of) (numbered_both n forgive (steps_of Leads leads) (record { part = last_part b; action = Makes last } ∷ []))
+    ∙ map-append kept_of (numbered n forgive (steps_of Leads leads)) (numbered n forgive (record { part = last_part b; action = Makes last } ∷ []))
+    ∙ (λ j. leads_kept forgive n leads j ++ last_kept forgive n b last j)
 
 -- ---- what follows a flight
 
--- the steps that are left begin with those of the flight; the write of ABORT alone follows where its last access faults
-pub record IsSplit (asked : AccessUnit) (t : TargetState) (made leads : List RegAccess) (last : RegAccess) (left : List Step) (more : List Action) : Type 0 where
+-- the steps that are left begin with those of the flight; where its last access faults nothing follows but the write of ABORT, if the unit
+-- forgives the fault
+pub record IsSplit (forgive : Bool) (asked : AccessUnit) (t : TargetState) (made leads : List RegAccess) (last : RegAccess) (left : List Step) (more : List Action) : Type 0 where
   pub tail : List Step
   pub is : left ≡ steps_of_unit asked (leads ++ last ∷ []) ++ tail
-  pub bad : is_fault (acted (after t (making (made ++ leads))) (Makes last)).outcome ≡ true → tail ≡ abort_after asked (made ++ (leads ++ last ∷ [])) ∷ []
+  pub bad : is_fault (acted (after t (making (made ++ leads))) (Makes last)).outcome ≡ true → tail ≡ after_fault forgive asked (made ++ (leads ++ last ∷ []))
   pub good : is_fault (acted (after t (making (made ++ leads))) (Makes last)).outcome ≡ false → more ≡ [] → tail ≡ []
 
 clash : (b : Bool) → b ≡ true → b ≡ false → ⊥
 clash true e f = cc
 clash false e f = cc
 
-pub split_steps : (asked : AccessUnit) (k : Kept) (t : TargetState) (made leads : List RegAccess) (last : RegAccess) (ends : Bool) (left : List Step) (rest more : List Action) →
-    call_actions t (large_of k asked) (Access asked) ≡ making made ++ rest → (alone_at true asked t k).steps ≡ steps_of_unit asked made ++ left → NoneFault t made → IsNext asked t made leads last ends rest more → IsSplit asked t made leads last left more
-split_steps asked k t made leads last ends left rest more actions steps good n = by_fault (is_fault (acted (after t (making (made ++ leads))) (Makes last)).outcome) refl
+pub split_steps : (forgive : Bool) (asked : AccessUnit) (k : Kept) (t : TargetState) (made leads : List RegAccess) (last : RegAccess) (ends : Bool) (left : List Step) (rest more : List Action) →
+    call_actions t (large_of k asked) (Access asked) ≡ making made ++ rest → (alone_at forgive asked t k).steps ≡ steps_of_unit asked made ++ left → NoneFault t made → IsNext asked t made leads last ends rest more → IsSplit forgive asked t made leads last left more
+split_steps forgive asked k t made leads last ends left rest more actions steps good n = by_fault (is_fault (acted (after t (making (made ++ leads))) (Makes last)).outcome) refl
   where
     joined : (made ++ leads) ++ last ∷ [] ≡ made ++ (leads ++ last ∷ [])
     joined = append_assoc made leads (last ∷ [])
@@ -121,24 +128,24 @@ split_steps asked k t made leads last ends left rest more actions steps good n =
     none : NoneFault t (made ++ leads)
     none = none_both t made leads good n.good
 
-    cut : (tail : List Step) → (alone_at true asked t k).steps ≡ steps_of_unit asked ((made ++ leads) ++ last ∷ []) ++ tail → left ≡ steps_of_unit asked (leads ++ last ∷ []) ++ tail
+    cut : (tail : List Step) → (alone_at forgive asked t k).steps ≡ steps_of_unit asked ((made ++ leads) ++ last ∷ []) ++ tail → left ≡ steps_of_unit asked (leads ++ last ∷ []) ++ tail
     cut tail is =
         cancel (steps_of_unit asked made) left (steps_of_unit asked (leads ++ last ∷ []) ++ tail)
         (sym steps ∙ is ∙ ap (λ (l : List RegAccess). steps_of_unit asked l ++ tail) joined ∙ ap (λ (l : List Step). l ++ tail) (steps_both asked made (leads ++ last ∷ []))
         ∙ append_assoc (steps_of_unit asked made) (steps_of_unit asked (leads ++ last ∷ [])) tail)
 
-    by_fault : (b : Bool) → is_fault (acted (after t (making (made ++ leads))) (Makes last)).outcome ≡ b → IsSplit asked t made leads last left more
+    by_fault : (b : Bool) → is_fault (acted (after t (making (made ++ leads))) (Makes last)).outcome ≡ b → IsSplit forgive asked t made leads last left more
     by_fault true e =
-        let f = alone_flight true asked t k (made ++ leads) last more n.may are none in
+        let f = alone_flight forgive asked t k (made ++ leads) last more n.may are none in
         record {
-          tail = abort_after asked ((made ++ leads) ++ last ∷ []) ∷ [];
-          is = cut (abort_after asked ((made ++ leads) ++ last ∷ []) ∷ []) (f.0 e);
-          bad = λ bad. ap (λ (l : List RegAccess). abort_after asked l ∷ []) joined;
+          tail = after_fault forgive asked ((made ++ leads) ++ last ∷ []);
+          is = cut (after_fault forgive asked ((made ++ leads) ++ last ∷ [])) (f.0 e);
+          bad = λ bad. ap (after_fault forgive asked) joined;
           good = λ fine none. absurd (clash (is_fault (acted (after t (making (made ++ leads))) (Makes last)).outcome) e fine);
         }
     by_fault false e =
-        let f = alone_flight true asked t k (made ++ leads) last more n.may are none in
-        let b : BeginsWith (alone_at true asked t k).steps asked ((made ++ leads) ++ last ∷ []) more = f.1 e in
+        let f = alone_flight forgive asked t k (made ++ leads) last more n.may are none in
+        let b : BeginsWith (alone_at forgive asked t k).steps asked ((made ++ leads) ++ last ∷ []) more = f.1 e in
         record {
           tail = b.more;
           is = cut b.more b.is;

@@ -30,13 +30,13 @@ use Rattle.calls_in_flight.proofs.FlightLemmas.{room_grown}
 use Rattle.calls_in_flight.proofs.OpenLemmas.{askable_first}
 use Rattle.calls_in_flight.proofs.SendLemmas.{whole_sends}
 use Rattle.packed_access.specs.Begun.{HasIssued, IsGivenAt, IsIssuing, most_weight}
-use Rattle.packed_access.specs.Flown.{HasCome}
+use Rattle.bench_flights.specs.Flown.{HasCome}
 use Rattle.packed_access.specs.Logs.{LogState, all_confirmed, all_taken, filled, place_of, result_by, result_for}
 use Rattle.packed_access.specs.Stands.{IsMildAt, mild_from}
 use Rattle.packed_access.proofs.CameLemmas.{HaveCome, have_come_own, place_within, take_through}
 use Rattle.packed_access.proofs.FillLemmas.{filled_is, filled_length}
 use Rattle.packed_access.proofs.SlotLemmas.{slot_gives}
-use Rattle.access_regs.specs.declared.planner.Planner.TheVariants.{Managed}
+use Rattle.access_regs.specs.declared.planner.Planner.{Planner}
 
 -- the first of the first ones
 pub take_first : {A : Type 0} → (m n : ℕ) (xs : List A) → m ≤ n → take m (take n xs) ≡ take m xs
@@ -49,7 +49,7 @@ pub get_there : (asks : List Ask) (ask : Ask) (more : List Ask) → slice_get (a
 get_there [] ask more = refl
 get_there (x ∷ asks) ask more = get_there asks ask more
 
-module _ (log : LogState) (accesses : List RegAccess) (rest : List Entry) (values : List (Option ℕ)) (m0 m o : BenchState) (h : IsIssuing log accesses rest m0 m) (c : HasCome accesses values m o)
+module _ (p : Planner) (log : LogState) (accesses : List RegAccess) (rest : List Entry) (values : List (Option ℕ)) (m0 m o : BenchState) (h : IsIssuing p log accesses rest m0 m) (c : HasCome accesses values m o)
     (long : length log.results ≡ length log.calls) (bounded : length log.entries < 2 ^ 32) where
   abbrev t0 : TargetState
   t0 = target_of m0.probe
@@ -59,20 +59,20 @@ module _ (log : LogState) (accesses : List RegAccess) (rest : List Entry) (value
 
   -- ---- the calls that were issued whole have come
 
-  sent : IsSending Managed log.calls (log.confirmed + length h.flying) log.came [] rest [] (take log.known log.results) m0 o
-  sent = whole_sends Managed log.calls log.confirmed log.came h.flying rest accesses (take log.known log.results) m0 m o c.part h.sending c.flies c.good
+  sent : IsSending p log.calls (log.confirmed + length h.flying) log.came [] rest [] (take log.known log.results) m0 o
+  sent = whole_sends p log.calls log.confirmed log.came h.flying rest accesses (take log.known log.results) m0 m o c.part h.sending c.flies c.good
 
-  come : HaveCome log.calls (length log.entries) log.whole m0
-  come = have_come_own log.calls sent.made rest (length log.entries) log.whole m0 h.sending.fresh h.sending.askable h.within sent.on.are sent.on.passes (sent.confirmed_is ∙ h.count) h.whole_issued
+  come : HaveCome p log.calls (length log.entries) log.whole m0
+  come = have_come_own p log.calls sent.made rest (length log.entries) log.whole m0 h.sending.fresh h.sending.askable h.within sent.on.are sent.on.passes (sent.confirmed_is ∙ h.count) h.whole_issued
 
-  come_before : HaveCome log.calls (length log.entries) log.came m0
-  come_before = have_come_own log.calls sent.made rest (length log.entries) log.came m0 h.sending.fresh h.sending.askable (let a = h.in_order in let b = h.within in omega (arith, a, b)) sent.on.are sent.on.passes (sent.confirmed_is ∙ h.count)
+  come_before : HaveCome p log.calls (length log.entries) log.came m0
+  come_before = have_come_own p log.calls sent.made rest (length log.entries) log.came m0 h.sending.fresh h.sending.askable (let a = h.in_order in let b = h.within in omega (arith, a, b)) sent.on.are sent.on.passes (sent.confirmed_is ∙ h.count)
       (let a = h.came_made in let b = h.count in omega (arith, a, b))
 
   -- ---- each result
 
   module _ (index : ℕ) (low : log.came ≤ index) (high : index < log.whole) where
-    abbrev g : IsGivenAt (target_of m0.probe) log.calls index (slice_index log.places index)
+    abbrev g : IsGivenAt p (target_of m0.probe) log.calls index (slice_index log.places index)
     g = h.given index low high
 
     abbrev place : ℕ
@@ -93,8 +93,8 @@ module _ (log : LogState) (accesses : List RegAccess) (rest : List Entry) (value
     stop_there : stop (start_world t0 None) (g.asks ++ g.ask ∷ others) ≡ None
     stop_there = subst (λ (l : List Ask). stop (start_world t0 None) l ≡ None) first_is (come.none_stops.stops None tt)
 
-    cut : Cutting (slice_index log.places index) (issued Managed t0 (g.asks ++ g.ask ∷ others))
-    cut = cut_list (slice_index log.places index) (issued Managed t0 (g.asks ++ g.ask ∷ others)) (let w = place_within t0 g.asks g.ask others in let p = g.place_is in omega (arith, w, p))
+    cut : Cutting (slice_index log.places index) (issued p t0 (g.asks ++ g.ask ∷ others))
+    cut = cut_list (slice_index log.places index) (issued p t0 (g.asks ++ g.ask ∷ others)) (let w = place_within p t0 g.asks g.ask others in let part_is = g.place_is in omega (arith, w, part_is))
 
     abbrev word : ℕ
     word = given (acted (target_after t0 cut.front) cut.entry.action).outcome
@@ -102,17 +102,17 @@ module _ (log : LogState) (accesses : List RegAccess) (rest : List Entry) (value
     given_there : slice_index (results (start_world t0 None) first) index ≡ result_of g.ask.call word
     given_there =
         (λ j. slice_index (results (start_world t0 None) (first_is j)) (sym g.at j))
-        ∙ result_given Managed t0 g.asks g.ask others cut.front cut.entry cut.back h.sending.fresh askable_there stop_there g.mild g.large cut.is (let a = cut.at in let p = g.place_is in omega (arith, a, p))
+        ∙ result_given p t0 g.asks g.ask others cut.front cut.entry cut.back h.sending.fresh askable_there stop_there g.mild g.large cut.is (let a = cut.at in let part_is = g.place_is in omega (arith, a, part_is))
 
-    journal_is : issued Managed t0 log.calls ≡ cut.front ++ cut.entry ∷ (cut.back ++ issued_from Managed (0 + length first) (kept_from Managed nothing_kept t0 first) (target_after t0 (issued Managed t0 first)) (drop log.whole log.calls))
+    journal_is : issued p t0 log.calls ≡ cut.front ++ cut.entry ∷ (cut.back ++ issued_from p (0 + length first) (kept_from p nothing_kept t0 first) (target_after t0 (issued p t0 first)) (drop log.whole log.calls))
     journal_is =
-        ap (issued Managed t0) (sym (take-append-drop log.whole log.calls)) ∙ journal_joins Managed 0 nothing_kept t0 first (drop log.whole log.calls)
-        ∙ ap (λ (l : List Entry). l ++ issued_from Managed (0 + length first) (kept_from Managed nothing_kept t0 first) (target_after t0 (issued Managed t0 first)) (drop log.whole log.calls)) (ap (issued Managed t0) first_is ∙ cut.is)
-        ∙ append_assoc cut.front (cut.entry ∷ cut.back) (issued_from Managed (0 + length first) (kept_from Managed nothing_kept t0 first) (target_after t0 (issued Managed t0 first)) (drop log.whole log.calls))
+        ap (issued p t0) (sym (take-append-drop log.whole log.calls)) ∙ journal_joins p 0 nothing_kept t0 first (drop log.whole log.calls)
+        ∙ ap (λ (l : List Entry). l ++ issued_from p (0 + length first) (kept_from p nothing_kept t0 first) (target_after t0 (issued p t0 first)) (drop log.whole log.calls)) (ap (issued p t0) first_is ∙ cut.is)
+        ∙ append_assoc cut.front (cut.entry ∷ cut.back) (issued_from p (0 + length first) (kept_from p nothing_kept t0 first) (target_after t0 (issued p t0 first)) (drop log.whole log.calls))
 
     slot_there : unwrap_or (slot_at values (place_of log index)) 0 ≡ word
     slot_there =
-        slot_gives (issued Managed t0 log.calls) h.sending.made h.flying rest accesses m0 m o c.part values cut.front cut.entry (cut.back ++ issued_from Managed (0 + length first) (kept_from Managed nothing_kept t0 first) (target_after t0 (issued Managed t0 first)) (drop log.whole log.calls)) (place_of log index)
+        slot_gives (issued p t0 log.calls) h.sending.made h.flying rest accesses m0 m o c.part values cut.front cut.entry (cut.back ++ issued_from p (0 + length first) (kept_from p nothing_kept t0 first) (target_after t0 (issued p t0 first)) (drop log.whole log.calls)) (place_of log index)
         h.sending.on c.flies c.good c.values_are journal_is
         (let a = cut.at in let k = h.sending.confirmed_is in let i = h.given_in index low high in let i0 = i.0 in omega (arith, a, k, i0))
         (let n = h.count in let i = h.given_in index low high in let i0 = i.0 in let i1 = i.1 in omega (arith, n, i0, i1))
@@ -172,7 +172,7 @@ module _ (log : LogState) (accesses : List RegAccess) (rest : List Entry) (value
       let r = room_grown (work_of m.probe) c.part.performed (omega (arith, f, most, bounded)) in
       omega (arith, f, most, w, r)
 
-  pub flight_came : IsIssuing (all_confirmed (all_taken values log)) [] rest m0 o
+  pub flight_came : IsIssuing p (all_confirmed (all_taken values log)) [] rest m0 o
   flight_came = record {
     flying = [];
     sending = record {
@@ -201,13 +201,13 @@ module _ (log : LogState) (accesses : List RegAccess) (rest : List Entry) (value
     few = work_few;
   }
 
-came_where : (x y : Option BenchState) (log : LogState) (accesses : List RegAccess) (rest : List Entry) (values : List (Option ℕ)) (m0 : BenchState) → WhereObservable x (λ m. IsIssuing log accesses rest m0 m) →
-    StepsTo (λ m o. CanFly m → HasCome accesses values m o) x y → length log.results ≡ length log.calls → length log.entries < 2 ^ 32 → WhereObservable y (λ o. IsIssuing (all_confirmed (all_taken values log)) [] rest m0 o)
-came_where None y log accesses rest values m0 h c long bounded = absurd h
-came_where (Some m) None log accesses rest values m0 h c long bounded = absurd c
-came_where (Some m) (Some o) log accesses rest values m0 h c long bounded = flight_came log accesses rest values m0 m o h (c h.flies) long bounded
+came_where : (p : Planner) (x y : Option BenchState) (log : LogState) (accesses : List RegAccess) (rest : List Entry) (values : List (Option ℕ)) (m0 : BenchState) → WhereObservable x (λ m. IsIssuing p log accesses rest m0 m) →
+    StepsTo (λ m o. CanFly m → HasCome accesses values m o) x y → length log.results ≡ length log.calls → length log.entries < 2 ^ 32 → WhereObservable y (λ o. IsIssuing p (all_confirmed (all_taken values log)) [] rest m0 o)
+came_where p None y log accesses rest values m0 h c long bounded = absurd h
+came_where p (Some m) None log accesses rest values m0 h c long bounded = absurd c
+came_where p (Some m) (Some o) log accesses rest values m0 h c long bounded = flight_came p log accesses rest values m0 m o h (c h.flies) long bounded
 
 -- where the bench is observable
-pub has_come : (x y : Option BenchState) (log : LogState) (accesses : List RegAccess) (rest : List Entry) (values : List (Option ℕ)) (m0 : BenchState) → HasIssued x log accesses rest m0 →
-    StepsTo (λ m o. CanFly m → HasCome accesses values m o) x y → length log.results ≡ length log.calls → length log.entries < 2 ^ 32 → HasIssued y (all_confirmed (all_taken values log)) [] rest m0
-has_come x y log accesses rest values m0 h c long bounded = record { so = came_where x y log accesses rest values m0 h.so c long bounded }
+pub has_come : (p : Planner) (x y : Option BenchState) (log : LogState) (accesses : List RegAccess) (rest : List Entry) (values : List (Option ℕ)) (m0 : BenchState) → HasIssued p x log accesses rest m0 →
+    StepsTo (λ m o. CanFly m → HasCome accesses values m o) x y → length log.results ≡ length log.calls → length log.entries < 2 ^ 32 → HasIssued p y (all_confirmed (all_taken values log)) [] rest m0
+has_come p x y log accesses rest values m0 h c long bounded = record { so = came_where p x y log accesses rest values m0 h.so c long bounded }

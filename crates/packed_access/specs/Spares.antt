@@ -29,7 +29,8 @@ use Rattle.access_regs.specs.Journal.{gives, issued, planned}
 use Rattle.access_regs.specs.Kept.{Kept, known, nothing_kept}
 use Rattle.access_regs.specs.Plan.{cfg_plan, learned_cfg, needs_csw}
 use Rattle.access_regs.specs.declared.known.Known.{Known}
-use Rattle.access_regs.specs.declared.planner.Planner.TheVariants.{Managed}
+use Rattle.access_regs.specs.declared.planner.Planner.{Planner}
+use Rattle.access_regs.specs.declared.planner.Planner.TheVariants.{Managed, Plain}
 use Rattle.access_regs.proofs.AllCalls.{known_nothing}
 use Rattle.access_regs.proofs.CostLemmas.{planned_reads}
 use Rattle.access_calls.specs.Bounds.{AreNextWrites, KeepsBounds, KeepsBoundsIf, block_words, capacity, starting_since}
@@ -40,10 +41,11 @@ use Rattle.calls_in_flight.proofs.ActionLemmas.{few_packets}
 use Rattle.calls_in_flight.proofs.WriteLemmas.{writes_are_few}
 use Rattle.calls_in_flight.specs.Packets.{drw_writes_in, is_drw_write}
 use Rattle.packed_access.specs.Begun.{IsOpenAt, IsSince}
-use Rattle.packed_access.specs.Blocks.{AreBlocks, changes_after, changes_in, others_in, transfer_accesses}
+use Rattle.bench_flights.specs.Full.{transfer_accesses}
+use Rattle.packed_access.specs.Blocks.{AreBlocks, changes_after, changes_in, others_in}
 use Rattle.packed_access.specs.Logs.{LogState, asks_of, reported_by}
 use Rattle.packed_access.specs.NextWrites.{journal_few, mild_write}
-use Rattle.packed_access.specs.Sparing.{AreNeeded, HasBegunSparing, HasPaid, IsSpared, first_cost, left_of, marks_in}
+use Rattle.packed_access.specs.Sparing.{AreNeeded, HasBegunSparing, HasPaid, IsSpared, first_cost, keeps_bounds, left_of, marks_in}
 
 -- ---- the first bound
 
@@ -59,7 +61,7 @@ capacity_seven limits fits = by_count limits.packet_count ((limits.packet_size -
 paid_few : (before after paid full left needs : ℕ) → after ≤ before + 3 + paid + full → after < 2 ^ 64 → min (paid + left) (2 ^ 64 - 1) ≤ needs → after - before ≤ 3 + needs + full
 paid_few before after paid full left needs few counts covers = omega (arith, few, counts, covers)
 
-spared_few : (limits given : Limits) (log : LogState) (paid left : ℕ) (m0 m : BenchState) (n : Option ℕ) → IsSpared limits given log paid m0 m → min (paid + left) (2 ^ 64 - 1) ≤ log.needs →
+spared_few : (limits given : Limits) (log : LogState) (paid left : ℕ) (m0 m : BenchState) (n : Option ℕ) → IsSpared Managed limits given log paid m0 m → min (paid + left) (2 ^ 64 - 1) ≤ log.needs →
     starting_since (began m0 n) m ≤ 3 + log.needs + registers_in (issued Managed (target_of m0.probe) log.calls) / capacity given
 spared_few limits given log paid left m0 m n h covers =
     let j : List Entry = issued Managed (target_of m0.probe) log.calls in
@@ -141,7 +143,7 @@ first_reads t size m address value low =
     (le-ltb 0xFFFF_FFFF address (omega (arith, low)))
     ∙ ap (λ (a : Known). one_if (is_none a.csw)) (known_nothing m)
 
-first_needs : (t : TargetState) (c : Ask) (cs : List Ask) (size m address value : ℕ) → c.call ≡ Access (write_at size m address value) → is_forgiving c ≡ false → address < 2 ^ 32 → first_cost t (c ∷ cs) ≡ 1
+first_needs : (t : TargetState) (c : Ask) (cs : List Ask) (size m address value : ℕ) → c.call ≡ Access (write_at size m address value) → is_forgiving c ≡ false → address < 2 ^ 32 → first_cost Managed t (c ∷ cs) ≡ 1
 first_needs t c cs size m address value call mild low =
     let same : c ≡ record { call = Access (write_at size m address value); forgive = false; settled = c.settled } = (λ j. record { call = call j; forgive = mild_write c size m address value call mild j; settled = c.settled }) in
     ap (λ (a : Ask). (cost_by Managed t [] a).before) same ∙ first_reads t size m address value low
@@ -158,7 +160,7 @@ asked_write c size m address value is sound range =
     by_size (inr (inl e)) = omega (arith, e)
     by_size (inr (inr e)) = omega (arith, e)
 
-spared_blocks : (limits given : Limits) (log : LogState) (paid left : ℕ) (m0 m : BenchState) (n : Option ℕ) (size ap_ address : ℕ) → IsSpared limits given log paid m0 m → min (paid + left) (2 ^ 64 - 1) ≤ log.needs → AreNeeded (target_of m0.probe) (asks_of log) → AreAskable log.calls →
+spared_blocks : (limits given : Limits) (log : LogState) (paid left : ℕ) (m0 m : BenchState) (n : Option ℕ) (size ap_ address : ℕ) → IsSpared Managed limits given log paid m0 m → min (paid + left) (2 ^ 64 - 1) ≤ log.needs → AreNeeded Managed (target_of m0.probe) (asks_of log) → AreAskable log.calls →
     0 < length log.calls → AreNextWrites (address / 1024) size ap_ address log.calls → address < 2 ^ 32 → log.needs ≤ 2 → starting_since (began m0 n) m ≤ 6 + (length log.calls + block_words given - 1) / block_words given
 spared_blocks limits given log paid left m0 m n size ap_ address h covers needed askable some are low two =
     by_calls log.calls refl askable some are
@@ -173,7 +175,7 @@ spared_blocks limits given log paid left m0 m n size ap_ address h covers needed
         let sized = asked_write c.call size ap_ address w.value w.is ok.0.sound ok.0.range in
         let j = journal_few (target_of m0.probe) size ap_ address (c ∷ cs) sized.0 sized.1 low are in
         let first = first_needs (target_of m0.probe) c cs size ap_ address w.value w.is w.strict low in
-        let marks : marks_in (c ∷ cs) ≤ 1 = (let k = needed.so in let f = ap (first_cost (target_of m0.probe)) same in let g = ap marks_in same in omega (arith, k, f, g, first, two)) in
+        let marks : marks_in (c ∷ cs) ≤ 1 = (let k = needed.so in let f = ap (first_cost Managed (target_of m0.probe)) same in let g = ap marks_in same in omega (arith, k, f, g, first, two)) in
         let blocks : AreBlocks h.full limits (issued Managed (target_of m0.probe) (c ∷ cs)) log.confirmed = subst (λ (l : List Ask). AreBlocks h.full limits (issued Managed (target_of m0.probe) l) log.confirmed) same h.blocks in
         let most = blocks_few h.full log.confirmed limits (issued Managed (target_of m0.probe) (c ∷ cs)) (length (c ∷ cs)) h.fits blocks (let x = j.0 in omega (arith, x, marks)) (let y = j.1 in omega (arith, y, marks)) (writes_are_few Managed (target_of m0.probe) (c ∷ cs)) some in
         let all : starting_since (began m0 n) m ≤ 6 + (length (c ∷ cs) + block_words limits - 1) / block_words limits = (let f = few in omega (arith, f, most, two)) in
@@ -182,8 +184,8 @@ spared_blocks limits given log paid left m0 m n size ap_ address h covers needed
 
 -- ---- the law of the contract
 
-keeps_where : (x : Option BenchState) (limits : Limits) (a : BenchReported) (state : Option BenchState) (log : LogState) (sent got : List ℕ) (kept : Kept) (accesses : List RegAccess) (paid left : ℕ) (m0 : BenchState) (n : Option ℕ) → WhereObservable x (λ m. IsOpenAt log kept accesses m0 m) →
-    WhereObservable x (λ m. IsSpared limits a.limits log paid m0 m) → min (paid + left) (2 ^ 64 - 1) ≤ log.needs → AreNeeded (target_of m0.probe) (asks_of log) →
+keeps_where : (x : Option BenchState) (limits : Limits) (a : BenchReported) (state : Option BenchState) (log : LogState) (sent got : List ℕ) (kept : Kept) (accesses : List RegAccess) (paid left : ℕ) (m0 : BenchState) (n : Option ℕ) → WhereObservable x (λ m. IsOpenAt Managed log kept accesses m0 m) →
+    WhereObservable x (λ m. IsSpared Managed limits a.limits log paid m0 m) → min (paid + left) (2 ^ 64 - 1) ≤ log.needs → AreNeeded Managed (target_of m0.probe) (asks_of log) →
     WhereObservable x (λ m. KeepsBounds (issued Managed (target_of m0.probe) log.calls) (reported_by a state log sent got) (began m0 n) m)
 keeps_where None limits a state log sent got kept accesses paid left m0 n h s covers needed = absurd h
 keeps_where (Some m) limits a state log sent got kept accesses paid left m0 n h s covers needed = record {
@@ -191,9 +193,15 @@ keeps_where (Some m) limits a state log sent got kept accesses paid left m0 n h 
   blocks = λ size ap_ address some are low two. spared_blocks limits a.limits log paid left m0 m n size ap_ address s covers needed h.issuing.sending.askable some are low two;
 }
 
-pub spares_packed : (limits : Limits) (bench : BenchReported) (state : Option BenchState) (log : LogState) (sent got : List ℕ) (kept : Kept) (accesses : List RegAccess) (m0 : BenchState) (n : Option ℕ) → HasBegunSparing limits bench state log sent got kept accesses m0 →
+pub spares_packed : (limits : Limits) (bench : BenchReported) (state : Option BenchState) (log : LogState) (sent got : List ℕ) (kept : Kept) (accesses : List RegAccess) (m0 : BenchState) (n : Option ℕ) → HasBegunSparing Managed limits bench state log sent got kept accesses m0 →
     KeepsBoundsIf true (issued Managed (target_of m0.probe) log.calls) (reported_by bench state log sent got) (began m0 n)
 spares_packed limits bench state log sent got kept accesses m0 n h = λ none.
     let p = h.paid none in
     keeps_where state limits bench state log sent got kept accesses p.paid (left_of log) m0 n
-    (subst (λ (e : Option Stop). WhereObservable state (λ m. IsSince e (reported_by bench state log sent got) log kept accesses m0 m)) none h.begun.so) p.spared.so p.covers (h.needed none)
+    (subst (λ (e : Option Stop). WhereObservable state (λ m. IsSince Managed e (reported_by bench state log sent got) log kept accesses m0 m)) none h.begun.so) (p.spared.so refl) (p.covers refl) (h.needed none)
+
+-- by either planner
+pub spares_by : (p : Planner) (limits : Limits) (bench : BenchReported) (state : Option BenchState) (log : LogState) (sent got : List ℕ) (kept : Kept) (accesses : List RegAccess) (m0 : BenchState) (n : Option ℕ) → HasBegunSparing p limits bench state log sent got kept accesses m0 →
+    KeepsBoundsIf (keeps_bounds p) (issued p (target_of m0.probe) log.calls) (reported_by bench state log sent got) (began m0 n)
+spares_by Managed limits bench state log sent got kept accesses m0 n h = spares_packed limits bench state log sent got kept accesses m0 n h
+spares_by Plain limits bench state log sent got kept accesses m0 n h = tt

@@ -1,5 +1,5 @@
 -- How few starting packets an access has sent.
-use Rattle.std.specs.Prelude.{◌≡◌, ℕ, ◌+◌, ◌*◌, ◌^◌, ◌<◌, ◌≤◌, nat_lt, List, [], ◌∷◌, take, sum_by, Option, Some, None}
+use Rattle.std.specs.Prelude.{◌≡◌, ℕ, ◌+◌, ◌*◌, ◌^◌, ◌<◌, ◌≤◌, nat_lt, Bool, true, false, if◌then◌else◌, List, [], ◌∷◌, take, sum_by, Option, Some, None}
 use Rattle.target_machine.specs.State.{TargetState}
 use Rattle.target_machine.specs.declared.access.RegAccess.{RegAccess}
 use Rattle.probe_core.specs.Bench.{BenchState}
@@ -12,66 +12,73 @@ use Rattle.call_terms.specs.NeedPoints.{Asks, capped_sum}
 use Rattle.call_terms.specs.Weights.{registers_in}
 use Rattle.call_terms.specs.declared.calls.Ask.{Ask}
 use Rattle.access_regs.specs.Costs.{cost_by}
-use Rattle.access_regs.specs.Journal.{issued}
+use Rattle.access_regs.specs.Journal.{is_alone, issued}
 use Rattle.access_regs.specs.Kept.{Kept}
-use Rattle.access_regs.specs.declared.planner.Planner.TheVariants.{Managed}
 use Rattle.access_calls.specs.Bounds.{capacity}
 use Rattle.access_calls.specs.Standing.{WhereObservable}
 use Rattle.batch_packer.specs.Flying.{CanFly}
+use Rattle.bench_flights.specs.Flown.{SendsFew}
 use Rattle.packed_access.specs.Begun.{HasBegun}
 use Rattle.packed_access.specs.Blocks.{AreBlocks}
 use Rattle.packed_access.specs.Logs.{LogState, asks_of}
-
--- at most so many starting packets came, and their count stops before 2^64
-pub record SendsFew (packets : ℕ) (m o : BenchState) : Type 0 where
-  pub few : o.starting ≤ m.starting + packets
-  pub counts : m.starting < 2 ^ 64 → o.starting < 2 ^ 64
+use Rattle.access_regs.specs.declared.planner.Planner.{Planner}
+use Rattle.access_regs.specs.declared.planner.Planner.TheVariants.{Managed, Plain}
 
 -- Since the beginning there were at most so many starting packets, besides the three of the opening and one for each flight that was sent
 -- because there was no room; these had at least the capacity of accesses each, which are confirmed, and a block where all were writes of
 -- DRW. Flights are held to the limits that the bench has.
-pub record IsSpared (limits given : Limits) (log : LogState) (points : ℕ) (m0 m : BenchState) : Type 0 where
+pub record IsSpared (p : Planner) (limits given : Limits) (log : LogState) (points : ℕ) (m0 m : BenchState) : Type 0 where
   pub full : ℕ
   pub few : m.starting ≤ m0.starting + 3 + points + full
-  pub filled : full * capacity limits ≤ registers_in (take log.confirmed (issued Managed (target_of m0.probe) log.calls))
+  pub filled : full * capacity limits ≤ registers_in (take log.confirmed (issued p (target_of m0.probe) log.calls))
   pub counts : m.starting < 2 ^ 64
   pub limits_are : limits ≡ given
   pub fits : AreLimits limits
-  pub blocks : AreBlocks full limits (issued Managed (target_of m0.probe) log.calls) log.confirmed
+  pub blocks : AreBlocks full limits (issued p (target_of m0.probe) log.calls) log.confirmed
 
--- So it is where the bench is observable.
-pub record HasSpared (limits given : Limits) (state : Option BenchState) (log : LogState) (points : ℕ) (m0 : BenchState) : Type 0 where
-  pub so : WhereObservable state (λ m. IsSpared limits given log points m0 m)
+-- So it is by the managed planner, where the bench is observable.
+pub record HasSpared (p : Planner) (limits given : Limits) (state : Option BenchState) (log : LogState) (points : ℕ) (m0 : BenchState) : Type 0 where
+  pub so : p ≡ Managed → WhereObservable state (λ m. IsSpared p limits given log points m0 m)
 
--- The starting packets were paid for by so many need points, and so many are left of those that came. Their count stops at 2^64 - 1.
-pub record HasPaid (limits given : Limits) (state : Option BenchState) (log : LogState) (left : ℕ) (m0 : BenchState) : Type 0 where
+-- By the managed planner the starting packets were paid for by so many need points, and so many are left of those that came. Their count
+-- stops at 2^64 - 1.
+pub record HasPaid (p : Planner) (limits given : Limits) (state : Option BenchState) (log : LogState) (left : ℕ) (m0 : BenchState) : Type 0 where
   pub paid : ℕ
-  pub spared : HasSpared limits given state log paid m0
-  pub covers : capped_sum paid left ≤ log.needs
+  pub spared : HasSpared p limits given state log paid m0
+  pub covers : p ≡ Managed → capped_sum paid left ≤ log.needs
 
 -- one need point is left where the last came after calls of which not all have come
 abbrev pub left_of : LogState → ℕ
 left_of log = one_if (nat_lt log.known log.fence)
+
+-- the bounds on packets are kept by the managed planner
+abbrev pub keeps_bounds : Planner → Bool
+keeps_bounds Managed = true
+keeps_bounds Plain = false
+
+-- so many need points are counted by the managed planner alone
+abbrev pub counted : Planner → ℕ → ℕ
+counted p points = if is_alone p false then 0 else points
 
 -- how many of the calls have the mark of a `finish`
 abbrev pub marks_in : List Ask → ℕ
 marks_in calls = sum_by (λ (c : Ask). one_if c.settled) calls
 
 -- how many need points the first of these calls makes before it counts as asked
-abbrev pub first_cost : TargetState → List Ask → ℕ
-first_cost t [] = 0
-first_cost t (c ∷ calls) = (cost_by Managed t [] c).before
+abbrev pub first_cost : Planner → TargetState → List Ask → ℕ
+first_cost p t [] = 0
+first_cost p t (c ∷ calls) = (cost_by p t [] c).before
 
 -- The first call made its need points, and each `finish` one more. Their count stops at 2^64 - 1.
-pub record AreNeeded (t : TargetState) (asks : Asks) : Type 0 where
-  pub so : capped_sum (first_cost t asks.calls) (marks_in asks.calls) ≤ asks.needs
+pub record AreNeeded (p : Planner) (t : TargetState) (asks : Asks) : Type 0 where
+  pub so : capped_sum (first_cost p t asks.calls) (marks_in asks.calls) ≤ asks.needs
 
 -- The access began when its bench had this state, and while it has no end its starting packets are paid for.
-pub record HasBegunSparing (limits : Limits) (bench : BenchReported) (state : Option BenchState) (log : LogState) (sent got : List ℕ) (kept : Kept)
+pub record HasBegunSparing (p : Planner) (limits : Limits) (bench : BenchReported) (state : Option BenchState) (log : LogState) (sent got : List ℕ) (kept : Kept)
     (accesses : List RegAccess) (m0 : BenchState) : Type 0 where
-  pub begun : HasBegun bench state log sent got kept accesses m0
-  pub paid : log.end ≡ None → HasPaid limits bench.limits state log (left_of log) m0
-  pub needed : log.end ≡ None → AreNeeded (target_of m0.probe) (asks_of log)
+  pub begun : HasBegun p bench state log sent got kept accesses m0
+  pub paid : log.end ≡ None → HasPaid p limits bench.limits state log (left_of log) m0
+  pub needed : log.end ≡ None → AreNeeded p (target_of m0.probe) (asks_of log)
 
 -- a flight of a unit that is made alone: it came, and another may follow; or it faulted, and ABORT was written
 abbrev pub WentFew : Option ℕ → BenchState → BenchState → Type 0

@@ -13,14 +13,10 @@ use Rattle.probe_core.specs.Probe.{target_of}
 use Rattle.call_terms.specs.Asks.{ForgiveNothing, is_forgiving, is_settled}
 use Rattle.call_terms.specs.Journal.{Entry, actions_in, target_after}
 use Rattle.call_terms.specs.declared.calls.Ask.{Ask}
-use Rattle.call_terms.specs.declared.journal.Part.TheVariants.{Settles}
 use Rattle.access_regs.specs.Entries.{kept_by}
-use Rattle.access_regs.specs.Journal.{issued, issued_from, kept_from, making, numbered, steps_of}
+use Rattle.access_regs.specs.Journal.{issued, issued_from, kept_from, making}
 use Rattle.access_regs.specs.Kept.{Kept, nothing_kept}
-use Rattle.access_regs.specs.Plan.{settle}
-use Rattle.access_regs.proofs.EntryLemmas.{journal_marks}
-use Rattle.access_regs.proofs.Joins.{journal_joins, later_entries}
-use Rattle.access_calls.specs.Growing.{IsAfter, JournalGrows, JournalSettles}
+use Rattle.access_regs.proofs.Joins.{journal_joins}
 use Rattle.access_calls.specs.Issued.{kept_of}
 use Rattle.access_calls.specs.Left.{IsLeft}
 use Rattle.access_calls.specs.Reported.{Reported, began}
@@ -33,7 +29,7 @@ use Rattle.calls_in_flight.proofs.EndLemmas.{begun_stands}
 use Rattle.packed_access.specs.Begun.{HasBegun, IsGivenAt, IsIssuing, IsOpenAt, IsSince}
 use Rattle.packed_access.specs.Logs.{LogState, reported_by}
 use Rattle.packed_access.specs.Marks.{unmarked_same}
-use Rattle.access_regs.specs.declared.planner.Planner.TheVariants.{Managed}
+use Rattle.access_regs.specs.declared.planner.Planner.{Planner}
 
 -- a call of this number that forgives nothing
 pub record IsMildAt (calls : List Ask) (index : ℕ) : Type 0 where
@@ -75,11 +71,11 @@ none_flying : (flying : List Entry) → actions_in flying ≡ [] → flying ≡ 
 none_flying [] h = refl
 none_flying (e ∷ es) h = absurd (cc)
 
-module _ (bench : BenchReported) (state : Option BenchState) (log : LogState) (sent got : List ℕ) (kept : Kept) (accesses : List RegAccess) (m0 m : BenchState) (h : IsOpenAt log kept accesses m0 m) where
+module _ (p : Planner) (bench : BenchReported) (state : Option BenchState) (log : LogState) (sent got : List ℕ) (kept : Kept) (accesses : List RegAccess) (m0 m : BenchState) (h : IsOpenAt p log kept accesses m0 m) where
   abbrev t0 : TargetState
   t0 = target_of m0.probe
 
-  abbrev i : IsIssuing log accesses [] m0 m
+  abbrev i : IsIssuing p log accesses [] m0 m
   i = h.issuing
 
   within : log.came ≤ length log.calls
@@ -88,8 +84,8 @@ module _ (bench : BenchReported) (state : Option BenchState) (log : LogState) (s
   split : log.calls ≡ take log.came log.calls ++ drop log.came log.calls
   split = sym (take-append-drop log.came log.calls)
 
-  joined : issued Managed t0 log.calls ≡ issued Managed t0 (take log.came log.calls) ++ issued_from Managed (0 + length (take log.came log.calls)) (kept_from Managed nothing_kept t0 (take log.came log.calls)) (target_after t0 (issued Managed t0 (take log.came log.calls))) (drop log.came log.calls)
-  joined = ap (issued Managed t0) split ∙ journal_joins Managed 0 nothing_kept t0 (take log.came log.calls) (drop log.came log.calls)
+  joined : issued p t0 log.calls ≡ issued p t0 (take log.came log.calls) ++ issued_from p (0 + length (take log.came log.calls)) (kept_from p nothing_kept t0 (take log.came log.calls)) (target_after t0 (issued p t0 (take log.came log.calls))) (drop log.came log.calls)
+  joined = ap (issued p t0) split ∙ journal_joins p 0 nothing_kept t0 (take log.came log.calls) (drop log.came log.calls)
 
   mild_at : (index : ℕ) → log.came ≤ index → index < length log.calls → IsMildAt log.calls index
   mild_at index low less =
@@ -107,22 +103,22 @@ module _ (bench : BenchReported) (state : Option BenchState) (log : LogState) (s
       drop_all (x ∷ xs) = drop_all xs
 
   -- the calls that came have all their entries among those that are confirmed, a settling after the last one too
-  all_confirmed : is_settled log.calls ≡ true → length (issued Managed (target_of m0.probe) (take log.came log.calls)) ≤ log.confirmed
+  all_confirmed : is_settled log.calls ≡ true → length (issued p (target_of m0.probe) (take log.came log.calls)) ≤ log.confirmed
   all_confirmed settled =
-      let e = ap (λ (n : ℕ). length (issued Managed t0 (take n log.calls))) (h.calm settled).0 in
-      let f = ap (λ (l : List Ask). length (issued Managed t0 l)) (take-length log.calls) in
+      let e = ap (λ (n : ℕ). length (issued p t0 (take n log.calls))) (h.calm settled).0 in
+      let f = ap (λ (l : List Ask). length (issued p t0 l)) (take-length log.calls) in
       let j = ap length (i.sending.on.are ∙ ap (λ (l : List Entry). i.sending.made ++ (l ++ [])) (calm_here settled).1 ∙ append-nil i.sending.made) in
       let c = i.sending.confirmed_is in
       omega (arith, e, f, j, c)
 
-  came_by : (b : Bool) → is_settled log.calls ≡ b → length (issued Managed (target_of m0.probe) (take log.came log.calls)) ≤ log.confirmed
+  came_by : (b : Bool) → is_settled log.calls ≡ b → length (issued p (target_of m0.probe) (take log.came log.calls)) ≤ log.confirmed
   came_by true settled = all_confirmed settled
-  came_by false unsettled = (let a = i.came_made in let e = ap (λ (l : List Ask). length (issued Managed t0 (take log.came l))) (unmarked_same log.calls unsettled) in omega (arith, a, e))
+  came_by false unsettled = (let a = i.came_made in let e = ap (λ (l : List Ask). length (issued p t0 (take log.came l))) (unmarked_same log.calls unsettled) in omega (arith, a, e))
 
-  pub came_there : length (issued Managed (target_of m0.probe) (take log.came log.calls)) ≤ log.confirmed
+  pub came_there : length (issued p (target_of m0.probe) (take log.came log.calls)) ≤ log.confirmed
   came_there = came_by (is_settled log.calls) refl
 
-  pub open_flying : IsFlying Managed (reported_by bench state log sent got) kept accesses (take log.known log.results) m0 m
+  pub open_flying : IsFlying p (reported_by bench state log sent got) kept accesses (take log.known log.results) m0 m
   open_flying = record {
     fresh = i.sending.fresh;
     askable = i.sending.askable;
@@ -136,7 +132,7 @@ module _ (bench : BenchReported) (state : Option BenchState) (log : LogState) (s
     front = take log.came log.calls;
     back = drop log.came log.calls;
     calls = split;
-    part = take (length i.sending.made - length (issued Managed t0 (take log.came log.calls))) (issued_from Managed (0 + length (take log.came log.calls)) (kept_from Managed nothing_kept t0 (take log.came log.calls)) (target_after t0 (issued Managed t0 (take log.came log.calls))) (drop log.came log.calls));
+    part = take (length i.sending.made - length (issued p t0 (take log.came log.calls))) (issued_from p (0 + length (take log.came log.calls)) (kept_from p nothing_kept t0 (take log.came log.calls)) (target_after t0 (issued p t0 (take log.came log.calls))) (drop log.came log.calls));
     made_is = begins_with _ _ i.sending.made (i.flying ++ []) (sym joined ∙ i.sending.on.are) (let a = came_there in let b = i.sending.confirmed_is in omega (arith, a, b));
     came_is = sym (length-take-le log.came log.calls within);
     came_are = i.came_are;
@@ -147,49 +143,23 @@ module _ (bench : BenchReported) (state : Option BenchState) (log : LogState) (s
 
 -- ---- the law of the contract
 
-since_begun : (bench : BenchReported) (state : Option BenchState) (log : LogState) (sent got : List ℕ) (kept : Kept) (accesses : List RegAccess) (e : Option Stop) (m0 m : BenchState) →
-    IsSince e (reported_by bench state log sent got) log kept accesses m0 m → BegunAt Managed e (reported_by bench state log sent got) kept accesses (take log.known log.results) m0 m
-since_begun bench state log sent got kept accesses None m0 m h = open_flying bench state log sent got kept accesses m0 m h
-since_begun bench state log sent got kept accesses (Some s) m0 m h = h
+since_begun : (p : Planner) (bench : BenchReported) (state : Option BenchState) (log : LogState) (sent got : List ℕ) (kept : Kept) (accesses : List RegAccess) (e : Option Stop) (m0 m : BenchState) →
+    IsSince p e (reported_by bench state log sent got) log kept accesses m0 m → BegunAt p e (reported_by bench state log sent got) kept accesses (take log.known log.results) m0 m
+since_begun p bench state log sent got kept accesses None m0 m h = open_flying p bench state log sent got kept accesses m0 m h
+since_begun p bench state log sent got kept accesses (Some s) m0 m h = h
 
-begun_where : (x : Option BenchState) (bench : BenchReported) (state : Option BenchState) (log : LogState) (sent got : List ℕ) (kept : Kept) (accesses : List RegAccess) (m0 : BenchState) →
-    WhereObservable x (λ m. IsSince log.end (reported_by bench state log sent got) log kept accesses m0 m) →
-    WhereObservable x (λ m. BegunAt Managed log.end (reported_by bench state log sent got) kept accesses (take log.known log.results) m0 m)
-begun_where None bench state log sent got kept accesses m0 h = h
-begun_where (Some m) bench state log sent got kept accesses m0 h = since_begun bench state log sent got kept accesses log.end m0 m h
+begun_where : (p : Planner) (x : Option BenchState) (bench : BenchReported) (state : Option BenchState) (log : LogState) (sent got : List ℕ) (kept : Kept) (accesses : List RegAccess) (m0 : BenchState) →
+    WhereObservable x (λ m. IsSince p log.end (reported_by bench state log sent got) log kept accesses m0 m) →
+    WhereObservable x (λ m. BegunAt p log.end (reported_by bench state log sent got) kept accesses (take log.known log.results) m0 m)
+begun_where p None bench state log sent got kept accesses m0 h = h
+begun_where p (Some m) bench state log sent got kept accesses m0 h = since_begun p bench state log sent got kept accesses log.end m0 m h
 
 -- the same as the laws of calls in flight say it
-pub is_begun : (bench : BenchReported) (state : Option BenchState) (log : LogState) (sent got : List ℕ) (kept : Kept) (accesses : List RegAccess) (m0 : BenchState) →
-    HasBegun bench state log sent got kept accesses m0 → IsBegun Managed (reported_by bench state log sent got) kept accesses (take log.known log.results) m0
-is_begun bench state log sent got kept accesses m0 h = record { so = begun_where state bench state log sent got kept accesses m0 h.so }
+pub is_begun : (p : Planner) (bench : BenchReported) (state : Option BenchState) (log : LogState) (sent got : List ℕ) (kept : Kept) (accesses : List RegAccess) (m0 : BenchState) →
+    HasBegun p bench state log sent got kept accesses m0 → IsBegun p (reported_by bench state log sent got) kept accesses (take log.known log.results) m0
+is_begun p bench state log sent got kept accesses m0 h = record { so = begun_where p state bench state log sent got kept accesses m0 h.so }
 
-pub stands_packed : (bench : BenchReported) (state : Option BenchState) (log : LogState) (sent got : List ℕ) (kept : Kept) (accesses : List RegAccess) (m0 : BenchState) (n : Option ℕ) →
-    HasBegun bench state log sent got kept accesses m0 → IsLeft (reported_by bench state log sent got) n → Stands (issued Managed) (reported_by bench state log sent got) (began m0 n)
-stands_packed bench state log sent got kept accesses m0 n h left =
-    begun_stands Managed (reported_by bench state log sent got) kept accesses (take log.known log.results) m0 n (is_begun bench state log sent got kept accesses m0 h) left
-
--- the journal of more calls begins with that of the first ones
-pub grows_packed : JournalGrows (issued Managed)
-grows_packed t asks more =
-    let n : ℕ = 0 + length asks in
-    let rest : List Entry = issued_from Managed n (kept_from Managed nothing_kept t asks) (target_after t (issued Managed t asks)) more in
-    let later : AllByRecursion (IsAfter n) rest = later_entries Managed n (kept_from Managed nothing_kept t asks) (target_after t (issued Managed t asks)) more in
-    let number : n ≡ length asks = omega arith in
-    record {
-      rest = rest;
-      joined = journal_joins Managed 0 nothing_kept t asks more;
-      later = subst (λ (k : ℕ). AllByRecursion (IsAfter k) rest) number later;
-    }
-
--- what settles so many calls is issued after them
-settling_later : (n : ℕ) (accesses : List RegAccess) → AllByRecursion (IsAfter n) (numbered n false (steps_of Settles accesses))
-settling_later n [] = tt
-settling_later n (a ∷ accesses) = (omega arith, settling_later n accesses)
-
--- the journal of calls that a `finish` follows begins with that of the calls
-pub settles_packed : JournalSettles (issued Managed)
-settles_packed t asks = record {
-  rest = numbered (length asks) false (steps_of Settles (settle (kept_by Managed t asks)));
-  joined = (journal_marks Managed t asks).0;
-  later = settling_later (length asks) (settle (kept_by Managed t asks));
-}
+pub stands_packed : (p : Planner) (bench : BenchReported) (state : Option BenchState) (log : LogState) (sent got : List ℕ) (kept : Kept) (accesses : List RegAccess) (m0 : BenchState) (n : Option ℕ) →
+    HasBegun p bench state log sent got kept accesses m0 → IsLeft (reported_by bench state log sent got) n → Stands (issued p) (reported_by bench state log sent got) (began m0 n)
+stands_packed p bench state log sent got kept accesses m0 n h left =
+    begun_stands p (reported_by bench state log sent got) kept accesses (take log.known log.results) m0 n (is_begun p bench state log sent got kept accesses m0 h) left

@@ -1,11 +1,9 @@
-//! The access, and how its bench is given back.
+//! The access.
 ghost use Rattle.std.specs.Prelude.{◌≡◌, None, length};
 ghost use Rattle.packed_access.specs.Settling.{CanSettle};
 
-use crate::flights::Flights;
 use crate::sender::Sender;
-use crate::wire::Wire;
-use probe_core::Bench;
+use bench_flights::{Alone, Flights, Wire};
 
 /// An access that collects register accesses in flights.
 #[derive(Drop)]
@@ -17,23 +15,17 @@ pub struct PackedAccess<F: Flights> {
     ghost settles: { sender.log.end ≡ None → CanSettle sender.log sender.managed },
 }
 
-/// The access over a bench.
-pub type Packed<B> = PackedAccess<Wire<B>>;
-
-impl<B: Bench> PackedAccess<Wire<B>> {
-    /// Ends the access, and hands the bench back as its calls left it: the one that it reports.
-    pub(crate) fn give_back(self) -> B
-        ensures bench { result ≡ self.sender.flights.bench }
-        ensures reported { B.reported result ≡ B.reported self.sender.flights.bench }
-        ensures state { B.state result ≡ B.state self.sender.flights.bench }
-        ensures identity { B.identity result ≡ B.identity self.sender.flights.bench }
+impl<F: Flights> PackedAccess<F> {
+    /// How many calls were asked, at most 10,000,000.
+    pub fn count(&self) -> u32
+        ensures { result ≡ length self.now.sender.log.calls }
     {
-        let PackedAccess { sender } = self;
-        let Sender {
-            flights,
-            managed: _,
-            log: _,
-        } = sender;
-        flights.into_bench()
+        self.sender.log.count()
     }
 }
+
+/// The access over a bench that packs.
+pub type Packed<B> = PackedAccess<Wire<B>>;
+
+/// The access over a bench that sends each register access by itself, and makes each memory and AP unit alone.
+pub type Single<B> = PackedAccess<Alone<B>>;

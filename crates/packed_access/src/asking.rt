@@ -1,9 +1,10 @@
 //! Asking a unit that forgives nothing and is no poll.
-ghost use Rattle.std.specs.Prelude.{◌≡◌, ◌<◌, ◌≤◌, ◌+◌, ◌-◌, ◌*◌, ◌++◌, ◌∷◌, [], ℕ, List, Option, None, Some, false, true, length, IfErr, IfOk, OnOk};
+ghost use Rattle.std.specs.Prelude.{◌&&◌, ◌≡◌, ◌<◌, ◌≤◌, ◌+◌, ◌-◌, ◌*◌, ◌++◌, ◌∷◌, [], ℕ, List, Option, None, Some, false, true, length, IfErr, IfOk, OnOk};
 ghost use Rattle.target_machine.specs.Sound.{IsSound};
 ghost use Rattle.probe_core.specs.Bench.{BenchState};
 ghost use Rattle.access_regs.specs.Entries.{target_by};
-ghost use Rattle.access_regs.specs.Journal.{by_cfg, issue_of};
+ghost use Rattle.access_regs.specs.Journal.{by_cfg, is_alone, issue_of};
+ghost use Rattle.target_machine.specs.Plain.{may_forgive};
 ghost use Rattle.packed_access.specs.Settling.{CanSettle};
 ghost use Rattle.packed_access.specs.Sparing.{HasPaid};
 ghost use Rattle.packed_access.specs.Planned.{HasShown, reads_before};
@@ -19,11 +20,10 @@ ghost use Rattle.call_terms.specs.Asks.{is_forgiving};
 ghost use Rattle.probe_core.specs.Probe.{target_of};
 ghost use Rattle.target_machine.specs.declared.unit.Call.TheVariants.{Access};
 ghost use Rattle.access_regs.specs.Costs.{cost_by};
-ghost use Rattle.access_regs.specs.declared.planner.Planner.TheVariants.{Managed};
 
-use crate::flights::Flights;
 use crate::sender::Sender;
 use access_calls::Stop;
+use bench_flights::Flights;
 use target_machine::Unit;
 
 impl<F: Flights> Sender<F> {
@@ -37,27 +37,27 @@ impl<F: Flights> Sender<F> {
         requires whole { self.old.log.whole + 1 ≡ length self.old.log.calls }
         requires room { length self.old.log.entries + 9 ≤ self.old.log.room }
         requires bounded { length self.old.log.entries + 9 ≤ most_entries * length self.old.log.calls }
-        ensures on { (m0 : BenchState) → HasIssued (F.state self.old.flights) self.old.log (F.accesses self.old.flights)
-            (steps_left self.old.log (by_cfg (target_issued self.old.log m0) self.old.managed unit.now).steps) m0
-            → OnOk result (HasIssued (F.state self.new.flights) self.new.log (F.accesses self.new.flights) [] m0) }
-        ensures spare { (m0 : BenchState) (left : ℕ) → HasIssued (F.state self.old.flights) self.old.log (F.accesses self.old.flights)
-            (steps_left self.old.log (by_cfg (target_issued self.old.log m0) self.old.managed unit.now).steps) m0
-            → HasPaid (F.limits self.old.flights) (F.reported self.old.flights).limits (F.state self.old.flights) self.old.log left m0
-            → OnOk result (HasPaid (F.limits self.new.flights) (F.reported self.new.flights).limits (F.state self.new.flights) self.new.log left m0) }
-        ensures kept { (m0 : BenchState) → HasIssued (F.state self.old.flights) self.old.log (F.accesses self.old.flights)
-            (steps_left self.old.log (by_cfg (target_issued self.old.log m0) self.old.managed unit.now).steps) m0
-            → OnOk result (self.new.managed ≡ (by_cfg (target_issued self.old.log m0) self.old.managed unit.now).kept) }
-        ensures small { (m0 : BenchState) (calls : List Ask) (ask : Ask) → self.old.log.calls ≡ calls ++ ask ∷ [] → HasIssued (F.state self.old.flights) self.old.log (F.accesses self.old.flights)
-            (steps_left self.old.log (by_cfg (target_issued self.old.log m0) self.old.managed unit.now).steps) m0
-            → IfOk result (HasShown (target_of m0.probe) calls (target_issued self.old.log m0) self.old.managed unit.now) }
-        ensures asks { (m0 : BenchState) → HasIssued (F.state self.old.flights) self.old.log (F.accesses self.old.flights)
-            (steps_left self.old.log (by_cfg (target_issued self.old.log m0) self.old.managed unit.now).steps) m0
-            → OnOk result (asks_of self.new.log ≡ asks_of (with_needs self.old.log (reads_before (target_issued self.old.log m0) self.old.managed unit.now) (length self.old.log.calls - 1))) }
-        ensures broke { (m0 : BenchState) → HasIssued (F.state self.old.flights) self.old.log (F.accesses self.old.flights)
-            (steps_left self.old.log (by_cfg (target_issued self.old.log m0) self.old.managed unit.now).steps) m0
-            → IfErr result (λ s. HasEnded s (reported_by (F.reported self.new.flights) (F.state self.new.flights) self.new.log (F.packet self.new.flights) (F.reply self.new.flights)) self.new.log m0) }
-        ensures stops { (m0 : BenchState) (answered : Option ℕ) → HasIssued (F.state self.old.flights) self.old.log (F.accesses self.old.flights)
-            (steps_left self.old.log (by_cfg (target_issued self.old.log m0) self.old.managed unit.now).steps) m0
+        ensures on { (m0 : BenchState) → HasIssued F.planner (F.state self.old.flights) self.old.log (F.accesses self.old.flights)
+            (steps_left self.old.log (by_cfg (target_issued F.planner self.old.log m0) self.old.managed unit.now).steps) m0
+            → OnOk result (HasIssued F.planner (F.state self.new.flights) self.new.log (F.accesses self.new.flights) [] m0) }
+        ensures spare { (m0 : BenchState) (left : ℕ) → HasIssued F.planner (F.state self.old.flights) self.old.log (F.accesses self.old.flights)
+            (steps_left self.old.log (by_cfg (target_issued F.planner self.old.log m0) self.old.managed unit.now).steps) m0
+            → HasPaid F.planner (F.limits self.old.flights) (F.reported self.old.flights).limits (F.state self.old.flights) self.old.log left m0
+            → OnOk result (HasPaid F.planner (F.limits self.new.flights) (F.reported self.new.flights).limits (F.state self.new.flights) self.new.log left m0) }
+        ensures kept { (m0 : BenchState) → HasIssued F.planner (F.state self.old.flights) self.old.log (F.accesses self.old.flights)
+            (steps_left self.old.log (by_cfg (target_issued F.planner self.old.log m0) self.old.managed unit.now).steps) m0
+            → OnOk result (self.new.managed ≡ (by_cfg (target_issued F.planner self.old.log m0) self.old.managed unit.now).kept) }
+        ensures small { (m0 : BenchState) (calls : List Ask) (ask : Ask) → self.old.log.calls ≡ calls ++ ask ∷ [] → HasIssued F.planner (F.state self.old.flights) self.old.log (F.accesses self.old.flights)
+            (steps_left self.old.log (by_cfg (target_issued F.planner self.old.log m0) self.old.managed unit.now).steps) m0
+            → IfOk result (HasShown (target_of m0.probe) calls (target_issued F.planner self.old.log m0) self.old.managed unit.now) }
+        ensures asks { (m0 : BenchState) → HasIssued F.planner (F.state self.old.flights) self.old.log (F.accesses self.old.flights)
+            (steps_left self.old.log (by_cfg (target_issued F.planner self.old.log m0) self.old.managed unit.now).steps) m0
+            → OnOk result (asks_of self.new.log ≡ asks_of (with_needs self.old.log (reads_before (target_issued F.planner self.old.log m0) self.old.managed unit.now) (length self.old.log.calls - 1))) }
+        ensures broke { (m0 : BenchState) → HasIssued F.planner (F.state self.old.flights) self.old.log (F.accesses self.old.flights)
+            (steps_left self.old.log (by_cfg (target_issued F.planner self.old.log m0) self.old.managed unit.now).steps) m0
+            → IfErr result (λ s. HasEnded F.planner s (reported_by (F.reported self.new.flights) (F.state self.new.flights) self.new.log (F.packet self.new.flights) (F.reply self.new.flights)) self.new.log m0) }
+        ensures stops { (m0 : BenchState) (answered : Option ℕ) → HasIssued F.planner (F.state self.old.flights) self.old.log (F.accesses self.old.flights)
+            (steps_left self.old.log (by_cfg (target_issued F.planner self.old.log m0) self.old.managed unit.now).steps) m0
             → IsLeft (reported_by (F.reported self.new.flights) (F.state self.new.flights) self.new.log (F.packet self.new.flights) (F.reply self.new.flights)) answered
             → IfErr result (StopsThere m0 answered self.old.log.calls self.new.log.lines) }
         ensures goes { GoesOn (reported_by (F.reported self.old.flights) (F.state self.old.flights) self.old.log (F.packet self.old.flights) (F.reply self.old.flights))
@@ -100,23 +100,24 @@ impl<F: Flights> Sender<F> {
         requires open { self.old.log.end ≡ None }
         requires sound { IsSound unit.now }
         requires no_poll { IsNoPoll unit.now }
+        requires planned { (is_alone F.planner false && may_forgive (Access unit.now)) ≡ false }
         requires whole { self.old.log.whole + 1 ≡ length self.old.log.calls }
         requires room { length self.old.log.entries + 11 ≤ self.old.log.room }
         requires bounded { length self.old.log.entries + 11 ≤ most_entries * length self.old.log.calls }
-        ensures on { (m0 : BenchState) (calls : List Ask) (ask : Ask) → ask.call ≡ Access unit.now → is_forgiving ask ≡ false → HasAsked (F.state self.old.flights) self.old.log (F.accesses self.old.flights) self.old.managed calls ask m0
-            → OnOk result (HasIssued (F.state self.new.flights) self.new.log (F.accesses self.new.flights) [] m0) }
-        ensures spare { (m0 : BenchState) (calls : List Ask) (ask : Ask) (left : ℕ) → ask.call ≡ Access unit.now → is_forgiving ask ≡ false → HasAsked (F.state self.old.flights) self.old.log (F.accesses self.old.flights) self.old.managed calls ask m0
-            → HasPaid (F.limits self.old.flights) (F.reported self.old.flights).limits (F.state self.old.flights) self.old.log left m0
-            → OnOk result (HasPaid (F.limits self.new.flights) (F.reported self.new.flights).limits (F.state self.new.flights) self.new.log left m0) }
-        ensures kept { (m0 : BenchState) (calls : List Ask) (ask : Ask) → ask.call ≡ Access unit.now → is_forgiving ask ≡ false → HasAsked (F.state self.old.flights) self.old.log (F.accesses self.old.flights) self.old.managed calls ask m0
-            → OnOk result (self.new.managed ≡ (issue_of Managed (target_by Managed (target_of m0.probe) calls) self.old.managed ask).kept) }
-        ensures small { (m0 : BenchState) (calls : List Ask) (ask : Ask) → ask.call ≡ Access unit.now → is_forgiving ask ≡ false → HasAsked (F.state self.old.flights) self.old.log (F.accesses self.old.flights) self.old.managed calls ask m0
+        ensures on { (m0 : BenchState) (calls : List Ask) (ask : Ask) → ask.call ≡ Access unit.now → is_forgiving ask ≡ false → HasAsked F.planner (F.state self.old.flights) self.old.log (F.accesses self.old.flights) self.old.managed calls ask m0
+            → OnOk result (HasIssued F.planner (F.state self.new.flights) self.new.log (F.accesses self.new.flights) [] m0) }
+        ensures spare { (m0 : BenchState) (calls : List Ask) (ask : Ask) (left : ℕ) → ask.call ≡ Access unit.now → is_forgiving ask ≡ false → HasAsked F.planner (F.state self.old.flights) self.old.log (F.accesses self.old.flights) self.old.managed calls ask m0
+            → HasPaid F.planner (F.limits self.old.flights) (F.reported self.old.flights).limits (F.state self.old.flights) self.old.log left m0
+            → OnOk result (HasPaid F.planner (F.limits self.new.flights) (F.reported self.new.flights).limits (F.state self.new.flights) self.new.log left m0) }
+        ensures kept { (m0 : BenchState) (calls : List Ask) (ask : Ask) → ask.call ≡ Access unit.now → is_forgiving ask ≡ false → HasAsked F.planner (F.state self.old.flights) self.old.log (F.accesses self.old.flights) self.old.managed calls ask m0
+            → OnOk result (self.new.managed ≡ (issue_of F.planner (target_by F.planner (target_of m0.probe) calls) self.old.managed ask).kept) }
+        ensures small { (m0 : BenchState) (calls : List Ask) (ask : Ask) → ask.call ≡ Access unit.now → is_forgiving ask ≡ false → HasAsked F.planner (F.state self.old.flights) self.old.log (F.accesses self.old.flights) self.old.managed calls ask m0
             → IfOk result (λ small. small ≡ small_now (start_world (target_of m0.probe) None) calls ask) }
-        ensures needs { (m0 : BenchState) (calls : List Ask) (ask : Ask) → ask.call ≡ Access unit.now → is_forgiving ask ≡ false → HasAsked (F.state self.old.flights) self.old.log (F.accesses self.old.flights) self.old.managed calls ask m0
-            → OnOk result (asks_of self.new.log ≡ asked (cost_by Managed (target_of m0.probe) calls ask) ask (record { calls = calls; needs = self.old.log.needs; fence = self.old.log.fence })) }
-        ensures broke { (m0 : BenchState) (calls : List Ask) (ask : Ask) → ask.call ≡ Access unit.now → is_forgiving ask ≡ false → HasAsked (F.state self.old.flights) self.old.log (F.accesses self.old.flights) self.old.managed calls ask m0
-            → IfErr result (λ s. HasEnded s (reported_by (F.reported self.new.flights) (F.state self.new.flights) self.new.log (F.packet self.new.flights) (F.reply self.new.flights)) self.new.log m0) }
-        ensures stops { (m0 : BenchState) (calls : List Ask) (ask : Ask) (answered : Option ℕ) → ask.call ≡ Access unit.now → is_forgiving ask ≡ false → HasAsked (F.state self.old.flights) self.old.log (F.accesses self.old.flights) self.old.managed calls ask m0
+        ensures needs { (m0 : BenchState) (calls : List Ask) (ask : Ask) → ask.call ≡ Access unit.now → is_forgiving ask ≡ false → HasAsked F.planner (F.state self.old.flights) self.old.log (F.accesses self.old.flights) self.old.managed calls ask m0
+            → OnOk result (asks_of self.new.log ≡ asked (cost_by F.planner (target_of m0.probe) calls ask) ask (record { calls = calls; needs = self.old.log.needs; fence = self.old.log.fence })) }
+        ensures broke { (m0 : BenchState) (calls : List Ask) (ask : Ask) → ask.call ≡ Access unit.now → is_forgiving ask ≡ false → HasAsked F.planner (F.state self.old.flights) self.old.log (F.accesses self.old.flights) self.old.managed calls ask m0
+            → IfErr result (λ s. HasEnded F.planner s (reported_by (F.reported self.new.flights) (F.state self.new.flights) self.new.log (F.packet self.new.flights) (F.reply self.new.flights)) self.new.log m0) }
+        ensures stops { (m0 : BenchState) (calls : List Ask) (ask : Ask) (answered : Option ℕ) → ask.call ≡ Access unit.now → is_forgiving ask ≡ false → HasAsked F.planner (F.state self.old.flights) self.old.log (F.accesses self.old.flights) self.old.managed calls ask m0
             → IsLeft (reported_by (F.reported self.new.flights) (F.state self.new.flights) self.new.log (F.packet self.new.flights) (F.reply self.new.flights)) answered
             → IfErr result (StopsThere m0 answered self.old.log.calls self.new.log.lines) }
         ensures goes { GoesOn (reported_by (F.reported self.old.flights) (F.state self.old.flights) self.old.log (F.packet self.old.flights) (F.reply self.old.flights))
@@ -150,21 +151,22 @@ impl<F: Flights> Sender<F> {
         requires open { self.old.log.end ≡ None }
         requires sound { IsSound unit.now }
         requires no_poll { IsNoPoll unit.now }
+        requires planned { (is_alone F.planner false && may_forgive (Access unit.now)) ≡ false }
         requires whole { self.old.log.whole + 1 ≡ length self.old.log.calls }
         requires room { length self.old.log.entries + most_entries ≤ self.old.log.room }
         requires bounded { length self.old.log.entries + most_entries ≤ most_entries * length self.old.log.calls }
-        ensures on { (m0 : BenchState) (calls : List Ask) (ask : Ask) → ask.call ≡ Access unit.now → is_forgiving ask ≡ false → HasAsked (F.state self.old.flights) self.old.log (F.accesses self.old.flights) self.old.managed calls ask m0
-            → OnOk result (HasBegun (F.reported self.new.flights) (F.state self.new.flights) self.new.log (F.packet self.new.flights) (F.reply self.new.flights) self.new.managed (F.accesses self.new.flights) m0) }
-        ensures spare { (m0 : BenchState) (calls : List Ask) (ask : Ask) (left : ℕ) → ask.call ≡ Access unit.now → is_forgiving ask ≡ false → HasAsked (F.state self.old.flights) self.old.log (F.accesses self.old.flights) self.old.managed calls ask m0
-            → HasPaid (F.limits self.old.flights) (F.reported self.old.flights).limits (F.state self.old.flights) self.old.log left m0
-            → OnOk result (HasPaid (F.limits self.new.flights) (F.reported self.new.flights).limits (F.state self.new.flights) self.new.log left m0) }
-        ensures small { (m0 : BenchState) (calls : List Ask) (ask : Ask) → ask.call ≡ Access unit.now → is_forgiving ask ≡ false → HasAsked (F.state self.old.flights) self.old.log (F.accesses self.old.flights) self.old.managed calls ask m0
+        ensures on { (m0 : BenchState) (calls : List Ask) (ask : Ask) → ask.call ≡ Access unit.now → is_forgiving ask ≡ false → HasAsked F.planner (F.state self.old.flights) self.old.log (F.accesses self.old.flights) self.old.managed calls ask m0
+            → OnOk result (HasBegun F.planner (F.reported self.new.flights) (F.state self.new.flights) self.new.log (F.packet self.new.flights) (F.reply self.new.flights) self.new.managed (F.accesses self.new.flights) m0) }
+        ensures spare { (m0 : BenchState) (calls : List Ask) (ask : Ask) (left : ℕ) → ask.call ≡ Access unit.now → is_forgiving ask ≡ false → HasAsked F.planner (F.state self.old.flights) self.old.log (F.accesses self.old.flights) self.old.managed calls ask m0
+            → HasPaid F.planner (F.limits self.old.flights) (F.reported self.old.flights).limits (F.state self.old.flights) self.old.log left m0
+            → OnOk result (HasPaid F.planner (F.limits self.new.flights) (F.reported self.new.flights).limits (F.state self.new.flights) self.new.log left m0) }
+        ensures small { (m0 : BenchState) (calls : List Ask) (ask : Ask) → ask.call ≡ Access unit.now → is_forgiving ask ≡ false → HasAsked F.planner (F.state self.old.flights) self.old.log (F.accesses self.old.flights) self.old.managed calls ask m0
             → IfOk result (λ small. small ≡ small_now (start_world (target_of m0.probe) None) calls ask) }
-        ensures needs { (m0 : BenchState) (calls : List Ask) (ask : Ask) → ask.call ≡ Access unit.now → is_forgiving ask ≡ false → HasAsked (F.state self.old.flights) self.old.log (F.accesses self.old.flights) self.old.managed calls ask m0
-            → OnOk result (asks_of self.new.log ≡ asked (cost_by Managed (target_of m0.probe) calls ask) ask (record { calls = calls; needs = self.old.log.needs; fence = self.old.log.fence })) }
-        ensures broke { (m0 : BenchState) (calls : List Ask) (ask : Ask) → ask.call ≡ Access unit.now → is_forgiving ask ≡ false → HasAsked (F.state self.old.flights) self.old.log (F.accesses self.old.flights) self.old.managed calls ask m0
-            → IfErr result (λ s. HasEnded s (reported_by (F.reported self.new.flights) (F.state self.new.flights) self.new.log (F.packet self.new.flights) (F.reply self.new.flights)) self.new.log m0) }
-        ensures stops { (m0 : BenchState) (calls : List Ask) (ask : Ask) (answered : Option ℕ) → ask.call ≡ Access unit.now → is_forgiving ask ≡ false → HasAsked (F.state self.old.flights) self.old.log (F.accesses self.old.flights) self.old.managed calls ask m0
+        ensures needs { (m0 : BenchState) (calls : List Ask) (ask : Ask) → ask.call ≡ Access unit.now → is_forgiving ask ≡ false → HasAsked F.planner (F.state self.old.flights) self.old.log (F.accesses self.old.flights) self.old.managed calls ask m0
+            → OnOk result (asks_of self.new.log ≡ asked (cost_by F.planner (target_of m0.probe) calls ask) ask (record { calls = calls; needs = self.old.log.needs; fence = self.old.log.fence })) }
+        ensures broke { (m0 : BenchState) (calls : List Ask) (ask : Ask) → ask.call ≡ Access unit.now → is_forgiving ask ≡ false → HasAsked F.planner (F.state self.old.flights) self.old.log (F.accesses self.old.flights) self.old.managed calls ask m0
+            → IfErr result (λ s. HasEnded F.planner s (reported_by (F.reported self.new.flights) (F.state self.new.flights) self.new.log (F.packet self.new.flights) (F.reply self.new.flights)) self.new.log m0) }
+        ensures stops { (m0 : BenchState) (calls : List Ask) (ask : Ask) (answered : Option ℕ) → ask.call ≡ Access unit.now → is_forgiving ask ≡ false → HasAsked F.planner (F.state self.old.flights) self.old.log (F.accesses self.old.flights) self.old.managed calls ask m0
             → IsLeft (reported_by (F.reported self.new.flights) (F.state self.new.flights) self.new.log (F.packet self.new.flights) (F.reply self.new.flights)) answered
             → IfErr result (StopsThere m0 answered self.old.log.calls self.new.log.lines) }
         ensures goes { GoesOn (reported_by (F.reported self.old.flights) (F.state self.old.flights) self.old.log (F.packet self.old.flights) (F.reply self.old.flights))

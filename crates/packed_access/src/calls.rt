@@ -1,5 +1,5 @@
 //! The calls of the access.
-ghost use Rattle.std.specs.Prelude.{◌<◌, ◌≡◌, ◌≤◌, ◌+◌, ◌*◌, ℕ, List, Option, None, Some, length, IfErr, IfOk, OnOk};
+ghost use Rattle.std.specs.Prelude.{◌&&◌, ◌<◌, ◌≡◌, ◌≤◌, ◌+◌, ◌*◌, ℕ, List, Option, None, Some, length, IfErr, IfOk, OnOk};
 ghost use Rattle.target_machine.specs.Plain.{may_forgive};
 ghost use Rattle.target_machine.specs.Sound.{IsSound};
 ghost use Rattle.target_machine.specs.declared.unit.Call.TheVariants.{Access};
@@ -17,13 +17,13 @@ ghost use Rattle.call_terms.specs.declared.calls.Ask.{Ask};
 ghost use Rattle.call_terms.specs.NeedPoints.{asked};
 ghost use Rattle.call_terms.specs.Asks.{IsProbeInRange, IsUnitInRange, is_wide, unit_ask};
 ghost use Rattle.probe_core.specs.Probe.{target_of};
-ghost use Rattle.access_regs.specs.declared.planner.Planner.TheVariants.{Managed};
 ghost use Rattle.access_regs.specs.Costs.{command_cost, cost_by};
+ghost use Rattle.access_regs.specs.Journal.{is_alone};
 
 use crate::access::PackedAccess;
-use crate::flights::Flights;
-use crate::sender::Sender;
+use crate::sender::{Sender, counted};
 use access_calls::{Access, Stop};
+use bench_flights::Flights;
 use call_terms::{Ask, Asked, Slot};
 use target_machine::{Call, ProbeCall, Unit};
 
@@ -81,6 +81,13 @@ fn points_of(call: ProbeCall) -> u64
     }
 }
 
+// Whether the unit is made alone.
+fn makes_alone<F: Flights>(unit: &Unit, forgive: bool) -> bool
+    ensures { result ≡ (is_alone F.planner forgive && may_forgive (Access unit.now)) }
+{
+    (forgive || F::plans_alone()) && may_forgive(unit)
+}
+
 impl<F: Flights> Sender<F> {
     // Issues the unit of the last call. Answers whether its access port has no large addresses.
     pub(crate) fn issue_asked(&mut self, unit: &Unit, forgive: bool) -> Result<bool, Stop>
@@ -89,18 +96,18 @@ impl<F: Flights> Sender<F> {
         requires whole { self.old.log.whole + 1 ≡ length self.old.log.calls }
         requires room { length self.old.log.entries + most_entries ≤ self.old.log.room }
         requires bounded { length self.old.log.entries + most_entries ≤ most_entries * length self.old.log.calls }
-        ensures on { (m0 : BenchState) (calls : List Ask) (ask : Ask) → ask ≡ unit_ask unit.now forgive → HasAsked (F.state self.old.flights) self.old.log (F.accesses self.old.flights) self.old.managed calls ask m0
-            → OnOk result (HasBegun (F.reported self.new.flights) (F.state self.new.flights) self.new.log (F.packet self.new.flights) (F.reply self.new.flights) self.new.managed (F.accesses self.new.flights) m0) }
-        ensures spare { (m0 : BenchState) (calls : List Ask) (ask : Ask) (left : ℕ) → ask ≡ unit_ask unit.now forgive → HasAsked (F.state self.old.flights) self.old.log (F.accesses self.old.flights) self.old.managed calls ask m0
-            → HasPaid (F.limits self.old.flights) (F.reported self.old.flights).limits (F.state self.old.flights) self.old.log left m0
-            → OnOk result (HasPaid (F.limits self.new.flights) (F.reported self.new.flights).limits (F.state self.new.flights) self.new.log left m0) }
-        ensures small { (m0 : BenchState) (calls : List Ask) (ask : Ask) → ask ≡ unit_ask unit.now forgive → HasAsked (F.state self.old.flights) self.old.log (F.accesses self.old.flights) self.old.managed calls ask m0
+        ensures on { (m0 : BenchState) (calls : List Ask) (ask : Ask) → ask ≡ unit_ask unit.now forgive → HasAsked F.planner (F.state self.old.flights) self.old.log (F.accesses self.old.flights) self.old.managed calls ask m0
+            → OnOk result (HasBegun F.planner (F.reported self.new.flights) (F.state self.new.flights) self.new.log (F.packet self.new.flights) (F.reply self.new.flights) self.new.managed (F.accesses self.new.flights) m0) }
+        ensures spare { (m0 : BenchState) (calls : List Ask) (ask : Ask) (left : ℕ) → ask ≡ unit_ask unit.now forgive → HasAsked F.planner (F.state self.old.flights) self.old.log (F.accesses self.old.flights) self.old.managed calls ask m0
+            → HasPaid F.planner (F.limits self.old.flights) (F.reported self.old.flights).limits (F.state self.old.flights) self.old.log left m0
+            → OnOk result (HasPaid F.planner (F.limits self.new.flights) (F.reported self.new.flights).limits (F.state self.new.flights) self.new.log left m0) }
+        ensures small { (m0 : BenchState) (calls : List Ask) (ask : Ask) → ask ≡ unit_ask unit.now forgive → HasAsked F.planner (F.state self.old.flights) self.old.log (F.accesses self.old.flights) self.old.managed calls ask m0
             → IfOk result (λ small. small ≡ small_now (start_world (target_of m0.probe) None) calls ask) }
-        ensures needs { (m0 : BenchState) (calls : List Ask) (ask : Ask) → ask ≡ unit_ask unit.now forgive → HasAsked (F.state self.old.flights) self.old.log (F.accesses self.old.flights) self.old.managed calls ask m0
-            → OnOk result (asks_of self.new.log ≡ asked (cost_by Managed (target_of m0.probe) calls ask) ask (record { calls = calls; needs = self.old.log.needs; fence = self.old.log.fence })) }
-        ensures broke { (m0 : BenchState) (calls : List Ask) (ask : Ask) → ask ≡ unit_ask unit.now forgive → HasAsked (F.state self.old.flights) self.old.log (F.accesses self.old.flights) self.old.managed calls ask m0
-            → IfErr result (λ s. HasEnded s (reported_by (F.reported self.new.flights) (F.state self.new.flights) self.new.log (F.packet self.new.flights) (F.reply self.new.flights)) self.new.log m0) }
-        ensures stops { (m0 : BenchState) (calls : List Ask) (ask : Ask) (answered : Option ℕ) → ask ≡ unit_ask unit.now forgive → HasAsked (F.state self.old.flights) self.old.log (F.accesses self.old.flights) self.old.managed calls ask m0
+        ensures needs { (m0 : BenchState) (calls : List Ask) (ask : Ask) → ask ≡ unit_ask unit.now forgive → HasAsked F.planner (F.state self.old.flights) self.old.log (F.accesses self.old.flights) self.old.managed calls ask m0
+            → OnOk result (asks_of self.new.log ≡ asked (cost_by F.planner (target_of m0.probe) calls ask) ask (record { calls = calls; needs = self.old.log.needs; fence = self.old.log.fence })) }
+        ensures broke { (m0 : BenchState) (calls : List Ask) (ask : Ask) → ask ≡ unit_ask unit.now forgive → HasAsked F.planner (F.state self.old.flights) self.old.log (F.accesses self.old.flights) self.old.managed calls ask m0
+            → IfErr result (λ s. HasEnded F.planner s (reported_by (F.reported self.new.flights) (F.state self.new.flights) self.new.log (F.packet self.new.flights) (F.reply self.new.flights)) self.new.log m0) }
+        ensures stops { (m0 : BenchState) (calls : List Ask) (ask : Ask) (answered : Option ℕ) → ask ≡ unit_ask unit.now forgive → HasAsked F.planner (F.state self.old.flights) self.old.log (F.accesses self.old.flights) self.old.managed calls ask m0
             → IsLeft (reported_by (F.reported self.new.flights) (F.state self.new.flights) self.new.log (F.packet self.new.flights) (F.reply self.new.flights)) answered
             → IfErr result (StopsThere m0 answered self.old.log.calls self.new.log.lines) }
         ensures goes { GoesOn (reported_by (F.reported self.old.flights) (F.state self.old.flights) self.old.log (F.packet self.old.flights) (F.reply self.old.flights))
@@ -120,8 +127,8 @@ impl<F: Flights> Sender<F> {
                 Err(stop) => Err(stop),
             },
             _ => {
-                if forgive && may_forgive(unit) {
-                    self.ask_forgiving(unit)
+                if makes_alone::<F>(unit, forgive) {
+                    self.ask_alone(unit, forgive)
                 } else {
                     self.ask_planned(unit)
                 }
@@ -131,36 +138,35 @@ impl<F: Flights> Sender<F> {
 }
 
 impl<F: Flights> Access for PackedAccess<F> {
-    ghost use Rattle.std.specs.Prelude.{true};
     ghost use Rattle.access_regs.specs.Journal.{issued};
-    ghost use Rattle.packed_access.specs.Sparing.{HasBegunSparing};
+    ghost use Rattle.packed_access.specs.Sparing.{HasBegunSparing, keeps_bounds};
     ghost use Rattle.access_regs.specs.Costs.{cost_by};
-    ghost use Rattle.access_regs.specs.declared.planner.Planner.TheVariants.{Managed};
     ghost use Rattle.packed_access.specs.Logs.{keeps_by, reported_by};
-    ghost use Rattle.packed_access.specs.Spares.{spares_packed};
-    ghost use Rattle.packed_access.specs.Stands.{grows_packed, settles_packed, stands_packed};
+    ghost use Rattle.packed_access.specs.Grows.{grows_packed, settles_packed};
+    ghost use Rattle.packed_access.specs.Spares.{spares_by};
+    ghost use Rattle.packed_access.specs.Stands.{stands_packed};
 
     ghost reported = { λ s. reported_by (F.reported s.sender.flights) (F.state s.sender.flights) s.sender.log (F.packet s.sender.flights) (F.reply s.sender.flights) };
 
     ghost identity = { λ s. F.identity s.sender.flights };
 
-    ghost begun = { λ s m. HasBegunSparing (F.limits s.sender.flights) (F.reported s.sender.flights) (F.state s.sender.flights) s.sender.log (F.packet s.sender.flights) (F.reply s.sender.flights) s.sender.managed (F.accesses s.sender.flights) m };
+    ghost begun = { λ s m. HasBegunSparing F.planner (F.limits s.sender.flights) (F.reported s.sender.flights) (F.state s.sender.flights) s.sender.log (F.packet s.sender.flights) (F.reply s.sender.flights) s.sender.managed (F.accesses s.sender.flights) m };
 
-    ghost journal = { issued Managed };
+    ghost journal = { issued F.planner };
 
-    ghost cost = { cost_by Managed };
+    ghost cost = { cost_by F.planner };
 
-    ghost is_sparing = { true };
+    ghost is_sparing = { keeps_bounds F.planner };
 
-    ghost grows = { grows_packed };
+    ghost grows = { grows_packed F.planner };
 
-    ghost settles = { settles_packed };
+    ghost settles = { settles_packed F.planner };
 
     ghost keeps = { λ s. keeps_by (F.reported s.sender.flights) (F.state s.sender.flights) s.sender.log (F.packet s.sender.flights) (F.reply s.sender.flights) };
 
-    ghost stands = { λ s m answered is left. stands_packed _ _ _ _ _ _ _ m answered is.begun left };
+    ghost stands = { λ s m answered is left. stands_packed F.planner _ _ _ _ _ _ _ m answered is.begun left };
 
-    ghost spares = { λ s m answered is left. spares_packed _ _ _ _ _ _ _ _ m answered is };
+    ghost spares = { λ s m answered is left. spares_by F.planner _ _ _ _ _ _ _ _ m answered is };
 
     fn ask(&mut self, unit: Unit, forgive: bool) -> Result<Asked, Stop> {
         if let Some(stop) = self.sender.log.end() {
@@ -198,7 +204,7 @@ impl<F: Flights> Access for PackedAccess<F> {
             Err(stop) => Err(stop),
             Ok(word) => {
                 let count = self.sender.log.count();
-                self.sender.log.need(points, count);
+                self.sender.log.need(counted::<F>(points), count);
                 Ok(u64::from(word))
             }
         }

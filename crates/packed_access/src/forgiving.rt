@@ -1,4 +1,4 @@
-//! Units that forgive a fault: each access made as by the unit alone, in flights of which only the last access may fault.
+//! Units that are made alone: each access made as by the unit alone, in flights of which only the last access may fault.
 ghost use Rattle.std.specs.Prelude.{◌≡◌, ◌<◌, ◌≤◌, ◌+◌, ◌-◌, ◌*◌, ◌/◌, ◌%◌, [], ℕ, List, Option, None, Some, false, true, length, IfErr, IfOk, OnOk};
 ghost use Rattle.std.specs.List.{list_any};
 ghost use Rattle.target_machine.specs.Lists.{after};
@@ -15,31 +15,32 @@ ghost use Rattle.access_calls.specs.Left.{IsLeft};
 ghost use Rattle.packed_access.specs.Settling.{CanSettle};
 ghost use Rattle.packed_access.specs.Begun.{HasAsked, HasBegun, HasEnded, StopsThere};
 ghost use Rattle.packed_access.specs.Forgiving.{CameTo, HasBroken, HasTried, IsDoneBy, closed};
-ghost use Rattle.packed_access.specs.Sparing.{HasPaid, SendsFew};
+ghost use Rattle.bench_flights.specs.Flown.{SendsFew};
+ghost use Rattle.packed_access.specs.Sparing.{HasPaid};
 ghost use Rattle.batch_packer.specs.Flying.{CanFly};
 ghost use Rattle.packed_access.specs.Logs.{IsFurther, IsSoundState, asks_of, most_entries, reported_by};
 ghost use Rattle.call_terms.specs.World.{small_now, start_world};
 ghost use Rattle.call_terms.specs.declared.calls.Ask.{Ask};
 ghost use Rattle.call_terms.specs.NeedPoints.{asked};
-ghost use Rattle.call_terms.specs.Asks.{is_forgiving};
+ghost use Rattle.call_terms.specs.Asks.{unit_ask};
 ghost use Rattle.probe_core.specs.Probe.{target_of};
 ghost use Rattle.target_machine.specs.declared.unit.Call.TheVariants.{Access};
 ghost use Rattle.access_regs.specs.Costs.{cost_by};
-ghost use Rattle.access_regs.specs.Journal.{is_end, making};
+ghost use Rattle.access_regs.specs.Journal.{is_alone, is_end, making};
 ghost use Rattle.access_regs.specs.Kept.{Kept, known, selected};
 ghost use Rattle.access_regs.specs.Plan.{needs_cfg, select_value};
 ghost use Rattle.access_regs.specs.declared.planner.Planner.TheVariants.{Managed};
 
-use crate::flights::Flights;
 use crate::log::CallLog;
 use crate::planned::port_of;
-use crate::sender::Sender;
+use crate::sender::{Sender, counted};
 use access_calls::Stop;
+use bench_flights::Flights;
 use call_terms::accesses::{access_ap, access_drw, high_of, low_of, plain_csw};
 use target_machine::registers::{CFG, CSW, TAR, TAR_HIGH};
 use target_machine::{RegAccess, Unit};
 
-// How a forgiving unit went.
+// How a unit went.
 #[derive(Drop)]
 struct Tried {
     // its access port has no large addresses
@@ -95,6 +96,7 @@ impl<F: Flights> Sender<F> {
         ap: u8,
         address: u64,
         value: u32,
+        forgive: bool,
     ) -> Result<Option<u32>, Stop>
         requires open { self.old.log.end ≡ None }
         requires whole { self.old.log.whole + 1 ≡ length self.old.log.calls }
@@ -106,16 +108,16 @@ impl<F: Flights> Sender<F> {
         requires calm { self.old.managed.unsettled ≡ None }
         requires sound { IsSoundMemory size read address value }
         ensures on { (m0 : BenchState) (k : Kept) (t : TargetState) (made : List RegAccess) (rest : List Action)
-            → HasTried (F.state self.old.flights) self.old.log (unit.Memory size read ap address value) k t made rest m0 → list_any (is_end (unit.Memory size read ap address value)) (making made) ≡ false
+            → HasTried F.planner forgive (F.state self.old.flights) self.old.log (unit.Memory size read ap address value) k t made rest m0 → list_any (is_end (unit.Memory size read ap address value)) (making made) ≡ false
             → rest ≡ memory_actions (after t (making made)) large size read ap address value
-            → IfOk result (λ w. CameTo w (F.state self.new.flights) self.new.log (unit.Memory size read ap address value) k t m0) }
+            → IfOk result (λ w. CameTo F.planner forgive w (F.state self.new.flights) self.new.log (unit.Memory size read ap address value) k t m0) }
         ensures broke { (m0 : BenchState) (k : Kept) (t : TargetState) (made : List RegAccess) (rest : List Action)
-            → HasTried (F.state self.old.flights) self.old.log (unit.Memory size read ap address value) k t made rest m0 → list_any (is_end (unit.Memory size read ap address value)) (making made) ≡ false
+            → HasTried F.planner forgive (F.state self.old.flights) self.old.log (unit.Memory size read ap address value) k t made rest m0 → list_any (is_end (unit.Memory size read ap address value)) (making made) ≡ false
             → rest ≡ memory_actions (after t (making made)) large size read ap address value
-            → IfErr result (λ s. HasBroken s (reported_by (F.reported self.new.flights) (F.state self.new.flights) self.new.log (F.packet self.new.flights) (F.reply self.new.flights)) self.new.log self.old.log.calls m0) }
+            → IfErr result (λ s. HasBroken F.planner s (reported_by (F.reported self.new.flights) (F.state self.new.flights) self.new.log (F.packet self.new.flights) (F.reply self.new.flights)) self.new.log self.old.log.calls m0) }
         ensures goes { GoesOn (reported_by (F.reported self.old.flights) (F.state self.old.flights) self.old.log (F.packet self.old.flights) (F.reply self.old.flights))
             (reported_by (F.reported self.new.flights) (F.state self.new.flights) self.new.log (F.packet self.new.flights) (F.reply self.new.flights)) }
-        ensures packets { OnOk result (StepsTo (λ m o. CanFly m → SendsFew 3 m o) (F.state self.old.flights) (F.state self.new.flights)) }
+        ensures packets { F.planner ≡ Managed → OnOk result (StepsTo (λ m o. CanFly m → SendsFew 3 m o) (F.state self.old.flights) (F.state self.new.flights)) }
         ensures later { OnOk result (self.old.log.confirmed ≤ self.new.log.confirmed) }
         ensures limits { F.limits self.new.flights ≡ F.limits self.old.flights }
         ensures further { OnOk result (IsFurther self.old.log self.new.log) }
@@ -128,7 +130,7 @@ impl<F: Flights> Sender<F> {
         ensures managed { self.new.managed ≡ selected self.old.managed (select_value ap 0) }
         ensures identity { F.identity self.new.flights ≡ F.identity self.old.flights }
     {
-        let csw = match self.try_port(ap, 0, access_ap(true, CSW, 0), false) {
+        let csw = match self.try_port(ap, 0, access_ap(true, CSW, 0), false, forgive) {
             Ok(Some(csw)) => csw,
             Ok(None) => return Ok(None),
             Err(stop) => return Err(stop),
@@ -138,9 +140,9 @@ impl<F: Flights> Sender<F> {
         let low = access_ap(false, TAR, low_of(address));
         let last = access_drw(read, address, value);
         if large {
-            self.try_flight(&[csw, high, low], last, true)
+            self.try_flight(&[csw, high, low], last, true, forgive)
         } else {
-            self.try_flight(&[csw, low], last, true)
+            self.try_flight(&[csw, low], last, true, forgive)
         }
     }
 
@@ -165,6 +167,7 @@ impl<F: Flights> Sender<F> {
         ap: u8,
         address: u64,
         value: u32,
+        forgive: bool,
     ) -> Result<Tried, Stop>
         requires open { self.old.log.end ≡ None }
         requires whole { self.old.log.whole + 1 ≡ length self.old.log.calls }
@@ -177,15 +180,15 @@ impl<F: Flights> Sender<F> {
         requires sound { IsSoundMemory size read address value }
         requires wide { needs_cfg self.old.managed (unit.Memory size read ap address value) ≡ true }
         ensures on { (m0 : BenchState) (t : TargetState) (rest : List Action) → length self.old.managed.ports ≡ 256
-            → HasTried (F.state self.old.flights) self.old.log (unit.Memory size read ap address value) self.old.managed t [] rest m0
-            → IfOk result (λ r. IsDoneBy r.small r.word r.reads self.new.managed (F.state self.new.flights) self.new.log (unit.Memory size read ap address value) self.old.managed t m0) }
+            → HasTried F.planner forgive (F.state self.old.flights) self.old.log (unit.Memory size read ap address value) self.old.managed t [] rest m0
+            → IfOk result (λ r. IsDoneBy F.planner forgive r.small r.word r.reads self.new.managed (F.state self.new.flights) self.new.log (unit.Memory size read ap address value) self.old.managed t m0) }
         ensures broke { (m0 : BenchState) (t : TargetState) (rest : List Action) → length self.old.managed.ports ≡ 256
-            → HasTried (F.state self.old.flights) self.old.log (unit.Memory size read ap address value) self.old.managed t [] rest m0
-            → IfErr result (λ s. HasBroken s (reported_by (F.reported self.new.flights) (F.state self.new.flights) self.new.log (F.packet self.new.flights) (F.reply self.new.flights)) self.new.log self.old.log.calls m0) }
+            → HasTried F.planner forgive (F.state self.old.flights) self.old.log (unit.Memory size read ap address value) self.old.managed t [] rest m0
+            → IfErr result (λ s. HasBroken F.planner s (reported_by (F.reported self.new.flights) (F.state self.new.flights) self.new.log (F.packet self.new.flights) (F.reply self.new.flights)) self.new.log self.old.log.calls m0) }
         ensures reads { IfOk result (λ r. r.reads ≤ 2) }
         ensures goes { GoesOn (reported_by (F.reported self.old.flights) (F.state self.old.flights) self.old.log (F.packet self.old.flights) (F.reply self.old.flights))
             (reported_by (F.reported self.new.flights) (F.state self.new.flights) self.new.log (F.packet self.new.flights) (F.reply self.new.flights)) }
-        ensures packets { OnOk result (StepsTo (λ m o. CanFly m → SendsFew 4 m o) (F.state self.old.flights) (F.state self.new.flights)) }
+        ensures packets { F.planner ≡ Managed → OnOk result (StepsTo (λ m o. CanFly m → SendsFew 4 m o) (F.state self.old.flights) (F.state self.new.flights)) }
         ensures later { OnOk result (self.old.log.confirmed ≤ self.new.log.confirmed) }
         ensures limits { F.limits self.new.flights ≡ F.limits self.old.flights }
         ensures further { OnOk result (IsFurther self.old.log self.new.log) }
@@ -198,7 +201,7 @@ impl<F: Flights> Sender<F> {
         ensures calm { self.new.managed.unsettled ≡ None }
         ensures identity { F.identity self.new.flights ≡ F.identity self.old.flights }
     {
-        let cfg = match self.try_port(ap, CFG / 16, access_ap(true, CFG % 16, 0), false) {
+        let cfg = match self.try_port(ap, CFG / 16, access_ap(true, CFG % 16, 0), false, forgive) {
             Ok(Some(cfg)) => cfg,
             Ok(None) => return Ok(went(None, 1)),
             Err(stop) => return Err(stop),
@@ -210,14 +213,14 @@ impl<F: Flights> Sender<F> {
                 reads: 1,
             });
         }
-        match self.try_memory(true, size, read, ap, address, value) {
+        match self.try_memory(true, size, read, ap, address, value, forgive) {
             Ok(word) => Ok(went(word, 2)),
             Err(stop) => Err(stop),
         }
     }
 
     // Makes the accesses of a unit.
-    fn try_unit(&mut self, unit: &Unit) -> Result<Tried, Stop>
+    fn try_unit(&mut self, unit: &Unit, forgive: bool) -> Result<Tried, Stop>
         requires open { self.old.log.end ≡ None }
         requires whole { self.old.log.whole + 1 ≡ length self.old.log.calls }
         requires came { self.old.log.came ≡ self.old.log.whole }
@@ -228,15 +231,15 @@ impl<F: Flights> Sender<F> {
         requires calm { self.old.managed.unsettled ≡ None }
         requires sound { IsSound unit.now }
         ensures on { (m0 : BenchState) (t : TargetState) (rest : List Action) → may_forgive (Access unit.now) ≡ true → length self.old.managed.ports ≡ 256
-            → HasTried (F.state self.old.flights) self.old.log unit.now self.old.managed t [] rest m0
-            → IfOk result (λ r. IsDoneBy r.small r.word r.reads self.new.managed (F.state self.new.flights) self.new.log unit.now self.old.managed t m0) }
+            → HasTried F.planner forgive (F.state self.old.flights) self.old.log unit.now self.old.managed t [] rest m0
+            → IfOk result (λ r. IsDoneBy F.planner forgive r.small r.word r.reads self.new.managed (F.state self.new.flights) self.new.log unit.now self.old.managed t m0) }
         ensures broke { (m0 : BenchState) (t : TargetState) (rest : List Action) → length self.old.managed.ports ≡ 256
-            → HasTried (F.state self.old.flights) self.old.log unit.now self.old.managed t [] rest m0
-            → IfErr result (λ s. HasBroken s (reported_by (F.reported self.new.flights) (F.state self.new.flights) self.new.log (F.packet self.new.flights) (F.reply self.new.flights)) self.new.log self.old.log.calls m0) }
+            → HasTried F.planner forgive (F.state self.old.flights) self.old.log unit.now self.old.managed t [] rest m0
+            → IfErr result (λ s. HasBroken F.planner s (reported_by (F.reported self.new.flights) (F.state self.new.flights) self.new.log (F.packet self.new.flights) (F.reply self.new.flights)) self.new.log self.old.log.calls m0) }
         ensures reads { IfOk result (λ r. r.reads ≤ 2) }
         ensures goes { GoesOn (reported_by (F.reported self.old.flights) (F.state self.old.flights) self.old.log (F.packet self.old.flights) (F.reply self.old.flights))
             (reported_by (F.reported self.new.flights) (F.state self.new.flights) self.new.log (F.packet self.new.flights) (F.reply self.new.flights)) }
-        ensures packets { OnOk result (StepsTo (λ m o. CanFly m → SendsFew 4 m o) (F.state self.old.flights) (F.state self.new.flights)) }
+        ensures packets { F.planner ≡ Managed → OnOk result (StepsTo (λ m o. CanFly m → SendsFew 4 m o) (F.state self.old.flights) (F.state self.new.flights)) }
         ensures later { OnOk result (self.old.log.confirmed ≤ self.new.log.confirmed) }
         ensures limits { F.limits self.new.flights ≡ F.limits self.old.flights }
         ensures further { OnOk result (IsFurther self.old.log self.new.log) }
@@ -258,10 +261,10 @@ impl<F: Flights> Sender<F> {
                 value,
             } => {
                 if self.managed.needs_cfg(unit) {
-                    return self.try_wide(size, read, ap, address, value);
+                    return self.try_wide(size, read, ap, address, value, forgive);
                 }
                 let large = self.is_large(ap);
-                match self.try_memory(large, size, read, ap, address, value) {
+                match self.try_memory(large, size, read, ap, address, value, forgive) {
                     Ok(word) => Ok(went(word, 1)),
                     Err(stop) => Err(stop),
                 }
@@ -273,7 +276,7 @@ impl<F: Flights> Sender<F> {
                 value,
             } => {
                 let access = access_ap(read, addr % 16, value);
-                match self.try_port(ap, addr / 16, access, true) {
+                match self.try_port(ap, addr / 16, access, true, forgive) {
                     Ok(word) => Ok(went(word, 0)),
                     Err(stop) => Err(stop),
                 }
@@ -282,25 +285,27 @@ impl<F: Flights> Sender<F> {
         }
     }
 
-    // Asks a unit that forgives a fault. Answers whether its access port has no large addresses.
-    pub(crate) fn ask_forgiving(&mut self, unit: &Unit) -> Result<bool, Stop>
+    // Asks a unit that is made alone, and forgives a fault or not. Answers whether its access port has no large addresses.
+    pub(crate) fn ask_alone(&mut self, unit: &Unit, forgive: bool) -> Result<bool, Stop>
         requires open { self.old.log.end ≡ None }
         requires sound { IsSound unit.now }
+        requires may { may_forgive (Access unit.now) ≡ true }
+        requires alone { is_alone F.planner forgive ≡ true }
         requires whole { self.old.log.whole + 1 ≡ length self.old.log.calls }
         requires room { length self.old.log.entries + most_entries ≤ self.old.log.room }
         requires bounded { length self.old.log.entries + most_entries ≤ most_entries * length self.old.log.calls }
-        ensures on { (m0 : BenchState) (calls : List Ask) (ask : Ask) → ask.call ≡ Access unit.now → is_forgiving ask ≡ true → HasAsked (F.state self.old.flights) self.old.log (F.accesses self.old.flights) self.old.managed calls ask m0
-            → OnOk result (HasBegun (F.reported self.new.flights) (F.state self.new.flights) self.new.log (F.packet self.new.flights) (F.reply self.new.flights) self.new.managed (F.accesses self.new.flights) m0) }
-        ensures spare { (m0 : BenchState) (calls : List Ask) (ask : Ask) (left : ℕ) → ask.call ≡ Access unit.now → is_forgiving ask ≡ true → HasAsked (F.state self.old.flights) self.old.log (F.accesses self.old.flights) self.old.managed calls ask m0
-            → HasPaid (F.limits self.old.flights) (F.reported self.old.flights).limits (F.state self.old.flights) self.old.log left m0
-            → OnOk result (HasPaid (F.limits self.new.flights) (F.reported self.new.flights).limits (F.state self.new.flights) self.new.log left m0) }
-        ensures small { (m0 : BenchState) (calls : List Ask) (ask : Ask) → ask.call ≡ Access unit.now → is_forgiving ask ≡ true → HasAsked (F.state self.old.flights) self.old.log (F.accesses self.old.flights) self.old.managed calls ask m0
+        ensures on { (m0 : BenchState) (calls : List Ask) (ask : Ask) → ask ≡ unit_ask unit.now forgive → HasAsked F.planner (F.state self.old.flights) self.old.log (F.accesses self.old.flights) self.old.managed calls ask m0
+            → OnOk result (HasBegun F.planner (F.reported self.new.flights) (F.state self.new.flights) self.new.log (F.packet self.new.flights) (F.reply self.new.flights) self.new.managed (F.accesses self.new.flights) m0) }
+        ensures spare { (m0 : BenchState) (calls : List Ask) (ask : Ask) (left : ℕ) → ask ≡ unit_ask unit.now forgive → HasAsked F.planner (F.state self.old.flights) self.old.log (F.accesses self.old.flights) self.old.managed calls ask m0
+            → HasPaid F.planner (F.limits self.old.flights) (F.reported self.old.flights).limits (F.state self.old.flights) self.old.log left m0
+            → OnOk result (HasPaid F.planner (F.limits self.new.flights) (F.reported self.new.flights).limits (F.state self.new.flights) self.new.log left m0) }
+        ensures small { (m0 : BenchState) (calls : List Ask) (ask : Ask) → ask ≡ unit_ask unit.now forgive → HasAsked F.planner (F.state self.old.flights) self.old.log (F.accesses self.old.flights) self.old.managed calls ask m0
             → IfOk result (λ small. small ≡ small_now (start_world (target_of m0.probe) None) calls ask) }
-        ensures needs { (m0 : BenchState) (calls : List Ask) (ask : Ask) → ask.call ≡ Access unit.now → is_forgiving ask ≡ true → HasAsked (F.state self.old.flights) self.old.log (F.accesses self.old.flights) self.old.managed calls ask m0
-            → OnOk result (asks_of self.new.log ≡ asked (cost_by Managed (target_of m0.probe) calls ask) ask (record { calls = calls; needs = self.old.log.needs; fence = self.old.log.fence })) }
-        ensures broke { (m0 : BenchState) (calls : List Ask) (ask : Ask) → ask.call ≡ Access unit.now → is_forgiving ask ≡ true → HasAsked (F.state self.old.flights) self.old.log (F.accesses self.old.flights) self.old.managed calls ask m0
-            → IfErr result (λ s. HasEnded s (reported_by (F.reported self.new.flights) (F.state self.new.flights) self.new.log (F.packet self.new.flights) (F.reply self.new.flights)) self.new.log m0) }
-        ensures stops { (m0 : BenchState) (calls : List Ask) (ask : Ask) (answered : Option ℕ) → ask.call ≡ Access unit.now → is_forgiving ask ≡ true → HasAsked (F.state self.old.flights) self.old.log (F.accesses self.old.flights) self.old.managed calls ask m0
+        ensures needs { (m0 : BenchState) (calls : List Ask) (ask : Ask) → ask ≡ unit_ask unit.now forgive → HasAsked F.planner (F.state self.old.flights) self.old.log (F.accesses self.old.flights) self.old.managed calls ask m0
+            → OnOk result (asks_of self.new.log ≡ asked (cost_by F.planner (target_of m0.probe) calls ask) ask (record { calls = calls; needs = self.old.log.needs; fence = self.old.log.fence })) }
+        ensures broke { (m0 : BenchState) (calls : List Ask) (ask : Ask) → ask ≡ unit_ask unit.now forgive → HasAsked F.planner (F.state self.old.flights) self.old.log (F.accesses self.old.flights) self.old.managed calls ask m0
+            → IfErr result (λ s. HasEnded F.planner s (reported_by (F.reported self.new.flights) (F.state self.new.flights) self.new.log (F.packet self.new.flights) (F.reply self.new.flights)) self.new.log m0) }
+        ensures stops { (m0 : BenchState) (calls : List Ask) (ask : Ask) (answered : Option ℕ) → ask ≡ unit_ask unit.now forgive → HasAsked F.planner (F.state self.old.flights) self.old.log (F.accesses self.old.flights) self.old.managed calls ask m0
             → IsLeft (reported_by (F.reported self.new.flights) (F.state self.new.flights) self.new.log (F.packet self.new.flights) (F.reply self.new.flights)) answered
             → IfErr result (StopsThere m0 answered self.old.log.calls self.new.log.lines) }
         ensures goes { GoesOn (reported_by (F.reported self.old.flights) (F.state self.old.flights) self.old.log (F.packet self.old.flights) (F.reply self.old.flights))
@@ -324,12 +329,12 @@ impl<F: Flights> Sender<F> {
             Ok(()) => {}
             Err(stop) => return Err(stop),
         }
-        match self.try_unit(unit) {
+        match self.try_unit(unit, forgive) {
             Err(stop) => Err(stop),
             Ok(tried) => {
                 self.managed.forget(port_of(unit));
                 close(&mut self.log, tried.word);
-                self.log.need(5 + tried.reads, count);
+                self.log.need(counted::<F>(5 + tried.reads), count);
                 Ok(tried.small)
             }
         }

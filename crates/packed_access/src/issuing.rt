@@ -15,7 +15,7 @@ ghost use Rattle.flight_forms.specs.Packing.{IsTaken};
 ghost use Rattle.probe_core.specs.Bench.{BenchState};
 ghost use Rattle.call_terms.specs.Journal.{Entry, target_after};
 ghost use Rattle.access_calls.specs.Answers.{AtCut, NoMemory};
-ghost use Rattle.packed_access.specs.Blocks.{IsFull};
+ghost use Rattle.bench_flights.specs.Full.{IsFull};
 ghost use Rattle.packed_access.specs.Sparing.{HasSpared};
 ghost use Rattle.access_calls.specs.GoesOn.{GoesOn};
 ghost use Rattle.access_calls.specs.Issued.{kept_of, lines_before_kept};
@@ -23,16 +23,16 @@ ghost use Rattle.access_calls.specs.Left.{IsLeft};
 ghost use Rattle.access_regs.specs.Plan.{settle, settled};
 ghost use Rattle.access_regs.specs.Plans.{accesses_of};
 ghost use Rattle.call_terms.specs.declared.journal.Part.TheVariants.{Ends, Leads, Settles};
+ghost use Rattle.access_regs.specs.declared.planner.Planner.TheVariants.{Managed};
 ghost use Rattle.packed_access.specs.Begun.{HasEnded, HasIssued, StopsThere, entries_of, target_issued};
 ghost use Rattle.packed_access.specs.Actions.{entry_of, log_done};
 ghost use Rattle.packed_access.specs.Logs.{IsFurther, IsOfCall, IsSoundState, all_confirmed, all_taken, asks_of, ended_by, most_entries, reported_by, result_for};
-ghost use Rattle.access_regs.specs.declared.planner.Planner.TheVariants.{Managed};
 
-use crate::flights::Flights;
 use crate::log::CallLog;
 use crate::sender::Sender;
 use access_calls::Stop;
 use access_regs::Plan;
+use bench_flights::Flights;
 use call_terms::Part;
 use target_machine::{ProbeCall, RegAccess};
 
@@ -62,24 +62,24 @@ impl<F: Flights> Sender<F> {
     // Sends the flight, and takes its values. At an error the access has ended.
     pub(crate) fn send(&mut self) -> Result<(), Stop>
         requires open { self.old.log.end ≡ None }
-        ensures on { (m0 : BenchState) (rest : List Entry) → HasIssued (F.state self.old.flights) self.old.log (F.accesses self.old.flights) rest m0
-            → OnOk result (HasIssued (F.state self.new.flights) self.new.log [] rest m0) }
-        ensures broke { (m0 : BenchState) (rest : List Entry) → HasIssued (F.state self.old.flights) self.old.log (F.accesses self.old.flights) rest m0
-            → IfErr result (λ s. HasEnded s (reported_by (F.reported self.new.flights) (F.state self.new.flights) self.new.log (F.packet self.new.flights) (F.reply self.new.flights)) self.new.log m0) }
-        ensures stops { (m0 : BenchState) (rest : List Entry) (answered : Option ℕ) → HasIssued (F.state self.old.flights) self.old.log (F.accesses self.old.flights) rest m0
+        ensures on { (m0 : BenchState) (rest : List Entry) → HasIssued F.planner (F.state self.old.flights) self.old.log (F.accesses self.old.flights) rest m0
+            → OnOk result (HasIssued F.planner (F.state self.new.flights) self.new.log [] rest m0) }
+        ensures broke { (m0 : BenchState) (rest : List Entry) → HasIssued F.planner (F.state self.old.flights) self.old.log (F.accesses self.old.flights) rest m0
+            → IfErr result (λ s. HasEnded F.planner s (reported_by (F.reported self.new.flights) (F.state self.new.flights) self.new.log (F.packet self.new.flights) (F.reply self.new.flights)) self.new.log m0) }
+        ensures stops { (m0 : BenchState) (rest : List Entry) (answered : Option ℕ) → HasIssued F.planner (F.state self.old.flights) self.old.log (F.accesses self.old.flights) rest m0
             → IsLeft (reported_by (F.reported self.new.flights) (F.state self.new.flights) self.new.log (F.packet self.new.flights) (F.reply self.new.flights)) answered
             → IfErr result (StopsThere m0 answered self.old.log.calls self.new.log.lines) }
-        ensures last { (m0 : BenchState) (rest front : List Entry) (e : Entry) (more : List Entry) → HasIssued (F.state self.old.flights) self.old.log (F.accesses self.old.flights) rest m0
-            → issued Managed (target_of m0.probe) self.old.log.calls ≡ front ++ e ∷ more → length front + 1 ≡ length self.old.log.entries → self.old.log.confirmed < length self.old.log.entries
+        ensures last { (m0 : BenchState) (rest front : List Entry) (e : Entry) (more : List Entry) → HasIssued F.planner (F.state self.old.flights) self.old.log (F.accesses self.old.flights) rest m0
+            → issued F.planner (target_of m0.probe) self.old.log.calls ≡ front ++ e ∷ more → length front + 1 ≡ length self.old.log.entries → self.old.log.confirmed < length self.old.log.entries
             → OnOk result (unwrap_or (slot_at (F.values self.new.flights) (length self.old.log.entries - self.old.log.confirmed - 1)) 0 ≡ given (acted (target_after (target_of m0.probe) front) e.action).outcome) }
         ensures goes { GoesOn (reported_by (F.reported self.old.flights) (F.state self.old.flights) self.old.log (F.packet self.old.flights) (F.reply self.old.flights))
             (reported_by (F.reported self.new.flights) (F.state self.new.flights) self.new.log (F.packet self.new.flights) (F.reply self.new.flights)) }
-        ensures spare { (m0 : BenchState) (rest : List Entry) (points : ℕ) → HasIssued (F.state self.old.flights) self.old.log (F.accesses self.old.flights) rest m0
-            → HasSpared (F.limits self.old.flights) (F.reported self.old.flights).limits (F.state self.old.flights) self.old.log points m0
-            → OnOk result (HasSpared (F.limits self.new.flights) (F.reported self.new.flights).limits (F.state self.new.flights) self.new.log (points + 1) m0) }
-        ensures full { (m0 : BenchState) (e : Entry) (rest : List Entry) (next : RegAccess) (points : ℕ) → HasIssued (F.state self.old.flights) self.old.log (F.accesses self.old.flights) (e ∷ rest) m0 → e.action ≡ Makes next
-            → HasSpared (F.limits self.old.flights) (F.reported self.old.flights).limits (F.state self.old.flights) self.old.log points m0 → IsFull (F.limits self.old.flights) (F.accesses self.old.flights) next
-            → OnOk result (HasSpared (F.limits self.new.flights) (F.reported self.new.flights).limits (F.state self.new.flights) self.new.log points m0) }
+        ensures spare { (m0 : BenchState) (rest : List Entry) (points : ℕ) → HasIssued F.planner (F.state self.old.flights) self.old.log (F.accesses self.old.flights) rest m0
+            → HasSpared F.planner (F.limits self.old.flights) (F.reported self.old.flights).limits (F.state self.old.flights) self.old.log points m0
+            → OnOk result (HasSpared F.planner (F.limits self.new.flights) (F.reported self.new.flights).limits (F.state self.new.flights) self.new.log (points + 1) m0) }
+        ensures full { (m0 : BenchState) (e : Entry) (rest : List Entry) (next : RegAccess) (points : ℕ) → HasIssued F.planner (F.state self.old.flights) self.old.log (F.accesses self.old.flights) (e ∷ rest) m0 → e.action ≡ Makes next
+            → HasSpared F.planner (F.limits self.old.flights) (F.reported self.old.flights).limits (F.state self.old.flights) self.old.log points m0 → (F.planner ≡ Managed → IsFull (F.limits self.old.flights) (F.accesses self.old.flights) next)
+            → OnOk result (HasSpared F.planner (F.limits self.new.flights) (F.reported self.new.flights).limits (F.state self.new.flights) self.new.log points m0) }
         ensures log { OnOk result (self.new.log ≡ all_confirmed (all_taken (F.values self.new.flights) self.old.log)) }
         ensures ended { IfErr result (λ s. self.new.log ≡ ended_by s self.old.log self.new.log) }
         ensures empty { F.accesses self.new.flights ≡ [] }
@@ -109,15 +109,15 @@ impl<F: Flights> Sender<F> {
         requires later { self.old.log.whole ≤ lines_before_kept (record { unit = unit; part = part }) }
         requires room { length self.old.log.entries < self.old.log.room }
         requires bounded { length self.old.log.entries < most_entries * length self.old.log.calls }
-        ensures on { (m0 : BenchState) (e : Entry) (rest : List Entry) → HasIssued (F.state self.old.flights) self.old.log (F.accesses self.old.flights) (e ∷ rest) m0
+        ensures on { (m0 : BenchState) (e : Entry) (rest : List Entry) → HasIssued F.planner (F.state self.old.flights) self.old.log (F.accesses self.old.flights) (e ∷ rest) m0
             → e.action ≡ Makes access → e.forgiving ≡ false → kept_of e ≡ record { unit = unit; part = part }
-            → OnOk result (HasIssued (F.state self.new.flights) self.new.log (F.accesses self.new.flights) rest m0) }
-        ensures spare { (m0 : BenchState) (e : Entry) (rest : List Entry) (points : ℕ) → HasIssued (F.state self.old.flights) self.old.log (F.accesses self.old.flights) (e ∷ rest) m0 → e.action ≡ Makes access
-            → HasSpared (F.limits self.old.flights) (F.reported self.old.flights).limits (F.state self.old.flights) self.old.log points m0
-            → OnOk result (HasSpared (F.limits self.new.flights) (F.reported self.new.flights).limits (F.state self.new.flights) self.new.log points m0) }
-        ensures broke { (m0 : BenchState) (rest : List Entry) → HasIssued (F.state self.old.flights) self.old.log (F.accesses self.old.flights) rest m0
-            → IfErr result (λ s. HasEnded s (reported_by (F.reported self.new.flights) (F.state self.new.flights) self.new.log (F.packet self.new.flights) (F.reply self.new.flights)) self.new.log m0) }
-        ensures stops { (m0 : BenchState) (rest : List Entry) (answered : Option ℕ) → HasIssued (F.state self.old.flights) self.old.log (F.accesses self.old.flights) rest m0
+            → OnOk result (HasIssued F.planner (F.state self.new.flights) self.new.log (F.accesses self.new.flights) rest m0) }
+        ensures spare { (m0 : BenchState) (e : Entry) (rest : List Entry) (points : ℕ) → HasIssued F.planner (F.state self.old.flights) self.old.log (F.accesses self.old.flights) (e ∷ rest) m0 → e.action ≡ Makes access
+            → HasSpared F.planner (F.limits self.old.flights) (F.reported self.old.flights).limits (F.state self.old.flights) self.old.log points m0
+            → OnOk result (HasSpared F.planner (F.limits self.new.flights) (F.reported self.new.flights).limits (F.state self.new.flights) self.new.log points m0) }
+        ensures broke { (m0 : BenchState) (rest : List Entry) → HasIssued F.planner (F.state self.old.flights) self.old.log (F.accesses self.old.flights) rest m0
+            → IfErr result (λ s. HasEnded F.planner s (reported_by (F.reported self.new.flights) (F.state self.new.flights) self.new.log (F.packet self.new.flights) (F.reply self.new.flights)) self.new.log m0) }
+        ensures stops { (m0 : BenchState) (rest : List Entry) (answered : Option ℕ) → HasIssued F.planner (F.state self.old.flights) self.old.log (F.accesses self.old.flights) rest m0
             → IsLeft (reported_by (F.reported self.new.flights) (F.state self.new.flights) self.new.log (F.packet self.new.flights) (F.reply self.new.flights)) answered
             → IfErr result (StopsThere m0 answered self.old.log.calls self.new.log.lines) }
         ensures goes { GoesOn (reported_by (F.reported self.old.flights) (F.state self.old.flights) self.old.log (F.packet self.old.flights) (F.reply self.old.flights))
@@ -156,14 +156,14 @@ impl<F: Flights> Sender<F> {
         requires later { 0 < length accesses.now → self.old.log.whole ≤ lines_before_kept (record { unit = unit; part = part }) }
         requires room { length self.old.log.entries + length accesses.now ≤ self.old.log.room }
         requires bounded { length self.old.log.entries + length accesses.now ≤ most_entries * length self.old.log.calls }
-        ensures on { (m0 : BenchState) (rest : List Entry) → HasIssued (F.state self.old.flights) self.old.log (F.accesses self.old.flights) (entries_of unit part accesses.now ++ rest) m0
-            → OnOk result (HasIssued (F.state self.new.flights) self.new.log (F.accesses self.new.flights) rest m0) }
-        ensures spare { (m0 : BenchState) (rest : List Entry) (points : ℕ) → HasIssued (F.state self.old.flights) self.old.log (F.accesses self.old.flights) (entries_of unit part accesses.now ++ rest) m0
-            → HasSpared (F.limits self.old.flights) (F.reported self.old.flights).limits (F.state self.old.flights) self.old.log points m0
-            → OnOk result (HasSpared (F.limits self.new.flights) (F.reported self.new.flights).limits (F.state self.new.flights) self.new.log points m0) }
-        ensures broke { (m0 : BenchState) (rest : List Entry) → HasIssued (F.state self.old.flights) self.old.log (F.accesses self.old.flights) (entries_of unit part accesses.now ++ rest) m0
-            → IfErr result (λ s. HasEnded s (reported_by (F.reported self.new.flights) (F.state self.new.flights) self.new.log (F.packet self.new.flights) (F.reply self.new.flights)) self.new.log m0) }
-        ensures stops { (m0 : BenchState) (rest : List Entry) (answered : Option ℕ) → HasIssued (F.state self.old.flights) self.old.log (F.accesses self.old.flights) (entries_of unit part accesses.now ++ rest) m0
+        ensures on { (m0 : BenchState) (rest : List Entry) → HasIssued F.planner (F.state self.old.flights) self.old.log (F.accesses self.old.flights) (entries_of unit part accesses.now ++ rest) m0
+            → OnOk result (HasIssued F.planner (F.state self.new.flights) self.new.log (F.accesses self.new.flights) rest m0) }
+        ensures spare { (m0 : BenchState) (rest : List Entry) (points : ℕ) → HasIssued F.planner (F.state self.old.flights) self.old.log (F.accesses self.old.flights) (entries_of unit part accesses.now ++ rest) m0
+            → HasSpared F.planner (F.limits self.old.flights) (F.reported self.old.flights).limits (F.state self.old.flights) self.old.log points m0
+            → OnOk result (HasSpared F.planner (F.limits self.new.flights) (F.reported self.new.flights).limits (F.state self.new.flights) self.new.log points m0) }
+        ensures broke { (m0 : BenchState) (rest : List Entry) → HasIssued F.planner (F.state self.old.flights) self.old.log (F.accesses self.old.flights) (entries_of unit part accesses.now ++ rest) m0
+            → IfErr result (λ s. HasEnded F.planner s (reported_by (F.reported self.new.flights) (F.state self.new.flights) self.new.log (F.packet self.new.flights) (F.reply self.new.flights)) self.new.log m0) }
+        ensures stops { (m0 : BenchState) (rest : List Entry) (answered : Option ℕ) → HasIssued F.planner (F.state self.old.flights) self.old.log (F.accesses self.old.flights) (entries_of unit part accesses.now ++ rest) m0
             → IsLeft (reported_by (F.reported self.new.flights) (F.state self.new.flights) self.new.log (F.packet self.new.flights) (F.reply self.new.flights)) answered
             → IfErr result (StopsThere m0 answered self.old.log.calls self.new.log.lines) }
         ensures goes { GoesOn (reported_by (F.reported self.old.flights) (F.state self.old.flights) self.old.log (F.packet self.old.flights) (F.reply self.old.flights))
@@ -196,17 +196,17 @@ impl<F: Flights> Sender<F> {
         requires later { self.old.log.whole ≤ lines_before_kept (record { unit = unit; part = Leads }) }
         requires room { length self.old.log.entries + length accesses.now ≤ self.old.log.room }
         requires bounded { length self.old.log.entries + length accesses.now ≤ most_entries * length self.old.log.calls }
-        ensures on { (m0 : BenchState) (rest : List Entry) → HasIssued (F.state self.old.flights) self.old.log (F.accesses self.old.flights) (entries_of unit Leads accesses.now ++ rest) m0
-            → OnOk result (HasIssued (F.state self.new.flights) self.new.log [] rest m0) }
-        ensures spare { (m0 : BenchState) (rest : List Entry) (points : ℕ) → HasIssued (F.state self.old.flights) self.old.log (F.accesses self.old.flights) (entries_of unit Leads accesses.now ++ rest) m0
-            → HasSpared (F.limits self.old.flights) (F.reported self.old.flights).limits (F.state self.old.flights) self.old.log points m0
-            → OnOk result (HasSpared (F.limits self.new.flights) (F.reported self.new.flights).limits (F.state self.new.flights) self.new.log (points + 1) m0) }
+        ensures on { (m0 : BenchState) (rest : List Entry) → HasIssued F.planner (F.state self.old.flights) self.old.log (F.accesses self.old.flights) (entries_of unit Leads accesses.now ++ rest) m0
+            → OnOk result (HasIssued F.planner (F.state self.new.flights) self.new.log [] rest m0) }
+        ensures spare { (m0 : BenchState) (rest : List Entry) (points : ℕ) → HasIssued F.planner (F.state self.old.flights) self.old.log (F.accesses self.old.flights) (entries_of unit Leads accesses.now ++ rest) m0
+            → HasSpared F.planner (F.limits self.old.flights) (F.reported self.old.flights).limits (F.state self.old.flights) self.old.log points m0
+            → OnOk result (HasSpared F.planner (F.limits self.new.flights) (F.reported self.new.flights).limits (F.state self.new.flights) self.new.log (points + 1) m0) }
         ensures value { (m0 : BenchState) (lead : List RegAccess) (a : RegAccess) (rest : List Entry) → accesses.now ≡ lead ++ a ∷ []
-            → HasIssued (F.state self.old.flights) self.old.log (F.accesses self.old.flights) (entries_of unit Leads accesses.now ++ rest) m0
-            → IfOk result (λ v. v ≡ gives (target_issued self.old.log m0) accesses.now) }
-        ensures broke { (m0 : BenchState) (rest : List Entry) → HasIssued (F.state self.old.flights) self.old.log (F.accesses self.old.flights) (entries_of unit Leads accesses.now ++ rest) m0
-            → IfErr result (λ s. HasEnded s (reported_by (F.reported self.new.flights) (F.state self.new.flights) self.new.log (F.packet self.new.flights) (F.reply self.new.flights)) self.new.log m0) }
-        ensures stops { (m0 : BenchState) (rest : List Entry) (answered : Option ℕ) → HasIssued (F.state self.old.flights) self.old.log (F.accesses self.old.flights) (entries_of unit Leads accesses.now ++ rest) m0
+            → HasIssued F.planner (F.state self.old.flights) self.old.log (F.accesses self.old.flights) (entries_of unit Leads accesses.now ++ rest) m0
+            → IfOk result (λ v. v ≡ gives (target_issued F.planner self.old.log m0) accesses.now) }
+        ensures broke { (m0 : BenchState) (rest : List Entry) → HasIssued F.planner (F.state self.old.flights) self.old.log (F.accesses self.old.flights) (entries_of unit Leads accesses.now ++ rest) m0
+            → IfErr result (λ s. HasEnded F.planner s (reported_by (F.reported self.new.flights) (F.state self.new.flights) self.new.log (F.packet self.new.flights) (F.reply self.new.flights)) self.new.log m0) }
+        ensures stops { (m0 : BenchState) (rest : List Entry) (answered : Option ℕ) → HasIssued F.planner (F.state self.old.flights) self.old.log (F.accesses self.old.flights) (entries_of unit Leads accesses.now ++ rest) m0
             → IsLeft (reported_by (F.reported self.new.flights) (F.state self.new.flights) self.new.log (F.packet self.new.flights) (F.reply self.new.flights)) answered
             → IfErr result (StopsThere m0 answered self.old.log.calls self.new.log.lines) }
         ensures goes { GoesOn (reported_by (F.reported self.old.flights) (F.state self.old.flights) self.old.log (F.packet self.old.flights) (F.reply self.old.flights))
@@ -240,14 +240,14 @@ impl<F: Flights> Sender<F> {
         requires later { 0 < length (settle self.old.managed) → self.old.log.whole ≤ unit }
         requires room { length self.old.log.entries + length (settle self.old.managed) ≤ self.old.log.room }
         requires bounded { length self.old.log.entries + length (settle self.old.managed) ≤ most_entries * length self.old.log.calls }
-        ensures on { (m0 : BenchState) (rest : List Entry) → HasIssued (F.state self.old.flights) self.old.log (F.accesses self.old.flights) (entries_of unit Settles (settle self.old.managed) ++ rest) m0
-            → OnOk result (HasIssued (F.state self.new.flights) self.new.log (F.accesses self.new.flights) rest m0) }
-        ensures spare { (m0 : BenchState) (rest : List Entry) (points : ℕ) → HasIssued (F.state self.old.flights) self.old.log (F.accesses self.old.flights) (entries_of unit Settles (settle self.old.managed) ++ rest) m0
-            → HasSpared (F.limits self.old.flights) (F.reported self.old.flights).limits (F.state self.old.flights) self.old.log points m0
-            → OnOk result (HasSpared (F.limits self.new.flights) (F.reported self.new.flights).limits (F.state self.new.flights) self.new.log points m0) }
-        ensures broke { (m0 : BenchState) (rest : List Entry) → HasIssued (F.state self.old.flights) self.old.log (F.accesses self.old.flights) (entries_of unit Settles (settle self.old.managed) ++ rest) m0
-            → IfErr result (λ s. HasEnded s (reported_by (F.reported self.new.flights) (F.state self.new.flights) self.new.log (F.packet self.new.flights) (F.reply self.new.flights)) self.new.log m0) }
-        ensures stops { (m0 : BenchState) (rest : List Entry) (answered : Option ℕ) → HasIssued (F.state self.old.flights) self.old.log (F.accesses self.old.flights) (entries_of unit Settles (settle self.old.managed) ++ rest) m0
+        ensures on { (m0 : BenchState) (rest : List Entry) → HasIssued F.planner (F.state self.old.flights) self.old.log (F.accesses self.old.flights) (entries_of unit Settles (settle self.old.managed) ++ rest) m0
+            → OnOk result (HasIssued F.planner (F.state self.new.flights) self.new.log (F.accesses self.new.flights) rest m0) }
+        ensures spare { (m0 : BenchState) (rest : List Entry) (points : ℕ) → HasIssued F.planner (F.state self.old.flights) self.old.log (F.accesses self.old.flights) (entries_of unit Settles (settle self.old.managed) ++ rest) m0
+            → HasSpared F.planner (F.limits self.old.flights) (F.reported self.old.flights).limits (F.state self.old.flights) self.old.log points m0
+            → OnOk result (HasSpared F.planner (F.limits self.new.flights) (F.reported self.new.flights).limits (F.state self.new.flights) self.new.log points m0) }
+        ensures broke { (m0 : BenchState) (rest : List Entry) → HasIssued F.planner (F.state self.old.flights) self.old.log (F.accesses self.old.flights) (entries_of unit Settles (settle self.old.managed) ++ rest) m0
+            → IfErr result (λ s. HasEnded F.planner s (reported_by (F.reported self.new.flights) (F.state self.new.flights) self.new.log (F.packet self.new.flights) (F.reply self.new.flights)) self.new.log m0) }
+        ensures stops { (m0 : BenchState) (rest : List Entry) (answered : Option ℕ) → HasIssued F.planner (F.state self.old.flights) self.old.log (F.accesses self.old.flights) (entries_of unit Settles (settle self.old.managed) ++ rest) m0
             → IsLeft (reported_by (F.reported self.new.flights) (F.state self.new.flights) self.new.log (F.packet self.new.flights) (F.reply self.new.flights)) answered
             → IfErr result (StopsThere m0 answered self.old.log.calls self.new.log.lines) }
         ensures goes { GoesOn (reported_by (F.reported self.old.flights) (F.state self.old.flights) self.old.log (F.packet self.old.flights) (F.reply self.old.flights))
@@ -274,14 +274,14 @@ impl<F: Flights> Sender<F> {
         requires last { self.old.log.came + 1 ≡ length self.old.log.calls }
         requires room { length self.old.log.entries < self.old.log.room }
         requires bounded { length self.old.log.entries < most_entries * length self.old.log.calls }
-        ensures on { (m0 : BenchState) (calls : List Ask) → self.old.log.calls ≡ calls ++ probe_ask call ∷ [] → HasIssued (F.state self.old.flights) self.old.log [] (entry_of calls (Commands call) ∷ []) m0
-            → OnOk result (HasIssued (F.state self.new.flights) self.new.log [] [] m0) }
-        ensures spare { (m0 : BenchState) (calls : List Ask) (points : ℕ) → self.old.log.calls ≡ calls ++ probe_ask call ∷ [] → HasIssued (F.state self.old.flights) self.old.log [] (entry_of calls (Commands call) ∷ []) m0
-            → HasSpared (F.limits self.old.flights) (F.reported self.old.flights).limits (F.state self.old.flights) self.old.log (points + 1) m0
-            → OnOk result (HasSpared (F.limits self.new.flights) (F.reported self.new.flights).limits (F.state self.new.flights) self.new.log (points + command_cost call) m0) }
-        ensures broke { (m0 : BenchState) (calls : List Ask) → self.old.log.calls ≡ calls ++ probe_ask call ∷ [] → HasIssued (F.state self.old.flights) self.old.log [] (entry_of calls (Commands call) ∷ []) m0
-            → IfErr result (λ s. HasEnded s (reported_by (F.reported self.new.flights) (F.state self.new.flights) self.new.log (F.packet self.new.flights) (F.reply self.new.flights)) self.new.log m0) }
-        ensures stops { (m0 : BenchState) (calls : List Ask) (answered : Option ℕ) → self.old.log.calls ≡ calls ++ probe_ask call ∷ [] → HasIssued (F.state self.old.flights) self.old.log [] (entry_of calls (Commands call) ∷ []) m0
+        ensures on { (m0 : BenchState) (calls : List Ask) → self.old.log.calls ≡ calls ++ probe_ask call ∷ [] → HasIssued F.planner (F.state self.old.flights) self.old.log [] (entry_of calls (Commands call) ∷ []) m0
+            → OnOk result (HasIssued F.planner (F.state self.new.flights) self.new.log [] [] m0) }
+        ensures spare { (m0 : BenchState) (calls : List Ask) (points : ℕ) → self.old.log.calls ≡ calls ++ probe_ask call ∷ [] → HasIssued F.planner (F.state self.old.flights) self.old.log [] (entry_of calls (Commands call) ∷ []) m0
+            → HasSpared F.planner (F.limits self.old.flights) (F.reported self.old.flights).limits (F.state self.old.flights) self.old.log (points + 1) m0
+            → OnOk result (HasSpared F.planner (F.limits self.new.flights) (F.reported self.new.flights).limits (F.state self.new.flights) self.new.log (points + command_cost call) m0) }
+        ensures broke { (m0 : BenchState) (calls : List Ask) → self.old.log.calls ≡ calls ++ probe_ask call ∷ [] → HasIssued F.planner (F.state self.old.flights) self.old.log [] (entry_of calls (Commands call) ∷ []) m0
+            → IfErr result (λ s. HasEnded F.planner s (reported_by (F.reported self.new.flights) (F.state self.new.flights) self.new.log (F.packet self.new.flights) (F.reply self.new.flights)) self.new.log m0) }
+        ensures stops { (m0 : BenchState) (calls : List Ask) (answered : Option ℕ) → self.old.log.calls ≡ calls ++ probe_ask call ∷ [] → HasIssued F.planner (F.state self.old.flights) self.old.log [] (entry_of calls (Commands call) ∷ []) m0
             → IsLeft (reported_by (F.reported self.new.flights) (F.state self.new.flights) self.new.log (F.packet self.new.flights) (F.reply self.new.flights)) answered
             → IfErr result (StopsThere m0 answered self.old.log.calls self.new.log.lines) }
         ensures goes { GoesOn (reported_by (F.reported self.old.flights) (F.state self.old.flights) self.old.log (F.packet self.old.flights) (F.reply self.old.flights))

@@ -4,10 +4,8 @@
 mod access;
 mod asking;
 mod calls;
-mod flights;
 mod forgiving;
 mod issuing;
-pub mod laws;
 mod log;
 mod opening;
 mod over_bench;
@@ -16,17 +14,5 @@ mod polls;
 mod results;
 mod sender;
 mod trying;
-mod wire;
 
-pub use access::{Packed, PackedAccess};
-pub use flights::{Flights, Polled};
-pub use wire::Wire;
-
-#[cfg(test)]
-mod end_tests;
-#[cfg(test)]
-mod opening_tests;
-#[cfg(test)]
-mod rows;
-#[cfg(test)]
-mod tests;
+pub use access::{Packed, PackedAccess, Single};

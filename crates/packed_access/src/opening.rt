@@ -1,217 +1,66 @@
 //! How an access begins over a bench.
-ghost use Rattle.std.specs.Prelude.{◌≡◌, ◌⊎◌, ◌≤◌, [], min, length, take, None, OnOk, IfErr, IfOk};
-ghost use Rattle.target_machine.specs.InRange.{IsInRange};
+ghost use Rattle.std.specs.Prelude.{◌≡◌, ◌⊎◌, ◌≤◌, length, take, IfErr, IfOk};
 ghost use Rattle.access_calls.specs.declared.stop.Stop.TheVariants as Stop;
 ghost use Rattle.probe_core.specs.Bench.{StepsTo};
-ghost use Rattle.probe_core.specs.Probe.{target_of};
-ghost use Rattle.probe_core.specs.Ranges.{AreLimits};
 ghost use Rattle.batch_packer.specs.Exchanges.{IsOpen};
-ghost use Rattle.batch_packer.specs.FlightStates.{item_at};
 ghost use Rattle.batch_packer.specs.Flying.{IsWithin};
-ghost use Rattle.packed_access.specs.Flown.{BenchGoesOn, HasEndCause};
+ghost use Rattle.bench_flights.specs.Flown.{BenchGoesOn};
+ghost use Rattle.bench_flights.specs.Opening.{HasOpened, HasTried, IsRefusal, MayBegin};
 ghost use Rattle.packed_access.specs.Logs.{nothing_logged};
-ghost use Rattle.packed_access.specs.Opening.{HasOpened, HasTried, IsRefusal, IsStopFor, LeftOpen, MayBegin};
 ghost use Rattle.packed_access.specs.Sparing.{HasBegunSparing};
-ghost use Rattle.packed_access.specs.Wires.{IsNoCut};
 
 use crate::access::PackedAccess;
-use crate::flights::Flights;
 use crate::log::CallLog;
 use crate::sender::Sender;
-use crate::wire::Wire;
-use access_calls::{NotBegun, Stop};
+use access_calls::NotBegun;
 use access_regs::Managed;
-use batch_packer::{Config as PollConfig, FlightEnd};
-use dap_messages::Command;
+use bench_flights::{FlightsOver, refused};
 use probe_core::{Bench, Config, Limits};
 use std::alloc::Global;
 
-// What DAP_Info is asked for.
-const PACKET_SIZE: u8 = 0xFF;
-
-const PACKET_COUNT: u8 = 0xFE;
-
-// These limits, and no more than the probe answers.
-fn smaller(limits: Limits, size: u32, count: u32) -> Limits
-    requires limits { AreLimits limits }
-    requires size { 64 ≤ size }
-    requires count { 1 ≤ count }
-    ensures limits { AreLimits result }
-    ensures size { result.packet_size ≡ min size limits.packet_size }
-    ensures count { result.packet_count ≡ min count limits.packet_count }
+// An access over a bench with these limits, which holds no packet, and in which no reply waits. The probe is opened as
+// `FlightsOver::begin` says; at an error the bench is handed back with the reason.
+pub(crate) fn begin_over<B: Bench, F: FlightsOver<B>>(
+    alloc: Global,
+    bench: B,
+    config: Config,
+    limits: Limits,
+) -> Result<PackedAccess<F>, NotBegun<B>>
+    requires limits { limits ≡ (B.reported bench).limits }
+    requires open { IsOpen (B.reported bench) }
+    // Where the bench is observable, only the settings have changed, and three starting packets were received.
+    ensures on { IfOk result (λ a. StepsTo (λ m o. MayBegin m → HasOpened config m o) (B.state bench) (F.Flights.state a.sender.flights)) }
+    // The access began there, before these exchanges.
+    ensures begun { IfOk result (λ a. StepsTo (λ m o. MayBegin m → HasBegunSparing F.Flights.planner (F.Flights.limits a.sender.flights) (F.Flights.reported a.sender.flights) (F.Flights.state a.sender.flights) a.sender.log
+        (F.Flights.packet a.sender.flights) (F.Flights.reply a.sender.flights)
+        a.sender.managed (F.Flights.accesses a.sender.flights) m) (B.state bench) (F.Flights.state a.sender.flights)) }
+    // Nothing is asked yet, and there is no end.
+    ensures asked { IfOk result (λ a. a.sender.log ≡ nothing_logged) }
+    // Its packets are within the limits; an observable bench answers just these.
+    ensures within { IfOk result (λ a. IsWithin (F.Flights.limits a.sender.flights) limits) }
+    ensures same { IfOk result (λ a. StepsTo (λ m o. MayBegin m → F.Flights.limits a.sender.flights ≡ limits) (B.state bench) (F.Flights.state a.sender.flights)) }
+    ensures faults { IfOk result (λ a. (F.Flights.reported a.sender.flights).faults ≡ (B.reported bench).faults) }
+    ensures goes { IfOk result (λ a. BenchGoesOn (B.reported bench) (F.Flights.reported a.sender.flights) (B.state bench) (F.Flights.state a.sender.flights)) }
+    ensures identity { IfOk result (λ a. F.Flights.identity a.sender.flights ≡ B.identity bench) }
+    // Why it did not begin.
+    ensures refused { IfErr result (λ n. IsRefusal n.stop (B.reported bench) (B.reported n.bench) (take n.sent_length n.sent) (take n.got_length n.got)) }
+    ensures lengths { IfErr result (λ n. (n.sent_length ≤ 1024) × (n.got_length ≤ 1024)) }
+    // Where the bench is observable no reply is bad, and the settings were made or not.
+    ensures left { IfErr result (λ n. StepsTo (λ m o. MayBegin m → (n.stop ≡ Stop.ReplyBad → ⊥) × HasTried config m o) (B.state bench) (B.state n.bench)) }
+    ensures back_goes { IfErr result (λ n. BenchGoesOn (B.reported bench) (B.reported n.bench) (B.state bench) (B.state n.bench)) }
+    ensures back_identity { IfErr result (λ n. B.identity n.bench ≡ B.identity bench) }
 {
-    Limits {
-        packet_size: size.min(limits.packet_size as u32) as u16,
-        packet_count: count.min(limits.packet_count as u32) as u8,
-    }
-}
-
-// Puts bytes into the front of an array, and answers how many they are.
-fn put(bytes: &[u8], out: &mut [u8]) -> u16
-    requires few { length bytes.now ≤ 1024 }
-    requires room { length out.old ≡ 1024 }
-    ensures length { result ≡ length bytes.now }
-    ensures front { take result out.new ≡ bytes.now }
-{
-    out[..bytes.len()].copy_from_slice(bytes);
-    bytes.len() as u16
-}
-
-// Memory was refused before anything was sent.
-fn refused<B: Bench>(bench: B) -> NotBegun<B>
-    ensures bench { result.bench ≡ bench }
-    ensures stop { result.stop ≡ Stop.OutOfMemory }
-    ensures sent { take result.sent_length result.sent ≡ [] }
-    ensures got { take result.got_length result.got ≡ [] }
-    ensures lengths { (result.sent_length ≤ 1024) × (result.got_length ≤ 1024) }
-{
-    NotBegun {
-        bench,
-        stop: Stop::OutOfMemory,
-        sent: [0; 1024],
-        sent_length: 0,
-        got: [0; 1024],
-        got_length: 0,
-    }
-}
-
-// One of the opening exchanges ended so.
-fn not_begun<B: Bench>(flights: Wire<B>, end: FlightEnd) -> NotBegun<B>
-    requires { IsNoCut end }
-    ensures bench { result.bench ≡ flights.bench }
-    ensures stop { IsStopFor end result.stop (item_at flights.flight.packets flights.flight.at) (item_at flights.flight.replies flights.flight.at)
-        (take result.sent_length result.sent) (take result.got_length result.got) }
-    ensures lengths { (result.sent_length ≤ 1024) × (result.got_length ≤ 1024) }
-{
-    let mut sent = [0u8; 1024];
-    let mut got = [0u8; 1024];
-    match end {
-        FlightEnd::BenchFault => NotBegun {
-            bench: flights.into_bench(),
-            stop: Stop::BenchFault {
-                issued: 0,
-                confirmed: 0,
+    let Ok(managed) = Managed::new(alloc) else {
+        return Err(refused(bench));
+    };
+    match F::begin(alloc, bench, config, limits) {
+        Err(refusal) => Err(refusal),
+        Ok(flights) => Ok(PackedAccess {
+            sender: Sender {
+                flights,
+                managed,
+                log: CallLog::new(alloc),
             },
-            sent,
-            sent_length: 0,
-            got,
-            got_length: 0,
-        },
-        FlightEnd::ReplyBad | FlightEnd::Cut(_) => {
-            let sent_length = put(flights.sent(), &mut sent);
-            let got_length = put(flights.got(), &mut got);
-            NotBegun {
-                bench: flights.into_bench(),
-                stop: Stop::ReplyBad,
-                sent,
-                sent_length,
-                got,
-                got_length,
-            }
-        }
-    }
-}
-
-impl<B: Bench> Wire<B> {
-    // The three exchanges that begin an access. Afterwards its packets are held to what the probe answers.
-    fn open(&mut self, config: Config, limits: Limits) -> Result<(), FlightEnd>
-        requires usable { self.old.flight.end ≡ None }
-        requires empty { self.old.flight.accesses ≡ [] }
-        requires limits { AreLimits limits }
-        requires given { self.old.flight.limits ≡ limits }
-        ensures on { OnOk result (StepsTo (λ m o. IsInRange (target_of m.probe) → HasOpened config m o) (B.state self.old.bench) (B.state self.new.bench)) }
-        ensures left { IfErr result (λ end. StepsTo (λ m o. IsInRange (target_of m.probe) → LeftOpen config end m o) (B.state self.old.bench) (B.state self.new.bench)) }
-        ensures uncut { IfErr result IsNoCut }
-        ensures within { OnOk result (IsWithin self.new.flight.limits limits) }
-        ensures same { OnOk result (StepsTo (λ m o. IsInRange (target_of m.probe) → m.probe.executor.limits ≡ limits → self.new.flight.limits ≡ limits) (B.state self.old.bench) (B.state self.new.bench)) }
-        ensures empty { self.new.flight.accesses ≡ [] }
-        ensures ended { OnOk result (self.new.flight.end ≡ None) }
-        ensures faults { OnOk result ((B.reported self.new.bench).faults ≡ (B.reported self.old.bench).faults) }
-        ensures cause { IfErr result (λ end. HasEndCause end (B.reported self.old.bench) (B.reported self.new.bench) (item_at self.new.flight.packets self.new.flight.at) (item_at self.new.flight.replies self.new.flight.at)) }
-        ensures goes { BenchGoesOn (B.reported self.old.bench) (B.reported self.new.bench) (B.state self.old.bench) (B.state self.new.bench) }
-        ensures identity { B.identity self.new.bench ≡ B.identity self.old.bench }
-    {
-        let Config { idle, retry } = config;
-        let size = match self.exchange(&Command::Info(PACKET_SIZE)) {
-            Ok(size) => size,
-            Err(end) => return Err(end),
-        };
-        let count = match self.exchange(&Command::Info(PACKET_COUNT)) {
-            Ok(count) => count,
-            Err(end) => return Err(end),
-        };
-        let settings = Command::Configure {
-            idle,
-            retry,
-            matches: 0,
-        };
-        match self.exchange(&settings) {
-            Ok(_) => {
-                self.flight.limit_to(smaller(limits, size, count));
-                Ok(())
-            }
-            Err(end) => Err(end),
-        }
-    }
-}
-
-impl<B: Bench> PackedAccess<Wire<B>> {
-    /// An access over a bench with these limits, which holds no packet, and in which no reply waits. It opens the
-    /// probe with three exchanges: the packet size and the packet count that the probe answers, where these are
-    /// smaller, limit its packets, and `config` is set, with match retry 0.
-    ///
-    /// At an error it hands the bench back as its calls left it, and says why:
-    ///
-    /// - `OutOfMemory`: memory was refused, before anything was sent.
-    /// - `BenchFault`, with 0 and 0: a call of the bench failed.
-    /// - `ReplyBad`: a reply is none that its packet may get. The packet and the reply are handed back.
-    pub(crate) fn begin_over(
-        alloc: Global,
-        bench: B,
-        config: Config,
-        limits: Limits,
-    ) -> Result<PackedAccess<Wire<B>>, NotBegun<B>>
-        requires limits { limits ≡ (B.reported bench).limits }
-        requires open { IsOpen (B.reported bench) }
-        // Where the bench is observable, only the settings have changed, and three starting packets were received.
-        ensures on { IfOk result (λ a. StepsTo (λ m o. MayBegin m → HasOpened config m o) (B.state bench) (B.state a.sender.flights.bench)) }
-        // The access began there, before these exchanges.
-        ensures begun { IfOk result (λ a. StepsTo (λ m o. MayBegin m → HasBegunSparing a.sender.flights.flight.limits (B.reported a.sender.flights.bench) (B.state a.sender.flights.bench) a.sender.log
-            (item_at a.sender.flights.flight.packets a.sender.flights.flight.at) (item_at a.sender.flights.flight.replies a.sender.flights.flight.at)
-            a.sender.managed a.sender.flights.flight.accesses m) (B.state bench) (B.state a.sender.flights.bench)) }
-        // Nothing is asked yet, and there is no end.
-        ensures asked { IfOk result (λ a. a.sender.log ≡ nothing_logged) }
-        // Its packets are within the limits; an observable bench answers just these.
-        ensures within { IfOk result (λ a. IsWithin a.sender.flights.flight.limits limits) }
-        ensures same { IfOk result (λ a. StepsTo (λ m o. MayBegin m → a.sender.flights.flight.limits ≡ limits) (B.state bench) (B.state a.sender.flights.bench)) }
-        ensures faults { IfOk result (λ a. (B.reported a.sender.flights.bench).faults ≡ (B.reported bench).faults) }
-        ensures goes { IfOk result (λ a. BenchGoesOn (B.reported bench) (B.reported a.sender.flights.bench) (B.state bench) (B.state a.sender.flights.bench)) }
-        ensures identity { IfOk result (λ a. B.identity a.sender.flights.bench ≡ B.identity bench) }
-        // Why it did not begin.
-        ensures refused { IfErr result (λ n. IsRefusal n.stop (B.reported bench) (B.reported n.bench) (take n.sent_length n.sent) (take n.got_length n.got)) }
-        ensures lengths { IfErr result (λ n. (n.sent_length ≤ 1024) × (n.got_length ≤ 1024)) }
-        // Where the bench is observable no reply is bad, and the settings were made or not.
-        ensures left { IfErr result (λ n. StepsTo (λ m o. MayBegin m → (n.stop ≡ Stop.ReplyBad → ⊥) × HasTried config m o) (B.state bench) (B.state n.bench)) }
-        ensures back_goes { IfErr result (λ n. BenchGoesOn (B.reported bench) (B.reported n.bench) (B.state bench) (B.state n.bench)) }
-        ensures back_identity { IfErr result (λ n. B.identity n.bench ≡ B.identity bench) }
-    {
-        let Ok(managed) = Managed::new(alloc) else {
-            return Err(refused(bench));
-        };
-        let Config { idle, retry } = config;
-        let mut flights = match Wire::new(alloc, bench, PollConfig { idle, retry }, limits) {
-            Err(bench) => return Err(refused(bench)),
-            Ok(flights) => flights,
-        };
-        match flights.open(config, limits) {
-            Err(end) => Err(not_begun(flights, end)),
-            Ok(()) => Ok(PackedAccess {
-                sender: Sender {
-                    flights,
-                    managed,
-                    log: CallLog::new(alloc),
-                },
-            }),
-        }
+        }),
     }
 }

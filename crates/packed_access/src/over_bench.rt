@@ -1,22 +1,30 @@
 //! The access over a bench that it owns, as runs know it.
 use crate::access::PackedAccess;
-use crate::wire::Wire;
+use crate::opening::begin_over;
+use crate::sender::Sender;
 use access_calls::NotBegun;
 use bench_access::OverBench;
+use bench_flights::FlightsOver;
 use probe_core::{Bench, Config, Limits};
 use std::alloc::Global;
 
-impl<B: Bench> OverBench<B> for PackedAccess<Wire<B>> {
+impl<B: Bench, F: FlightsOver<B>> OverBench<B> for PackedAccess<F> {
     fn begin(
         alloc: Global,
         bench: B,
         config: Config,
         limits: Limits,
-    ) -> Result<PackedAccess<Wire<B>>, NotBegun<B>> {
-        PackedAccess::<Wire<B>>::begin_over(alloc, bench, config, limits)
+    ) -> Result<PackedAccess<F>, NotBegun<B>> {
+        begin_over(alloc, bench, config, limits)
     }
 
     fn into_bench(self) -> B {
-        self.give_back()
+        let PackedAccess { sender } = self;
+        let Sender {
+            flights,
+            managed: _,
+            log: _,
+        } = sender;
+        flights.into_bench()
     }
 }

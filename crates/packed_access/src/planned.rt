@@ -22,13 +22,12 @@ ghost use Rattle.call_terms.specs.NeedPoints.{asked};
 ghost use Rattle.probe_core.specs.Probe.{target_of};
 ghost use Rattle.target_machine.specs.declared.unit.Call.TheVariants.{Access};
 ghost use Rattle.access_regs.specs.Costs.{cost_by};
-ghost use Rattle.access_regs.specs.declared.planner.Planner.TheVariants.{Managed};
 ghost use Rattle.target_machine.specs.declared.unit.Unit.TheVariants as unit;
 
-use crate::flights::Flights;
 use crate::issuing::listed;
-use crate::sender::Sender;
+use crate::sender::{Sender, counted};
 use access_calls::Stop;
+use bench_flights::Flights;
 use call_terms::Part;
 use target_machine::Unit;
 
@@ -51,23 +50,23 @@ impl<F: Flights> Sender<F> {
         requires whole { self.old.log.whole + 1 ≡ length self.old.log.calls }
         requires room { length self.old.log.entries + 2 ≤ self.old.log.room }
         requires bounded { length self.old.log.entries + 2 ≤ most_entries * length self.old.log.calls }
-        ensures on { (m0 : BenchState) (rest : List Entry) → HasIssued (F.state self.old.flights) self.old.log (F.accesses self.old.flights)
+        ensures on { (m0 : BenchState) (rest : List Entry) → HasIssued F.planner (F.state self.old.flights) self.old.log (F.accesses self.old.flights)
             (entries_of (length self.old.log.calls) Leads (cfg_plan self.old.managed (port_of unit.now)) ++ rest) m0
-            → OnOk result (HasIssued (F.state self.new.flights) self.new.log [] rest m0) }
-        ensures spare { (m0 : BenchState) (rest : List Entry) (left : ℕ) → HasIssued (F.state self.old.flights) self.old.log (F.accesses self.old.flights)
+            → OnOk result (HasIssued F.planner (F.state self.new.flights) self.new.log [] rest m0) }
+        ensures spare { (m0 : BenchState) (rest : List Entry) (left : ℕ) → HasIssued F.planner (F.state self.old.flights) self.old.log (F.accesses self.old.flights)
             (entries_of (length self.old.log.calls) Leads (cfg_plan self.old.managed (port_of unit.now)) ++ rest) m0
-            → HasPaid (F.limits self.old.flights) (F.reported self.old.flights).limits (F.state self.old.flights) self.old.log left m0
-            → OnOk result (HasPaid (F.limits self.new.flights) (F.reported self.new.flights).limits (F.state self.new.flights) self.new.log left m0) }
-        ensures kept { (m0 : BenchState) (rest : List Entry) → HasIssued (F.state self.old.flights) self.old.log (F.accesses self.old.flights)
+            → HasPaid F.planner (F.limits self.old.flights) (F.reported self.old.flights).limits (F.state self.old.flights) self.old.log left m0
+            → OnOk result (HasPaid F.planner (F.limits self.new.flights) (F.reported self.new.flights).limits (F.state self.new.flights) self.new.log left m0) }
+        ensures kept { (m0 : BenchState) (rest : List Entry) → HasIssued F.planner (F.state self.old.flights) self.old.log (F.accesses self.old.flights)
             (entries_of (length self.old.log.calls) Leads (cfg_plan self.old.managed (port_of unit.now)) ++ rest) m0
-            → OnOk result (self.new.managed ≡ learned_cfg self.old.managed (port_of unit.now) (gives (target_issued self.old.log m0) (cfg_plan self.old.managed (port_of unit.now)))) }
-        ensures large { (m0 : BenchState) (rest : List Entry) → HasIssued (F.state self.old.flights) self.old.log (F.accesses self.old.flights)
+            → OnOk result (self.new.managed ≡ learned_cfg self.old.managed (port_of unit.now) (gives (target_issued F.planner self.old.log m0) (cfg_plan self.old.managed (port_of unit.now)))) }
+        ensures large { (m0 : BenchState) (rest : List Entry) → HasIssued F.planner (F.state self.old.flights) self.old.log (F.accesses self.old.flights)
             (entries_of (length self.old.log.calls) Leads (cfg_plan self.old.managed (port_of unit.now)) ++ rest) m0
-            → IfOk result (λ large. large ≡ has_bit (gives (target_issued self.old.log m0) (cfg_plan self.old.managed (port_of unit.now))) cfg_la) }
-        ensures broke { (m0 : BenchState) (rest : List Entry) → HasIssued (F.state self.old.flights) self.old.log (F.accesses self.old.flights)
+            → IfOk result (λ large. large ≡ has_bit (gives (target_issued F.planner self.old.log m0) (cfg_plan self.old.managed (port_of unit.now))) cfg_la) }
+        ensures broke { (m0 : BenchState) (rest : List Entry) → HasIssued F.planner (F.state self.old.flights) self.old.log (F.accesses self.old.flights)
             (entries_of (length self.old.log.calls) Leads (cfg_plan self.old.managed (port_of unit.now)) ++ rest) m0
-            → IfErr result (λ s. HasEnded s (reported_by (F.reported self.new.flights) (F.state self.new.flights) self.new.log (F.packet self.new.flights) (F.reply self.new.flights)) self.new.log m0) }
-        ensures stops { (m0 : BenchState) (rest : List Entry) (answered : Option ℕ) → HasIssued (F.state self.old.flights) self.old.log (F.accesses self.old.flights)
+            → IfErr result (λ s. HasEnded F.planner s (reported_by (F.reported self.new.flights) (F.state self.new.flights) self.new.log (F.packet self.new.flights) (F.reply self.new.flights)) self.new.log m0) }
+        ensures stops { (m0 : BenchState) (rest : List Entry) (answered : Option ℕ) → HasIssued F.planner (F.state self.old.flights) self.old.log (F.accesses self.old.flights)
             (entries_of (length self.old.log.calls) Leads (cfg_plan self.old.managed (port_of unit.now)) ++ rest) m0
             → IsLeft (reported_by (F.reported self.new.flights) (F.state self.new.flights) self.new.log (F.packet self.new.flights) (F.reply self.new.flights)) answered
             → IfErr result (StopsThere m0 answered self.old.log.calls self.new.log.lines) }
@@ -105,20 +104,20 @@ impl<F: Flights> Sender<F> {
         requires whole { self.old.log.whole + 1 ≡ length self.old.log.calls }
         requires room { length self.old.log.entries + 2 ≤ self.old.log.room }
         requires bounded { length self.old.log.entries + 2 ≤ most_entries * length self.old.log.calls }
-        ensures on { (m0 : BenchState) (rest : List Entry) → HasIssued (F.state self.old.flights) self.old.log (F.accesses self.old.flights)
+        ensures on { (m0 : BenchState) (rest : List Entry) → HasIssued F.planner (F.state self.old.flights) self.old.log (F.accesses self.old.flights)
             (entries_of (length self.old.log.calls) Leads (first_plan self.old.managed (port_of unit.now)) ++ rest) m0
-            → OnOk result (HasIssued (F.state self.new.flights) self.new.log [] rest m0) }
-        ensures spare { (m0 : BenchState) (rest : List Entry) (left : ℕ) → HasIssued (F.state self.old.flights) self.old.log (F.accesses self.old.flights)
+            → OnOk result (HasIssued F.planner (F.state self.new.flights) self.new.log [] rest m0) }
+        ensures spare { (m0 : BenchState) (rest : List Entry) (left : ℕ) → HasIssued F.planner (F.state self.old.flights) self.old.log (F.accesses self.old.flights)
             (entries_of (length self.old.log.calls) Leads (first_plan self.old.managed (port_of unit.now)) ++ rest) m0
-            → HasPaid (F.limits self.old.flights) (F.reported self.old.flights).limits (F.state self.old.flights) self.old.log left m0
-            → OnOk result (HasPaid (F.limits self.new.flights) (F.reported self.new.flights).limits (F.state self.new.flights) self.new.log left m0) }
-        ensures kept { (m0 : BenchState) (rest : List Entry) → HasIssued (F.state self.old.flights) self.old.log (F.accesses self.old.flights)
+            → HasPaid F.planner (F.limits self.old.flights) (F.reported self.old.flights).limits (F.state self.old.flights) self.old.log left m0
+            → OnOk result (HasPaid F.planner (F.limits self.new.flights) (F.reported self.new.flights).limits (F.state self.new.flights) self.new.log left m0) }
+        ensures kept { (m0 : BenchState) (rest : List Entry) → HasIssued F.planner (F.state self.old.flights) self.old.log (F.accesses self.old.flights)
             (entries_of (length self.old.log.calls) Leads (first_plan self.old.managed (port_of unit.now)) ++ rest) m0
-            → OnOk result (self.new.managed ≡ learned self.old.managed (port_of unit.now) (gives (target_issued self.old.log m0) (first_plan self.old.managed (port_of unit.now)))) }
-        ensures broke { (m0 : BenchState) (rest : List Entry) → HasIssued (F.state self.old.flights) self.old.log (F.accesses self.old.flights)
+            → OnOk result (self.new.managed ≡ learned self.old.managed (port_of unit.now) (gives (target_issued F.planner self.old.log m0) (first_plan self.old.managed (port_of unit.now)))) }
+        ensures broke { (m0 : BenchState) (rest : List Entry) → HasIssued F.planner (F.state self.old.flights) self.old.log (F.accesses self.old.flights)
             (entries_of (length self.old.log.calls) Leads (first_plan self.old.managed (port_of unit.now)) ++ rest) m0
-            → IfErr result (λ s. HasEnded s (reported_by (F.reported self.new.flights) (F.state self.new.flights) self.new.log (F.packet self.new.flights) (F.reply self.new.flights)) self.new.log m0) }
-        ensures stops { (m0 : BenchState) (rest : List Entry) (answered : Option ℕ) → HasIssued (F.state self.old.flights) self.old.log (F.accesses self.old.flights)
+            → IfErr result (λ s. HasEnded F.planner s (reported_by (F.reported self.new.flights) (F.state self.new.flights) self.new.log (F.packet self.new.flights) (F.reply self.new.flights)) self.new.log m0) }
+        ensures stops { (m0 : BenchState) (rest : List Entry) (answered : Option ℕ) → HasIssued F.planner (F.state self.old.flights) self.old.log (F.accesses self.old.flights)
             (entries_of (length self.old.log.calls) Leads (first_plan self.old.managed (port_of unit.now)) ++ rest) m0
             → IsLeft (reported_by (F.reported self.new.flights) (F.state self.new.flights) self.new.log (F.packet self.new.flights) (F.reply self.new.flights)) answered
             → IfErr result (StopsThere m0 answered self.old.log.calls self.new.log.lines) }
@@ -157,17 +156,17 @@ impl<F: Flights> Sender<F> {
         requires whole { self.old.log.whole + 1 ≡ length self.old.log.calls }
         requires room { length self.old.log.entries + 5 ≤ self.old.log.room }
         requires bounded { length self.old.log.entries + 5 ≤ most_entries * length self.old.log.calls }
-        ensures on { (m0 : BenchState) (rest : List Entry) → HasIssued (F.state self.old.flights) self.old.log (F.accesses self.old.flights)
+        ensures on { (m0 : BenchState) (rest : List Entry) → HasIssued F.planner (F.state self.old.flights) self.old.log (F.accesses self.old.flights)
             (entries_of (length self.old.log.calls) Leads (leads self.old.managed unit.now) ++ (entries_of (length self.old.log.calls) Ends (last_access unit.now ∷ []) ++ rest)) m0
-            → OnOk result (HasIssued (F.state self.new.flights) self.new.log (F.accesses self.new.flights) rest m0) }
-        ensures spare { (m0 : BenchState) (rest : List Entry) (points : ℕ) → HasIssued (F.state self.old.flights) self.old.log (F.accesses self.old.flights)
+            → OnOk result (HasIssued F.planner (F.state self.new.flights) self.new.log (F.accesses self.new.flights) rest m0) }
+        ensures spare { (m0 : BenchState) (rest : List Entry) (points : ℕ) → HasIssued F.planner (F.state self.old.flights) self.old.log (F.accesses self.old.flights)
             (entries_of (length self.old.log.calls) Leads (leads self.old.managed unit.now) ++ (entries_of (length self.old.log.calls) Ends (last_access unit.now ∷ []) ++ rest)) m0
-            → HasSpared (F.limits self.old.flights) (F.reported self.old.flights).limits (F.state self.old.flights) self.old.log points m0
-            → OnOk result (HasSpared (F.limits self.new.flights) (F.reported self.new.flights).limits (F.state self.new.flights) self.new.log points m0) }
-        ensures broke { (m0 : BenchState) (rest : List Entry) → HasIssued (F.state self.old.flights) self.old.log (F.accesses self.old.flights)
+            → HasSpared F.planner (F.limits self.old.flights) (F.reported self.old.flights).limits (F.state self.old.flights) self.old.log points m0
+            → OnOk result (HasSpared F.planner (F.limits self.new.flights) (F.reported self.new.flights).limits (F.state self.new.flights) self.new.log points m0) }
+        ensures broke { (m0 : BenchState) (rest : List Entry) → HasIssued F.planner (F.state self.old.flights) self.old.log (F.accesses self.old.flights)
             (entries_of (length self.old.log.calls) Leads (leads self.old.managed unit.now) ++ (entries_of (length self.old.log.calls) Ends (last_access unit.now ∷ []) ++ rest)) m0
-            → IfErr result (λ s. HasEnded s (reported_by (F.reported self.new.flights) (F.state self.new.flights) self.new.log (F.packet self.new.flights) (F.reply self.new.flights)) self.new.log m0) }
-        ensures stops { (m0 : BenchState) (rest : List Entry) (answered : Option ℕ) → HasIssued (F.state self.old.flights) self.old.log (F.accesses self.old.flights)
+            → IfErr result (λ s. HasEnded F.planner s (reported_by (F.reported self.new.flights) (F.state self.new.flights) self.new.log (F.packet self.new.flights) (F.reply self.new.flights)) self.new.log m0) }
+        ensures stops { (m0 : BenchState) (rest : List Entry) (answered : Option ℕ) → HasIssued F.planner (F.state self.old.flights) self.old.log (F.accesses self.old.flights)
             (entries_of (length self.old.log.calls) Leads (leads self.old.managed unit.now) ++ (entries_of (length self.old.log.calls) Ends (last_access unit.now ∷ []) ++ rest)) m0
             → IsLeft (reported_by (F.reported self.new.flights) (F.state self.new.flights) self.new.log (F.packet self.new.flights) (F.reply self.new.flights)) answered
             → IfErr result (StopsThere m0 answered self.old.log.calls self.new.log.lines) }
@@ -203,21 +202,21 @@ impl<F: Flights> Sender<F> {
         requires whole { self.old.log.whole + 1 ≡ length self.old.log.calls }
         requires room { length self.old.log.entries + 7 ≤ self.old.log.room }
         requires bounded { length self.old.log.entries + 7 ≤ most_entries * length self.old.log.calls }
-        ensures on { (m0 : BenchState) → HasIssued (F.state self.old.flights) self.old.log (F.accesses self.old.flights)
-            (steps_left self.old.log (by_csw (target_issued self.old.log m0) self.old.managed unit.now).steps) m0
-            → OnOk result (HasIssued (F.state self.new.flights) self.new.log (F.accesses self.new.flights) [] m0) }
-        ensures spare { (m0 : BenchState) (left : ℕ) → HasIssued (F.state self.old.flights) self.old.log (F.accesses self.old.flights)
-            (steps_left self.old.log (by_csw (target_issued self.old.log m0) self.old.managed unit.now).steps) m0
-            → HasPaid (F.limits self.old.flights) (F.reported self.old.flights).limits (F.state self.old.flights) self.old.log left m0
-            → OnOk result (HasPaid (F.limits self.new.flights) (F.reported self.new.flights).limits (F.state self.new.flights) self.new.log left m0) }
-        ensures kept { (m0 : BenchState) → HasIssued (F.state self.old.flights) self.old.log (F.accesses self.old.flights)
-            (steps_left self.old.log (by_csw (target_issued self.old.log m0) self.old.managed unit.now).steps) m0
-            → OnOk result (self.new.managed ≡ (by_csw (target_issued self.old.log m0) self.old.managed unit.now).kept) }
-        ensures broke { (m0 : BenchState) → HasIssued (F.state self.old.flights) self.old.log (F.accesses self.old.flights)
-            (steps_left self.old.log (by_csw (target_issued self.old.log m0) self.old.managed unit.now).steps) m0
-            → IfErr result (λ s. HasEnded s (reported_by (F.reported self.new.flights) (F.state self.new.flights) self.new.log (F.packet self.new.flights) (F.reply self.new.flights)) self.new.log m0) }
-        ensures stops { (m0 : BenchState) (answered : Option ℕ) → HasIssued (F.state self.old.flights) self.old.log (F.accesses self.old.flights)
-            (steps_left self.old.log (by_csw (target_issued self.old.log m0) self.old.managed unit.now).steps) m0
+        ensures on { (m0 : BenchState) → HasIssued F.planner (F.state self.old.flights) self.old.log (F.accesses self.old.flights)
+            (steps_left self.old.log (by_csw (target_issued F.planner self.old.log m0) self.old.managed unit.now).steps) m0
+            → OnOk result (HasIssued F.planner (F.state self.new.flights) self.new.log (F.accesses self.new.flights) [] m0) }
+        ensures spare { (m0 : BenchState) (left : ℕ) → HasIssued F.planner (F.state self.old.flights) self.old.log (F.accesses self.old.flights)
+            (steps_left self.old.log (by_csw (target_issued F.planner self.old.log m0) self.old.managed unit.now).steps) m0
+            → HasPaid F.planner (F.limits self.old.flights) (F.reported self.old.flights).limits (F.state self.old.flights) self.old.log left m0
+            → OnOk result (HasPaid F.planner (F.limits self.new.flights) (F.reported self.new.flights).limits (F.state self.new.flights) self.new.log left m0) }
+        ensures kept { (m0 : BenchState) → HasIssued F.planner (F.state self.old.flights) self.old.log (F.accesses self.old.flights)
+            (steps_left self.old.log (by_csw (target_issued F.planner self.old.log m0) self.old.managed unit.now).steps) m0
+            → OnOk result (self.new.managed ≡ (by_csw (target_issued F.planner self.old.log m0) self.old.managed unit.now).kept) }
+        ensures broke { (m0 : BenchState) → HasIssued F.planner (F.state self.old.flights) self.old.log (F.accesses self.old.flights)
+            (steps_left self.old.log (by_csw (target_issued F.planner self.old.log m0) self.old.managed unit.now).steps) m0
+            → IfErr result (λ s. HasEnded F.planner s (reported_by (F.reported self.new.flights) (F.state self.new.flights) self.new.log (F.packet self.new.flights) (F.reply self.new.flights)) self.new.log m0) }
+        ensures stops { (m0 : BenchState) (answered : Option ℕ) → HasIssued F.planner (F.state self.old.flights) self.old.log (F.accesses self.old.flights)
+            (steps_left self.old.log (by_csw (target_issued F.planner self.old.log m0) self.old.managed unit.now).steps) m0
             → IsLeft (reported_by (F.reported self.new.flights) (F.state self.new.flights) self.new.log (F.packet self.new.flights) (F.reply self.new.flights)) answered
             → IfErr result (StopsThere m0 answered self.old.log.calls self.new.log.lines) }
         ensures goes { GoesOn (reported_by (F.reported self.old.flights) (F.state self.old.flights) self.old.log (F.packet self.old.flights) (F.reply self.old.flights))
@@ -251,16 +250,16 @@ impl<F: Flights> Sender<F> {
         requires whole { self.old.log.whole + 1 ≡ length self.old.log.calls }
         requires room { length self.old.log.entries + most_entries ≤ self.old.log.room }
         requires bounded { length self.old.log.entries + most_entries ≤ most_entries * length self.old.log.calls }
-        ensures on { (m0 : BenchState) (calls : List Ask) (ask : Ask) → ask.call ≡ Access (unit.Poll mask requested turns) → HasAsked (F.state self.old.flights) self.old.log (F.accesses self.old.flights) self.old.managed calls ask m0
-            → OnOk result (HasBegun (F.reported self.new.flights) (F.state self.new.flights) self.new.log (F.packet self.new.flights) (F.reply self.new.flights) self.new.managed (F.accesses self.new.flights) m0) }
-        ensures spare { (m0 : BenchState) (calls : List Ask) (ask : Ask) (left : ℕ) → ask.call ≡ Access (unit.Poll mask requested turns) → HasAsked (F.state self.old.flights) self.old.log (F.accesses self.old.flights) self.old.managed calls ask m0
-            → HasPaid (F.limits self.old.flights) (F.reported self.old.flights).limits (F.state self.old.flights) self.old.log left m0
-            → OnOk result (HasPaid (F.limits self.new.flights) (F.reported self.new.flights).limits (F.state self.new.flights) self.new.log left m0) }
-        ensures needs { (m0 : BenchState) (calls : List Ask) (ask : Ask) → ask.call ≡ Access (unit.Poll mask requested turns) → HasAsked (F.state self.old.flights) self.old.log (F.accesses self.old.flights) self.old.managed calls ask m0
-            → OnOk result (asks_of self.new.log ≡ asked (cost_by Managed (target_of m0.probe) calls ask) ask (record { calls = calls; needs = self.old.log.needs; fence = self.old.log.fence })) }
-        ensures broke { (m0 : BenchState) (calls : List Ask) (ask : Ask) → ask.call ≡ Access (unit.Poll mask requested turns) → HasAsked (F.state self.old.flights) self.old.log (F.accesses self.old.flights) self.old.managed calls ask m0
-            → IfErr result (λ s. HasEnded s (reported_by (F.reported self.new.flights) (F.state self.new.flights) self.new.log (F.packet self.new.flights) (F.reply self.new.flights)) self.new.log m0) }
-        ensures stops { (m0 : BenchState) (calls : List Ask) (ask : Ask) (answered : Option ℕ) → ask.call ≡ Access (unit.Poll mask requested turns) → HasAsked (F.state self.old.flights) self.old.log (F.accesses self.old.flights) self.old.managed calls ask m0
+        ensures on { (m0 : BenchState) (calls : List Ask) (ask : Ask) → ask.call ≡ Access (unit.Poll mask requested turns) → HasAsked F.planner (F.state self.old.flights) self.old.log (F.accesses self.old.flights) self.old.managed calls ask m0
+            → OnOk result (HasBegun F.planner (F.reported self.new.flights) (F.state self.new.flights) self.new.log (F.packet self.new.flights) (F.reply self.new.flights) self.new.managed (F.accesses self.new.flights) m0) }
+        ensures spare { (m0 : BenchState) (calls : List Ask) (ask : Ask) (left : ℕ) → ask.call ≡ Access (unit.Poll mask requested turns) → HasAsked F.planner (F.state self.old.flights) self.old.log (F.accesses self.old.flights) self.old.managed calls ask m0
+            → HasPaid F.planner (F.limits self.old.flights) (F.reported self.old.flights).limits (F.state self.old.flights) self.old.log left m0
+            → OnOk result (HasPaid F.planner (F.limits self.new.flights) (F.reported self.new.flights).limits (F.state self.new.flights) self.new.log left m0) }
+        ensures needs { (m0 : BenchState) (calls : List Ask) (ask : Ask) → ask.call ≡ Access (unit.Poll mask requested turns) → HasAsked F.planner (F.state self.old.flights) self.old.log (F.accesses self.old.flights) self.old.managed calls ask m0
+            → OnOk result (asks_of self.new.log ≡ asked (cost_by F.planner (target_of m0.probe) calls ask) ask (record { calls = calls; needs = self.old.log.needs; fence = self.old.log.fence })) }
+        ensures broke { (m0 : BenchState) (calls : List Ask) (ask : Ask) → ask.call ≡ Access (unit.Poll mask requested turns) → HasAsked F.planner (F.state self.old.flights) self.old.log (F.accesses self.old.flights) self.old.managed calls ask m0
+            → IfErr result (λ s. HasEnded F.planner s (reported_by (F.reported self.new.flights) (F.state self.new.flights) self.new.log (F.packet self.new.flights) (F.reply self.new.flights)) self.new.log m0) }
+        ensures stops { (m0 : BenchState) (calls : List Ask) (ask : Ask) (answered : Option ℕ) → ask.call ≡ Access (unit.Poll mask requested turns) → HasAsked F.planner (F.state self.old.flights) self.old.log (F.accesses self.old.flights) self.old.managed calls ask m0
             → IsLeft (reported_by (F.reported self.new.flights) (F.state self.new.flights) self.new.log (F.packet self.new.flights) (F.reply self.new.flights)) answered
             → IfErr result (StopsThere m0 answered self.old.log.calls self.new.log.lines) }
         ensures goes { GoesOn (reported_by (F.reported self.old.flights) (F.state self.old.flights) self.old.log (F.packet self.old.flights) (F.reply self.old.flights))
@@ -281,7 +280,7 @@ impl<F: Flights> Sender<F> {
         match self.poll_last(mask, requested, turns) {
             Ok(points) => {
                 let count = self.log.count();
-                self.log.need(points, count);
+                self.log.need(counted::<F>(points), count);
                 Ok(())
             }
             Err(stop) => Err(stop),

@@ -9,21 +9,22 @@ ghost use Rattle.probe_core.specs.Probe.{target_of};
 ghost use Rattle.call_terms.specs.declared.calls.Ask.{Ask};
 ghost use Rattle.access_regs.specs.Costs.{poll_cost, portions};
 ghost use Rattle.access_regs.specs.Entries.{target_by};
+ghost use Rattle.access_regs.specs.Plan.{bank_zero};
 ghost use Rattle.access_regs.specs.declared.planner.Planner.TheVariants.{Managed};
 ghost use Rattle.access_calls.specs.Answers.{NoMemory};
 ghost use Rattle.access_calls.specs.GoesOn.{GoesOn};
 ghost use Rattle.access_calls.specs.Left.{IsLeft};
 ghost use Rattle.batch_packer.specs.Flying.{CanFly};
 ghost use Rattle.packed_access.specs.Begun.{HasEnded, HasIssued, StopsThere};
-ghost use Rattle.packed_access.specs.Flown.{BenchGoesOn, HasDone, HasEndCause, IsCutResponse, LeftOff, NamesNone, matched_word};
+ghost use Rattle.bench_flights.specs.Flown.{BenchGoesOn, HasDone, HasEndCause, IsCutResponse, LeftOff, NamesNone, SendsFew, matched_word};
 ghost use Rattle.packed_access.specs.Logs.{asks_of, most_entries, reported_by};
 ghost use Rattle.packed_access.specs.Polls.{HasPoll};
-ghost use Rattle.packed_access.specs.Sparing.{HasSpared, SendsFew};
+ghost use Rattle.packed_access.specs.Sparing.{HasSpared};
 
-use crate::flights::Flights;
 use crate::sender::Sender;
 use access_calls::Stop;
 use batch_packer::FlightEnd;
+use bench_flights::Flights;
 use call_terms::Part;
 
 // What a poll came to: whether the value matched, and how many need points it makes.
@@ -80,6 +81,14 @@ fn make_poll<F: Flights>(
 }
 
 impl<F: Flights> Sender<F> {
+    // Whether polls are made by value matches: where DPBANKSEL is known to be 0, unless each unit is made alone.
+    fn by_matches(&self) -> bool
+        ensures zero { result ≡ true → bank_zero self.now.managed ≡ true }
+        ensures managed { F.planner ≡ Managed → result ≡ bank_zero self.now.managed }
+    {
+        !F::plans_alone() && self.managed.bank_zero()
+    }
+
     // Makes the last call, which is a poll, where all calls before it came. Answers how many need points it makes.
     #[tactic(auto, using(access_calls::proofs::KeepLemmas::goes_trans, crate::proofs::GoesLemmas::goes_still))]
     pub(crate) fn poll_last(&mut self, mask: u32, requested: u32, turns: u32) -> Result<u64, Stop>
@@ -89,16 +98,16 @@ impl<F: Flights> Sender<F> {
         requires last { self.old.log.came + 1 ≡ length self.old.log.calls }
         requires room { length self.old.log.entries < self.old.log.room }
         requires bounded { length self.old.log.entries < most_entries * length self.old.log.calls }
-        ensures on { (m0 : BenchState) (calls : List Ask) (ask : Ask) → HasPoll (F.state self.old.flights) self.old.log self.old.managed calls ask mask requested turns m0
-            → OnOk result (HasIssued (F.state self.new.flights) self.new.log [] [] m0) }
-        ensures spare { (m0 : BenchState) (calls : List Ask) (ask : Ask) (paid : ℕ) → HasPoll (F.state self.old.flights) self.old.log self.old.managed calls ask mask requested turns m0
-            → HasSpared (F.limits self.old.flights) (F.reported self.old.flights).limits (F.state self.old.flights) self.old.log (paid + 1) m0
-            → IfOk result (λ points. HasSpared (F.limits self.new.flights) (F.reported self.new.flights).limits (F.state self.new.flights) self.new.log (paid + points) m0) }
-        ensures points { (m0 : BenchState) (calls : List Ask) (ask : Ask) → HasPoll (F.state self.old.flights) self.old.log self.old.managed calls ask mask requested turns m0
-            → IfOk result (λ points. points ≡ poll_cost self.old.managed (target_by Managed (target_of m0.probe) calls) mask requested turns) }
-        ensures broke { (m0 : BenchState) (calls : List Ask) (ask : Ask) → HasPoll (F.state self.old.flights) self.old.log self.old.managed calls ask mask requested turns m0
-            → IfErr result (λ s. HasEnded s (reported_by (F.reported self.new.flights) (F.state self.new.flights) self.new.log (F.packet self.new.flights) (F.reply self.new.flights)) self.new.log m0) }
-        ensures stops { (m0 : BenchState) (calls : List Ask) (ask : Ask) (answered : Option ℕ) → HasPoll (F.state self.old.flights) self.old.log self.old.managed calls ask mask requested turns m0
+        ensures on { (m0 : BenchState) (calls : List Ask) (ask : Ask) → HasPoll F.planner (F.state self.old.flights) self.old.log self.old.managed calls ask mask requested turns m0
+            → OnOk result (HasIssued F.planner (F.state self.new.flights) self.new.log [] [] m0) }
+        ensures spare { (m0 : BenchState) (calls : List Ask) (ask : Ask) (paid : ℕ) → HasPoll F.planner (F.state self.old.flights) self.old.log self.old.managed calls ask mask requested turns m0
+            → HasSpared F.planner (F.limits self.old.flights) (F.reported self.old.flights).limits (F.state self.old.flights) self.old.log (paid + 1) m0
+            → IfOk result (λ points. HasSpared F.planner (F.limits self.new.flights) (F.reported self.new.flights).limits (F.state self.new.flights) self.new.log (paid + points) m0) }
+        ensures points { F.planner ≡ Managed → (m0 : BenchState) (calls : List Ask) (ask : Ask) → HasPoll F.planner (F.state self.old.flights) self.old.log self.old.managed calls ask mask requested turns m0
+            → IfOk result (λ points. points ≡ poll_cost self.old.managed (target_by F.planner (target_of m0.probe) calls) mask requested turns) }
+        ensures broke { (m0 : BenchState) (calls : List Ask) (ask : Ask) → HasPoll F.planner (F.state self.old.flights) self.old.log self.old.managed calls ask mask requested turns m0
+            → IfErr result (λ s. HasEnded F.planner s (reported_by (F.reported self.new.flights) (F.state self.new.flights) self.new.log (F.packet self.new.flights) (F.reply self.new.flights)) self.new.log m0) }
+        ensures stops { (m0 : BenchState) (calls : List Ask) (ask : Ask) (answered : Option ℕ) → HasPoll F.planner (F.state self.old.flights) self.old.log self.old.managed calls ask mask requested turns m0
             → IsLeft (reported_by (F.reported self.new.flights) (F.state self.new.flights) self.new.log (F.packet self.new.flights) (F.reply self.new.flights)) answered
             → IfErr result (StopsThere m0 answered self.old.log.calls self.new.log.lines) }
         ensures goes { GoesOn (reported_by (F.reported self.old.flights) (F.state self.old.flights) self.old.log (F.packet self.old.flights) (F.reply self.old.flights))
@@ -116,7 +125,7 @@ impl<F: Flights> Sender<F> {
         ensures identity { F.identity self.new.flights ≡ F.identity self.old.flights }
     {
         let unit = self.log.count();
-        let zero = self.managed.bank_zero();
+        let zero = self.by_matches();
         self.log.issue(unit, Part::Ends);
         match make_poll(&mut self.flights, zero, mask, requested, turns) {
             Ok(found) => {

@@ -1,5 +1,5 @@
 //! Flights of a unit that forgives a fault, of which only the last access may fault.
-ghost use Rattle.std.specs.Prelude.{◌≡◌, ◌<◌, ◌≤◌, ◌+◌, ◌-◌, ◌*◌, ◌++◌, ◌∷◌, [], List, Option, None, Some, true, length, IfErr, IfOk, IfSome, OnOk};
+ghost use Rattle.std.specs.Prelude.{if◌then◌else◌, ◌≡◌, ◌<◌, ◌≤◌, ◌+◌, ◌-◌, ◌*◌, ◌++◌, ◌∷◌, [], Bool, List, Option, None, Some, true, length, IfErr, IfOk, IfSome, OnOk};
 ghost use Rattle.std.specs.List.{AllByRecursion};
 ghost use Rattle.target_machine.specs.Plain.{Action, select_of};
 ghost use Rattle.target_machine.specs.State.{TargetState};
@@ -10,18 +10,19 @@ ghost use Rattle.probe_core.specs.Bench.{BenchState, StepsTo};
 ghost use Rattle.access_calls.specs.Answers.{NoMemory};
 ghost use Rattle.access_calls.specs.GoesOn.{GoesOn};
 ghost use Rattle.access_calls.specs.Issued.{lines_before_kept};
-ghost use Rattle.packed_access.specs.Clearing.{IsOneTransfer};
-ghost use Rattle.packed_access.specs.Forgiving.{HasBroken, HasTried, IsNext, WentTo, with_accesses};
+ghost use Rattle.bench_flights.specs.Clearing.{IsOneTransfer};
+ghost use Rattle.packed_access.specs.Forgiving.{HasBroken, HasTried, IsNext, LeadsCame, WentTo, with_accesses};
 ghost use Rattle.packed_access.specs.Sparing.{WentFew};
 ghost use Rattle.batch_packer.specs.Flying.{CanFly};
 ghost use Rattle.packed_access.specs.Logs.{IsFurther, IsOfCall, asks_of, most_entries, reported_by};
 ghost use Rattle.call_terms.specs.declared.journal.Part.TheVariants.{Leads};
 ghost use Rattle.access_regs.specs.Kept.{Kept, selected};
 ghost use Rattle.access_regs.specs.Plan.{select_value};
+ghost use Rattle.access_regs.specs.declared.planner.Planner.TheVariants.{Managed};
 
-use crate::flights::Flights;
 use crate::sender::Sender;
 use access_calls::Stop;
+use bench_flights::Flights;
 use call_terms::Part;
 use call_terms::accesses::select;
 use target_machine::registers::CLEAR_ALL;
@@ -33,6 +34,7 @@ impl<F: Flights> Sender<F> {
         requires open { self.old.log.end ≡ None }
         requires taken { AllByRecursion IsTaken accesses.now }
         requires few { length (F.accesses self.old.flights) + length accesses.now ≤ 4 }
+        requires managed { 0 < length accesses.now → F.planner ≡ Managed }
         requires space { (next : RegAccess) → IsTaken next → F.has_room self.old.flights next ≡ true }
         requires unit { IsOfCall (length self.old.log.calls) (record { unit = unit; part = part }) }
         requires later { self.old.log.came ≤ lines_before_kept (record { unit = unit; part = part }) }
@@ -54,32 +56,35 @@ impl<F: Flights> Sender<F> {
     }
 
     // Makes accesses of the last call as one flight, of which only the last may fault. Answers what the last gave, or
-    // `None` where it faulted and STICKYERR was cleared. Where `ends` it is the access that the unit is for.
-    pub(crate) fn try_flight(
+    // `None` where it faulted, the unit forgives that, and STICKYERR was cleared. Where `ends` it is the access that the
+    // unit is for.
+    fn try_together(
         &mut self,
         leads: &[RegAccess],
         last: RegAccess,
         ends: bool,
+        forgive: bool,
     ) -> Result<Option<u32>, Stop>
         requires open { self.old.log.end ≡ None }
         requires whole { self.old.log.whole + 1 ≡ length self.old.log.calls }
         requires came { self.old.log.came ≡ self.old.log.whole }
         requires empty { F.accesses self.old.flights ≡ [] }
         requires space { (next : RegAccess) → IsTaken next → F.has_room self.old.flights next ≡ true }
-        requires room { length self.old.log.entries + 5 ≤ self.old.log.room }
-        requires bounded { length self.old.log.entries + 5 ≤ most_entries * length self.old.log.calls }
+        requires room { length self.old.log.entries + (length leads.now + 2) ≤ self.old.log.room }
+        requires bounded { length self.old.log.entries + (length leads.now + 2) ≤ most_entries * length self.old.log.calls }
+        requires managed { 0 < length leads.now → F.planner ≡ Managed }
         requires one { IsOneTransfer (leads.now ++ last ∷ []) }
         requires taken { AllByRecursion IsTaken leads.now }
         requires last { IsTaken last }
         ensures on { (m0 : BenchState) (asked : AccessUnit) (k : Kept) (t : TargetState) (made : List RegAccess) (rest more : List Action)
-            → HasTried (F.state self.old.flights) self.old.log asked k t made rest m0 → IsNext asked t made leads.now last ends rest more
-            → IfOk result (λ w. WentTo w (F.state self.new.flights) self.new.log asked k t made leads.now last more m0) }
+            → HasTried F.planner forgive (F.state self.old.flights) self.old.log asked k t made rest m0 → IsNext asked t made leads.now last ends rest more
+            → IfOk result (λ w. WentTo F.planner forgive w (F.state self.new.flights) self.new.log asked k t made leads.now last more m0) }
         ensures broke { (m0 : BenchState) (asked : AccessUnit) (k : Kept) (t : TargetState) (made : List RegAccess) (rest more : List Action)
-            → HasTried (F.state self.old.flights) self.old.log asked k t made rest m0 → IsNext asked t made leads.now last ends rest more
-            → IfErr result (λ s. HasBroken s (reported_by (F.reported self.new.flights) (F.state self.new.flights) self.new.log (F.packet self.new.flights) (F.reply self.new.flights)) self.new.log self.old.log.calls m0) }
+            → HasTried F.planner forgive (F.state self.old.flights) self.old.log asked k t made rest m0 → IsNext asked t made leads.now last ends rest more
+            → IfErr result (λ s. HasBroken F.planner s (reported_by (F.reported self.new.flights) (F.state self.new.flights) self.new.log (F.packet self.new.flights) (F.reply self.new.flights)) self.new.log self.old.log.calls m0) }
         ensures goes { GoesOn (reported_by (F.reported self.old.flights) (F.state self.old.flights) self.old.log (F.packet self.old.flights) (F.reply self.old.flights))
             (reported_by (F.reported self.new.flights) (F.state self.new.flights) self.new.log (F.packet self.new.flights) (F.reply self.new.flights)) }
-        ensures packets { IfOk result (λ w. StepsTo (λ m o. CanFly m → WentFew w m o) (F.state self.old.flights) (F.state self.new.flights)) }
+        ensures packets { F.planner ≡ Managed → IfOk result (λ w. StepsTo (λ m o. CanFly m → WentFew w m o) (F.state self.old.flights) (F.state self.new.flights)) }
         ensures later { OnOk result (self.old.log.confirmed ≤ self.new.log.confirmed) }
         ensures limits { F.limits self.new.flights ≡ F.limits self.old.flights }
         ensures further { OnOk result (IsFurther self.old.log self.new.log) }
@@ -90,6 +95,7 @@ impl<F: Flights> Sender<F> {
         ensures asks { asks_of self.new.log ≡ asks_of self.old.log }
         ensures memory { IfErr result NoMemory }
         ensures entries { OnOk result (length self.new.log.entries ≤ length self.old.log.entries + (length leads.now + 2)) }
+        ensures unskipped { IfOk result (λ w. IfSome w (λ _. length self.new.log.entries ≤ length self.old.log.entries + (length leads.now + 1))) }
         ensures managed { self.new.managed ≡ self.old.managed }
         ensures identity { F.identity self.new.flights ≡ F.identity self.old.flights }
     {
@@ -105,7 +111,7 @@ impl<F: Flights> Sender<F> {
                 return Ok(Some(self.flights.value(place)));
             }
             Err(end) => {
-                if !self.flights.can_resume() {
+                if !(forgive && self.flights.can_resume()) {
                     return Err(self.log.stop(end));
                 }
             }
@@ -121,6 +127,98 @@ impl<F: Flights> Sender<F> {
         }
     }
 
+    // Makes accesses that lead to the one that the last call's unit is for, each in a flight of its own. Answers whether
+    // they came: none of them faults.
+    fn try_leads(&mut self, leads: &[RegAccess], forgive: bool) -> Result<bool, Stop>
+        requires open { self.old.log.end ≡ None }
+        requires whole { self.old.log.whole + 1 ≡ length self.old.log.calls }
+        requires came { self.old.log.came ≡ self.old.log.whole }
+        requires empty { F.accesses self.old.flights ≡ [] }
+        requires space { (next : RegAccess) → IsTaken next → F.has_room self.old.flights next ≡ true }
+        requires room { length self.old.log.entries + (length leads.now + 2) ≤ self.old.log.room }
+        requires bounded { length self.old.log.entries + (length leads.now + 2) ≤ most_entries * length self.old.log.calls }
+        requires taken { AllByRecursion IsTaken leads.now }
+        ensures on { (m0 : BenchState) (asked : AccessUnit) (k : Kept) (t : TargetState) (made : List RegAccess) (last : RegAccess) (ends : Bool) (rest more : List Action)
+            → HasTried F.planner forgive (F.state self.old.flights) self.old.log asked k t made rest m0 → IsNext asked t made leads.now last ends rest more
+            → IfOk result (λ came. LeadsCame came F.planner forgive (F.state self.new.flights) self.new.log asked k t made leads.now last more m0) }
+        ensures broke { (m0 : BenchState) (asked : AccessUnit) (k : Kept) (t : TargetState) (made : List RegAccess) (last : RegAccess) (ends : Bool) (rest more : List Action)
+            → HasTried F.planner forgive (F.state self.old.flights) self.old.log asked k t made rest m0 → IsNext asked t made leads.now last ends rest more
+            → IfErr result (λ s. HasBroken F.planner s (reported_by (F.reported self.new.flights) (F.state self.new.flights) self.new.log (F.packet self.new.flights) (F.reply self.new.flights)) self.new.log self.old.log.calls m0) }
+        ensures goes { GoesOn (reported_by (F.reported self.old.flights) (F.state self.old.flights) self.old.log (F.packet self.old.flights) (F.reply self.old.flights))
+            (reported_by (F.reported self.new.flights) (F.state self.new.flights) self.new.log (F.packet self.new.flights) (F.reply self.new.flights)) }
+        ensures later { OnOk result (self.old.log.confirmed ≤ self.new.log.confirmed) }
+        ensures limits { F.limits self.new.flights ≡ F.limits self.old.flights }
+        ensures further { OnOk result (IsFurther self.old.log self.new.log) }
+        ensures came { OnOk result (self.new.log.came ≡ self.new.log.whole) }
+        ensures empty { OnOk result (F.accesses self.new.flights ≡ []) }
+        ensures space { IfOk result (λ came. came ≡ true → (next : RegAccess) → IsTaken next → F.has_room self.new.flights next ≡ true) }
+        ensures ended { IfErr result (λ s. self.new.log.end ≡ Some s) }
+        ensures asks { asks_of self.new.log ≡ asks_of self.old.log }
+        ensures memory { IfErr result NoMemory }
+        ensures entries { IfOk result (λ came. length self.new.log.entries ≤ length self.old.log.entries + (length leads.now + (if came then 0 else 1))) }
+        ensures managed { self.new.managed ≡ self.old.managed }
+        ensures identity { F.identity self.new.flights ≡ F.identity self.old.flights }
+    {
+        for lead in leads {
+            match self.try_together(&[], *lead, false, forgive) {
+                Ok(Some(_)) => {}
+                Ok(None) => return Ok(false),
+                Err(stop) => return Err(stop),
+            }
+        }
+        Ok(true)
+    }
+
+    // The same, in one flight, or each access in a flight of its own.
+    pub(crate) fn try_flight(
+        &mut self,
+        leads: &[RegAccess],
+        last: RegAccess,
+        ends: bool,
+        forgive: bool,
+    ) -> Result<Option<u32>, Stop>
+        requires open { self.old.log.end ≡ None }
+        requires whole { self.old.log.whole + 1 ≡ length self.old.log.calls }
+        requires came { self.old.log.came ≡ self.old.log.whole }
+        requires empty { F.accesses self.old.flights ≡ [] }
+        requires space { (next : RegAccess) → IsTaken next → F.has_room self.old.flights next ≡ true }
+        requires room { length self.old.log.entries + 5 ≤ self.old.log.room }
+        requires bounded { length self.old.log.entries + 5 ≤ most_entries * length self.old.log.calls }
+        requires one { IsOneTransfer (leads.now ++ last ∷ []) }
+        requires taken { AllByRecursion IsTaken leads.now }
+        requires last { IsTaken last }
+        ensures on { (m0 : BenchState) (asked : AccessUnit) (k : Kept) (t : TargetState) (made : List RegAccess) (rest more : List Action)
+            → HasTried F.planner forgive (F.state self.old.flights) self.old.log asked k t made rest m0 → IsNext asked t made leads.now last ends rest more
+            → IfOk result (λ w. WentTo F.planner forgive w (F.state self.new.flights) self.new.log asked k t made leads.now last more m0) }
+        ensures broke { (m0 : BenchState) (asked : AccessUnit) (k : Kept) (t : TargetState) (made : List RegAccess) (rest more : List Action)
+            → HasTried F.planner forgive (F.state self.old.flights) self.old.log asked k t made rest m0 → IsNext asked t made leads.now last ends rest more
+            → IfErr result (λ s. HasBroken F.planner s (reported_by (F.reported self.new.flights) (F.state self.new.flights) self.new.log (F.packet self.new.flights) (F.reply self.new.flights)) self.new.log self.old.log.calls m0) }
+        ensures goes { GoesOn (reported_by (F.reported self.old.flights) (F.state self.old.flights) self.old.log (F.packet self.old.flights) (F.reply self.old.flights))
+            (reported_by (F.reported self.new.flights) (F.state self.new.flights) self.new.log (F.packet self.new.flights) (F.reply self.new.flights)) }
+        ensures packets { F.planner ≡ Managed → IfOk result (λ w. StepsTo (λ m o. CanFly m → WentFew w m o) (F.state self.old.flights) (F.state self.new.flights)) }
+        ensures later { OnOk result (self.old.log.confirmed ≤ self.new.log.confirmed) }
+        ensures limits { F.limits self.new.flights ≡ F.limits self.old.flights }
+        ensures further { OnOk result (IsFurther self.old.log self.new.log) }
+        ensures came { OnOk result (self.new.log.came ≡ self.new.log.whole) }
+        ensures empty { OnOk result (F.accesses self.new.flights ≡ []) }
+        ensures space { IfOk result (λ w. IfSome w (λ _. (next : RegAccess) → IsTaken next → F.has_room self.new.flights next ≡ true)) }
+        ensures ended { IfErr result (λ s. self.new.log.end ≡ Some s) }
+        ensures asks { asks_of self.new.log ≡ asks_of self.old.log }
+        ensures memory { IfErr result NoMemory }
+        ensures entries { OnOk result (length self.new.log.entries ≤ length self.old.log.entries + (length leads.now + 2)) }
+        ensures managed { self.new.managed ≡ self.old.managed }
+        ensures identity { F.identity self.new.flights ≡ F.identity self.old.flights }
+    {
+        if !F::plans_alone() {
+            return self.try_together(leads, last, ends, forgive);
+        }
+        match self.try_leads(leads, forgive) {
+            Ok(true) => self.try_together(&[], last, ends, forgive),
+            Ok(false) => Ok(None),
+            Err(stop) => Err(stop),
+        }
+    }
+
     // Makes an access of this bank of an access port.
     pub(crate) fn try_port(
         &mut self,
@@ -128,6 +226,7 @@ impl<F: Flights> Sender<F> {
         bank: u8,
         access: RegAccess,
         ends: bool,
+        forgive: bool,
     ) -> Result<Option<u32>, Stop>
         requires open { self.old.log.end ≡ None }
         requires whole { self.old.log.whole + 1 ≡ length self.old.log.calls }
@@ -140,15 +239,15 @@ impl<F: Flights> Sender<F> {
         requires bank { bank < 16 }
         requires taken { IsTaken access }
         ensures on { (m0 : BenchState) (asked : AccessUnit) (k : Kept) (t : TargetState) (made : List RegAccess) (rest more : List Action)
-            → HasTried (F.state self.old.flights) self.old.log asked k t made rest m0 → IsNext asked t made (select_of ap bank ∷ []) access ends rest more
-            → IfOk result (λ w. WentTo w (F.state self.new.flights) self.new.log asked k t made (select_of ap bank ∷ []) access more m0) }
+            → HasTried F.planner forgive (F.state self.old.flights) self.old.log asked k t made rest m0 → IsNext asked t made (select_of ap bank ∷ []) access ends rest more
+            → IfOk result (λ w. WentTo F.planner forgive w (F.state self.new.flights) self.new.log asked k t made (select_of ap bank ∷ []) access more m0) }
         ensures broke { (m0 : BenchState) (asked : AccessUnit) (k : Kept) (t : TargetState) (made : List RegAccess) (rest more : List Action)
-            → HasTried (F.state self.old.flights) self.old.log asked k t made rest m0 → IsNext asked t made (select_of ap bank ∷ []) access ends rest more
-            → IfErr result (λ s. HasBroken s (reported_by (F.reported self.new.flights) (F.state self.new.flights) self.new.log (F.packet self.new.flights) (F.reply self.new.flights)) self.new.log self.old.log.calls m0) }
+            → HasTried F.planner forgive (F.state self.old.flights) self.old.log asked k t made rest m0 → IsNext asked t made (select_of ap bank ∷ []) access ends rest more
+            → IfErr result (λ s. HasBroken F.planner s (reported_by (F.reported self.new.flights) (F.state self.new.flights) self.new.log (F.packet self.new.flights) (F.reply self.new.flights)) self.new.log self.old.log.calls m0) }
         ensures space { IfOk result (λ w. IfSome w (λ _. (next : RegAccess) → IsTaken next → F.has_room self.new.flights next ≡ true)) }
         ensures goes { GoesOn (reported_by (F.reported self.old.flights) (F.state self.old.flights) self.old.log (F.packet self.old.flights) (F.reply self.old.flights))
             (reported_by (F.reported self.new.flights) (F.state self.new.flights) self.new.log (F.packet self.new.flights) (F.reply self.new.flights)) }
-        ensures packets { IfOk result (λ w. StepsTo (λ m o. CanFly m → WentFew w m o) (F.state self.old.flights) (F.state self.new.flights)) }
+        ensures packets { F.planner ≡ Managed → IfOk result (λ w. StepsTo (λ m o. CanFly m → WentFew w m o) (F.state self.old.flights) (F.state self.new.flights)) }
         ensures later { OnOk result (self.old.log.confirmed ≤ self.new.log.confirmed) }
         ensures limits { F.limits self.new.flights ≡ F.limits self.old.flights }
         ensures further { OnOk result (IsFurther self.old.log self.new.log) }
@@ -163,6 +262,6 @@ impl<F: Flights> Sender<F> {
     {
         let write = select(ap, bank);
         self.managed.selected(write.value);
-        self.try_flight(&[write], access, ends)
+        self.try_flight(&[write], access, ends, forgive)
     }
 }

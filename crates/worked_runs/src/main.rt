@@ -1,16 +1,21 @@
-//! Runs each worked job that standard input names, and compares what is written with the stored text; and those after
-//! the word `failing` once for each call of an object, which fails.
+//! Runs each worked job that standard input names, and compares what is written with the stored text; those after the word
+//! `failing` once for each call of an object, which fails; and those after the word `single` by the access that sends each
+//! register access by itself.
 #![tactic(auto)]
 
-use case_runs::{run_case, run_failing};
+use case_runs::{run_case, run_failing, run_single};
 use std::io;
 
 fn main(rt: HostRuntime) -> io::Result<()> {
     for line in rt.lines(rt.alloc()) {
         let line = line?;
-        match line.as_str().strip_prefix("failing ") {
-            Some(name) => run_failing(&rt, name)?,
-            None => run_case(&rt, line.as_str())?,
+        let line = line.as_str();
+        if let Some(name) = line.strip_prefix("failing ") {
+            run_failing(&rt, name)?;
+        } else if let Some(name) = line.strip_prefix("single ") {
+            run_single(&rt, name)?;
+        } else {
+            run_case(&rt, line)?;
         }
     }
     Ok(())

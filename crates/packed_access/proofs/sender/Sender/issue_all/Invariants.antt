@@ -9,11 +9,11 @@ use Rattle.packed_access.proofs.sender.Sender.issue_all.Given as goal
 
 abbrev pub invariant-loop-access : goal.invariant-loop-access
 invariant-loop-access g l = record {
-  on : (m0 : BenchState) (rest : List Entry) → HasIssued (g.F.Flights.state l.fn.self.flights) l.fn.self.log (g.F.Flights.accesses l.fn.self.flights) (entries_of l.unit l.part l.accesses ++ rest) m0
-      → HasIssued (g.F.Flights.state l.self.flights) l.self.log (g.F.Flights.accesses l.self.flights) (entries_of l.unit l.part (drop l.access-index l.accesses) ++ rest) m0;
-  spare : (m0 : BenchState) (rest : List Entry) (points : ℕ) → HasIssued (g.F.Flights.state l.fn.self.flights) l.fn.self.log (g.F.Flights.accesses l.fn.self.flights) (entries_of l.unit l.part l.accesses ++ rest) m0
-      → HasSpared (g.F.Flights.limits l.fn.self.flights) (g.F.Flights.reported l.fn.self.flights).limits (g.F.Flights.state l.fn.self.flights) l.fn.self.log points m0
-      → HasSpared (g.F.Flights.limits l.self.flights) (g.F.Flights.reported l.self.flights).limits (g.F.Flights.state l.self.flights) l.self.log points m0;
+  on : (m0 : BenchState) (rest : List Entry) → HasIssued g.F.Flights.planner (g.F.Flights.state l.fn.self.flights) l.fn.self.log (g.F.Flights.accesses l.fn.self.flights) (entries_of l.unit l.part l.accesses ++ rest) m0
+      → HasIssued g.F.Flights.planner (g.F.Flights.state l.self.flights) l.self.log (g.F.Flights.accesses l.self.flights) (entries_of l.unit l.part (drop l.access-index l.accesses) ++ rest) m0;
+  spare : (m0 : BenchState) (rest : List Entry) (points : ℕ) → HasIssued g.F.Flights.planner (g.F.Flights.state l.fn.self.flights) l.fn.self.log (g.F.Flights.accesses l.fn.self.flights) (entries_of l.unit l.part l.accesses ++ rest) m0
+      → HasSpared g.F.Flights.planner (g.F.Flights.limits l.fn.self.flights) (g.F.Flights.reported l.fn.self.flights).limits (g.F.Flights.state l.fn.self.flights) l.fn.self.log points m0
+      → HasSpared g.F.Flights.planner (g.F.Flights.limits l.self.flights) (g.F.Flights.reported l.self.flights).limits (g.F.Flights.state l.self.flights) l.self.log points m0;
   goes : GoesOn (reported_by (g.F.Flights.reported l.fn.self.flights) (g.F.Flights.state l.fn.self.flights) l.fn.self.log (g.F.Flights.packet l.fn.self.flights) (g.F.Flights.reply l.fn.self.flights))
       (reported_by (g.F.Flights.reported l.self.flights) (g.F.Flights.state l.self.flights) l.self.log (g.F.Flights.packet l.self.flights) (g.F.Flights.reply l.self.flights));
   entries : length l.self.log.entries ≡ length l.fn.self.log.entries + l.access-index;

@@ -14,10 +14,10 @@ returns-then-before-eq0-clause-on g c = λ m0 calls ask is mild h.
     let new = c.issue_by_cfg.new.self in
     let asked = c.args.unit.now in
     let calm : needs_settle old.managed c.args.unit.now ≡ false = elim c.then-before-eq0.branch [
-      | then-before-eq0-via-then-before-eq0 w ↦ first_calm _ old.log _ old.managed calls ask c.args.unit.now m0 h (let n = c.count-before.ensures in let z = w.if-before-eq0.true in omega (arith, n, z))
+      | then-before-eq0-via-then-before-eq0 w ↦ first_calm g.F.Flights.planner _ old.log _ old.managed calls ask c.args.unit.now m0 h (let n = c.count-before.ensures in let z = w.if-before-eq0.true in omega (arith, n, z))
       | then-before-eq0-via-else-before-eq0+then-not-needs_settle w ↦ sym w.needs_settle.ensures ∙ w.if-not-needs_settle.true
     ] in
-    let r = plain_ready _ old.log _ old.managed c.args.unit.now m0 calm (planned_left _ old.log _ old.managed calls ask c.args.unit.now m0 is mild h) in
+    let r = plain_ready g.F.Flights.planner _ old.log _ old.managed c.args.unit.now m0 calm (planned_left g.F.Flights.planner _ old.log _ old.managed calls ask c.args.unit.now m0 is mild c.requires.planned h) in
     c.issue_by_cfg.ensures.on m0 r.left
 
 pub returns-then-before-eq0-clause-kept : goal.returns-then-before-eq0-clause-kept
@@ -26,11 +26,11 @@ returns-then-before-eq0-clause-kept g c = λ m0 calls ask is mild h.
     let new = c.issue_by_cfg.new.self in
     let asked = c.args.unit.now in
     let calm : needs_settle old.managed c.args.unit.now ≡ false = elim c.then-before-eq0.branch [
-      | then-before-eq0-via-then-before-eq0 w ↦ first_calm _ old.log _ old.managed calls ask c.args.unit.now m0 h (let n = c.count-before.ensures in let z = w.if-before-eq0.true in omega (arith, n, z))
+      | then-before-eq0-via-then-before-eq0 w ↦ first_calm g.F.Flights.planner _ old.log _ old.managed calls ask c.args.unit.now m0 h (let n = c.count-before.ensures in let z = w.if-before-eq0.true in omega (arith, n, z))
       | then-before-eq0-via-else-before-eq0+then-not-needs_settle w ↦ sym w.needs_settle.ensures ∙ w.if-not-needs_settle.true
     ] in
-    let r = plain_ready _ old.log _ old.managed c.args.unit.now m0 calm (planned_left _ old.log _ old.managed calls ask c.args.unit.now m0 is mild h) in
-    ok_then _ _ c.issue_by_cfg.result (kept_is _ _ old.log old.log _ _ old.managed old.managed _ calls ask asked m0 is mild h r) (c.issue_by_cfg.ensures.kept m0 r.left)
+    let r = plain_ready g.F.Flights.planner _ old.log _ old.managed c.args.unit.now m0 calm (planned_left g.F.Flights.planner _ old.log _ old.managed calls ask c.args.unit.now m0 is mild c.requires.planned h) in
+    ok_then _ _ c.issue_by_cfg.result (kept_is g.F.Flights.planner _ _ old.log old.log _ _ old.managed old.managed _ calls ask asked m0 is mild c.requires.planned h r) (c.issue_by_cfg.ensures.kept m0 r.left)
 
 pub returns-then-before-eq0-clause-small : goal.returns-then-before-eq0-clause-small
 returns-then-before-eq0-clause-small g c = λ m0 calls ask is mild h.
@@ -38,11 +38,11 @@ returns-then-before-eq0-clause-small g c = λ m0 calls ask is mild h.
     let new = c.issue_by_cfg.new.self in
     let asked = c.args.unit.now in
     let calm : needs_settle old.managed c.args.unit.now ≡ false = elim c.then-before-eq0.branch [
-      | then-before-eq0-via-then-before-eq0 w ↦ first_calm _ old.log _ old.managed calls ask c.args.unit.now m0 h (let n = c.count-before.ensures in let z = w.if-before-eq0.true in omega (arith, n, z))
+      | then-before-eq0-via-then-before-eq0 w ↦ first_calm g.F.Flights.planner _ old.log _ old.managed calls ask c.args.unit.now m0 h (let n = c.count-before.ensures in let z = w.if-before-eq0.true in omega (arith, n, z))
       | then-before-eq0-via-else-before-eq0+then-not-needs_settle w ↦ sym w.needs_settle.ensures ∙ w.if-not-needs_settle.true
     ] in
-    let r = plain_ready _ old.log _ old.managed c.args.unit.now m0 calm (planned_left _ old.log _ old.managed calls ask c.args.unit.now m0 is mild h) in
-    at_ok_then _ _ c.issue_by_cfg.result (λ v. small_is _ _ old.log old.log _ _ old.managed old.managed calls ask asked v m0 is h r) (c.issue_by_cfg.ensures.small m0 calls ask (h.are) r.left)
+    let r = plain_ready g.F.Flights.planner _ old.log _ old.managed c.args.unit.now m0 calm (planned_left g.F.Flights.planner _ old.log _ old.managed calls ask c.args.unit.now m0 is mild c.requires.planned h) in
+    at_ok_then _ _ c.issue_by_cfg.result (λ v. small_is g.F.Flights.planner _ _ old.log old.log _ _ old.managed old.managed calls ask asked v m0 is h r) (c.issue_by_cfg.ensures.small m0 calls ask (h.are) r.left)
 
 pub returns-then-before-eq0-clause-needs : goal.returns-then-before-eq0-clause-needs
 returns-then-before-eq0-clause-needs g c = λ m0 calls ask is mild h.
@@ -50,11 +50,11 @@ returns-then-before-eq0-clause-needs g c = λ m0 calls ask is mild h.
     let new = c.issue_by_cfg.new.self in
     let asked = c.args.unit.now in
     let calm : needs_settle old.managed c.args.unit.now ≡ false = elim c.then-before-eq0.branch [
-      | then-before-eq0-via-then-before-eq0 w ↦ first_calm _ old.log _ old.managed calls ask c.args.unit.now m0 h (let n = c.count-before.ensures in let z = w.if-before-eq0.true in omega (arith, n, z))
+      | then-before-eq0-via-then-before-eq0 w ↦ first_calm g.F.Flights.planner _ old.log _ old.managed calls ask c.args.unit.now m0 h (let n = c.count-before.ensures in let z = w.if-before-eq0.true in omega (arith, n, z))
       | then-before-eq0-via-else-before-eq0+then-not-needs_settle w ↦ sym w.needs_settle.ensures ∙ w.if-not-needs_settle.true
     ] in
-    let r = plain_ready _ old.log _ old.managed c.args.unit.now m0 calm (planned_left _ old.log _ old.managed calls ask c.args.unit.now m0 is mild h) in
-    ok_then _ _ c.issue_by_cfg.result (needs_is _ _ old.log old.log new.log _ _ old.managed old.managed calls ask asked m0 is mild c.requires.no_poll h r refl) (c.issue_by_cfg.ensures.asks m0 r.left)
+    let r = plain_ready g.F.Flights.planner _ old.log _ old.managed c.args.unit.now m0 calm (planned_left g.F.Flights.planner _ old.log _ old.managed calls ask c.args.unit.now m0 is mild c.requires.planned h) in
+    ok_then _ _ c.issue_by_cfg.result (needs_is g.F.Flights.planner _ _ old.log old.log new.log _ _ old.managed old.managed calls ask asked m0 is mild c.requires.no_poll c.requires.planned h r refl) (c.issue_by_cfg.ensures.asks m0 r.left)
 
 pub returns-then-before-eq0-clause-broke : goal.returns-then-before-eq0-clause-broke
 returns-then-before-eq0-clause-broke g c = λ m0 calls ask is mild h.
@@ -62,10 +62,10 @@ returns-then-before-eq0-clause-broke g c = λ m0 calls ask is mild h.
     let new = c.issue_by_cfg.new.self in
     let asked = c.args.unit.now in
     let calm : needs_settle old.managed c.args.unit.now ≡ false = elim c.then-before-eq0.branch [
-      | then-before-eq0-via-then-before-eq0 w ↦ first_calm _ old.log _ old.managed calls ask c.args.unit.now m0 h (let n = c.count-before.ensures in let z = w.if-before-eq0.true in omega (arith, n, z))
+      | then-before-eq0-via-then-before-eq0 w ↦ first_calm g.F.Flights.planner _ old.log _ old.managed calls ask c.args.unit.now m0 h (let n = c.count-before.ensures in let z = w.if-before-eq0.true in omega (arith, n, z))
       | then-before-eq0-via-else-before-eq0+then-not-needs_settle w ↦ sym w.needs_settle.ensures ∙ w.if-not-needs_settle.true
     ] in
-    let r = plain_ready _ old.log _ old.managed c.args.unit.now m0 calm (planned_left _ old.log _ old.managed calls ask c.args.unit.now m0 is mild h) in
+    let r = plain_ready g.F.Flights.planner _ old.log _ old.managed c.args.unit.now m0 calm (planned_left g.F.Flights.planner _ old.log _ old.managed calls ask c.args.unit.now m0 is mild c.requires.planned h) in
     c.issue_by_cfg.ensures.broke m0 r.left
 
 pub returns-then-before-eq0-clause-stops : goal.returns-then-before-eq0-clause-stops
@@ -74,10 +74,10 @@ returns-then-before-eq0-clause-stops g c = λ m0 calls ask answered is mild h le
     let new = c.issue_by_cfg.new.self in
     let asked = c.args.unit.now in
     let calm : needs_settle old.managed c.args.unit.now ≡ false = elim c.then-before-eq0.branch [
-      | then-before-eq0-via-then-before-eq0 w ↦ first_calm _ old.log _ old.managed calls ask c.args.unit.now m0 h (let n = c.count-before.ensures in let z = w.if-before-eq0.true in omega (arith, n, z))
+      | then-before-eq0-via-then-before-eq0 w ↦ first_calm g.F.Flights.planner _ old.log _ old.managed calls ask c.args.unit.now m0 h (let n = c.count-before.ensures in let z = w.if-before-eq0.true in omega (arith, n, z))
       | then-before-eq0-via-else-before-eq0+then-not-needs_settle w ↦ sym w.needs_settle.ensures ∙ w.if-not-needs_settle.true
     ] in
-    let r = plain_ready _ old.log _ old.managed c.args.unit.now m0 calm (planned_left _ old.log _ old.managed calls ask c.args.unit.now m0 is mild h) in
+    let r = plain_ready g.F.Flights.planner _ old.log _ old.managed c.args.unit.now m0 calm (planned_left g.F.Flights.planner _ old.log _ old.managed calls ask c.args.unit.now m0 is mild c.requires.planned h) in
     c.issue_by_cfg.ensures.stops m0 answered r.left left
 
 pub returns-in-Ok-clause-on : goal.returns-in-Ok-clause-on
@@ -88,8 +88,8 @@ returns-in-Ok-clause-on g c = λ m0 calls ask is mild h.
     let asked = c.args.unit.now in
     let needs : needs_settle old.managed c.args.unit.now ≡ true = search rules in
     let before : c.count-before.result - 1 ≡ length old.log.calls - 1 = ap (λ (n : ℕ). n - 1) c.count-before.ensures in
-    let first = settle_left _ old.log _ _ old.managed c.args.unit.now _ m0 before needs (planned_left _ old.log _ old.managed calls ask c.args.unit.now m0 is mild h) in
-    let r = settled_ready _ _ old.log mid.log _ _ old.managed mid.managed c.args.unit.now _ m0 needs first (c.in-Ok.ensures.on m0 _ first) c.in-Ok.ensures.further.calls c.settle.ensures.managed in
+    let first = settle_left g.F.Flights.planner _ old.log _ _ old.managed c.args.unit.now _ m0 before needs (planned_left g.F.Flights.planner _ old.log _ old.managed calls ask c.args.unit.now m0 is mild c.requires.planned h) in
+    let r = settled_ready g.F.Flights.planner _ _ old.log mid.log _ _ old.managed mid.managed c.args.unit.now _ m0 needs first (c.in-Ok.ensures.on m0 _ first) c.in-Ok.ensures.further.calls c.settle.ensures.managed in
     c.issue_by_cfg-in-Ok.ensures.on m0 r.left
 
 pub returns-in-Ok-clause-kept : goal.returns-in-Ok-clause-kept
@@ -100,9 +100,9 @@ returns-in-Ok-clause-kept g c = λ m0 calls ask is mild h.
     let asked = c.args.unit.now in
     let needs : needs_settle old.managed c.args.unit.now ≡ true = search rules in
     let before : c.count-before.result - 1 ≡ length old.log.calls - 1 = ap (λ (n : ℕ). n - 1) c.count-before.ensures in
-    let first = settle_left _ old.log _ _ old.managed c.args.unit.now _ m0 before needs (planned_left _ old.log _ old.managed calls ask c.args.unit.now m0 is mild h) in
-    let r = settled_ready _ _ old.log mid.log _ _ old.managed mid.managed c.args.unit.now _ m0 needs first (c.in-Ok.ensures.on m0 _ first) c.in-Ok.ensures.further.calls c.settle.ensures.managed in
-    ok_then _ _ c.issue_by_cfg-in-Ok.result (kept_is _ _ old.log mid.log _ _ old.managed mid.managed _ calls ask asked m0 is mild h r) (c.issue_by_cfg-in-Ok.ensures.kept m0 r.left)
+    let first = settle_left g.F.Flights.planner _ old.log _ _ old.managed c.args.unit.now _ m0 before needs (planned_left g.F.Flights.planner _ old.log _ old.managed calls ask c.args.unit.now m0 is mild c.requires.planned h) in
+    let r = settled_ready g.F.Flights.planner _ _ old.log mid.log _ _ old.managed mid.managed c.args.unit.now _ m0 needs first (c.in-Ok.ensures.on m0 _ first) c.in-Ok.ensures.further.calls c.settle.ensures.managed in
+    ok_then _ _ c.issue_by_cfg-in-Ok.result (kept_is g.F.Flights.planner _ _ old.log mid.log _ _ old.managed mid.managed _ calls ask asked m0 is mild c.requires.planned h r) (c.issue_by_cfg-in-Ok.ensures.kept m0 r.left)
 
 pub returns-in-Ok-clause-small : goal.returns-in-Ok-clause-small
 returns-in-Ok-clause-small g c = λ m0 calls ask is mild h.
@@ -112,9 +112,9 @@ returns-in-Ok-clause-small g c = λ m0 calls ask is mild h.
     let asked = c.args.unit.now in
     let needs : needs_settle old.managed c.args.unit.now ≡ true = search rules in
     let before : c.count-before.result - 1 ≡ length old.log.calls - 1 = ap (λ (n : ℕ). n - 1) c.count-before.ensures in
-    let first = settle_left _ old.log _ _ old.managed c.args.unit.now _ m0 before needs (planned_left _ old.log _ old.managed calls ask c.args.unit.now m0 is mild h) in
-    let r = settled_ready _ _ old.log mid.log _ _ old.managed mid.managed c.args.unit.now _ m0 needs first (c.in-Ok.ensures.on m0 _ first) c.in-Ok.ensures.further.calls c.settle.ensures.managed in
-    at_ok_then _ _ c.issue_by_cfg-in-Ok.result (λ v. small_is _ _ old.log mid.log _ _ old.managed mid.managed calls ask asked v m0 is h r) (c.issue_by_cfg-in-Ok.ensures.small m0 calls ask (c.in-Ok.ensures.further.calls ∙ h.are) r.left)
+    let first = settle_left g.F.Flights.planner _ old.log _ _ old.managed c.args.unit.now _ m0 before needs (planned_left g.F.Flights.planner _ old.log _ old.managed calls ask c.args.unit.now m0 is mild c.requires.planned h) in
+    let r = settled_ready g.F.Flights.planner _ _ old.log mid.log _ _ old.managed mid.managed c.args.unit.now _ m0 needs first (c.in-Ok.ensures.on m0 _ first) c.in-Ok.ensures.further.calls c.settle.ensures.managed in
+    at_ok_then _ _ c.issue_by_cfg-in-Ok.result (λ v. small_is g.F.Flights.planner _ _ old.log mid.log _ _ old.managed mid.managed calls ask asked v m0 is h r) (c.issue_by_cfg-in-Ok.ensures.small m0 calls ask (c.in-Ok.ensures.further.calls ∙ h.are) r.left)
 
 pub returns-in-Ok-clause-needs : goal.returns-in-Ok-clause-needs
 returns-in-Ok-clause-needs g c = λ m0 calls ask is mild h.
@@ -124,9 +124,9 @@ returns-in-Ok-clause-needs g c = λ m0 calls ask is mild h.
     let asked = c.args.unit.now in
     let needs : needs_settle old.managed c.args.unit.now ≡ true = search rules in
     let before : c.count-before.result - 1 ≡ length old.log.calls - 1 = ap (λ (n : ℕ). n - 1) c.count-before.ensures in
-    let first = settle_left _ old.log _ _ old.managed c.args.unit.now _ m0 before needs (planned_left _ old.log _ old.managed calls ask c.args.unit.now m0 is mild h) in
-    let r = settled_ready _ _ old.log mid.log _ _ old.managed mid.managed c.args.unit.now _ m0 needs first (c.in-Ok.ensures.on m0 _ first) c.in-Ok.ensures.further.calls c.settle.ensures.managed in
-    ok_then _ _ c.issue_by_cfg-in-Ok.result (needs_is _ _ old.log mid.log new.log _ _ old.managed mid.managed calls ask asked m0 is mild c.requires.no_poll h r c.settle.ensures.asks) (c.issue_by_cfg-in-Ok.ensures.asks m0 r.left)
+    let first = settle_left g.F.Flights.planner _ old.log _ _ old.managed c.args.unit.now _ m0 before needs (planned_left g.F.Flights.planner _ old.log _ old.managed calls ask c.args.unit.now m0 is mild c.requires.planned h) in
+    let r = settled_ready g.F.Flights.planner _ _ old.log mid.log _ _ old.managed mid.managed c.args.unit.now _ m0 needs first (c.in-Ok.ensures.on m0 _ first) c.in-Ok.ensures.further.calls c.settle.ensures.managed in
+    ok_then _ _ c.issue_by_cfg-in-Ok.result (needs_is g.F.Flights.planner _ _ old.log mid.log new.log _ _ old.managed mid.managed calls ask asked m0 is mild c.requires.no_poll c.requires.planned h r c.settle.ensures.asks) (c.issue_by_cfg-in-Ok.ensures.asks m0 r.left)
 
 pub returns-in-Ok-clause-broke : goal.returns-in-Ok-clause-broke
 returns-in-Ok-clause-broke g c = λ m0 calls ask is mild h.
@@ -136,8 +136,8 @@ returns-in-Ok-clause-broke g c = λ m0 calls ask is mild h.
     let asked = c.args.unit.now in
     let needs : needs_settle old.managed c.args.unit.now ≡ true = search rules in
     let before : c.count-before.result - 1 ≡ length old.log.calls - 1 = ap (λ (n : ℕ). n - 1) c.count-before.ensures in
-    let first = settle_left _ old.log _ _ old.managed c.args.unit.now _ m0 before needs (planned_left _ old.log _ old.managed calls ask c.args.unit.now m0 is mild h) in
-    let r = settled_ready _ _ old.log mid.log _ _ old.managed mid.managed c.args.unit.now _ m0 needs first (c.in-Ok.ensures.on m0 _ first) c.in-Ok.ensures.further.calls c.settle.ensures.managed in
+    let first = settle_left g.F.Flights.planner _ old.log _ _ old.managed c.args.unit.now _ m0 before needs (planned_left g.F.Flights.planner _ old.log _ old.managed calls ask c.args.unit.now m0 is mild c.requires.planned h) in
+    let r = settled_ready g.F.Flights.planner _ _ old.log mid.log _ _ old.managed mid.managed c.args.unit.now _ m0 needs first (c.in-Ok.ensures.on m0 _ first) c.in-Ok.ensures.further.calls c.settle.ensures.managed in
     c.issue_by_cfg-in-Ok.ensures.broke m0 r.left
 
 pub returns-in-Ok-clause-stops : goal.returns-in-Ok-clause-stops
@@ -148,8 +148,8 @@ returns-in-Ok-clause-stops g c = λ m0 calls ask answered is mild h left.
     let asked = c.args.unit.now in
     let needs : needs_settle old.managed c.args.unit.now ≡ true = search rules in
     let before : c.count-before.result - 1 ≡ length old.log.calls - 1 = ap (λ (n : ℕ). n - 1) c.count-before.ensures in
-    let first = settle_left _ old.log _ _ old.managed c.args.unit.now _ m0 before needs (planned_left _ old.log _ old.managed calls ask c.args.unit.now m0 is mild h) in
-    let r = settled_ready _ _ old.log mid.log _ _ old.managed mid.managed c.args.unit.now _ m0 needs first (c.in-Ok.ensures.on m0 _ first) c.in-Ok.ensures.further.calls c.settle.ensures.managed in
+    let first = settle_left g.F.Flights.planner _ old.log _ _ old.managed c.args.unit.now _ m0 before needs (planned_left g.F.Flights.planner _ old.log _ old.managed calls ask c.args.unit.now m0 is mild c.requires.planned h) in
+    let r = settled_ready g.F.Flights.planner _ _ old.log mid.log _ _ old.managed mid.managed c.args.unit.now _ m0 needs first (c.in-Ok.ensures.on m0 _ first) c.in-Ok.ensures.further.calls c.settle.ensures.managed in
     subst (λ (l : List Ask). IfErr c.issue_by_cfg-in-Ok.result (StopsThere m0 answered l new.log.lines)) c.in-Ok.ensures.further.calls (c.issue_by_cfg-in-Ok.ensures.stops m0 answered r.left left)
 
 pub returns-in-Err-clause-broke : goal.returns-in-Err-clause-broke
@@ -157,7 +157,7 @@ returns-in-Err-clause-broke g c = λ m0 calls ask is mild h.
     let old = c.args.self.now in
     let needs : needs_settle old.managed c.args.unit.now ≡ true = search rules in
     let before : c.count-before.result - 1 ≡ length old.log.calls - 1 = ap (λ (n : ℕ). n - 1) c.count-before.ensures in
-    let first = settle_left _ old.log _ _ old.managed c.args.unit.now _ m0 before needs (planned_left _ old.log _ old.managed calls ask c.args.unit.now m0 is mild h) in
+    let first = settle_left g.F.Flights.planner _ old.log _ _ old.managed c.args.unit.now _ m0 before needs (planned_left g.F.Flights.planner _ old.log _ old.managed calls ask c.args.unit.now m0 is mild c.requires.planned h) in
     c.in-Err.ensures.broke m0 _ first
 
 pub returns-in-Err-clause-stops : goal.returns-in-Err-clause-stops
@@ -165,17 +165,17 @@ returns-in-Err-clause-stops g c = λ m0 calls ask answered is mild h left.
     let old = c.args.self.now in
     let needs : needs_settle old.managed c.args.unit.now ≡ true = search rules in
     let before : c.count-before.result - 1 ≡ length old.log.calls - 1 = ap (λ (n : ℕ). n - 1) c.count-before.ensures in
-    let first = settle_left _ old.log _ _ old.managed c.args.unit.now _ m0 before needs (planned_left _ old.log _ old.managed calls ask c.args.unit.now m0 is mild h) in
+    let first = settle_left g.F.Flights.planner _ old.log _ _ old.managed c.args.unit.now _ m0 before needs (planned_left g.F.Flights.planner _ old.log _ old.managed calls ask c.args.unit.now m0 is mild c.requires.planned h) in
     c.in-Err.ensures.stops m0 _ answered first left
 
 pub returns-then-before-eq0-clause-spare : goal.returns-then-before-eq0-clause-spare
 returns-then-before-eq0-clause-spare g c = λ m0 calls ask left is mild h s.
     let old = c.args.self.now in
     let calm : needs_settle old.managed c.args.unit.now ≡ false = elim c.then-before-eq0.branch [
-      | then-before-eq0-via-then-before-eq0 w ↦ first_calm _ old.log _ old.managed calls ask c.args.unit.now m0 h (let n = c.count-before.ensures in let z = w.if-before-eq0.true in omega (arith, n, z))
+      | then-before-eq0-via-then-before-eq0 w ↦ first_calm g.F.Flights.planner _ old.log _ old.managed calls ask c.args.unit.now m0 h (let n = c.count-before.ensures in let z = w.if-before-eq0.true in omega (arith, n, z))
       | then-before-eq0-via-else-before-eq0+then-not-needs_settle w ↦ sym w.needs_settle.ensures ∙ w.if-not-needs_settle.true
     ] in
-    let r = plain_ready _ old.log _ old.managed c.args.unit.now m0 calm (planned_left _ old.log _ old.managed calls ask c.args.unit.now m0 is mild h) in
+    let r = plain_ready g.F.Flights.planner _ old.log _ old.managed c.args.unit.now m0 calm (planned_left g.F.Flights.planner _ old.log _ old.managed calls ask c.args.unit.now m0 is mild c.requires.planned h) in
     c.issue_by_cfg.ensures.spare m0 left r.left s
 
 pub returns-in-Ok-clause-spare : goal.returns-in-Ok-clause-spare
@@ -184,9 +184,9 @@ returns-in-Ok-clause-spare g c = λ m0 calls ask left is mild h s.
     let mid = c.settle.new.self in
     let needs : needs_settle old.managed c.args.unit.now ≡ true = search rules in
     let before : c.count-before.result - 1 ≡ length old.log.calls - 1 = ap (λ (n : ℕ). n - 1) c.count-before.ensures in
-    let first = settle_left _ old.log _ _ old.managed c.args.unit.now _ m0 before needs (planned_left _ old.log _ old.managed calls ask c.args.unit.now m0 is mild h) in
-    let r = settled_ready _ _ old.log mid.log _ _ old.managed mid.managed c.args.unit.now _ m0 needs first (c.in-Ok.ensures.on m0 _ first) c.in-Ok.ensures.further.calls c.settle.ensures.managed in
-    c.issue_by_cfg-in-Ok.ensures.spare m0 left r.left (spared_same _ _ _ old.log mid.log s.paid left m0 s.covers c.in-Ok.ensures.further (c.in-Ok.ensures.spare m0 _ s.paid first s.spared))
+    let first = settle_left g.F.Flights.planner _ old.log _ _ old.managed c.args.unit.now _ m0 before needs (planned_left g.F.Flights.planner _ old.log _ old.managed calls ask c.args.unit.now m0 is mild c.requires.planned h) in
+    let r = settled_ready g.F.Flights.planner _ _ old.log mid.log _ _ old.managed mid.managed c.args.unit.now _ m0 needs first (c.in-Ok.ensures.on m0 _ first) c.in-Ok.ensures.further.calls c.settle.ensures.managed in
+    c.issue_by_cfg-in-Ok.ensures.spare m0 left r.left (spared_same g.F.Flights.planner _ _ _ old.log mid.log s.paid left m0 s.covers c.in-Ok.ensures.further (c.in-Ok.ensures.spare m0 _ s.paid first s.spared))
 
 pub returns-in-Ok-clause-fenced : goal.returns-in-Ok-clause-fenced
 returns-in-Ok-clause-fenced g c = past_before c.args.self.now.log c.settle.new.self.log c.issue_by_cfg-in-Ok.new.self.log c.issue_by_cfg-in-Ok.result c.in-Ok.ensures.further c.settle.ensures.goes.known c.issue_by_cfg-in-Ok.ensures.fenced

@@ -19,7 +19,7 @@ returns-in-Ok-clause-on g c = λ m0 calls are h.
     let few : length old.log.entries < 2 ^ 32 = (let s = old.sound in let b = s.bounded in let f = s.few in omega (arith, b, f)) in
     let came : old.log.came ≡ length calls = (let l = c.requires.last in let k = ap length are ∙ length-append calls (probe_ask c.args.call ∷ []) in omega (arith, l, k)) in
     let is : c.confirm.new.self ≡ log_done old.log (record { unit = length old.log.calls; part = Ends }) old.log.came (result_for (slice_get old.log.calls old.log.came) c.in-Ok.word) = search rules in
-    action_has_come _ _ old.log c.confirm.new.self calls (probe_ask c.args.call) (Commands c.args.call) c.in-Ok.word m0 h (where_flies _ _ c.args.call _ c.in-Ok.ensures.done) are came refl refl refl
+    action_has_come g.F.Flights.planner _ _ old.log c.confirm.new.self calls (probe_ask c.args.call) (Commands c.args.call) c.in-Ok.word m0 h (where_flies _ _ c.args.call _ c.in-Ok.ensures.done) are came refl refl refl
     (command_not_small _ calls c.args.call) (λ m. command_light c.args.call c.requires.sound) old.sound.results_long few (command_log old.log c.confirm.new.self calls c.args.call c.in-Ok.word are came is)
 
 pub returns-in-Err-clause-broke : goal.returns-in-Err-clause-broke
@@ -29,7 +29,7 @@ returns-in-Err-clause-broke g c = λ m0 calls are h.
     let unit_is : c.count-unit.result ≡ length calls + 1 = c.count-unit.ensures ∙ ap length are ∙ length-append calls (probe_ask c.args.call ∷ []) in
     let stopped : IsStopped c.in-Err.end (with_entry old.log (kept_of (entry_of calls (Commands c.args.call)))) c.stop.new.self c.stop.result =
     subst (λ (l : LogState). IsStopped c.in-Err.end l c.stop.new.self c.stop.result) (c.issue.ensures.answer ∙ ap (λ (n : ℕ). with_entry old.log (record { unit = n; part = Ends })) unit_is) c.stop.ensures.answer in
-    has_left _ _ _ _ _ old.log (entry_of calls (Commands c.args.call)) [] m0 c.in-Err.end c.stop.result c.stop.new.self h (where_flies _ _ c.args.call _ c.in-Err.ensures.left) (λ m. command_light c.args.call c.requires.sound) few c.in-Err.ensures.none stopped
+    has_left g.F.Flights.planner _ _ _ _ _ old.log (entry_of calls (Commands c.args.call)) [] m0 c.in-Err.end c.stop.result c.stop.new.self h (where_flies _ _ c.args.call _ c.in-Err.ensures.left) (λ m. command_light c.args.call c.requires.sound) few c.in-Err.ensures.none stopped
 
 pub returns-in-Err-clause-stops : goal.returns-in-Err-clause-stops
 returns-in-Err-clause-stops g c = λ m0 calls answered are h left.
@@ -38,12 +38,12 @@ returns-in-Err-clause-stops g c = λ m0 calls answered are h left.
     let unit_is : c.count-unit.result ≡ length calls + 1 = c.count-unit.ensures ∙ ap length are ∙ length-append calls (probe_ask c.args.call ∷ []) in
     let stopped : IsStopped c.in-Err.end (with_entry old.log (kept_of (entry_of calls (Commands c.args.call)))) c.stop.new.self c.stop.result =
     subst (λ (l : LogState). IsStopped c.in-Err.end l c.stop.new.self c.stop.result) (c.issue.ensures.answer ∙ ap (λ (n : ℕ). with_entry old.log (record { unit = n; part = Ends })) unit_is) c.stop.ensures.answer in
-    stops_left _ _ _ _ _ old.log (entry_of calls (Commands c.args.call)) [] m0 c.in-Err.end c.stop.result c.stop.new.self answered h (where_flies _ _ c.args.call _ c.in-Err.ensures.left) (λ m. command_light c.args.call c.requires.sound) few c.in-Err.ensures.none stopped left
+    stops_left g.F.Flights.planner _ _ _ _ _ old.log (entry_of calls (Commands c.args.call)) [] m0 c.in-Err.end c.stop.result c.stop.new.self answered h (where_flies _ _ c.args.call _ c.in-Err.ensures.left) (λ m. command_light c.args.call c.requires.sound) few c.in-Err.ensures.none stopped left
 
 pub returns-in-Ok-clause-spare : goal.returns-in-Ok-clause-spare
 returns-in-Ok-clause-spare g c = λ m0 calls points are h s.
     let old = c.args.self.now in
     let is : c.confirm.new.self ≡ log_done old.log (record { unit = length old.log.calls; part = Ends }) old.log.came (result_for (slice_get old.log.calls old.log.came) c.in-Ok.word) = search rules in
     let grown : length (old.log.entries ++ record { unit = length old.log.calls; part = Ends } ∷ []) ≡ length old.log.entries + 1 = length-append old.log.entries (record { unit = length old.log.calls; part = Ends } ∷ []) in
-    has_commanded _ _ _ _ _ _ old.log c.confirm.new.self [] _ c.args.call points m0 h s c.in-Ok.ensures.packets (ap (λ (l : LogState). l.calls) is)
+    has_commanded g.F.Flights.planner _ _ _ _ _ _ old.log c.confirm.new.self [] _ c.args.call points m0 h s c.in-Ok.ensures.packets (ap (λ (l : LogState). l.calls) is)
     (let k = ap (λ (l : LogState). l.confirmed) is in let w = old.sound.confirmed_within in omega (arith, k, w, grown)) c.command.ensures.limits c.command.ensures.goes.limits

@@ -10,7 +10,6 @@ use Rattle.packed_access.specs.Begun.{HasIssued, entries_of, target_issued}
 use Rattle.packed_access.specs.Logs.{LogState}
 use Rattle.packed_access.proofs.ReadLemmas.{IsReadAt, read_gives}
 use Rattle.packed_access.proofs.sender.Sender.read_by.Goals as goal
-use Rattle.access_regs.specs.declared.planner.Planner.TheVariants.{Managed}
 
 pub returns-in-Ok-send-clause-value : goal.returns-in-Ok-send-clause-value
 returns-in-Ok-send-clause-value g c = λ m0 lead a rest is h.
@@ -18,7 +17,7 @@ returns-in-Ok-send-clause-value g c = λ m0 lead a rest is h.
     let mid = c.issue_all.new.self in
     let new = c.send.new.self in
     let plan = c.args.accesses.now in
-    let h' = subst (λ (l : List RegAccess). HasIssued (g.F.Flights.state old.flights) old.log (g.F.Flights.accesses old.flights) (entries_of c.args.unit Leads l ++ rest) m0) is h in
+    let h' = subst (λ (l : List RegAccess). HasIssued g.F.Flights.planner (g.F.Flights.state old.flights) old.log (g.F.Flights.accesses old.flights) (entries_of c.args.unit Leads l ++ rest) m0) is h in
     let there = c.in-Ok.ensures.on m0 rest h in
     let after = c.in-Ok-send.ensures.on m0 rest there in
     let mid_calls : mid.log.calls ≡ old.log.calls = c.in-Ok.ensures.further.calls in
@@ -29,7 +28,7 @@ returns-in-Ok-send-clause-value g c = λ m0 lead a rest is h.
     let count : length new.log.entries ≡ length old.log.entries + length (lead ++ a ∷ []) = omega (arith, entries, grown, plan_is) in
     let confirmed : new.log.confirmed ≡ length mid.log.entries = ap (λ (l : LogState). l.confirmed) c.in-Ok-send.ensures.log in
     let all : new.log.confirmed ≡ length new.log.entries = confirmed ∙ sym entries in
-    let r : IsReadAt old.log m0 (lead ++ a ∷ []) = read_gives _ _ old.log new.log _ _ c.args.unit Leads lead a rest m0 h' after calls count all in
+    let r : IsReadAt g.F.Flights.planner old.log m0 (lead ++ a ∷ []) = read_gives g.F.Flights.planner _ _ old.log new.log _ _ c.args.unit Leads lead a rest m0 h' after calls count all in
     let at : length r.front + 1 ≡ length mid.log.entries = (let x = r.at in omega (arith, x, grown, plan_is)) in
-    let last = c.in-Ok-send.ensures.last m0 rest r.front r.entry r.more there (ap (issued Managed (target_of m0.probe)) mid_calls ∙ r.is) at (c.in-Ok.ensures.pending c.requires.some) in
-    c.value.ensures ∙ ap (λ (n : ℕ). unwrap_or (slot_at (g.F.Flights.values new.flights) (n - 1)) 0) c.pending-place.ensures ∙ last ∙ r.gives_it ∙ ap (gives (target_issued old.log m0)) (sym is)
+    let last = c.in-Ok-send.ensures.last m0 rest r.front r.entry r.more there (ap (issued g.F.Flights.planner (target_of m0.probe)) mid_calls ∙ r.is) at (c.in-Ok.ensures.pending c.requires.some) in
+    c.value.ensures ∙ ap (λ (n : ℕ). unwrap_or (slot_at (g.F.Flights.values new.flights) (n - 1)) 0) c.pending-place.ensures ∙ last ∙ r.gives_it ∙ ap (gives (target_issued g.F.Flights.planner old.log m0)) (sym is)

@@ -1,67 +1,28 @@
-use Rattle.std.proofs.Common.{rules, ◌≡◌, ◌∙◌, ◌^◌, ◌<◌, ◌++◌, ◌∷◌, [], true, false, List, length, refl, sym, ap, subst, arith}
+use Rattle.std.proofs.Common.{◌≡◌, Bool, true, false, List, sym, subst}
 use Rattle.target_machine.specs.declared.access.RegAccess.{RegAccess}
-use Rattle.packed_access.specs.Clearing.{IsOneTransfer, is_fault_end}
-use Rattle.packed_access.specs.Forgiving.{last_part}
-use Rattle.packed_access.proofs.TryWhereLemmas.{abort_broke, abort_log, flight_broke, flight_log, flight_skipped, flight_went, one_few}
-use Rattle.packed_access.proofs.PacketLemmas.{cleared_few, went_few}
+use Rattle.packed_access.specs.Forgiving.{LeadsCame}
+use Rattle.packed_access.proofs.LeadLemmas.{all_went, last_next}
+use Rattle.packed_access.proofs.TryMemoryLemmas.{broken_calls, on_err, on_ok}
 use Rattle.packed_access.proofs.sender.Sender.try_flight.Goals as goal
-use Rattle.packed_access.proofs.sender.Sender.try_flight.Goals.{then-ends, else-ends}
 
-pub returns-in-Ok-clause-on : goal.returns-in-Ok-clause-on
-returns-in-Ok-clause-on g c = λ m0 asked k t made rest more h n.
-    let old = c.args.self.now in
-    let few : length old.log.entries < 2 ^ 32 = (let s = old.sound in let b = s.bounded in let f = s.few in omega (arith, b, f)) in
-    let part : c.if-ends.issue ≡ last_part c.args.ends = elim c.if-ends.branch [ then-ends w ↦ w.issue-is ∙ sym (ap last_part w.if-ends.true) | else-ends w ↦ w.issue-is ∙ sym (ap last_part w.if-ends.false) ] in
-    let log = flight_log old.log _ c.issue.new.self asked c.args.leads.now c.args.last c.args.ends _ _ c.push_all.ensures.log c.issue.ensures.answer c.count-unit.ensures (let w = c.requires.whole in omega (arith, w)) part n.parts in
-    let are = c.push.ensures.accesses ∙ ap (λ (l : List RegAccess). l ++ c.args.last ∷ []) (c.push_all.ensures.accesses ∙ ap (λ (l : List RegAccess). l ++ c.args.leads.now) c.requires.empty) in
-    flight_went _ _ _ old.log c.issue.new.self asked k t made c.args.leads.now c.args.last c.args.ends rest more _ m0 h n (c.push.ensures.state ∙ c.push_all.ensures.state) are (one_few _ c.requires.one) few log
-    c.confirm.new.self _ c.value.result c.in-Ok.ensures.came c.requires.came c.confirm.ensures.answer c.value.ensures
+pub returns-in-Ok-true-clause-on : goal.returns-in-Ok-true-clause-on
+returns-in-Ok-true-clause-on g c = λ m0 asked k t made rest more h n.
+    let mid = c.try_leads.new.self in
+    let came = subst (λ (b : Bool). LeadsCame b g.F.Flights.planner c.args.forgive (g.F.Flights.state mid.flights) mid.log asked k t made c.args.leads.now c.args.last more m0) c.in-Ok-true.field-0-test (c.in-Ok-true.ensures.on m0 asked k t made c.args.last c.args.ends rest more h n) in
+    on_ok c.try_together-in-Ok-true.result _ _ (λ w went. all_went g.F.Flights.planner c.args.forgive w _ c.try_together-in-Ok-true.new.self.log asked k t made c.args.leads.now c.args.last more m0 went)
+    (c.try_together-in-Ok-true.ensures.on m0 asked k t _ _ more came (last_next asked t made c.args.leads.now c.args.last c.args.ends rest more n))
 
-pub returns-then-not-can_resume-clause-broke : goal.returns-then-not-can_resume-clause-broke
-returns-then-not-can_resume-clause-broke g c = λ m0 asked k t made rest more h n.
-    let old = c.args.self.now in
-    let few : length old.log.entries < 2 ^ 32 = (let s = old.sound in let b = s.bounded in let f = s.few in omega (arith, b, f)) in
-    let part : c.if-ends.issue ≡ last_part c.args.ends = elim c.if-ends.branch [ then-ends w ↦ w.issue-is ∙ sym (ap last_part w.if-ends.true) | else-ends w ↦ w.issue-is ∙ sym (ap last_part w.if-ends.false) ] in
-    let log = flight_log old.log _ c.issue.new.self asked c.args.leads.now c.args.last c.args.ends _ _ c.push_all.ensures.log c.issue.ensures.answer c.count-unit.ensures (let w = c.requires.whole in omega (arith, w)) part n.parts in
-    let are = c.push.ensures.accesses ∙ ap (λ (l : List RegAccess). l ++ c.args.last ∷ []) (c.push_all.ensures.accesses ∙ ap (λ (l : List RegAccess). l ++ c.args.leads.now) c.requires.empty) in
-    let no : is_fault_end c.in-Err.end ≡ false = sym (c.in-Err.ensures.resumable (subst IsOneTransfer (sym are) c.requires.one)) ∙ sym c.can_resume.ensures ∙ (search rules) in
-    flight_broke _ _ _ old.log c.issue.new.self asked k t made c.args.leads.now c.args.last c.args.ends rest more _ m0 h n (c.push.ensures.state ∙ c.push_all.ensures.state) are (one_few _ c.requires.one) few log
-    _ _ _ c.in-Err.end c.stop.result c.stop.new.self c.in-Err.ensures.broke no c.in-Err.ensures.response c.stop.ensures.answer
+pub returns-in-Ok-true-clause-broke : goal.returns-in-Ok-true-clause-broke
+returns-in-Ok-true-clause-broke g c = λ m0 asked k t made rest more h n.
+    let mid = c.try_leads.new.self in
+    let came = subst (λ (b : Bool). LeadsCame b g.F.Flights.planner c.args.forgive (g.F.Flights.state mid.flights) mid.log asked k t made c.args.leads.now c.args.last more m0) c.in-Ok-true.field-0-test (c.in-Ok-true.ensures.on m0 asked k t made c.args.last c.args.ends rest more h n) in
+    on_err c.try_together-in-Ok-true.result _ _ (λ s broke. broken_calls g.F.Flights.planner s _ c.try_together-in-Ok-true.new.self.log _ _ m0 c.in-Ok-true.ensures.further.calls broke)
+    (c.try_together-in-Ok-true.ensures.broke m0 asked k t _ _ more came (last_next asked t made c.args.leads.now c.args.last c.args.ends rest more n))
 
-pub returns-in-Ok-command-clause-on : goal.returns-in-Ok-command-clause-on
-returns-in-Ok-command-clause-on g c = λ m0 asked k t made rest more h n.
-    let old = c.args.self.now in
-    let few : length old.log.entries < 2 ^ 32 = (let s = old.sound in let b = s.bounded in let f = s.few in omega (arith, b, f)) in
-    let part : c.if-ends.issue ≡ last_part c.args.ends = elim c.if-ends.branch [ then-ends w ↦ w.issue-is ∙ sym (ap last_part w.if-ends.true) | else-ends w ↦ w.issue-is ∙ sym (ap last_part w.if-ends.false) ] in
-    let some : 0 < length old.log.calls = (let w = c.requires.whole in omega (arith, w)) in
-    let log = flight_log old.log _ c.issue.new.self asked c.args.leads.now c.args.last c.args.ends _ _ c.push_all.ensures.log c.issue.ensures.answer c.count-unit.ensures some part n.parts in
-    let log2 = abort_log old.log c.issue.new.self c.issue-2.new.self asked made (c.args.leads.now ++ c.args.last ∷ []) c.args.ends _ log c.issue-2.ensures.answer c.count-unit.ensures some n.early in
-    let are = c.push.ensures.accesses ∙ ap (λ (l : List RegAccess). l ++ c.args.last ∷ []) (c.push_all.ensures.accesses ∙ ap (λ (l : List RegAccess). l ++ c.args.leads.now) c.requires.empty) in
-    let one : IsOneTransfer _ = subst IsOneTransfer (sym are) c.requires.one in
-    let yes : is_fault_end c.in-Err.end ≡ true = sym (c.in-Err.ensures.resumable one) ∙ sym c.can_resume.ensures ∙ (search rules) in
-    flight_skipped _ _ _ old.log c.issue.new.self asked k t made c.args.leads.now c.args.last c.args.ends rest more _ m0 h n (c.push.ensures.state ∙ c.push_all.ensures.state) are (one_few _ c.requires.one) few log
-    _ _ c.issue-2.new.self c.confirm-in-Ok-command.new.self c.in-Err.end c.in-Ok-command.field-0 c.in-Err.ensures.broke yes (c.in-Err.ensures.clear one yes) c.resume.ensures.state (c.in-Ok-command.ensures.cleared refl) c.requires.came log2 c.confirm-in-Ok-command.ensures.answer
+pub returns-in-Ok-false-clause-on : goal.returns-in-Ok-false-clause-on
+returns-in-Ok-false-clause-on g c = λ m0 asked k t made rest more h n.
+    let mid = c.try_leads.new.self in
+    subst (λ (b : Bool). LeadsCame b g.F.Flights.planner c.args.forgive (g.F.Flights.state mid.flights) mid.log asked k t made c.args.leads.now c.args.last more m0) c.in-Ok-false.field-0-test (c.in-Ok-false.ensures.on m0 asked k t made c.args.last c.args.ends rest more h n)
 
-pub returns-in-Err-command-clause-broke : goal.returns-in-Err-command-clause-broke
-returns-in-Err-command-clause-broke g c = λ m0 asked k t made rest more h n.
-    let old = c.args.self.now in
-    let few : length old.log.entries < 2 ^ 32 = (let s = old.sound in let b = s.bounded in let f = s.few in omega (arith, b, f)) in
-    let part : c.if-ends.issue ≡ last_part c.args.ends = elim c.if-ends.branch [ then-ends w ↦ w.issue-is ∙ sym (ap last_part w.if-ends.true) | else-ends w ↦ w.issue-is ∙ sym (ap last_part w.if-ends.false) ] in
-    let some : 0 < length old.log.calls = (let w = c.requires.whole in omega (arith, w)) in
-    let log = flight_log old.log _ c.issue.new.self asked c.args.leads.now c.args.last c.args.ends _ _ c.push_all.ensures.log c.issue.ensures.answer c.count-unit.ensures some part n.parts in
-    let log2 = abort_log old.log c.issue.new.self c.issue-2.new.self asked made (c.args.leads.now ++ c.args.last ∷ []) c.args.ends _ log c.issue-2.ensures.answer c.count-unit.ensures some n.early in
-    let are = c.push.ensures.accesses ∙ ap (λ (l : List RegAccess). l ++ c.args.last ∷ []) (c.push_all.ensures.accesses ∙ ap (λ (l : List RegAccess). l ++ c.args.leads.now) c.requires.empty) in
-    let one : IsOneTransfer _ = subst IsOneTransfer (sym are) c.requires.one in
-    let yes : is_fault_end c.in-Err.end ≡ true = sym (c.in-Err.ensures.resumable one) ∙ sym c.can_resume.ensures ∙ (search rules) in
-    abort_broke _ _ _ old.log c.issue.new.self asked k t made c.args.leads.now c.args.last c.args.ends rest more _ m0 h n (c.push.ensures.state ∙ c.push_all.ensures.state) are (one_few _ c.requires.one) few log
-    _ _ _ _ _ c.issue-2.new.self c.in-Err.end c.in-Err-command.end c.stop-in-Err-command.result c.stop-in-Err-command.new.self c.in-Err.ensures.broke yes (c.in-Err.ensures.clear one yes) c.resume.ensures.state (c.in-Err-command.ensures.uncleared refl) log2 c.stop-in-Err-command.ensures.answer
-
-pub returns-in-Ok-clause-packets : goal.returns-in-Ok-clause-packets
-returns-in-Ok-clause-packets g c = went_few _ _ _ _ _ c.value.result (c.push.ensures.state ∙ c.push_all.ensures.state) c.in-Ok.ensures.came
-
-pub returns-in-Ok-command-clause-packets : goal.returns-in-Ok-command-clause-packets
-returns-in-Ok-command-clause-packets g c =
-    let are = c.push.ensures.accesses ∙ ap (λ (l : List RegAccess). l ++ c.args.last ∷ []) (c.push_all.ensures.accesses ∙ ap (λ (l : List RegAccess). l ++ c.args.leads.now) c.requires.empty) in
-    let one : IsOneTransfer _ = subst IsOneTransfer (sym are) c.requires.one in
-    let yes : is_fault_end c.in-Err.end ≡ true = sym (c.in-Err.ensures.resumable one) ∙ sym c.can_resume.ensures ∙ (search rules) in
-    cleared_few _ _ _ _ _ (c.push.ensures.state ∙ c.push_all.ensures.state) c.resume.ensures.state (c.in-Err.ensures.packets yes) (c.in-Err.ensures.clear one yes) c.in-Ok-command.ensures.packets
+pub returns-in-Err-clause-broke : goal.returns-in-Err-clause-broke
+returns-in-Err-clause-broke g c = λ m0 asked k t made rest more h n. c.in-Err.ensures.broke m0 asked k t made c.args.last c.args.ends rest more h n

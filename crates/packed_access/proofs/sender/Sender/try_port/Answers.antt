@@ -7,7 +7,7 @@ use Rattle.packed_access.proofs.sender.Sender.try_port.Goals as goal
 pub returns-clause-on : goal.returns-clause-on
 returns-clause-on g c = λ m0 asked k t made rest more h n.
     let new = c.try_flight.new.self in
-    subst (λ (s : RegAccess). IfOk c.try_flight.result (λ w. WentTo w (g.F.Flights.state new.flights) new.log asked k t made (s ∷ []) c.args.access more m0)) c.select-write.ensures
+    subst (λ (s : RegAccess). IfOk c.try_flight.result (λ w. WentTo g.F.Flights.planner c.args.forgive w (g.F.Flights.state new.flights) new.log asked k t made (s ∷ []) c.args.access more m0)) c.select-write.ensures
     (c.try_flight.ensures.on m0 asked k t made rest more h (subst (λ (s : RegAccess). IsNext asked t made (s ∷ []) c.args.access c.args.ends rest more) (sym c.select-write.ensures) n))
 
 pub returns-clause-broke : goal.returns-clause-broke

@@ -1,0 +1,128 @@
+//! The jobs of the benches in memory that the tests run over.
+ghost use Rattle.std.specs.Prelude.{◌≡◌, ◌≤◌, ◌↔◌, IfOk, IsTrue};
+ghost use Rattle.std.specs.List.{All};
+ghost use Rattle.target_machine.specs.Ranges.{IsTargetJob};
+ghost use Rattle.probe_core.specs.Ranges.{AreLimits, IsBenchJob};
+
+use dap_base::{ItemList, OutOfMemory};
+use probe_core::{BenchJob, Limits};
+use std::alloc::Global;
+use std::process::Abort;
+use target_machine::{ApJob, RegionJob, ScriptJobs, TargetJob, WordJob, WordJobs};
+
+// What differs from one test to another.
+#[derive(Clone, Copy, Drop)]
+pub(crate) struct Setting<'a> {
+    pub(crate) packet_count: u8,
+    pub(crate) stalls: &'a [u32],
+    pub(crate) powered: bool,
+    pub(crate) power_reads: u32,
+    pub(crate) la: bool,
+    pub(crate) carry: bool,
+    pub(crate) csw: u32,
+    // the words at 0x20000000 and 0x20000004
+    pub(crate) words: [u32; 2],
+}
+
+pub(crate) const BASE: Setting<'static> = Setting {
+    packet_count: 1,
+    stalls: &[],
+    powered: true,
+    power_reads: 0,
+    la: false,
+    carry: false,
+    csw: 0x40,
+    words: [0, 0],
+};
+
+fn list<T: Copy + Drop>(alloc: Global, items: &[T]) -> Result<ItemList<T>, OutOfMemory>
+    ensures { IfOk result (λ list. list ≡ items.now) }
+{
+    let mut list = ItemList::new(alloc);
+    for item in items {
+        list.push(*item)?;
+    }
+    Ok(list)
+}
+
+// A target with AP 0, and 4,096 bytes at 0x20000000 and at 0x100000000.
+fn target(alloc: Global, setting: &Setting<'_>) -> Result<TargetJob, OutOfMemory>
+    requires { setting.now.power_reads ≤ 1000000 }
+    ensures { IfOk result IsTargetJob }
+{
+    Ok(TargetJob {
+        dpidr: 0x2BA0_1477,
+        powered: setting.powered,
+        power_reads: setting.power_reads,
+        pins: 0xA0,
+        carry: setting.carry,
+        aps: list(
+            alloc,
+            &[ApJob {
+                ap: 0,
+                idr: 0x2477_0011,
+                base: 0xE00F_F003,
+                csw: setting.csw,
+                la: setting.la,
+            }],
+        )?,
+        memory: list(
+            alloc,
+            &[
+                RegionJob {
+                    address: 0x2000_0000,
+                    length: 4096,
+                    read_only: false,
+                },
+                RegionJob {
+                    address: 0x1_0000_0000,
+                    length: 4096,
+                    read_only: false,
+                },
+            ],
+        )?,
+        words: list(
+            alloc,
+            &[
+                WordJob {
+                    address: 0x2000_0000,
+                    value: setting.words[0],
+                },
+                WordJob {
+                    address: 0x2000_0004,
+                    value: setting.words[1],
+                },
+            ],
+        )?,
+        scripts: ScriptJobs::new(alloc),
+        reset: WordJobs::new(alloc),
+    })
+}
+
+// Whether these may be stalls of a bench.
+fn are_stalls(stalls: &[u32]) -> bool
+    ensures { IsTrue result ↔ All (λ stall. stall ≤ 100000) stalls.now }
+{
+    stalls.iter().all(|stall| *stall <= 100_000)
+}
+
+// The job of a bench so set.
+pub(crate) fn job_of(
+    rt: &impl Abort,
+    alloc: Global,
+    setting: &Setting<'_>,
+    limits: Limits,
+) -> Result<BenchJob, OutOfMemory>
+    requires limits { AreLimits limits }
+    ensures in_range { IfOk result IsBenchJob }
+    ensures limits { IfOk result (λ job. job.limits ≡ limits) }
+{
+    assert!(rt; setting.power_reads <= 1_000_000);
+    assert!(rt; setting.stalls.len() <= 65_536);
+    assert!(rt; are_stalls(setting.stalls));
+    Ok(BenchJob {
+        limits,
+        stalls: list(alloc, setting.stalls)?,
+        target: target(alloc, setting)?,
+    })
+}

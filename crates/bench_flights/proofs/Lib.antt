@@ -1,0 +1,16 @@
+pub mod WireLemmas
+pub mod CauseLemmas
+pub mod ReplyReads
+pub mod ChainCause
+pub mod FlightCause
+pub mod PollCause
+pub mod SendLemmas
+pub mod FormLemmas
+pub mod RoomLemmas
+pub mod DelayLemmas
+pub mod LookLemmas
+pub mod OnceLemmas
+pub mod TurnLemmas
+pub mod ClearLemmas
+pub mod PacketLemmas
+pub mod OpeningLemmas

@@ -1,0 +1,345 @@
+-- Polls in parts: so many turns, and then more.
+use Rattle.std.proofs.Common.{◌≡◌, ◌⊎◌, inl, inr, ◌∙◌, ℕ, zero, suc, ◌+◌, ◌-◌, ◌^◌, ◌<◌, ◌≤◌, min, Bool, true, false, cond, Option, Some, None, Ok, Err, Result, IfOk, IfErr, refl, sym, ap, subst, arith}
+use Rattle.std.specs.Prelude.{◌==◌, ◌&&◌, bit_and, not}
+use Rattle.target_machine.specs.Attempt.{Attempt, answers, attempt, bank, ctrl_stat, dp_read, is_free}
+use Rattle.target_machine.specs.Plain.{Polled, Polls, dp_read_of, given, is_fault, looked, polled}
+use Rattle.target_machine.specs.State.{TargetState}
+use Rattle.target_machine.specs.declared.access.Outcome.{Outcome}
+use Rattle.target_machine.specs.declared.access.Outcome.TheVariants.{Value, Done, Fault}
+use Rattle.call_terms.proofs.EntryLemmas.{weight_some}
+use Rattle.dap_transfer.specs.State.{TransferState}
+use Rattle.probe_core.specs.Bench.{BenchState, StepsTo}
+use Rattle.probe_core.specs.Probe.{target_of}
+use Rattle.batch_packer.specs.Actions.{Acts}
+use Rattle.batch_packer.specs.Flying.{CanFly, transfers_of}
+use Rattle.batch_packer.specs.Polling.{PolledBy}
+use Rattle.batch_packer.specs.declared.ends.FlightEnd.{FlightEnd}
+use Rattle.batch_packer.specs.declared.ends.FlightEnd.TheVariants as ends
+use Rattle.batch_packer.specs.declared.poll.Config.{Config}
+use Rattle.batch_packer.specs.declared.poll.PollAsk.{PollAsk}
+use Rattle.batch_packer.proofs.CallLemmas.{flies_after}
+use Rattle.bench_flights.specs.Flown.{DidLess, HasDone, LeftOff, matched_word}
+use Rattle.bench_flights.specs.Wires.{HasLooked, HasMade, MadeOrNot}
+use Rattle.bench_flights.proofs.WireLemmas.{steps_join, steps_map}
+
+-- ---- one turn
+
+-- the first turn of a poll, and those after it
+abbrev pub first_turn : TargetState → Attempt
+first_turn t = attempt t (dp_read_of 4)
+
+abbrev turn : Bool → TargetState → Polled → Polled
+turn true t rest = record { outcome = Value 1; reads = 1; next = t }
+turn false t rest = record rest { reads = rest.reads + 1 }
+
+-- ---- what polls answer
+
+word_of : (o : Outcome) (t : TargetState) (mask requested : ℕ) (rest : Polled) → (given rest.outcome ≡ 0) ⊎ (given rest.outcome ≡ 1) → (given (looked o t mask requested rest).outcome ≡ 0) ⊎ (given (looked o t mask requested rest).outcome ≡ 1)
+word_of Done t mask requested rest h = h
+word_of Fault t mask requested rest h = inl refl
+word_of (Value n) t mask requested rest h = by_hit (bit_and n mask == requested)
+  where
+    by_hit : (b : Bool) → (given (cond b (record { outcome = Value 1; reads = 1; next = t }) (record rest { reads = rest.reads + 1 })).outcome ≡ 0) ⊎ (given (cond b (record { outcome = Value 1; reads = 1; next = t }) (record rest { reads = rest.reads + 1 })).outcome ≡ 1)
+    by_hit true = inr refl
+    by_hit false = h
+
+pub polled_word : (n mask requested : ℕ) (t : TargetState) → (given (polled n mask requested t).outcome ≡ 0) ⊎ (given (polled n mask requested t).outcome ≡ 1)
+unfolding polled
+polled_word zero mask requested t = inl refl
+polled_word (suc n) mask requested t = word_of (first_turn t).outcome (first_turn t).next mask requested (polled n mask requested (first_turn t).next) (polled_word n mask requested (first_turn t).next)
+
+-- ---- where nothing matched, all turns were used
+
+-- it did not match, and met no fault
+pub record Unmet (p : Polled) : Type 0 where
+  pub none : given p.outcome ≡ 0
+  pub good : is_fault p.outcome ≡ false
+
+-- then the first turn did not match
+unmet_on : (o : Outcome) (t : TargetState) (mask requested : ℕ) (rest : Polled) → Unmet (looked o t mask requested rest) → (looked o t mask requested rest ≡ record rest { reads = rest.reads + 1 }) × Unmet rest
+unmet_on Done t mask requested rest h = (refl, record { none = h.none; good = h.good })
+unmet_on Fault t mask requested rest h = absurd (let g = h.good in cc)
+unmet_on (Value n) t mask requested rest h = by_hit (bit_and n mask == requested) h
+  where
+    by_hit : (b : Bool) → Unmet (cond b (record { outcome = Value 1; reads = 1; next = t }) (record rest { reads = rest.reads + 1 })) → (cond b (record { outcome = Value 1; reads = 1; next = t }) (record rest { reads = rest.reads + 1 }) ≡ record rest { reads = rest.reads + 1 }) × Unmet rest
+    by_hit true k = absurd (let g = k.none in omega (arith, g))
+    by_hit false k = (refl, record { none = k.none; good = k.good })
+
+pub unmet_reads : (n mask requested : ℕ) (t : TargetState) → Unmet (polled n mask requested t) → (polled n mask requested t).reads ≡ n
+unfolding polled
+unmet_reads zero mask requested t h = refl
+unmet_reads (suc n) mask requested t h =
+    let on = unmet_on (first_turn t).outcome (first_turn t).next mask requested (polled n mask requested (first_turn t).next) h in
+    let all = unmet_reads n mask requested (first_turn t).next on.1 in
+    ap (λ (p : Polled). p.reads) on.0 ∙ (omega (arith, all))
+
+-- after so many turns without a match, more turns are those from there
+abbrev pub more_reads : ℕ → Polled → Polled
+more_reads n p = record p { reads = p.reads + n }
+
+unmet_back : (o : Outcome) (t : TargetState) (mask requested : ℕ) (rest other : Polled) → Unmet (looked o t mask requested rest) → looked o t mask requested other ≡ record other { reads = other.reads + 1 }
+unmet_back Done t mask requested rest other h = refl
+unmet_back Fault t mask requested rest other h = absurd (let g = h.good in cc)
+unmet_back (Value n) t mask requested rest other h = by_hit (bit_and n mask == requested) h
+  where
+    by_hit : (b : Bool) → Unmet (cond b (record { outcome = Value 1; reads = 1; next = t }) (record rest { reads = rest.reads + 1 })) → cond b (record { outcome = Value 1; reads = 1; next = t }) (record other { reads = other.reads + 1 }) ≡ record other { reads = other.reads + 1 }
+    by_hit true k = absurd (let g = k.none in omega (arith, g))
+    by_hit false k = refl
+
+next_unmet : (o : Outcome) (t : TargetState) (mask requested : ℕ) (rest : Polled) → Unmet (looked o t mask requested rest) → (looked o t mask requested rest).next ≡ rest.next
+next_unmet o t mask requested rest h = ap (λ (p : Polled). p.next) (unmet_on o t mask requested rest h).0
+
+pub polled_more : (n m mask requested : ℕ) (t : TargetState) → Unmet (polled n mask requested t) → polled (n + m) mask requested t ≡ more_reads n (polled m mask requested (polled n mask requested t).next)
+unfolding polled
+polled_more zero m mask requested t h =
+    let p : Polled = polled m mask requested t in
+    ap (λ (k : ℕ). polled k mask requested t) (let z : 0 + m ≡ m = omega arith in z) ∙ ap (λ (k : ℕ). record p { reads = k }) (let z : p.reads ≡ p.reads + 0 = omega arith in z)
+polled_more (suc n) m mask requested t h =
+    let x : Attempt = first_turn t in
+    let on = unmet_on x.outcome x.next mask requested (polled n mask requested x.next) h in
+    let there : TargetState = (polled n mask requested x.next).next in
+    let p : Polled = polled m mask requested there in
+    ap (λ (k : ℕ). polled k mask requested t) (let z : suc n + m ≡ suc (n + m) = omega arith in z)
+    ∙ unmet_back x.outcome x.next mask requested (polled n mask requested x.next) (polled (n + m) mask requested x.next) h
+    ∙ ap (λ (q : Polled). record q { reads = q.reads + 1 }) (polled_more n m mask requested x.next on.1)
+    ∙ ap (λ (k : ℕ). record p { reads = k }) (let z : p.reads + n + 1 ≡ p.reads + suc n = omega arith in z)
+    ∙ ap (λ (u : TargetState). more_reads (suc n) (polled m mask requested u)) (sym (next_unmet x.outcome x.next mask requested (polled n mask requested x.next) h))
+
+-- ---- where it matched, further turns change nothing
+
+met_stays : (o : Outcome) (t : TargetState) (mask requested : ℕ) (rest other : Polled) → (given rest.outcome ≡ 1 → other ≡ rest) → given (looked o t mask requested rest).outcome ≡ 1 → looked o t mask requested other ≡ looked o t mask requested rest
+met_stays Done t mask requested rest other f h = ap (λ (p : Polled). record p { reads = p.reads + 1 }) (f h)
+met_stays Fault t mask requested rest other f h = refl
+met_stays (Value n) t mask requested rest other f h = by_hit (bit_and n mask == requested) h
+  where
+    by_hit : (b : Bool) → given (cond b (record { outcome = Value 1; reads = 1; next = t }) (record rest { reads = rest.reads + 1 })).outcome ≡ 1 →
+        cond b (record { outcome = Value 1; reads = 1; next = t }) (record other { reads = other.reads + 1 }) ≡ cond b (record { outcome = Value 1; reads = 1; next = t }) (record rest { reads = rest.reads + 1 })
+    by_hit true k = refl
+    by_hit false k = ap (λ (p : Polled). record p { reads = p.reads + 1 }) (f k)
+
+pub polled_stops : (n m mask requested : ℕ) (t : TargetState) → given (polled n mask requested t).outcome ≡ 1 → polled (n + m) mask requested t ≡ polled n mask requested t
+unfolding polled
+polled_stops zero m mask requested t h = absurd (omega (arith, h))
+polled_stops (suc n) m mask requested t h =
+    let x : Attempt = first_turn t in
+    ap (λ (k : ℕ). polled k mask requested t) (let z : suc n + m ≡ suc (n + m) = omega arith in z)
+    ∙ met_stays x.outcome x.next mask requested (polled n mask requested x.next) (polled (n + m) mask requested x.next) (λ k. polled_stops n m mask requested x.next k) h
+
+-- ---- SELECT stays
+
+pick : (b : Bool) (p q : Attempt) (s : ℕ) → p.next.select ≡ s → q.next.select ≡ s → (cond b p q).next.select ≡ s
+pick true p q s h k = h
+pick false p q s h k = k
+
+pub read_select : (t : TargetState) → (first_turn t).next.select ≡ t.select
+unfolding attempt
+read_select t =
+    pick (t.sticky && not (is_free t (dp_read_of 4))) (record { outcome = Fault; next = t }) (dp_read t 4) t.select refl
+    (pick (bank t == 0) (answers (ctrl_stat t) (record t { reads = min (t.reads + 1) (2 ^ 32 - 1) })) (answers 0 t) t.select refl refl)
+
+select_looked : (o : Outcome) (t : TargetState) (mask requested : ℕ) (rest : Polled) (s : ℕ) → t.select ≡ s → rest.next.select ≡ s → (looked o t mask requested rest).next.select ≡ s
+select_looked Done t mask requested rest s h k = k
+select_looked Fault t mask requested rest s h k = h
+select_looked (Value n) t mask requested rest s h k = by_hit (bit_and n mask == requested)
+  where
+    by_hit : (b : Bool) → (cond b (record { outcome = Value 1; reads = 1; next = t }) (record rest { reads = rest.reads + 1 })).next.select ≡ s
+    by_hit true = h
+    by_hit false = k
+
+pub polled_select : (n mask requested : ℕ) (t : TargetState) → (polled n mask requested t).next.select ≡ t.select
+unfolding polled
+polled_select zero mask requested t = refl
+polled_select (suc n) mask requested t =
+    let x : Attempt = first_turn t in
+    select_looked x.outcome x.next mask requested (polled n mask requested x.next) t.select (read_select t) (polled_select n mask requested x.next ∙ read_select t)
+
+-- ---- over a bench
+
+pub unmet_of : (mask requested n : ℕ) (m o : BenchState) → HasLooked mask requested n 0 m o → Unmet (polled n mask requested (target_of m.probe))
+unmet_of mask requested n m o h = record { none = sym h.word_is; good = h.good }
+
+pub looked_none : (mask requested : ℕ) (m : BenchState) → CanFly m → HasLooked mask requested 0 0 m m
+unfolding polled
+looked_none mask requested m flies = record {
+  good = refl;
+  word_is = refl;
+  target = refl;
+  work = omega arith;
+  retries = refl;
+  number = omega arith;
+  flies = flies;
+}
+
+looked_made : (mask requested n word : ℕ) (m o : BenchState) → CanFly m → HasMade (Polls mask requested n) word m o → HasLooked mask requested n word m o
+looked_made mask requested n word m o flies h = record {
+  good = h.acts.passes;
+  word_is = h.word_is;
+  target = h.acts.target;
+  work = h.acts.work;
+  retries = h.acts.retries;
+  number = (let a = h.acts.number in omega (arith, a));
+  flies = flies_after (Polls mask requested n) m o flies h.acts;
+}
+
+pub looked_more : (mask requested a b word : ℕ) (m k o : BenchState) → HasLooked mask requested a 0 m k → HasLooked mask requested b word k o → HasLooked mask requested (a + b) word m o
+looked_more mask requested a b word m k o h l =
+    let t : TargetState = target_of m.probe in
+    let all : polled (a + b) mask requested t ≡ more_reads a (polled b mask requested (target_of k.probe)) =
+    polled_more a b mask requested t (unmet_of mask requested a m k h) ∙ ap (λ (u : TargetState). more_reads a (polled b mask requested u)) (sym h.target) in
+    let count : (polled (a + b) mask requested t).reads ≡ (polled b mask requested (target_of k.probe)).reads + a = ap (λ (p : Polled). p.reads) all in
+    let made : (polled a mask requested t).reads ≡ a = unmet_reads a mask requested t (unmet_of mask requested a m k h) in
+    record {
+      good = ap (λ (p : Polled). is_fault p.outcome) all ∙ l.good;
+      word_is = l.word_is ∙ ap (λ (p : Polled). given p.outcome) (sym all);
+      target = l.target ∙ ap (λ (p : Polled). p.next) (sym all);
+      work = (let w = h.work in let v = l.work in omega (arith, w, v, count, made));
+      retries = l.retries ∙ h.retries;
+      number = (let w = h.number in let v = l.number in omega (arith, w, v, count, made));
+      flies = l.flies;
+    }
+
+pub looked_stops : (mask requested a b : ℕ) (m o : BenchState) → HasLooked mask requested a 1 m o → HasLooked mask requested (a + b) 1 m o
+looked_stops mask requested a b m o h =
+    let same : polled (a + b) mask requested (target_of m.probe) ≡ polled a mask requested (target_of m.probe) = polled_stops a b mask requested (target_of m.probe) (sym h.word_is) in
+    record {
+      good = ap (λ (p : Polled). is_fault p.outcome) same ∙ h.good;
+      word_is = h.word_is ∙ ap (λ (p : Polled). given p.outcome) (sym same);
+      target = h.target ∙ ap (λ (p : Polled). p.next) (sym same);
+      work = (let w = h.work in let count = ap (λ (p : Polled). p.reads) same in omega (arith, w, count));
+      retries = h.retries;
+      number = (let w = h.number in let count = ap (λ (p : Polled). p.reads) same in omega (arith, w, count));
+      flies = h.flies;
+    }
+
+pub looked_done : (mask requested turns word : ℕ) (m o : BenchState) → HasLooked mask requested turns word m o → HasDone (Polls mask requested turns) word m o
+looked_done mask requested turns word m o h = record {
+  does = λ counts. record {
+    target = h.target;
+    clear = h.flies.guard.clear;
+    work = (let w = h.work in omega (arith, w, counts));
+    retries = h.retries;
+    number = (let n = h.number in omega (arith, n));
+  };
+  good = h.good;
+  word_is = h.word_is;
+  next = h.flies;
+}
+
+-- fewer reads than all were made
+pub looked_less : (mask requested turns made : ℕ) (m k o : BenchState) → made < turns → HasLooked mask requested made 0 m k → transfers_of o ≡ transfers_of k → DidLess (Polls mask requested turns) m o
+looked_less mask requested turns made m k o less h same =
+    let t : TargetState = target_of m.probe in
+    let reads : (polled made mask requested t).reads ≡ made = unmet_reads made mask requested t (unmet_of mask requested made m k h) in
+    let rest : ℕ = turns - made in
+    let sum : made + (turns - made) ≡ turns = omega (arith, less) in
+    let all : polled turns mask requested t ≡ more_reads made (polled (turns - made) mask requested (polled made mask requested t).next) =
+    ap (λ (n : ℕ). polled n mask requested t) (sym sum) ∙ polled_more made (turns - made) mask requested t (unmet_of mask requested made m k h) in
+    let some : 0 < (polled (turns - made) mask requested (polled made mask requested t).next).reads = weight_some (polled made mask requested t).next (Polls mask requested (turns - made)) (omega (arith, less)) in
+    let count : (polled turns mask requested t).reads ≡ (polled (turns - made) mask requested (polled made mask requested t).next).reads + made = ap (λ (p : Polled). p.reads) all in
+    let fewer : made < (polled turns mask requested t).reads = omega (arith, count, some) in
+    record {
+      work = made;
+      work_is = λ counts. (let w = h.work in let s = ap (λ (p : TransferState). p.work) same in omega (arith, w, s, counts, reads, fewer));
+      less = fewer;
+      target = inr (made, fewer, record { same = ap (λ (u : TargetState). record u { rdbuff = 0 }) (ap (λ (p : TransferState). p.line.target) same ∙ h.target) });
+    }
+
+-- ---- portions of a poll
+
+pub bank_kept : (mask requested n word : ℕ) (m o : BenchState) → HasLooked mask requested n word m o → bank (target_of m.probe) ≡ 0 → bank (target_of o.probe) ≡ 0
+bank_kept mask requested n word m o h zero_bank =
+    ap (λ (t : TargetState). bank t) h.target ∙ ap (λ (s : ℕ). bit_and s 0xF) (polled_select n mask requested (target_of m.probe)) ∙ zero_bank
+
+pub poll_begins : (x : Option BenchState) (mask requested : ℕ) → StepsTo (λ m o. CanFly m → bank (target_of m.probe) ≡ 0 → HasLooked mask requested 0 0 m o) x x
+poll_begins None mask requested = tt
+poll_begins (Some m) mask requested = λ flies zero_bank. looked_none mask requested m flies
+
+joined_portion : (mask requested a b word : ℕ) (m k o : BenchState) → (CanFly m → bank (target_of m.probe) ≡ 0 → HasLooked mask requested a 0 m k) → (CanFly k → bank (target_of k.probe) ≡ 0 → HasMade (Polls mask requested b) word k o) →
+    CanFly m → bank (target_of m.probe) ≡ 0 → HasLooked mask requested (a + b) word m o
+joined_portion mask requested a b word m k o h d flies zero_bank =
+    let l = h flies zero_bank in
+    looked_more mask requested a b word m k o l (looked_made mask requested b word k o l.flies (d l.flies (bank_kept mask requested a 0 m k l zero_bank)))
+
+pub poll_next : (x y z : Option BenchState) (mask requested a b word : ℕ) → StepsTo (λ m o. CanFly m → bank (target_of m.probe) ≡ 0 → HasLooked mask requested a 0 m o) x y →
+    StepsTo (λ m o. CanFly m → bank (target_of m.probe) ≡ 0 → HasMade (Polls mask requested b) word m o) y z → StepsTo (λ m o. CanFly m → bank (target_of m.probe) ≡ 0 → HasLooked mask requested (a + b) word m o) x z
+poll_next x y z mask requested a b word h d = steps_join _ _ _ (joined_portion mask requested a b word) x y z h d
+
+-- the register matched
+pub poll_matches : (x z : Option BenchState) (mask requested a b turns : ℕ) → a + b ≡ turns → StepsTo (λ m o. CanFly m → bank (target_of m.probe) ≡ 0 → HasLooked mask requested a 1 m o) x z →
+    StepsTo (λ m o. CanFly m → bank (target_of m.probe) ≡ 0 → HasDone (Polls mask requested turns) (matched_word true) m o) x z
+poll_matches x z mask requested a b turns sum h =
+    steps_map _ _ (λ m o f flies zero_bank. looked_done mask requested turns 1 m o (subst (λ (n : ℕ). HasLooked mask requested n 1 m o) sum (looked_stops mask requested a b m o (f flies zero_bank)))) x z h
+
+-- the turns are used up
+pub poll_used : (x z : Option BenchState) (mask requested made turns : ℕ) → made ≡ turns → StepsTo (λ m o. CanFly m → bank (target_of m.probe) ≡ 0 → HasLooked mask requested made 0 m o) x z →
+    StepsTo (λ m o. CanFly m → bank (target_of m.probe) ≡ 0 → HasDone (Polls mask requested turns) (matched_word false) m o) x z
+poll_used x z mask requested made turns all h =
+    steps_map _ _ (λ m o f flies zero_bank. looked_done mask requested turns 0 m o (subst (λ (n : ℕ). HasLooked mask requested n 0 m o) all (f flies zero_bank))) x z h
+
+-- a bench call failed in a portion
+portion_left : (mask requested a b turns : ℕ) (end : FlightEnd) → 1 ≤ b → a + b ≤ turns → (m k o : BenchState) → (CanFly m → bank (target_of m.probe) ≡ 0 → HasLooked mask requested a 0 m k) →
+    (CanFly k → bank (target_of k.probe) ≡ 0 → MadeOrNot (Polls mask requested b) end k o) → CanFly m → bank (target_of m.probe) ≡ 0 → LeftOff (Polls mask requested turns) end m o
+portion_left mask requested a b turns ends.BenchFault some within m k o h d flies zero_bank = by_what (d l.flies (bank_kept mask requested a 0 m k l zero_bank))
+  where
+    l : HasLooked mask requested a 0 m k
+    l = h flies zero_bank
+
+    by_word : Acts (Polls mask requested b) (transfers_of k) (transfers_of o) → (given (polled b mask requested (target_of k.probe)).outcome ≡ 0) ⊎ (given (polled b mask requested (target_of k.probe)).outcome ≡ 1) → LeftOff (Polls mask requested turns) ends.BenchFault m o
+    by_word acts (inr one) =
+        let n : HasLooked mask requested (a + b) 1 m o = looked_more mask requested a b 1 m k o l (looked_made mask requested b 1 k o l.flies (record { acts = acts; word_is = sym one })) in
+        let sum : (a + b) + (turns - (a + b)) ≡ turns = omega (arith, within) in
+        let w : HasLooked mask requested turns 1 m o = subst (λ (c : ℕ). HasLooked mask requested c 1 m o) sum (looked_stops mask requested (a + b) (turns - (a + b)) m o n) in
+        inl (looked_done mask requested turns (given (polled turns mask requested (target_of m.probe)).outcome) m o (subst (λ (c : ℕ). HasLooked mask requested turns c m o) w.word_is w))
+    by_word acts (inl none) =
+        let n : HasLooked mask requested (a + b) 0 m o = looked_more mask requested a b 0 m k o l (looked_made mask requested b 0 k o l.flies (record { acts = acts; word_is = sym none })) in
+        by_rest n (turns - (a + b)) refl
+      where
+        by_rest : HasLooked mask requested (a + b) 0 m o → (rest : ℕ) → turns - (a + b) ≡ rest → LeftOff (Polls mask requested turns) ends.BenchFault m o
+        by_rest n zero is =
+            let all : a + b ≡ turns = omega (arith, is, within) in
+            let w : HasLooked mask requested turns 0 m o = subst (λ (c : ℕ). HasLooked mask requested c 0 m o) all n in
+            inl (looked_done mask requested turns (given (polled turns mask requested (target_of m.probe)).outcome) m o (subst (λ (c : ℕ). HasLooked mask requested turns c m o) w.word_is w))
+        by_rest n (suc rest) is = inr (looked_less mask requested turns (a + b) m o o (omega (arith, is)) n refl)
+
+    by_what : Acts (Polls mask requested b) (transfers_of k) (transfers_of o) ⊎ (transfers_of o ≡ transfers_of k) → LeftOff (Polls mask requested turns) ends.BenchFault m o
+    by_what (inl acts) = by_word acts (polled_word b mask requested (target_of k.probe))
+    by_what (inr same) = inr (looked_less mask requested turns a m k o (omega (arith, some, within)) l same)
+portion_left mask requested a b turns ends.ReplyBad some within m k o h d flies zero_bank = let l = h flies zero_bank in d l.flies (bank_kept mask requested a 0 m k l zero_bank)
+portion_left mask requested a b turns (ends.Cut cut) some within m k o h d flies zero_bank = absurd (let l = h flies zero_bank in d l.flies (bank_kept mask requested a 0 m k l zero_bank))
+
+pub poll_left : (x y z : Option BenchState) (mask requested a b turns : ℕ) (end : FlightEnd) → 1 ≤ b → a + b ≤ turns → StepsTo (λ m o. CanFly m → bank (target_of m.probe) ≡ 0 → HasLooked mask requested a 0 m o) x y →
+    StepsTo (λ m o. CanFly m → bank (target_of m.probe) ≡ 0 → MadeOrNot (Polls mask requested b) end m o) y z → StepsTo (λ m o. CanFly m → bank (target_of m.probe) ≡ 0 → LeftOff (Polls mask requested turns) end m o) x z
+poll_left x y z mask requested a b turns end some within h d = steps_join _ _ _ (portion_left mask requested a b turns end some within) x y z h d
+
+-- ---- one portion, as the layer below says it
+
+word_matched : (n : ℕ) (matched : Bool) → (n ≡ 0) ⊎ (n ≡ 1) → matched ≡ (n == 1) → matched_word matched ≡ n
+word_matched n matched (inl none) is = ap matched_word (is ∙ ap (λ (k : ℕ). k == 1) none) ∙ sym none
+word_matched n matched (inr one) is = ap matched_word (is ∙ ap (λ (k : ℕ). k == 1) one) ∙ sym one
+
+pub portion_made : (x y : Option BenchState) (config : Config) (ask : PollAsk) (result : Result Bool FlightEnd) →
+    StepsTo (λ m o. CanFly m → bank (target_of m.probe) ≡ 0 → PolledBy config ask result m o) x y →
+    IfOk result (λ matched. StepsTo (λ m o. CanFly m → bank (target_of m.probe) ≡ 0 → HasMade (Polls ask.mask ask.value ask.turns) (matched_word matched) m o) x y)
+portion_made x y config ask (Err end) h = tt
+portion_made x y config ask (Ok matched) h =
+    steps_map _ _ (λ m o f flies zero_bank. let p = f flies zero_bank in
+    record { acts = p.acted.acts; word_is = word_matched (given (polled ask.turns ask.mask ask.value (target_of m.probe)).outcome) matched (polled_word ask.turns ask.mask ask.value (target_of m.probe)) p.matched_is }) x y h
+
+left_portion : (config : Config) (ask : PollAsk) (end : FlightEnd) (m o : BenchState) → PolledBy config ask (Err end) m o → MadeOrNot (Polls ask.mask ask.value ask.turns) end m o
+left_portion config ask ends.BenchFault m o (inl same) = inr same
+left_portion config ask ends.BenchFault m o (inr acts) = inl acts
+left_portion config ask ends.ReplyBad m o h = h
+left_portion config ask (ends.Cut cut) m o h = absurd h
+
+pub portion_lefts : (x y : Option BenchState) (config : Config) (ask : PollAsk) (result : Result Bool FlightEnd) →
+    StepsTo (λ m o. CanFly m → bank (target_of m.probe) ≡ 0 → PolledBy config ask result m o) x y →
+    IfErr result (λ end. StepsTo (λ m o. CanFly m → bank (target_of m.probe) ≡ 0 → MadeOrNot (Polls ask.mask ask.value ask.turns) end m o) x y)
+portion_lefts x y config ask (Ok matched) h = tt
+portion_lefts x y config ask (Err end) h = steps_map _ _ (λ m o f flies zero_bank. left_portion config ask end m o (f flies zero_bank)) x y h
+
+-- what a portion answers, by its case
+pub word_for : (x y : Option BenchState) (mask requested turns : ℕ) (matched is : Bool) → matched ≡ is →
+    StepsTo (λ m o. CanFly m → bank (target_of m.probe) ≡ 0 → HasMade (Polls mask requested turns) (matched_word matched) m o) x y →
+    StepsTo (λ m o. CanFly m → bank (target_of m.probe) ≡ 0 → HasMade (Polls mask requested turns) (matched_word is) m o) x y
+word_for x y mask requested turns matched is same h =
+    subst (λ (b : Bool). StepsTo (λ m o. CanFly m → bank (target_of m.probe) ≡ 0 → HasMade (Polls mask requested turns) (matched_word b) m o) x y) same h

@@ -1,0 +1,58 @@
+use Rattle.std.proofs.Common.{rules, inr, ◌+◌, refl, arith}
+use Rattle.bench_flights.proofs.DelayLemmas.{delay_begins, delay_left, delay_lefts, delay_mades, delay_next, goes_self, goes_then}
+use Rattle.target_machine.specs.InRange.{IsInRange}
+use Rattle.probe_core.specs.Probe.{target_of}
+use Rattle.bench_flights.proofs.PacketLemmas.{delay_few, delays_few, few_begins}
+use Rattle.bench_flights.proofs.wire.Wire.delay.Goals as goal
+
+pub loop-left-init : goal.loop-left-init
+loop-left-init g c = record {
+  count = 0;
+  is = omega arith;
+  some = λ no. absurd (omega (arith, no));
+  usable = c.requires.usable;
+  empty = c.requires.empty;
+  on = delay_begins _;
+  packets = few_begins (λ m. IsInRange (target_of m.probe)) _;
+  limits = search rules;
+  goes = goes_self _ _;
+  faults = search rules;
+  identity = search rules;
+}
+
+pub loop-left-preserved : goal.loop-left-preserved
+loop-left-preserved g c =
+    let i = c.loop-left.invariant in
+    record {
+      count = i.count + 1;
+      is = (let e = i.is in let b = c.loop-left-test.true in omega (arith, e, b));
+      some = λ no. (let b = c.loop-left-test.true in omega (arith, b));
+      usable = c.in-Ok.ensures.ended;
+      empty = c.single.ensures.empty;
+      on = delay_next _ _ _ i.count c.in-Ok.field-0 i.on c.in-Ok.ensures.done;
+      packets = delay_few _ _ _ i.count i.on i.packets c.in-Ok.ensures.packets;
+      limits = search rules;
+      goes = goes_then _ _ _ _ _ _ i.goes c.single.ensures.goes;
+      faults = search rules;
+      identity = search rules;
+    }
+
+pub returns-in-Err-clause-left : goal.returns-in-Err-clause-left
+returns-in-Err-clause-left g c =
+    let i = c.loop-left.invariant in
+    delay_left _ _ _ i.count 65535 c.args.micros c.in-Err.end (omega arith) (λ no. omega arith) (inr (refl, (let e = i.is in let b = c.loop-left-test.true in omega (arith, e, b)))) i.on c.in-Err.ensures.left
+
+pub returns-clause-done : goal.returns-clause-done
+returns-clause-done g c =
+    let i = c.loop-left.invariant in
+    delay_mades _ _ _ i.count c.loop-left.left c.args.micros c.single-2.result (let b = c.loop-left-test.false in omega (arith, b)) i.some i.is i.on c.single-2.ensures.done
+
+pub returns-clause-left : goal.returns-clause-left
+returns-clause-left g c =
+    let i = c.loop-left.invariant in
+    delay_lefts _ _ _ i.count c.loop-left.left c.args.micros c.single-2.result (let b = c.loop-left-test.false in omega (arith, b)) i.some i.is i.on c.single-2.ensures.left
+
+pub returns-clause-packets : goal.returns-clause-packets
+returns-clause-packets g c =
+    let i = c.loop-left.invariant in
+    delays_few _ _ _ i.count c.loop-left.left c.args.micros c.single-2.result (let b = c.loop-left-test.false in omega (arith, b)) i.is i.on i.packets c.single-2.ensures.packets

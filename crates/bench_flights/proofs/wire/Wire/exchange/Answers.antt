@@ -1,0 +1,15 @@
+use Rattle.dap_messages.specs.Commands.{command_value}
+use Rattle.bench_flights.proofs.CauseLemmas.{single_cause}
+use Rattle.bench_flights.proofs.OpeningLemmas.{number_least}
+use Rattle.bench_flights.proofs.wire.Wire.exchange.Goals as goal
+
+pub returns-clause-least : goal.returns-clause-least
+returns-clause-least g c =
+    number_least (command_value c.args.command.now) c.command.result c.command.new.self.end (g.B.Bench.reported c.command.new.bench).last.replies c.command.ensures.answer (c.command.ensures.read c.requires.usable)
+
+pub returns-clause-cause : goal.returns-clause-cause
+returns-clause-cause g c =
+    let u = c.requires.usable in
+    single_cause (command_value c.args.command.now) c.command.result (g.B.Bench.reported c.args.self.now.bench) (g.B.Bench.reported c.command.new.bench) c.command.new.self c.requires.command c.requires.single c.command.ensures.answer
+    (record { cause = c.command.ensures.cause u; exchanges = c.command.ensures.exchanges u; packets_are = c.command.ensures.packets u; replies_are = c.command.ensures.replies u; at = c.command.ensures.at u })
+    (c.command.ensures.read u) (c.command.ensures.packet u) (c.command.ensures.replied u)

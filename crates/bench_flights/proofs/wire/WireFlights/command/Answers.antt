@@ -1,0 +1,44 @@
+use Rattle.std.proofs.Common.{◌≡◌, true}
+use Rattle.batch_packer.specs.Actions.{is_one}
+use Rattle.bench_flights.proofs.DelayLemmas.{call_dones, call_lefts, delay_call_left, delay_dones, one_unless, uncut_none, uncut_response}
+use Rattle.bench_flights.proofs.ClearLemmas.{clear_dones, clear_lefts}
+use Rattle.bench_flights.proofs.PacketLemmas.{call_delay_few, call_few}
+use Rattle.bench_flights.proofs.wire.WireFlights.command.Goals as goal
+
+pub returns-in-Delay : goal.returns-in-Delay
+returns-in-Delay g c = record {
+  done = delay_dones _ _ c.args.call c.in-Delay.micros c.delay.result c.in-Delay.is c.delay.ensures.done;
+  packets = call_delay_few _ _ c.args.call c.in-Delay.micros c.delay.result c.in-Delay.is c.delay.ensures.packets;
+  limits = c.delay.ensures.limits;
+  left = delay_call_left _ _ c.args.call c.in-Delay.micros c.delay.result c.in-Delay.is c.delay.ensures.left;
+  cleared = λ same. absurd (let other = c.in-Delay.is in cc);
+  uncleared = λ same. absurd (let other = c.in-Delay.is in cc);
+  none = uncut_none c.delay.result c.delay.ensures.uncut;
+  response = uncut_response c.delay.result c.delay.ensures.uncut;
+  empty = c.delay.ensures.empty;
+  ended = c.delay.ensures.ended;
+  faults = c.delay.ensures.faults;
+  cause = c.delay.ensures.cause;
+  goes = c.delay.ensures.goes;
+  identity = c.delay.ensures.identity;
+}
+
+pub returns-in_default : goal.returns-in_default
+returns-in_default g c =
+    let one : is_one c.args.call ≡ true = one_unless c.args.call c.in_default.not-Delay in
+    record {
+      done = call_dones _ _ c.args.call c.single.result c.single.ensures.done;
+      packets = call_few _ _ c.args.call c.single.result c.single.ensures.packets;
+      limits = c.single.ensures.limits;
+      left = call_lefts _ _ c.args.call c.single.result one c.single.ensures.left;
+      cleared = clear_dones _ _ c.args.call c.single.result (call_dones _ _ c.args.call c.single.result c.single.ensures.done);
+      uncleared = clear_lefts _ _ c.args.call c.single.result (call_lefts _ _ c.args.call c.single.result one c.single.ensures.left) c.single.ensures.uncut;
+      none = uncut_none c.single.result c.single.ensures.uncut;
+      response = uncut_response c.single.result c.single.ensures.uncut;
+      empty = c.single.ensures.empty;
+      ended = c.single.ensures.ended;
+      faults = c.single.ensures.faults;
+      cause = c.single.ensures.cause;
+      goes = c.single.ensures.goes;
+      identity = c.single.ensures.identity;
+    }

@@ -1,0 +1,5 @@
+pub mod Flown
+pub mod Full
+pub mod Clearing
+pub mod Wires
+pub mod Opening

@@ -1,0 +1,99 @@
+-- What the parts of a poll or of a delay come to, each in a packet or a flight of its own.
+use Rattle.std.specs.Prelude.{◌≡◌, ◌⊎◌, ℕ, ◌+◌, ◌*◌, ◌^◌, ◌<◌, ◌≤◌, false, true, is_some, slice_get, List, length, Some}
+use Rattle.target_machine.specs.Attempt.{attempt, bank}
+use Rattle.target_machine.specs.InRange.{IsInRange}
+use Rattle.target_machine.specs.Lines.{delayed}
+use Rattle.target_machine.specs.Plain.{Action, acted, dp_read_of, given, is_fault, polled}
+use Rattle.target_machine.specs.declared.access.Outcome.TheVariants.{Value}
+use Rattle.target_machine.specs.declared.access.RegAccess.{RegAccess}
+use Rattle.dap_transfer.specs.State.{TransferState, grown}
+use Rattle.probe_core.specs.Bench.{BenchState}
+use Rattle.probe_core.specs.Probe.{ended_retries_of, target_of, work_of}
+use Rattle.probe_core.specs.declared.job.Limits.{Limits}
+use Rattle.access_calls.specs.Standing.{number_of, pending_of}
+use Rattle.flight_forms.specs.Forms.{form_of}
+use Rattle.batch_packer.specs.Actions.{Acts}
+use Rattle.batch_packer.specs.Flying.{CanFly, transfers_of}
+use Rattle.batch_packer.specs.declared.ends.FlightEnd.{FlightEnd}
+use Rattle.batch_packer.specs.declared.ends.FlightEnd.TheVariants as ends
+
+-- the accesses that were pushed are held by some form
+abbrev pub AreHeld : Limits → List RegAccess → Type 0
+AreHeld limits accesses = 0 < length accesses → is_some (form_of limits.packet_size limits.packet_count accesses) ≡ true
+
+-- what each of them writes is of 32 bits
+abbrev pub AreSmall : List RegAccess → Type 0
+AreSmall accesses = (k : ℕ) (a : RegAccess) → slice_get accesses k ≡ Some a → a.value < 2 ^ 32
+
+-- The action was made whole, and gave this.
+pub record HasMade (x : Action) (word : ℕ) (m o : BenchState) : Type 0 where
+  pub acts : Acts x (transfers_of m) (transfers_of o)
+  pub word_is : word ≡ given (acted (target_of m.probe) x).outcome
+
+-- Of an action in one packet that ended so: where the bench failed it was made whole, or nothing was done. No reply is bad, and nothing
+-- is cut.
+abbrev pub MadeOrNot : Action → FlightEnd → BenchState → BenchState → Type 0
+MadeOrNot x ends.BenchFault m o = Acts x (transfers_of m) (transfers_of o) ⊎ (transfers_of o ≡ transfers_of m)
+MadeOrNot x ends.ReplyBad m o = ⊥
+MadeOrNot x (ends.Cut cut) m o = ⊥
+
+-- it is no cut
+abbrev pub IsNoCut : FlightEnd → Type 0
+IsNoCut ends.BenchFault = Unit {0}
+IsNoCut ends.ReplyBad = Unit {0}
+IsNoCut (ends.Cut cut) = ⊥
+
+-- so many delays of 65,535 microseconds were made
+pub record HasDelayed (count : ℕ) (p q : TransferState) : Type 0 where
+  pub target : q.line.target ≡ delayed p.line.target (65535 * count)
+  pub work : q.work ≡ grown p.work count
+  pub number : q.line.number ≡ p.line.number
+  pub retries : q.ended_retries ≡ p.ended_retries
+  pub pending : q.pending ≡ p.pending
+  pub mask : q.mask ≡ p.mask
+  pub matches : q.setting.matches ≡ p.setting.matches
+  pub in_range : IsInRange q.line.target
+
+-- CTRL/STAT was read up to so many times, as by a poll of so many turns, which gave this.
+pub record HasLooked (mask requested turns word : ℕ) (m o : BenchState) : Type 0 where
+  pub good : is_fault (polled turns mask requested (target_of m.probe)).outcome ≡ false
+  pub word_is : word ≡ given (polled turns mask requested (target_of m.probe)).outcome
+  pub target : target_of o.probe ≡ (polled turns mask requested (target_of m.probe)).next
+  pub work : work_of o.probe ≡ grown (work_of m.probe) (polled turns mask requested (target_of m.probe)).reads
+  pub retries : ended_retries_of o.probe ≡ ended_retries_of m.probe
+  pub number : number_of o ≤ number_of m + 2 * (polled turns mask requested (target_of m.probe)).reads
+  pub flies : CanFly o
+
+-- CTRL/STAT was read once, and gave this.
+pub record HasRead (value : ℕ) (m o : BenchState) : Type 0 where
+  pub gives : (attempt (target_of m.probe) (dp_read_of 0x4)).outcome ≡ Value value
+  pub target : target_of o.probe ≡ (attempt (target_of m.probe) (dp_read_of 0x4)).next
+  pub work : work_of o.probe ≡ grown (work_of m.probe) 1
+  pub retries : ended_retries_of o.probe ≡ ended_retries_of m.probe
+  pub number : number_of o ≤ number_of m + 2
+  pub flies : CanFly o
+
+-- a read that was not made left the target and the work
+pub record IsUnread (m o : BenchState) : Type 0 where
+  pub target : target_of o.probe ≡ target_of m.probe
+  pub work : work_of o.probe ≡ grown (work_of m.probe) 0
+
+-- A read that a WAIT ended: DPBANKSEL is not 0, as CTRL/STAT itself never waits.
+pub record HasWaited (m o : BenchState) : Type 0 where
+  pub unread : IsUnread m o
+  pub other : bank (target_of m.probe) ≡ 0 → ⊥
+  pub retries : ended_retries_of m.probe + 1 < 2 ^ 32 → ended_retries_of o.probe ≡ ended_retries_of m.probe + 1
+  pub number : number_of o ≤ number_of m + 1
+  pub pending : pending_of o ≡ false
+
+-- Of one read that ended so.
+abbrev pub ReadOrNot : FlightEnd → BenchState → BenchState → Type 0
+ReadOrNot (ends.Cut cut) m o = (cut.response ≡ 0x02) × HasWaited m o
+ReadOrNot ends.BenchFault m o = ((value : ℕ) × HasRead value m o) ⊎ IsUnread m o
+ReadOrNot ends.ReplyBad m o = ⊥
+
+-- the same end, naming no access
+abbrev pub unnamed : FlightEnd → FlightEnd
+unnamed (ends.Cut cut) = ends.Cut (record { performed = 0; confirmed = 0; response = cut.response })
+unnamed ends.BenchFault = ends.BenchFault
+unnamed ends.ReplyBad = ends.ReplyBad

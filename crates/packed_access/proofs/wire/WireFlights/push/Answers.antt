@@ -1,7 +1,0 @@
-use Rattle.std.proofs.Common.{ap}
-use Rattle.batch_packer.specs.FlightStates.{FlightState}
-use Rattle.packed_access.proofs.FormLemmas.{few_after}
-use Rattle.packed_access.proofs.wire.WireFlights.push.Goals as goal
-
-pub returns-clause-few : goal.returns-clause-few
-returns-clause-few g c = few_after c.args.self.now.flight.limits c.push.new.self.limits c.args.self.now.flight.accesses c.push.new.self.accesses c.args.next c.args.self.now.limits (ap (λ (f : FlightState). f.limits) c.push.ensures.pushed) (ap (λ (f : FlightState). f.accesses) c.push.ensures.pushed)

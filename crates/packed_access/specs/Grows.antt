@@ -1,0 +1,41 @@
+-- The journal of more calls, and of a `finish` after them, begins with that of the calls: the laws `grows` and `settles`.
+use Rattle.std.specs.Prelude.{◌≡◌, ℕ, ◌+◌, false, List, [], ◌∷◌, length}
+use Rattle.std.specs.List.{AllByRecursion}
+use Rattle.std.proofs.Common.{subst, arith}
+use Rattle.target_machine.specs.State.{TargetState}
+use Rattle.target_machine.specs.declared.access.RegAccess.{RegAccess}
+use Rattle.call_terms.specs.Journal.{Entry, target_after}
+use Rattle.call_terms.specs.declared.calls.Ask.{Ask}
+use Rattle.call_terms.specs.declared.journal.Part.TheVariants.{Settles}
+use Rattle.access_regs.specs.Entries.{kept_by}
+use Rattle.access_regs.specs.Journal.{issued, issued_from, kept_from, numbered, steps_of}
+use Rattle.access_regs.specs.Kept.{nothing_kept}
+use Rattle.access_regs.specs.Plan.{settle}
+use Rattle.access_regs.specs.declared.planner.Planner.{Planner}
+use Rattle.access_regs.proofs.EntryLemmas.{journal_marks}
+use Rattle.access_regs.proofs.Joins.{journal_joins, later_entries}
+use Rattle.access_calls.specs.Growing.{IsAfter, JournalGrows, JournalSettles}
+
+pub grows_packed : (p : Planner) → JournalGrows (issued p)
+grows_packed p t asks more =
+    let n : ℕ = 0 + length asks in
+    let rest : List Entry = issued_from p n (kept_from p nothing_kept t asks) (target_after t (issued p t asks)) more in
+    let later : AllByRecursion (IsAfter n) rest = later_entries p n (kept_from p nothing_kept t asks) (target_after t (issued p t asks)) more in
+    let number : n ≡ length asks = omega arith in
+    record {
+      rest = rest;
+      joined = journal_joins p 0 nothing_kept t asks more;
+      later = subst (λ (k : ℕ). AllByRecursion (IsAfter k) rest) number later;
+    }
+
+-- what settles so many calls is issued after them
+settling_later : (n : ℕ) (accesses : List RegAccess) → AllByRecursion (IsAfter n) (numbered n false (steps_of Settles accesses))
+settling_later n [] = tt
+settling_later n (a ∷ accesses) = (omega arith, settling_later n accesses)
+
+pub settles_packed : (p : Planner) → JournalSettles (issued p)
+settles_packed p t asks = record {
+  rest = numbered (length asks) false (steps_of Settles (settle (kept_by p t asks)));
+  joined = (journal_marks p t asks).0;
+  later = settling_later (length asks) (settle (kept_by p t asks));
+}
