@@ -195,7 +195,7 @@ fn is_sound_call(call: &ProbeCall) -> bool
 }
 
 // Asks a unit that may be asked.
-fn ask<F: Flights>(
+pub(crate) fn ask<F: Flights>(
     rt: &impl Abort,
     access: &mut PackedAccess<F>,
     unit: &Unit,
