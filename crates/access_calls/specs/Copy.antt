@@ -1,6 +1,7 @@
 -- Copying a word: it is read, written elsewhere, and then a line says so.
 use Rattle.std.specs.Prelude.{◌≡◌, ◌⊎◌, ⊤, ℕ, ◌+◌, true, false, if◌then◌else◌, List, [], ◌∷◌, Option, Some, None}
 use Rattle.std.specs.Io.KnownBytes.{Appends}
+use Rattle.dap_base.specs.Causes.{Rose}
 use Rattle.target_machine.specs.State.{Agree}
 use Rattle.target_machine.specs.declared.unit.Unit.{Unit as AccessUnit}
 use Rattle.target_machine.specs.declared.unit.Unit.TheVariants as unit
@@ -8,8 +9,10 @@ use Rattle.probe_core.specs.Probe.{target_of}
 use Rattle.call_terms.specs.Asks.{unit_ask}
 use Rattle.call_terms.specs.World.{World, done_now, end_result, next_world, stops_here}
 use Rattle.call_terms.specs.declared.calls.Ask.{Ask}
+use Rattle.access_calls.specs.Answers.{IsEnd}
 use Rattle.access_calls.specs.Reported.{Reported}
 use Rattle.access_calls.specs.Standing.{WhereObservable}
+use Rattle.access_calls.specs.declared.stop.Stop.{Stop}
 use Rattle.access_calls.specs.declared.stop.Stop.TheVariants.{Cut, BenchFault, ReplyBad, OutOfMemory}
 use Rattle.access_calls.specs.declared.users.copy.CopyEnd.{CopyEnd}
 use Rattle.access_calls.specs.declared.users.copy.CopyEnd.TheVariants.{Done, Stopped, WriteFault}
@@ -65,3 +68,15 @@ IsCopyEnd (Stopped (BenchFault issued confirmed)) a c old new = ⊤
 IsCopyEnd (Stopped ReplyBad) a c old new = ⊤
 IsCopyEnd (Stopped OutOfMemory) a c old new = ⊤
 IsCopyEnd WriteFault a c old new = c.stopped ≡ None
+
+-- the end of the access, by the end of the copy: the one that is answered, or none
+abbrev pub AccessEndsAs : CopyEnd → Option Stop → Type 0
+AccessEndsAs Done end = end ≡ None
+AccessEndsAs (Stopped s) end = IsEnd end s
+AccessEndsAs WriteFault end = end ≡ None
+
+-- the sink failed at `WriteFault`, and at no other end
+abbrev pub HasSinkCause : CopyEnd → ℕ → ℕ → Type 0
+HasSinkCause Done before now = now ≡ before
+HasSinkCause (Stopped s) before now = now ≡ before
+HasSinkCause WriteFault before now = Rose before now

@@ -34,8 +34,12 @@ impl Scripted {
     /// An access of which nothing was asked, with these results. No memory is taken.
     pub fn new(alloc: Global, results: Vec<u32>, fails_at: u32) -> Scripted
         ensures calls { result.calls.items ≡ [] }
+        ensures results { result.results ≡ results }
+        ensures made { result.made ≡ 0 }
+        ensures fails_at { result.fails_at ≡ fails_at }
         ensures needs { result.needs ≡ 0 }
         ensures fence { result.fence ≡ 0 }
+        ensures faults { result.faults ≡ 0 }
         ensures open { result.ended ≡ false }
     {
         Scripted {

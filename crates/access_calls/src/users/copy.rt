@@ -4,8 +4,8 @@ ghost use Rattle.target_machine.specs.Sound.{IsSound};
 ghost use Rattle.probe_core.specs.Bench.{BenchState};
 ghost use Rattle.call_terms.specs.Asks.{is_wide, unit_ask};
 ghost use Rattle.call_terms.specs.NeedPoints.{nothing_asked};
-ghost use Rattle.access_calls.specs.Answers.{StopsCalls};
-ghost use Rattle.access_calls.specs.Copy.{IsCopyEnd, copied, read_word, write_word};
+ghost use Rattle.access_calls.specs.Answers.{IsEnd, StopsCalls};
+ghost use Rattle.access_calls.specs.Copy.{AccessEndsAs, HasSinkCause, IsCopyEnd, copied, read_word, write_word};
 ghost use Rattle.access_calls.specs.GoesOn.{GoesOn};
 ghost use Rattle.access_calls.specs.Left.{IsLeft, answered_by};
 ghost use Rattle.access_calls.specs.Reported.{world_from};
@@ -67,6 +67,7 @@ fn ask<A: Access>(unit: Unit, access: &mut A) -> Result<Slot, Stop>
     ensures stops { (m : BenchState) (answered : Option ℕ) → A.begun access.old m → IsLeft (A.reported access.new) answered
         → IfErr result (StopsCalls (world_from m answered) ((A.reported access.old).asks.calls ++ unit_ask unit false ∷ []) (A.reported access.new).lines) }
     ensures open { OnOk result ((A.reported access.new).end ≡ None) }
+    ensures end { IfErr result (IsEnd (A.reported access.new).end) }
     ensures on { (m : BenchState) → A.begun access.old m → A.begun access.new m }
     ensures identity { A.identity access.new ≡ A.identity access.old }
     ensures goes { GoesOn (A.reported access.old) (A.reported access.new) }
@@ -79,7 +80,8 @@ fn ask<A: Access>(unit: Unit, access: &mut A) -> Result<Slot, Stop>
 }
 
 /// Reads the word at one address by the access port 0, writes it to another, and then writes a line.
-/// Both addresses are multiples of 4, and nothing was asked of the access before.
+/// Both addresses are multiples of 4, and nothing was asked of the access before. `Stopped` comes only with the
+/// end of the access or where memory was refused, `WriteFault` only where the sink failed.
 #[tactic(auto, using(crate::proofs::KeepLemmas::goes_trans))]
 pub fn copy_word<A: Access, K: Sink>(from: u32, to: u32, access: &mut A, sink: &mut K) -> CopyEnd
     requires source { from % 4 ≡ 0 }
@@ -88,6 +90,8 @@ pub fn copy_word<A: Access, K: Sink>(from: u32, to: u32, access: &mut A, sink: &
     requires fresh { (A.reported access.old).asks ≡ nothing_asked }
     ensures answer { (m : BenchState) → A.begun access.old m
         → IsCopyEnd result (A.reported access.new) (copied (world_from m (answered_by (A.reported access.new))) from to) (K.written sink.old) (K.written sink.new) }
+    ensures end { AccessEndsAs result (A.reported access.new).end }
+    ensures cause { HasSinkCause result (K.faults sink.old) (K.faults sink.new) }
     ensures on { (m : BenchState) → A.begun access.old m → A.begun access.new m }
     ensures identity { A.identity access.new ≡ A.identity access.old }
     ensures goes { GoesOn (A.reported access.old) (A.reported access.new) }

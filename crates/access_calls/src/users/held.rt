@@ -1,6 +1,7 @@
 //! A struct that owns an access, which may be lent.
-ghost use Rattle.std.specs.Prelude.{◌≡◌, OnOk};
+ghost use Rattle.std.specs.Prelude.{◌≡◌, OnOk, IfErr, IfSome, Err};
 ghost use Rattle.call_terms.specs.NeedPoints.{needed};
+ghost use Rattle.access_calls.specs.Answers.{IsEnd, NoMemory};
 ghost use Rattle.access_calls.specs.GoesOn.{GoesOn};
 
 use crate::{Access, Stop};
@@ -19,9 +20,13 @@ impl<A: Access> Held<A> {
         Held { access }
     }
 
-    /// Makes all that was asked. At an error the access has ended.
+    /// Makes all that was asked. Takes no memory. At an error the access has ended with it, and an access
+    /// that had ended answers its end again.
     pub fn flush(&mut self) -> Result<(), Stop>
         ensures asks { OnOk result ((A.reported self.new.access).asks ≡ needed (A.reported self.old.access).asks) }
+        ensures memory { IfErr result NoMemory }
+        ensures end { IfErr result (IsEnd (A.reported self.new.access).end) }
+        ensures ended { IfSome (A.reported self.old.access).end (λ s. result ≡ Err s) }
         ensures identity { A.identity self.new.access ≡ A.identity self.old.access }
         ensures goes { GoesOn (A.reported self.old.access) (A.reported self.new.access) }
     {
@@ -36,10 +41,13 @@ impl<A: Access> Held<A> {
     }
 }
 
-/// Lends an access to a `Held`, lets that make all that was asked, and takes it back. At an error the
-/// access has ended.
+/// Lends an access to a `Held`, lets that make all that was asked, and takes it back. Takes no memory. At an
+/// error the access has ended with it, and an access that had ended answers its end again.
 pub fn flush_lent<A: Access>(access: &mut A) -> Result<(), Stop>
     ensures asks { OnOk result ((A.reported access.new).asks ≡ needed (A.reported access.old).asks) }
+    ensures memory { IfErr result NoMemory }
+    ensures end { IfErr result (IsEnd (A.reported access.new).end) }
+    ensures ended { IfSome (A.reported access.old).end (λ s. result ≡ Err s) }
     ensures goes { GoesOn (A.reported access.old) (A.reported access.new) }
 {
     let mut held = Held::new(&mut *access);

@@ -1,64 +1,14 @@
 //! Commands over a small target, worked out by hand from CMSIS-DAP and ADIv5.
-ghost use Rattle.std.specs.Prelude.{◌≡◌, ◌≤◌, IfOk, length};
-ghost use Rattle.target_machine.specs.Ranges.{IsTargetJob};
+ghost use Rattle.std.specs.Prelude.{◌≤◌, length};
 
-use crate::*;
-use dap_base::{ItemList, OutOfMemory};
+use crate::jobs::target;
+use dap_base::OutOfMemory;
 use dap_messages::{CommandValue, Request, Response, packet_view};
+use dap_transfer::{BlockReplied, TransferEngine};
 use std::alloc::Global;
 use std::process::Abort;
 use std::test::Fail;
-use target_machine::{ApJob, RegionJob, ScriptJobs, Target, TargetJob, WordJob, WordJobs};
-
-fn list<T: Copy + Drop>(alloc: Global, items: &[T]) -> Result<ItemList<T>, OutOfMemory>
-    ensures { IfOk result (λ list. list ≡ items.now) }
-{
-    let mut list = ItemList::new(alloc);
-    for item in items {
-        list.push(*item)?;
-    }
-    Ok(list)
-}
-
-// A powered target with AP 0, 16 bytes at 0x20000000, the first word of which is 7.
-fn job(alloc: Global) -> Result<TargetJob, OutOfMemory>
-    ensures { IfOk result IsTargetJob }
-{
-    Ok(TargetJob {
-        dpidr: 0x2BA0_1477,
-        powered: true,
-        power_reads: 0,
-        pins: 0xA0,
-        carry: false,
-        aps: list(
-            alloc,
-            &[ApJob {
-                ap: 0,
-                idr: 0x2477_0011,
-                base: 0xE00F_F003,
-                csw: 0,
-                la: false,
-            }],
-        )?,
-        memory: list(
-            alloc,
-            &[RegionJob {
-                address: 0x2000_0000,
-                length: 16,
-                read_only: false,
-            }],
-        )?,
-        words: list(
-            alloc,
-            &[WordJob {
-                address: 0x2000_0000,
-                value: 7,
-            }],
-        )?,
-        scripts: ScriptJobs::new(alloc),
-        reset: WordJobs::new(alloc),
-    })
-}
+use target_machine::Target;
 
 // An engine that has made no transfer yet.
 fn engine(alloc: Global, waits: &[u32; 4]) -> Result<TransferEngine, OutOfMemory> {
@@ -68,7 +18,7 @@ fn engine(alloc: Global, waits: &[u32; 4]) -> Result<TransferEngine, OutOfMemory
             return Err(OutOfMemory);
         }
     }
-    Ok(TransferEngine::new(Target::new(alloc, &job(alloc)?)?, stalls))
+    Ok(TransferEngine::new(Target::new(alloc, &target(alloc)?)?, stalls))
 }
 
 // What a Transfer answers: executed, response and words.

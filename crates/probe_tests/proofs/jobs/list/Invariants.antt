@@ -1,5 +1,5 @@
 use Rattle.std.proofs.Common.{◌≡◌, take}
-use Rattle.dap_transfer.proofs.tests.list.Given as goal
+use Rattle.probe_tests.proofs.jobs.list.Given as goal
 
 abbrev pub invariant-loop-item : goal.invariant-loop-item
 invariant-loop-item g l = l.list ≡ take l.item-index l.items

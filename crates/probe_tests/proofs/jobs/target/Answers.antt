@@ -1,6 +1,6 @@
 use Rattle.std.proofs.Common.{refl}
 use Rattle.target_machine.proofs.JobTest.{passes}
-use Rattle.dap_transfer.proofs.tests.job.Goals as goal
+use Rattle.probe_tests.proofs.jobs.target.Goals as goal
 
 pub returns : goal.returns
 returns c =
