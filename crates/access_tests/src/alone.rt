@@ -1,5 +1,4 @@
 //! Rows by the access that sends each register access by itself.
-use crate::jobs::{BASE, Setting, job_of};
 use crate::rows::{Step, ask, begun, bench_of, row_alone, take_slot, word, write, write_dp};
 use access_calls::{Access, Report, Stop, StopCause};
 use bench_access::OverBench;
@@ -7,6 +6,7 @@ use bench_flights::Alone;
 use call_terms::Slot;
 use packed_access::Single;
 use probe_core::{Bench, Config, FaultyBench, Limits, MemoryBench};
+use probe_tests::jobs::{BASE, Setting, job_of};
 use std::alloc::Global;
 use std::process::Abort;
 use std::test::Fail;

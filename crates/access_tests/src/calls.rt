@@ -1,6 +1,6 @@
 //! The worked rows whose calls all come, with their packets and replies.
-use crate::jobs::{BASE, Setting};
 use crate::rows::{Step, read, row, word, write, write_dp};
+use probe_tests::jobs::{BASE, Setting};
 use std::alloc::Global;
 use std::process::Abort;
 use std::test::Fail;

@@ -1,7 +1,7 @@
 //! The worked rows that a fault or a retry ends, with their packets, replies and reports.
-use crate::jobs::{BASE, Setting};
 use crate::rows::{Step, read, row, word, write};
 use access_calls::{Report, StopCause};
+use probe_tests::jobs::{BASE, Setting};
 use std::alloc::Global;
 use std::process::Abort;
 use std::test::Fail;

@@ -1,4 +1,4 @@
-//! Tests of flights and of the access that packs, over benches in memory and benches of the tests.
+//! Tests of the access that packs, and of the one that sends each register access by itself, over benches in memory and one whose replies are given.
 #![tactic(auto)]
 
 #[cfg(test)]
@@ -8,10 +8,8 @@ mod calls;
 #[cfg(test)]
 mod ends;
 #[cfg(test)]
-mod flights;
-#[cfg(test)]
-mod jobs;
-#[cfg(test)]
 mod openings;
+#[cfg(test)]
+mod replies;
 #[cfg(test)]
 mod rows;

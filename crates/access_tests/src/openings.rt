@@ -1,9 +1,10 @@
 //! Accesses that do not begin.
-use crate::jobs::{BASE, job_of};
 use access_calls::Stop;
 use bench_access::OverBench;
 use packed_access::Packed;
 use probe_core::{Bench, Config, FaultyBench, Limits};
+use probe_tests::jobs::{BASE, job_of};
+use probe_tests::scripted::Scripted;
 use std::alloc::Global;
 use std::process::Abort;
 use std::test::Fail;
@@ -41,6 +42,29 @@ fn fails_at(rt: &impl Abort, alloc: Global, call: u32) -> Result<(), Fail> {
 fn failing_calls_refuse(rt: HostRuntime) -> Result<(), Fail> {
     for call in 2..8 {
         fails_at(&rt, rt.alloc(), call)?;
+    }
+    Ok(())
+}
+
+// The first reply tells a packet size of 63 bytes, which no probe may have.
+#[test]
+fn a_bad_reply_refuses(rt: HostRuntime) -> Result<(), Fail> {
+    let bench = Scripted::new(rt.alloc(), &[0, 2, 63, 0]);
+    let config = Config {
+        idle: 0,
+        retry: 100,
+    };
+    let limits = Limits {
+        packet_size: 64,
+        packet_count: 1,
+    };
+    match Packed::<Scripted>::begin(rt.alloc(), bench, config, limits) {
+        Ok(_) => assert!(rt; false, "begun"),
+        Err(refusal) => {
+            assert_eq!(rt; refusal.stop, Stop::ReplyBad);
+            assert_eq!(rt; refusal.sent_length, 2);
+            assert_eq!(rt; refusal.got_length, 4);
+        }
     }
     Ok(())
 }

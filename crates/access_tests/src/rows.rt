@@ -5,7 +5,6 @@ ghost use Rattle.probe_core.specs.Memory.{reported_of};
 ghost use Rattle.probe_core.specs.Ranges.{AreLimits};
 ghost use Rattle.bench_access.specs.Opening.{IsIdle};
 
-use crate::jobs::{Setting, job_of};
 use access_calls::{Access, Report, Stop, StopCause};
 use bench_access::OverBench;
 use bench_flights::{Alone, Flights, FlightsOver, Wire};
@@ -13,6 +12,7 @@ use call_terms::{Asked, Slot};
 use dap_base::OutOfMemory;
 use packed_access::PackedAccess;
 use probe_core::{Bench, Config, Limits, MemoryBench, Shown};
+use probe_tests::jobs::{Setting, job_of};
 use std::alloc::Global;
 use std::process::Abort;
 use std::test::Fail;

@@ -11,7 +11,7 @@ use Rattle.dap_messages.specs.declared.command_value.CommandValue.{CommandValue}
 use Rattle.dap_messages.specs.declared.command_value.CommandValue.TheVariants as command
 use Rattle.dap_replies.specs.ReplyViews.{Shown}
 use Rattle.dap_replies.specs.ReplyReading.{reply_read}
-use Rattle.probe_core.specs.Bench.{BenchState, StepsTo, fresh}
+use Rattle.probe_core.specs.Bench.{BenchState, fresh}
 use Rattle.probe_core.specs.Ranges.{IsBenchJob}
 use Rattle.probe_core.specs.declared.job.BenchJob.{BenchJob}
 use Rattle.probe_core.specs.Probe.{ExecutorState, target_of}
@@ -62,10 +62,6 @@ opened_flies config m o b h = record {
   };
   in_range = subst IsInRange (sym (opened_target config m o h)) b.in_range;
 }
-
--- the same from an equal state
-pub steps_from : (P : BenchState → BenchState → Type 0) (x w y : Option BenchState) → x ≡ w → StepsTo P x y → StepsTo P w y
-steps_from P x w y same h = subst (λ (z : Option BenchState). StepsTo P z y) same h
 
 -- ---- after a load
 

@@ -1,7 +1,7 @@
 //! Whole calls of the program over objects in memory.
 
 use dap_base::{MemorySink, MemorySource, NameText, OutOfMemory, Words};
-use dapseq_tool::{Status, dapseq, dapseq_over};
+use dapseq_tool::{InMemory, Status, dapseq, dapseq_in_memory, dapseq_over};
 use packed_access::Single;
 use probe_core::{FaultyBench, MemoryBench};
 use std::alloc::Global;
@@ -26,8 +26,18 @@ pub fn words_of(alloc: Global, text: &str) -> Result<Words, OutOfMemory> {
     Ok(words)
 }
 
-/// How the program ends with these words and this job, and what it writes. An error where memory is refused.
+/// How the program ends with these words and this job in memory, and what it writes. An error where memory is refused.
 pub fn answer(
+    alloc: Global,
+    words: &Words,
+    job: &[u8],
+) -> Result<(Status, MemorySink), OutOfMemory> {
+    let InMemory { status, sink, .. } = dapseq_in_memory(alloc, words, job)?;
+    Ok((status, sink))
+}
+
+/// The same where some calls of its objects fail.
+pub fn answer_where_calls_fail(
     alloc: Global,
     words: &Words,
     job: &[u8],

@@ -1,6 +1,6 @@
 //! Runs a stored job once for each call of its source, its sink and its bench, and lets that call fail.
 
-use crate::answering::{Failing, answer};
+use crate::answering::{Failing, answer_where_calls_fail};
 use dap_base::{OutOfMemory, Words};
 use dapseq_tool::Status;
 use std::alloc::Global;
@@ -82,7 +82,7 @@ pub fn failing_calls(
     object: Object,
 ) -> Result<Option<u32>, OutOfMemory> {
     for call in 1..MOST_CALLS {
-        let (status, sink) = answer(alloc, words, job, object.failing(&[call]))?;
+        let (status, sink) = answer_where_calls_fail(alloc, words, job, object.failing(&[call]))?;
         let text = sink.bytes();
         if status != object.status() {
             return Ok(if text == whole { Some(call - 1) } else { None });

@@ -4,7 +4,7 @@
 mod answering;
 mod failing;
 
-use answering::{Failing, answer, answer_by_single, words_of};
+use answering::{answer, answer_by_single, words_of};
 use dap_base::{OutOfMemory, Words};
 use failing::{Object, failing_calls};
 use std::io::ErrorKind;
@@ -38,14 +38,7 @@ fn read_stored(rt: &HostRuntime, name: &str) -> io::Result<Stored> {
 /// An error where a file cannot be read, standard output cannot be written, or memory is refused.
 pub fn run_case(rt: &HostRuntime, name: &str) -> io::Result<()> {
     let stored = read_stored(rt, name)?;
-    let failing = Failing {
-        source: &[],
-        sink: &[],
-        bench: &[],
-    };
-    let (status, sink) = answer(rt.alloc(), &stored.words, &stored.job, failing).map_err(
-        no_memory,
-    )?;
+    let (status, sink) = answer(rt.alloc(), &stored.words, &stored.job).map_err(no_memory)?;
     let code = status.code();
     if sink.bytes() == stored.text.as_slice() {
         println!(rt; "{name} {code} as expected")?;

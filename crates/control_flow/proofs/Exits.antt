@@ -1,11 +1,11 @@
 -- What comes later, for the exits of the evaluator.
-use Rattle.std.proofs.Common.{◌≡◌, ℕ, ◌+◌, ◌<◌, ◌≤◌, Bool, true, false, cond, not, List, [], ◌∷◌, ◌++◌, length, take, nat_eq, codes, Option, None, Some, unwrap_or, Result, Ok, Err, refl, sym, ap, subst, ◌∙◌, arith}
+use Rattle.std.proofs.Common.{◌≡◌, ℕ, true, false, cond, List, nat_eq, codes, Option, Ok, refl, sym, subst}
 use Rattle.dap_base.specs.Outcome.{◌>>=◌}
 use Rattle.function_table.specs.declared.function.Function.{Function}
 use Rattle.function_table.specs.Lookup.{function_named}
 use Rattle.expr_grammar.specs.declared.code.Name.{Name}
-use Rattle.expr_grammar.specs.Tree.{Tree, ArgTree, ArgTrees, StmtTree}
-use Rattle.sequence_code.specs.Trees.{CodeStep, CodeSteps, SetTrees}
+use Rattle.expr_grammar.specs.Tree.{Tree, ArgTrees, StmtTree}
+use Rattle.sequence_code.specs.Trees.{CodeSteps, SetTrees}
 use Rattle.call_terms.specs.declared.calls.Value.{Value}
 use Rattle.call_terms.specs.declared.calls.Value.TheVariants.{Number}
 use Rattle.call_terms.specs.NeedPoints.{Costs}
@@ -13,17 +13,15 @@ use Rattle.call_terms.specs.World.{World}
 use Rattle.access_calls.proofs.KeepLemmas.{goes_same, goes_trans}
 use Rattle.access_calls.specs.declared.stop.Stop.TheVariants.{OutOfMemory}
 use Rattle.sequence_terms.specs.declared.bindings.Binding.{Binding}
-use Rattle.sequence_terms.specs.Calls.{use_now, missing, given, global}
+use Rattle.sequence_terms.specs.Calls.{global}
 use Rattle.sequence_terms.specs.Late.{Late, late, Later}
-use Rattle.sequence_terms.specs.Machine as machine
-use Rattle.sequence_terms.specs.Machine.{Over, State, Out, end_state, with_locals, with_variables}
-use Rattle.sequence_terms.specs.Steps.{turn, turns, counted, inside, polled, polled_at, repeated, in_order, block, done, run_of, debugged, steps_at, sequence_at}
-use Rattle.sequence_terms.specs.Values.{value, stored, used_now, both, operands, result_of, truth_of, argument, arguments, chained, numbers_of, all_used, called, call_of, is_call, text_of}
+use Rattle.sequence_terms.specs.Machine.{State, Out, with_locals, with_variables}
+use Rattle.sequence_terms.specs.Steps.{turn, turns, counted, inside, polled, polled_at, repeated, block, done, debugged, steps_at, sequence_at}
+use Rattle.sequence_terms.specs.Values.{value, stored, used_now, operands, result_of, truth_of, arguments, numbers_of, all_used, called, call_of, text_of}
 use Rattle.sequence_terms.proofs.Goes as g
-use Rattle.sequence_terms.proofs.LateLemmas.{steady_late, later_same, later_still}
+use Rattle.sequence_terms.proofs.LateLemmas.{steady_late, later_same}
 use Rattle.sequence_terms.specs.Steady.{Goes}
 use Rattle.late_calls.specs.declared.end.End.{End}
-use Rattle.late_calls.specs.declared.end.End.TheVariants as end
 use Rattle.late_calls.specs.Ends.{Ends, Left}
 use Rattle.late_calls.proofs.Leaves.{After, ends_on, later_bind, later_cond, later_ok, later_halt, later_use, later_both, later_global, later_ask, left_on}
 
@@ -145,10 +143,6 @@ polled_first cost w lines e form n s k now is h = rw is (ends_on w lines e now (
 pub late_number : (cost : Costs) (w : World) (n : ℕ) → (late cost w).number n ≡ Number n
 unfolding late
 late_number cost w n = refl
-
-pub late_careless : (cost : Costs) (w : World) → (late cost w).is_watchful ≡ false
-unfolding late
-late_careless cost w = refl
 
 pub ruleset goes_on = (
   ends_on,

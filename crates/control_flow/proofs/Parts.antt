@@ -1,34 +1,29 @@
 -- Parts of expressions and steps with results that come later, once what comes before them is known.
-use Rattle.std.proofs.Common.{◌≡◌, ℕ, zero, suc, ◌+◌, ◌-◌, ◌<◌, ◌≤◌, Bool, true, false, cond, not, List, [], ◌∷◌, ◌++◌, length, take, nat_eq, codes, Option, None, Some, unwrap_or, Result, Ok, Err, refl, sym, ap, subst, ◌∙◌, arith}
+use Rattle.std.proofs.Common.{◌≡◌, ℕ, ◌-◌, false, List, nat_eq, Option, None, Some, unwrap_or, Result, Ok, refl, sym, ap, subst, arith}
 use Rattle.dap_base.specs.Outcome.{◌>>=◌}
-use Rattle.expr_grammar.specs.Arithmetic.{truth, unary_value, binary_value}
 use Rattle.expr_grammar.specs.declared.code.Name.{Name}
 use Rattle.expr_grammar.specs.declared.code.BinaryOp.{BinaryOp}
-use Rattle.expr_grammar.specs.declared.code.UnaryOp.{UnaryOp}
 use Rattle.expr_grammar.specs.Tree as t
 use Rattle.expr_grammar.specs.Tree.{Tree, ArgTrees}
 use Rattle.function_table.specs.declared.function.Function.{Function}
-use Rattle.function_table.specs.declared.function.Function.TheVariants as f
 use Rattle.function_table.specs.Lookup.{function_named}
 use Rattle.sequence_code.specs.Trees.{CodeSteps, SetTrees}
-use Rattle.target_machine.specs.declared.unit.HaltCause.TheVariants.{DivideByZero}
 use Rattle.call_terms.specs.declared.calls.Value.{Value}
 use Rattle.call_terms.specs.declared.calls.Value.TheVariants.{Number}
 use Rattle.call_terms.specs.NeedPoints.{Costs}
 use Rattle.call_terms.specs.World.{World}
 use Rattle.access_calls.specs.declared.stop.Stop.TheVariants.{OutOfMemory}
-use Rattle.sequence_terms.specs.Calls.{missing, given, guarded, performed}
+use Rattle.sequence_terms.specs.Calls.{missing, given, guarded}
 use Rattle.sequence_terms.specs.Late.{Late, late}
-use Rattle.sequence_terms.specs.Machine as machine
 use Rattle.sequence_terms.specs.Machine.{State, Out}
 use Rattle.sequence_terms.specs.Polls.{poll_of}
 use Rattle.sequence_terms.specs.Steps.{timeout_of, turn_count, condition, controlled, looped, repeated, sequence_at}
-use Rattle.sequence_terms.specs.Values.{named, stored, assigned, used_now, of_unary, operands, result_of, strict_binary, truth_of, appended, conjunction, disjunction, choice, all_used, numbers_of, is_call, text_of, called, call_of, value}
+use Rattle.sequence_terms.specs.Values.{named, stored, assigned, used_now, operands, strict_binary, appended, conjunction, disjunction, choice, all_used, numbers_of, text_of, called, call_of, value}
 use Rattle.sequence_terms.specs.Variables.{visible, set_visible}
 use Rattle.late_calls.specs.declared.end.End.{End}
 use Rattle.late_calls.specs.Ends.{Ends, Gives, Left}
-use Rattle.late_calls.proofs.Leaves.{After, ends_on, later_bind, later_cond, later_ok, later_use, later_both}
-use Rattle.control_flow.proofs.Exits.{CallsLater, later_called, later_truth_of, later_all_used, later_stored, later_result, later_repeated, refused_after}
+use Rattle.late_calls.proofs.Leaves.{After, ends_on, later_cond, later_ok, later_use, later_both}
+use Rattle.control_flow.proofs.Exits.{CallsLater, later_called, later_truth_of, later_stored, later_result, later_repeated, refused_after}
 
 abbrev S : Type 0
 S = State Value Late
@@ -55,49 +50,10 @@ module _ (cost : Costs) (w : World) where
   unfolding assigned stored guarded late
   assigned_on name v out r now is at = rw is (rw at refl)
 
-  pub stored_on : (name : Name) (v : Value) (r now : S) → now ≡ set_visible name.text v r → stored (late cost w) name v r ≡ Ok (v, now)
-  unfolding stored guarded late
-  stored_on name v r now at = rw at refl
-
   -- ---- operators
-
-  pub unary_on : (op : UnaryOp) (n k : ℕ) (out : O Value) (now : S) → used_now (late cost w) out ≡ Ok (n, now) → k ≡ unary_value op n → of_unary (late cost w) op out ≡ Ok (Number k, now)
-  unfolding of_unary late
-  unary_on op n k out now is at = ap (λ o. o >>= λ x. Ok (Number (unary_value op x.0), x.1)) is ∙ ap (λ x. Ok (Number x, now)) (sym at)
-
-  pub strict_on : (op : BinaryOp) (x y n : ℕ) (left : O Value) (right : S → O Value) (now : S) → operands (late cost w) left right ≡ Ok ((x, y), now) → binary_value op x y ≡ Some n → strict_binary (late cost w) op left right ≡ Ok (Number n, now)
-  unfolding strict_binary result_of late
-  strict_on op x y n left right now is some = rw is (rw some refl)
-
-  pub strict_zero : (op : BinaryOp) (x y : ℕ) (left : O Value) (right : S → O Value) (now : S) → operands (late cost w) left right ≡ Ok ((x, y), now) → binary_value op x y ≡ None → strict_binary (late cost w) op left right ≡ Err (machine.Halted DivideByZero, now)
-  unfolding strict_binary result_of
-  strict_zero op x y left right now is none = rw is (rw none refl)
-
-  pub truth_on : (n m : ℕ) (out : O Value) (now : S) → used_now (late cost w) out ≡ Ok (n, now) → m ≡ truth (not (nat_eq n 0)) → truth_of (late cost w) out ≡ Ok (Number m, now)
-  unfolding truth_of late
-  truth_on n m out now is at = rw is (rw at refl)
-
-  is_zero : (n : ℕ) → n ≡ 0 → nat_eq n 0 ≡ true
-  is_zero n e = rw e refl
 
   is_some : (n : ℕ) → ¬ (n ≡ 0) → nat_eq n 0 ≡ false
   is_some n e = grind arith
-
-  pub and_zero : (n : ℕ) (left : O Value) (right : S → O Value) (now : S) → used_now (late cost w) left ≡ Ok (n, now) → n ≡ 0 → conjunction (late cost w) left right ≡ Ok (Number 0, now)
-  unfolding conjunction late
-  and_zero n left right now is e = rw is (rw (is_zero n e) refl)
-
-  pub and_on : (lines n : ℕ) (left : O Value) (right : S → O Value) (mid now : S) (result : Result Value End) → used_now (late cost w) left ≡ Ok (n, mid) → ¬ (n ≡ 0) → Gives w lines result now (truth_of (late cost w) (right mid)) → Gives w lines result now (conjunction (late cost w) left right)
-  unfolding conjunction
-  and_on lines n left right mid now result is e h = rw is (rw (is_some n e) h)
-
-  pub or_some : (n : ℕ) (left : O Value) (right : S → O Value) (now : S) → used_now (late cost w) left ≡ Ok (n, now) → ¬ (n ≡ 0) → disjunction (late cost w) left right ≡ Ok (Number 1, now)
-  unfolding disjunction late
-  or_some n left right now is e = rw is (rw (is_some n e) refl)
-
-  pub or_on : (lines n : ℕ) (left : O Value) (right : S → O Value) (mid now : S) (result : Result Value End) → used_now (late cost w) left ≡ Ok (n, mid) → n ≡ 0 → Gives w lines result now (truth_of (late cost w) (right mid)) → Gives w lines result now (disjunction (late cost w) left right)
-  unfolding disjunction
-  or_on lines n left right mid now result is e h = rw is (rw (is_zero n e) h)
 
   pub and_first : (lines : ℕ) (e : End) (left : O Value) (right : S → O Value) (now : S) → Ends w lines e now (used_now (late cost w) left) → ((s : S) → After w s (right s)) → Ends w lines e now (conjunction (late cost w) left right)
   unfolding conjunction
@@ -106,14 +62,6 @@ module _ (cost : Costs) (w : World) where
   pub or_first : (lines : ℕ) (e : End) (left : O Value) (right : S → O Value) (now : S) → Ends w lines e now (used_now (late cost w) left) → ((s : S) → After w s (right s)) → Ends w lines e now (disjunction (late cost w) left right)
   unfolding disjunction
   or_first lines e left right now h k = ends_on w lines e now (used_now (late cost w) left) _ h (λ x. later_cond w x.1 (nat_eq x.0 0) _ _ (later_truth_of cost w (right x.1) x.1 (k x.1)) (later_ok w x.1 _))
-
-  pub choice_first : (lines n : ℕ) (test : O Value) (first second : S → O Value) (mid now : S) (result : Result Value End) → used_now (late cost w) test ≡ Ok (n, mid) → ¬ (n ≡ 0) → Gives w lines result now (first mid) → Gives w lines result now (choice (late cost w) test first second)
-  unfolding choice
-  choice_first lines n test first second mid now result is e h = rw is (rw (is_some n e) h)
-
-  pub choice_second : (lines n : ℕ) (test : O Value) (first second : S → O Value) (mid now : S) (result : Result Value End) → used_now (late cost w) test ≡ Ok (n, mid) → n ≡ 0 → Gives w lines result now (second mid) → Gives w lines result now (choice (late cost w) test first second)
-  unfolding choice
-  choice_second lines n test first second mid now result is e h = rw is (rw (is_zero n e) h)
 
   pub choice_test : (lines : ℕ) (e : End) (test : O Value) (first second : S → O Value) (now : S) → Ends w lines e now (used_now (late cost w) test) → ((s : S) → After w s (first s)) → ((s : S) → After w s (second s)) → Ends w lines e now (choice (late cost w) test first second)
   unfolding choice
@@ -136,18 +84,6 @@ module _ (cost : Costs) (w : World) where
     pub called_none : (text ns : List ℕ) (s : S) → called (late cost w) seq None text ns s ≡ Ok (Number 0, s)
     unfolding called missing late
     called_none text ns s = refl
-
-    pub called_sequence : (text ns : List ℕ) (s now : S) → seq text s ≡ Ok (tt, now) → called (late cost w) seq (Some f.Sequence) text ns s ≡ Ok (Number 0, now)
-    unfolding called late
-    called_sequence text ns s now is = rw is refl
-
-    pub sequence_ends : (lines : ℕ) (e : End) (text ns : List ℕ) (s now : S) → Ends w lines e now (seq text s) → Ends w lines e now (called (late cost w) seq (Some f.Sequence) text ns s)
-    unfolding called
-    sequence_ends lines e text ns s now h = ends_on w lines e now (seq text s) _ h (λ x. later_ok w x.1 _)
-
-    pub called_any : (text ns more : List ℕ) (s : S) → called (late cost w) seq (Some f.Sequence) text ns s ≡ called (late cost w) seq (Some f.Sequence) text more s
-    unfolding called
-    called_any text ns more s = refl
 
     pub repeated_on : (lines turn_us : ℕ) (e : Tree) (timeout : Option ℕ) (n : ℕ) (steps : CodeSteps) (body : S → O (Unit {0})) (s now : S) (result : Result (Unit {0}) End) → n ≡ turn_count turn_us (unwrap_or (timeout_of timeout) 0)
         → Gives w lines result now (looped (late cost w) turn_us seq (poll_of e steps) e n body s) → Gives w lines result now (repeated (late cost w) turn_us seq (Some e) timeout steps body s)

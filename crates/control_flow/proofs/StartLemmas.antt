@@ -1,5 +1,5 @@
 -- What a run starts with.
-use Rattle.std.proofs.Common.{◌≡◌, ◌<◌, ◌≤◌, ℕ, zero, suc, ◌+◌, Bool, true, false, cond, List, [], ◌∷◌, ◌++◌, map, take, drop, length, get_or, slice_get, Option, None, Some, refl, sym, ap, subst, ◌∙◌, arith, bytes_eq}
+use Rattle.std.proofs.Common.{◌≡◌, ◌<◌, ◌≤◌, ℕ, zero, suc, ◌+◌, Bool, true, false, cond, List, [], ◌∷◌, ◌++◌, map, take, drop, length, get_or, slice_get, Option, Some, refl, sym, ap, subst, ◌∙◌, arith, bytes_eq}
 use Rattle.std.proofs.lemmas.List.{drop_all, drop_more, take_more, map-append}
 use Rattle.expr_grammar.specs.Tree as t
 use Rattle.expr_grammar.specs.Tree.{StmtTree, stmt_tree, code_trees}
@@ -9,7 +9,7 @@ use Rattle.sequence_code.specs.Trees.{SetTrees}
 use Rattle.target_machine.specs.declared.unit.Variable.{Variable}
 use Rattle.sequence_terms.proofs.PredefinedNames.{name_at, names_length}
 use Rattle.sequence_terms.specs.declared.bindings.Binding.{Binding}
-use Rattle.call_terms.specs.NeedPoints.{Asks, Costs, nothing_asked}
+use Rattle.call_terms.specs.NeedPoints.{Costs, nothing_asked}
 use Rattle.call_terms.specs.Values.{number_of, IsAsked}
 use Rattle.call_terms.specs.World.{World}
 use Rattle.call_terms.specs.declared.calls.Ask.{Ask}
@@ -97,15 +97,6 @@ module _ (w : World) (calls : List Ask) where
     where
       next : i + 1 ≡ suc i
       next = omega arith
-
-  pub variables_all : (bs : List (Binding Value)) (i : ℕ) (vs : List Variable) → variables_of vs ≡ numbers_in w calls (take i bs) → length bs ≤ i → variables_of vs ≡ numbers_in w calls bs
-  variables_all bs i vs same k = same ∙ ap (λ l. numbers_in w calls l) (all bs i k)
-    where
-      all : (cs : List (Binding Value)) (j : ℕ) → length cs ≤ j → take j cs ≡ cs
-      all [] zero q = refl
-      all [] (suc j) q = refl
-      all (z ∷ cs) zero q = absurd (omega arith)
-      all (z ∷ cs) (suc j) q = ap (λ r. z ∷ r) (all cs j (omega arith))
 
 -- a value in a list of values that were asked
 pub asked_at : (calls : ℕ) (bs : List (Binding Value)) (i : ℕ) (x : Binding Value) → AreAsked calls bs → Some x ≡ slice_get bs i → IsAsked calls x.value

@@ -1,5 +1,5 @@
 -- What the words and the bytes ask for, step by step.
-use Rattle.std.proofs.Common.{◌≡◌, ◌∙◌, ℕ, Bool, true, false, List, [], Option, None, Some, Result, Ok, Err, length, nat_le, ◌<◌, ◌≤◌, sym, ap, subst, refl, arith}
+use Rattle.std.proofs.Common.{◌≡◌, ℕ, Bool, true, false, List, [], Option, None, Some, Result, Ok, Err, length, nat_le, ◌<◌, subst, refl, arith}
 use Rattle.std.specs.Prelude.{IfOk, MatchBool, ◌≢◌}
 use Rattle.command_words.specs.declared.answer.Command.{Command}
 use Rattle.command_words.specs.declared.answer.Command.TheVariants as commands
@@ -37,15 +37,6 @@ long_asked left c long = (long.0, long.1, by_length (nat_le (length long.0) limi
     by_length : (b : Bool) → nat_le (length long.0) limit ≡ b → MatchBool b (AsksOfBytes c long.0 (whats.Answer answers.TooLong)) (whats.Answer answers.TooLong ≡ whats.Answer answers.TooLong)
     by_length true e = let past = long.2 in let no : ⊥ = grind arith in absurd no
     by_length false e = refl
-
--- what the bytes of a source ask for
-pub bytes_asked : (left : Option (List ℕ)) (c : Command) (bytes : List ℕ) (what : What) → AreBytesOf left bytes → length bytes ≤ limit → AsksOfBytes c bytes what
-    → (bytes : List ℕ) × AreBytesOf left bytes × AsksOfCommand c bytes what
-bytes_asked left c bytes what are short asks = (bytes, are, by_length (nat_le (length bytes) limit) refl)
-  where
-    by_length : (b : Bool) → nat_le (length bytes) limit ≡ b → MatchBool b (AsksOfBytes c bytes what) (what ≡ whats.Answer answers.TooLong)
-    by_length true e = asks
-    by_length false e = let no : ⊥ = grind arith in absurd no
 
 -- what a command asks for, the words do
 pub command_asked : (words : List (List ℕ)) (left : Option (List ℕ)) (c : Command) (asked : Asked) → IsCommand words c → ReadsSource c → asked.number ≡ None

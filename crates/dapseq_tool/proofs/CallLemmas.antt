@@ -1,18 +1,15 @@
 -- What is asked for is what was done.
-use Rattle.std.proofs.Common.{◌≡◌, ◌∙◌, ◌⊎◌, inl, inr, ℕ, List, [], ◌∷◌, ◌++◌, Option, None, Some, Result, Ok, Err, refl, sym, ap, subst}
+use Rattle.std.proofs.Common.{◌≡◌, ◌∙◌, ◌⊎◌, inl, inr, ℕ, List, ◌++◌, Option, Ok, Err, refl, sym, ap, subst}
 use Rattle.std.specs.Io.KnownBytes.{Appends}
-use Rattle.std.proofs.KnownBytes.{Appends-nil}
-use Rattle.dap_base.specs.Causes.{Rose}
-use Rattle.dap_base.specs.Streams.{AppendsPrefix, PutAppends}
+use Rattle.dap_base.specs.Streams.{AppendsPrefix}
 use Rattle.probe_core.specs.Bench.{Seen}
-use Rattle.text_lines.proofs.PutLemmas.{no_part, prefix_first, put_after}
-use Rattle.text_lines.specs.Causes.{NamesFault}
+use Rattle.text_lines.proofs.PutLemmas.{prefix_first, put_after}
 use Rattle.text_lines.specs.declared.putting.TextError.{TextError}
 use Rattle.text_lines.specs.declared.putting.TextError.TheVariants as errors
 use Rattle.dapseq_tool.specs.declared.asking.Answer.TheVariants as answers
-use Rattle.dapseq_tool.specs.Answers.{IsRunStatus, answer_status, answer_text, failed_status, fault_text, head_text}
-use Rattle.dapseq_tool.specs.Asked.{Asks, IsReadLine, IsRunLine, IsUsage, OnRun}
-use Rattle.dapseq_tool.specs.Headline.{After, Answers, AreBytesOf, Call, Does, DoesWhat, FailsWriting, IsWritten, Runs, after_of, does, no_memory, not_headed, not_loaded, ran, unread}
+use Rattle.dapseq_tool.specs.Answers.{IsRunStatus, answer_status, answer_text, failed_status, head_text}
+use Rattle.dapseq_tool.specs.Asked.{Asks}
+use Rattle.dapseq_tool.specs.Headline.{AreBytesOf, Call, Does, DoesWhat, FailsWriting, IsWritten, Runs, after_of, does, not_headed, not_loaded, ran}
 use Rattle.dapseq_tool.specs.RunEnds as after
 use Rattle.dapseq_tool.specs.RunEnds.{AskedRun, DoesAfter}
 use Rattle.dapseq_tool.specs.declared.asking.Answer.{Answer}
@@ -29,12 +26,6 @@ use Rattle.job_runs.specs.Runs.{AccessKind}
 pub failed_fails : (t : TextError) → FailsWriting (failed_status t)
 failed_fails errors.Failed = tt
 failed_fails errors.OutOfMemory = tt
-
--- a text was put, or writing it failed
-pub put_written : (r : Result (Unit {0}) TextError) (old new : Option (List ℕ)) (text : List ℕ) (own : Status) → PutAppends old new r text
-    → IsWritten old new text own (elim r as (λ x. Status) [ Ok u ↦ own | Err t ↦ failed_status t ])
-put_written (Ok u) old new text own put = inl (refl, put)
-put_written (Err t) old new text own put = inr (failed_fails t, put)
 
 -- a text after one that was put whole
 pub then_written : (old mid new : Option (List ℕ)) (first second : List ℕ) (own end : Status) → Appends old mid first → IsWritten mid new second own end → IsWritten old new (first ++ second) own end

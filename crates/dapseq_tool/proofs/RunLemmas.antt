@@ -1,21 +1,19 @@
 -- From a run and its text to its status, and what it shows of faults.
-use Rattle.std.proofs.Common.{◌≡◌, ◌∙◌, ◌⊎◌, inl, inr, ℕ, ◌+◌, ◌-◌, ◌^◌, ◌≤◌, min, List, Bool, true, false, Option, None, Some, Result, Ok, Err, refl, sym, ap, subst, arith}
+use Rattle.std.proofs.Common.{◌≡◌, ◌∙◌, ◌⊎◌, inl, inr, ℕ, ◌-◌, List, true, false, Option, None, Some, Result, Ok, Err, refl, sym, ap, subst, arith}
 use Rattle.std.specs.Prelude.{IfSome, IsSome}
 use Rattle.dap_base.specs.Causes.{Rose}
 use Rattle.dap_base.specs.Streams.{PutAppends}
 use Rattle.text_lines.specs.Causes.{NamesFault}
-use Rattle.probe_core.specs.Bench.{BenchState, IsSame, Reported, Seen, StepsTo, fresh, loaded}
+use Rattle.probe_core.specs.Bench.{BenchState, IsSame, Reported, StepsTo, fresh, loaded}
 use Rattle.probe_core.specs.Probe.{fresh_probe}
 use Rattle.probe_core.specs.Runs.{IsWholeRun, KeepsRuns}
 use Rattle.probe_core.specs.declared.job.BenchJob.{BenchJob}
 use Rattle.access_calls.specs.declared.ended.Ending.{Ending}
 use Rattle.access_calls.specs.declared.ended.Ending.TheVariants as e
-use Rattle.control_flow.specs.Answers.{HasSinkCause}
 use Rattle.report_lines.specs.declared.put.TextEnd.{TextEnd}
 use Rattle.report_lines.specs.declared.put.TextEnd.TheVariants as texts
 use Rattle.job_runs.specs.Ends.{HasBenchCause}
 use Rattle.bench_access.specs.Opening.{HasBadReply}
-use Rattle.job_runs.specs.Texts.{has_report}
 use Rattle.dapseq_tool.specs.Answers.{IsRunStatus, run_status, status_after, text_status}
 use Rattle.dapseq_tool.specs.Headline.{FailsWriting, IsWritten}
 use Rattle.dapseq_tool.specs.declared.status.Status.{Status}
@@ -70,65 +68,13 @@ rose_on a b c h is = subst (Rose a) (sym is) h
 rose_after : (a b c : ℕ) → Rose a b → Rose b c → Rose a c
 rose_after a b c first second = omega (arith, first, second)
 
--- the sink failed in the run, or not
-sink_in_run : (ending : Ending) (a b : ℕ) → HasSinkCause ending a b → Rose a b ⊎ (b ≡ a)
-sink_in_run e.Done a b h = inr h
-sink_in_run (e.Halted cause) a b h = inr h
-sink_in_run (e.Cut report) a b h = inr h
-sink_in_run (e.BenchFault issued confirmed) a b h = inr h
-sink_in_run e.ReplyBad a b h = inr h
-sink_in_run e.WriteFault a b h = inl h
-sink_in_run e.OutOfMemory a b h = inr h
-
 then_rose : (a b c : ℕ) → Rose a b ⊎ (b ≡ a) → Rose b c → Rose a c
 then_rose a b c (inl first) second = rose_after a b c first second
 then_rose a b c (inr is) second = rose_here a b c is second
 
-write_by_run : (ending : Ending) (a b : ℕ) → run_status ending ≡ status.WriteFault → HasSinkCause ending a b → Rose a b
-write_by_run e.Done a b is h = absurd (cc is)
-write_by_run (e.Halted cause) a b is h = absurd (cc is)
-write_by_run (e.Cut report) a b is h = absurd (cc is)
-write_by_run (e.BenchFault issued confirmed) a b is h = absurd (cc is)
-write_by_run e.ReplyBad a b is h = absurd (cc is)
-write_by_run e.WriteFault a b is h = h
-write_by_run e.OutOfMemory a b is h = absurd (cc is)
-
-write_by_text : (t : TextEnd) → text_status t ≡ status.WriteFault → t ≡ texts.WriteFault
-write_by_text texts.BenchFault is = absurd (cc is)
-write_by_text texts.WriteFault is = refl
-write_by_text texts.OutOfMemory is = absurd (cc is)
-
-pub write_cause : (w : W) (ending : Ending) (end : Status) (a b c : ℕ) → end ≡ status_after w ending → HasSinkCause ending a b → NamesFault texts.WriteFault b c w
-    → end ≡ status.WriteFault → Rose a c
-write_cause (Ok u) ending end a b c is in_run in_text fault = rose_on a b c (write_by_run ending a b (sym is ∙ fault) in_run) in_text.else
-write_cause (Err t) ending end a b c is in_run in_text fault =
-    then_rose a b c (sink_in_run ending a b in_run) (in_text.failed (ap Err (write_by_text t (sym is ∙ fault))))
-
-silent_ok : (w : W) (t : TextEnd) → w ≡ Err t → w ≡ Ok tt → ⊥
-silent_ok w t is ok = let z : Err t ≡ Ok tt = sym is ∙ ok in cc
-
-sink_after : (w : W) (ending : Ending) (b c : ℕ) → NamesFault texts.WriteFault b c w → (c ≡ b) ⊎ (status_after w ending ≡ status.WriteFault)
-sink_after (Ok u) ending b c h = inl h.else
-sink_after (Err t) ending b c h = by_cause h.else
-  where
-    by_cause : (t ≡ texts.WriteFault) ⊎ (c ≡ b) → (c ≡ b) ⊎ (text_status t ≡ status.WriteFault)
-    by_cause (inl is) = inr (ap text_status is)
-    by_cause (inr same) = inl same
-
 joined : (end one : Status) (a b c : ℕ) → end ≡ one → b ≡ a → (c ≡ b) ⊎ (one ≡ status.WriteFault) → (c ≡ a) ⊎ (end ≡ status.WriteFault)
 joined end one a b c is same (inl after) = inl (after ∙ same)
 joined end one a b c is same (inr fault) = inr (is ∙ fault)
-
--- the count of the sink's faults changed only where the status says so
-pub sink_count : (w : W) (ending : Ending) (end : Status) (a b c : ℕ) → end ≡ status_after w ending → HasSinkCause ending a b → NamesFault texts.WriteFault b c w
-    → (has_report ending ≡ false → w ≡ Ok tt) → (c ≡ a) ⊎ (end ≡ status.WriteFault)
-sink_count w e.Done end a b c is in_run in_text silent = joined end _ a b c is in_run (sink_after w e.Done b c in_text)
-sink_count w (e.Halted cause) end a b c is in_run in_text silent = joined end _ a b c is in_run (sink_after w (e.Halted cause) b c in_text)
-sink_count w (e.Cut report) end a b c is in_run in_text silent = joined end _ a b c is in_run (sink_after w (e.Cut report) b c in_text)
-sink_count w (e.BenchFault issued confirmed) end a b c is in_run in_text silent = joined end _ a b c is in_run (sink_after w (e.BenchFault issued confirmed) b c in_text)
-sink_count w e.ReplyBad end a b c is in_run in_text silent = joined end _ a b c is in_run (sink_after w e.ReplyBad b c in_text)
-sink_count w e.WriteFault end a b c is in_run in_text silent = inr (is ∙ ap (λ x. status_after x e.WriteFault) (silent refl))
-sink_count w e.OutOfMemory end a b c is in_run in_text silent = joined end _ a b c is in_run (sink_after w e.OutOfMemory b c in_text)
 
 -- ---- faults of the bench
 
@@ -140,27 +86,6 @@ bench_in_run (e.BenchFault issued confirmed) a b h = inl (h, tt)
 bench_in_run e.ReplyBad a b h = inr h
 bench_in_run e.WriteFault a b h = inr h
 bench_in_run e.OutOfMemory a b h = inr h
-
-fails_after : (w : W) (ending : Ending) → FailsWriting (run_status ending) → FailsWriting (status_after w ending)
-fails_after (Ok u) ending h = h
-fails_after (Err t) ending h = text_fails t
-
-count_in_text : (w : W) (ending : Ending) (a b c : ℕ) → b ≡ a → NamesFault texts.BenchFault b c w → (c ≡ a) ⊎ FailsWriting (status_after w ending)
-count_in_text (Ok u) ending a b c same h = inl (h.else ∙ same)
-count_in_text (Err t) ending a b c same h = inr (text_fails t)
-
--- the count of the bench's faults changed only where a call failed
-pub bench_count : (w : W) (ending : Ending) (end : Status) (a b c : ℕ) → end ≡ status_after w ending → HasBenchCause ending a b → NamesFault texts.BenchFault b c w
-    → (c ≡ a) ⊎ FailsWriting end
-bench_count w ending end a b c is in_run in_text = by_run (bench_in_run ending a b in_run)
-  where
-    with_end : (c ≡ a) ⊎ FailsWriting (status_after w ending) → (c ≡ a) ⊎ FailsWriting end
-    with_end (inl same) = inl same
-    with_end (inr fails) = inr (subst FailsWriting (sym is) fails)
-
-    by_run : (Rose a b × FailsWriting (run_status ending)) ⊎ (b ≡ a) → (c ≡ a) ⊎ FailsWriting end
-    by_run (inl h) = inr (subst FailsWriting (sym is) (fails_after w ending h.1))
-    by_run (inr same) = with_end (count_in_text w ending a b c same in_text)
 
 bench_by_run : (ending : Ending) (a b : ℕ) → run_status ending ≡ status.BenchFault → HasBenchCause ending a b → Rose a b
 bench_by_run e.Done a b is h = absurd (cc is)

@@ -16,6 +16,3 @@ pub use call::{Over, dapseq_over};
 pub use memory::{InMemory, dapseq_in_memory};
 pub use packed::dapseq;
 pub use status::Status;
-
-#[cfg(test)]
-mod tests;

@@ -1,21 +1,7 @@
 //! What a run made and left, as lines.
 use sequence_meaning::{Direct, Recorded};
 use std::io;
-use target_machine::{HaltCause, ImageAsk, ImagePart, Target, Variables};
-
-// The name of a cause.
-fn name_of(cause: HaltCause) -> &'static str {
-    match cause {
-        HaltCause::DivideByZero => "DivideByZero",
-        HaltCause::Unsupported => "Unsupported",
-        HaltCause::AddressTooLarge => "AddressTooLarge",
-        HaltCause::Misaligned => "Misaligned",
-        HaltCause::ArgumentOutOfRange => "ArgumentOutOfRange",
-        HaltCause::AccessLimit => "AccessLimit",
-        HaltCause::MessageLimit => "MessageLimit",
-        HaltCause::StepLimit => "StepLimit",
-    }
-}
+use target_machine::{ImageAsk, ImagePart, Target, Variables};
 
 // The text that the run wrote, or how long it is.
 pub(crate) fn show_text(rt: &HostRuntime, bytes: &[u8]) -> io::Result<()> {
@@ -53,7 +39,7 @@ pub(crate) fn show_end(rt: &HostRuntime, run: &Recorded) -> io::Result<()> {
             show_variables(rt, variables)
         }
         Direct::Halted(cause, variables) => {
-            println!(rt; "end halted {}", name_of(*cause))?;
+            println!(rt; "end halted {cause:?}")?;
             show_units(rt, run)?;
             show_variables(rt, variables)
         }

@@ -1,5 +1,5 @@
 -- A report and the trace after it.
-use Rattle.std.proofs.Common.{◌≡◌, ℕ, Bool, true, false, List, ◌++◌, Option, None, Some, Result, Ok, refl, sym, subst}
+use Rattle.std.proofs.Common.{◌≡◌, ℕ, Bool, true, false, List, ◌++◌, Option, None, Some, Result, refl, subst}
 use Rattle.std.specs.Prelude.{IfSome, ◌&&◌}
 use Rattle.std.specs.Io.KnownBytes.{Appends}
 use Rattle.dap_base.specs.Streams.{AppendsPrefix, PutAppends}
@@ -23,8 +23,3 @@ first_part (Some m) old new f g part = prefix_first old new (f m) (g m) part
 pub no_trace : (traced shows : Bool) → shows ≡ false → (traced && shows) ≡ false
 no_trace true shows is = is
 no_trace false shows is = refl
-
--- nothing is put after a text
-pub then_nothing : {E : Type 0} (old mid new : Option (List ℕ)) (r : Result (Unit {0}) E) (text : List ℕ) → Appends old mid text → (r ≡ Ok tt) × (new ≡ mid) → PutAppends old new r text
-then_nothing old mid new r text first is =
-    subst (λ x. PutAppends old new x text) (sym is.0) (subst (λ (x : Option (List ℕ)). Appends old x text) (sym is.1) first)

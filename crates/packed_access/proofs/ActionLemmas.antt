@@ -1,20 +1,19 @@
 -- A poll or a command of the probe, which is the only entry of the last call.
-use Rattle.std.proofs.Common.{◌≡◌, ◌⊎◌, inl, inr, ◌∙◌, ℕ, zero, suc, ◌+◌, ◌-◌, ◌*◌, ◌^◌, ◌<◌, ◌≤◌, Bool, true, false, not, ◌&&◌, List, [], ◌∷◌, ◌++◌, length, take, drop, map, get_or, set, Option, Some, None, refl, sym, ap, subst, arith, append-nil, append_assoc, length-append}
+use Rattle.std.proofs.Common.{◌≡◌, inl, ◌∙◌, ℕ, zero, suc, ◌+◌, ◌-◌, ◌*◌, ◌^◌, ◌<◌, ◌≤◌, Bool, true, false, ◌&&◌, List, [], ◌∷◌, ◌++◌, length, take, map, get_or, set, Option, Some, None, refl, sym, ap, subst, arith, append-nil, length-append}
 use Rattle.std.proofs.Math.Seq.{take-append_seam, take-length}
-use Rattle.std.proofs.lemmas.List.{length-map, length-set, length-take-le, map-append, take_more_set, take-append-drop}
-use Rattle.std.specs.Prelude.{slice_get, slice_index}
+use Rattle.std.proofs.lemmas.List.{length-map, map-append, take_more_set}
+use Rattle.std.specs.Prelude.{slice_index}
 use Rattle.target_machine.specs.Plain.{Action, acted, given, is_fault, result_of}
 use Rattle.target_machine.specs.State.{TargetState}
 use Rattle.target_machine.specs.declared.unit.ProbeCall.{ProbeCall}
 use Rattle.probe_core.specs.Bench.{BenchState, StepsTo}
 use Rattle.probe_core.specs.Probe.{target_of, work_of}
 use Rattle.call_terms.specs.Asks.{AreAskable, is_forgiving}
-use Rattle.call_terms.specs.Journal.{Entry, actions_in, is_unforgiven, target_after}
+use Rattle.call_terms.specs.Journal.{Entry, actions_in, is_unforgiven}
 use Rattle.call_terms.specs.Weights.{weight}
 use Rattle.call_terms.specs.World.{World, results, skips, small_now, start_world, stop, world_after}
 use Rattle.call_terms.specs.declared.calls.Ask.{Ask}
-use Rattle.call_terms.specs.declared.journal.Part.TheVariants.{Ends}
-use Rattle.call_terms.proofs.CallLists.{append_skips, count_of}
+use Rattle.call_terms.proofs.CallLists.{append_skips}
 use Rattle.call_terms.proofs.EndLemmas.{none_skipped}
 use Rattle.access_regs.specs.Entries.{kept_by, target_by}
 use Rattle.access_regs.specs.Journal.{issue_of, issued, numbered}
@@ -146,10 +145,6 @@ module _ (p : Planner) (log : LogState) (calls : List Ask) (ask : Ask) (x : Acti
       ∙ result_given p t0 calls ask [] h.sending.made (entry_of calls x) [] h.sending.fresh (subst AreAskable are h.sending.askable) stop_there mild large (ap (issued p t0) (sym are) ∙ seam) (let g = grown in let b = made_before in omega (arith, g, b))
       ∙ ap (λ (t : TargetState). result_of ask.call (given (acted t x).outcome)) (sym h.sending.on.target)
       ∙ ap (result_of ask.call) (sym d.word_is)
-
-  -- the results, with the one that came
-  abbrev filled_in : List ℕ
-  filled_in = set log.results (length calls) (result_of ask.call word)
 
   came_now : take (length log.calls) (set log.results (length calls) (result_of ask.call word)) ≡ results (start_world t0 None) log.calls
   came_now =

@@ -95,12 +95,6 @@ planned_issue p t k ask asked is mild apart =
 
 -- which units are made alone
 
-pub alone_by : (p : Planner) (forgive : Bool) → (forgive || is_alone p false) ≡ is_alone p forgive
-alone_by Managed true = refl
-alone_by Managed false = refl
-alone_by Plain true = refl
-alone_by Plain false = refl
-
 pub and_true : (a b : Bool) → (a && b) ≡ true → (a ≡ true) × (b ≡ true)
 and_true true b e = (refl, e)
 and_true false b e = absurd (cc)
@@ -108,11 +102,6 @@ and_true false b e = absurd (cc)
 and_never : (a b : Bool) → b ≡ false → (a && b) ≡ false
 and_never true b e = e
 and_never false b e = refl
-
--- one that is not made alone where it forgives a fault is not made alone where it forgives nothing, and forgives nothing
-pub apart_planned : (p : Planner) (forgive may : Bool) → (is_alone p forgive && may) ≡ false → (is_alone p false && may) ≡ false
-apart_planned Managed forgive may e = refl
-apart_planned Plain forgive may e = e
 
 pub apart_mild : (p : Planner) (forgive may : Bool) → (is_alone p forgive && may) ≡ false → (forgive && may) ≡ false
 apart_mild Managed forgive may e = e

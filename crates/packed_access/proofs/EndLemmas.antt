@@ -1,9 +1,8 @@
 -- A flight that did not come to its end.
-use Rattle.std.proofs.Common.{◌≡◌, ◌⊎◌, ◌∙◌, ℕ, zero, suc, ◌+◌, ◌-◌, ◌<◌, ◌≤◌, List, [], ◌∷◌, ◌++◌, length, take, Option, Some, None, refl, sym, ap, subst, arith, length-append}
+use Rattle.std.proofs.Common.{◌≡◌, ◌∙◌, ℕ, zero, suc, ◌+◌, ◌-◌, ◌<◌, ◌≤◌, List, [], ◌∷◌, length, take, Option, Some, None, refl, sym, subst, arith}
 use Rattle.std.proofs.lemmas.List.{length-take}
 use Rattle.std.specs.Prelude.{slice_get}
 use Rattle.target_machine.specs.declared.access.RegAccess.{RegAccess}
-use Rattle.dap_messages.specs.declared.request.Response.TheVariants.{Wait, Fault}
 use Rattle.probe_core.specs.Bench.{BenchState, StepsTo}
 use Rattle.probe_core.specs.Bench.{Reported as BenchReported}
 use Rattle.probe_core.specs.Probe.{target_of}
@@ -12,7 +11,7 @@ use Rattle.call_terms.specs.declared.calls.Ask.{Ask}
 use Rattle.access_regs.specs.Journal.{issued}
 use Rattle.access_calls.specs.Issued.{AreKeptOf}
 use Rattle.access_calls.specs.Left.{IsLeft}
-use Rattle.access_calls.specs.Numbers.{HasNumbers, attempted_by, lines_at, stop_numbers, unit_at}
+use Rattle.access_calls.specs.Numbers.{HasNumbers, attempted_by, lines_at, unit_at}
 use Rattle.access_calls.specs.Reported.{Reported}
 use Rattle.access_calls.specs.Standing.{WhereObservable}
 use Rattle.access_calls.specs.declared.stop.Report.{Report}
@@ -24,13 +23,12 @@ use Rattle.batch_packer.specs.Flying.{CanFly}
 use Rattle.batch_packer.specs.declared.ends.Cut.{Cut}
 use Rattle.batch_packer.specs.declared.ends.FlightEnd.{FlightEnd}
 use Rattle.batch_packer.specs.declared.ends.FlightEnd.TheVariants as ends
-use Rattle.calls_in_flight.specs.Ending.{EndsCut, IsCutOff, IsEnded, IsStrictAt, StopsBy, response_of_cause}
-use Rattle.calls_in_flight.specs.Flights.{AreStrict}
+use Rattle.calls_in_flight.specs.Ending.{EndsCut, IsCutOff, IsEnded, IsStrictAt, response_of_cause}
 use Rattle.calls_in_flight.proofs.EndLemmas.{flight_ends, flight_fails}
 use Rattle.calls_in_flight.proofs.FlightLemmas.{flight_length}
 use Rattle.packed_access.specs.Begun.{HasEnded, HasIssued, IsIssuing, StopsThere}
 use Rattle.bench_flights.specs.Flown.{BrokeOff, MayHaveFlown, WasCut}
-use Rattle.packed_access.specs.Logs.{IsCause, IsLogCut, IsStopped, LogState, reported_by}
+use Rattle.packed_access.specs.Logs.{IsCause, IsStopped, LogState, reported_by}
 use Rattle.packed_access.proofs.WholeLemmas.{take_first}
 use Rattle.access_regs.specs.declared.planner.Planner.{Planner}
 
@@ -61,10 +59,6 @@ numbers_longer entries n calls skipped lines r h le = record {
     front = take_first r.accesses n entries le
 
 -- ---- a cut
-
--- what is kept after a cut
-abbrev log_cut : LogState → Report → ℕ → ℕ → LogState
-log_cut log r lines skipped = record log { end = Some (stop.Cut r); came = lines; lines = lines; skipped = skipped }
 
 module _ (p : Planner) (bench : BenchReported) (state : Option BenchState) (sent got : List ℕ) (log : LogState) (accesses : List RegAccess) (rest : List Entry) (m0 m o : BenchState) (h : IsIssuing p log accesses rest m0 m) where
   module _ (cut : Cut) (r : Report) (lines skipped : ℕ) (broke : WasCut cut accesses m o) (cause : IsCause cut.response r.cause) (accesses_are : r.accesses ≡ log.confirmed + cut.performed) (confirmed_are : r.confirmed ≡ log.confirmed + cut.confirmed)

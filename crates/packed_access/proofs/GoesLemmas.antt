@@ -1,22 +1,18 @@
 -- What each call of an access keeps.
-use Rattle.std.proofs.Common.{◌≡◌, ◌⊎◌, inl, inr, ◌∙◌, ℕ, ◌+◌, ◌<◌, ◌≤◌, List, length, Option, Some, None, refl, sym, ap, subst, arith}
+use Rattle.std.proofs.Common.{◌≡◌, ◌⊎◌, inl, inr, ℕ, ◌≤◌, List, Option, Some, None, refl, sym, subst, arith}
 use Rattle.probe_core.proofs.RunLemmas.{keeps_own_runs}
 use Rattle.probe_core.specs.Bench.{BenchState}
 use Rattle.probe_core.specs.Bench.{Reported as BenchReported}
 use Rattle.call_terms.specs.World.{AtLeast}
-use Rattle.access_calls.specs.Causes.{EndedBy, HasResponse, code_of_cause}
+use Rattle.access_calls.specs.Causes.{EndedBy, code_of_cause}
 use Rattle.access_calls.specs.GoesOn.{GoesOn, StaysEnded}
-use Rattle.access_calls.specs.Left.{IsLeft, IsLeftAt, IsLeftCut}
+use Rattle.access_calls.specs.Left.{IsLeftAt, IsLeftCut}
 use Rattle.access_calls.specs.Reported.{Reported}
-use Rattle.access_calls.specs.declared.stop.Report.{Report}
 use Rattle.access_calls.specs.declared.stop.Stop.{Stop}
-use Rattle.access_calls.specs.declared.stop.Stop.TheVariants as stop
 use Rattle.access_calls.specs.declared.stop.StopCause.{StopCause}
 use Rattle.access_calls.specs.declared.stop.StopCause.TheVariants.{Faulted, NoAnswer}
-use Rattle.batch_packer.specs.declared.ends.FlightEnd.{FlightEnd}
-use Rattle.batch_packer.specs.declared.ends.FlightEnd.TheVariants as ends
-use Rattle.bench_flights.specs.Flown.{BenchGoesOn, HasEndCause, IsCutResponse, WasReplied}
-use Rattle.packed_access.specs.Logs.{IsCause, IsStopped, LogState, all_confirmed, all_taken, reported_by}
+use Rattle.bench_flights.specs.Flown.{BenchGoesOn}
+use Rattle.packed_access.specs.Logs.{IsCause, LogState, all_confirmed, all_taken, reported_by}
 
 -- ---- how many calls may be answered
 
@@ -59,45 +55,6 @@ code_is response NoAnswer two either = two
 module _ (b b' : BenchReported) (x y : Option BenchState) (old : LogState) (packet reply packet' reply' : List ℕ) (goes : BenchGoesOn b b' x y) (none : old.end ≡ None) where
   abbrev a : Reported
   a = reported_by b x old packet reply
-
-  cut_goes : (response : ℕ) (r : Report) (lines skipped : ℕ) → old.came ≤ lines → IsCause response r.cause → (response ≡ 0x02) ⊎ (response ≡ 0x04) → b'.faults ≡ b.faults → WasReplied (HasResponse response) b b' packet' reply' →
-      GoesOn a (reported_by b' y (record old { end = Some (stop.Cut r); came = lines; lines = lines; skipped = skipped }) packet' reply')
-  cut_goes response r lines skipped later cause either faults w = record {
-    limits = goes.limits;
-    faults = goes.faults;
-    exchanges = goes.exchanges;
-    runs = goes.runs;
-    known = omega arith;
-    left = λ n left. record { so = left_open old.end old.lines old.came n none (left_cut r.cause n lines lines old.came refl later left.so) };
-    ended = subst (λ (e : Option Stop). StaysEnded a (reported_by b' y (record old { end = Some (stop.Cut r); came = lines; lines = lines; skipped = skipped }) packet' reply') e) (sym none)
-        (faults, record { begun = w.begun; place = w.place; sent = w.sent; got = w.got; so = subst (λ (k : ℕ). HasResponse k b'.last w.place) (code_is response r.cause cause either) w.so });
-  }
-
-  other_goes : (s : Stop) → ((n : Option ℕ) → IsLeftAt (Some s) old.lines old.came n → AtLeast old.came n) → EndedBy a (reported_by b' y (record old { end = Some s }) packet' reply') (Some s) → GoesOn a (reported_by b' y (record old { end = Some s }) packet' reply')
-  other_goes s left_of by = record {
-    limits = goes.limits;
-    faults = goes.faults;
-    exchanges = goes.exchanges;
-    runs = goes.runs;
-    known = omega arith;
-    left = λ n left. record { so = left_open old.end old.lines old.came n none (left_of n left.so) };
-    ended = subst (λ (e : Option Stop). StaysEnded a (reported_by b' y (record old { end = Some s }) packet' reply') e) (sym none) by;
-  }
-
-  pub goes_stopped : (end : FlightEnd) (s : Stop) (new : LogState) → HasEndCause end b b' packet' reply' → IsCutResponse end → IsStopped end old new s → GoesOn a (reported_by b' y new packet' reply')
-  goes_stopped (ends.Cut cut) (stop.Cut r) new cause either is =
-      subst (λ (l : LogState). GoesOn a (reported_by b' y l packet' reply')) (sym is.next) (cut_goes cut.response r new.lines new.skipped is.later is.cause either cause.0 cause.1)
-  goes_stopped (ends.Cut cut) (stop.BenchFault issued confirmed) new cause either is = absurd is
-  goes_stopped (ends.Cut cut) stop.ReplyBad new cause either is = absurd is
-  goes_stopped (ends.Cut cut) stop.OutOfMemory new cause either is = absurd is
-  goes_stopped ends.BenchFault s new cause either is =
-      subst (λ (l : LogState). GoesOn a (reported_by b' y l packet' reply')) (sym is.1)
-      (subst (λ (z : Stop). GoesOn a (reported_by b' y (record old { end = Some z }) packet' reply')) (sym is.0)
-      (other_goes (stop.BenchFault (length old.entries) old.confirmed) (λ n left. left) cause))
-  goes_stopped ends.ReplyBad s new cause either is =
-      subst (λ (l : LogState). GoesOn a (reported_by b' y l packet' reply')) (sym is.1)
-      (subst (λ (z : Stop). GoesOn a (reported_by b' y (record old { end = Some z }) packet' reply')) (sym is.0)
-      (other_goes stop.ReplyBad (λ n left. left) (cause.0, record { begun = cause.1.begun; place = cause.1.place; sent = cause.1.sent; got = cause.1.got; so = cause.1.so })))
 
 -- ---- nothing is sent
 

@@ -1,5 +1,5 @@
 -- The accesses that lead to the one that a unit is for, each in a flight of its own.
-use Rattle.std.proofs.Common.{◌≡◌, ◌∙◌, ℕ, Bool, true, false, not, cond, List, [], ◌∷◌, ◌++◌, map, Option, Some, None, refl, sym, ap, subst, append-nil, append_assoc}
+use Rattle.std.proofs.Common.{◌≡◌, ◌∙◌, ℕ, Bool, true, false, not, cond, List, [], ◌∷◌, ◌++◌, Option, Some, None, refl, sym, ap, subst, append-nil, append_assoc}
 use Rattle.std.specs.Prelude.{◌||◌}
 use Rattle.std.specs.List.{list_any}
 use Rattle.target_machine.specs.Lists.{after}
@@ -8,13 +8,11 @@ use Rattle.target_machine.specs.State.{TargetState}
 use Rattle.target_machine.specs.declared.access.RegAccess.{RegAccess}
 use Rattle.target_machine.specs.declared.unit.Unit.{Unit as AccessUnit}
 use Rattle.probe_core.specs.Bench.{BenchState}
-use Rattle.call_terms.specs.declared.journal.Part.{Part}
 use Rattle.call_terms.specs.declared.journal.Part.TheVariants.{Ends, Leads}
 use Rattle.access_regs.specs.Entries.{NoneFault}
 use Rattle.access_regs.specs.Journal.{Step, is_early, is_end, is_last, making, steps_of}
 use Rattle.access_regs.specs.Kept.{Kept}
 use Rattle.access_regs.specs.declared.planner.Planner.{Planner}
-use Rattle.access_calls.specs.Standing.{WhereObservable}
 use Rattle.calls_in_flight.specs.Forgiving.{steps_of_unit}
 use Rattle.packed_access.specs.Forgiving.{HasForgiven, HasTried, IsForgiven, IsNext, WentTo}
 use Rattle.packed_access.specs.Logs.{LogState}
@@ -133,10 +131,3 @@ all_went p forgive (Some v) x log asked k t made leads last more m0 h = (
   subst (λ (l : List RegAccess). HasTried p forgive x log asked k t l more m0) (append_assoc made leads (last ∷ [])) h.0,
   h.1 ∙ ap (λ (l : List RegAccess). given (acted (after t (making l)) (Makes last)).outcome) (append-nil (made ++ leads)),
 )
-
--- where they begin
-pub leads_begin : (p : Planner) (forgive : Bool) (x : Option BenchState) (log : LogState) (asked : AccessUnit) (k : Kept) (t : TargetState) (made leads : List RegAccess) (last : RegAccess) (ends : Bool) (rest more : List Action) (m0 : BenchState) → HasTried p forgive x log asked k t made rest m0 → IsNext asked t made leads last ends rest more →
-    HasTried p forgive x log asked k t (made ++ []) (making (leads ++ last ∷ []) ++ more) m0
-leads_begin p forgive x log asked k t made leads last ends rest more m0 h n =
-    subst (λ (l : List RegAccess). HasTried p forgive x log asked k t l (making (leads ++ last ∷ []) ++ more) m0) (sym (append-nil made))
-    (subst (λ (l : List Action). HasTried p forgive x log asked k t made l m0) n.are h)

@@ -1,15 +1,14 @@
 -- Few starting packets are sent.
-use Rattle.std.proofs.Common.{◌≡◌, ◌⊎◌, inl, inr, ◌∙◌, ℕ, zero, suc, ◌+◌, ◌-◌, ◌*◌, ◌^◌, ◌<◌, ◌≤◌, Bool, true, false, List, [], ◌∷◌, ◌++◌, length, min, take, Option, Some, None, Result, Ok, Err, IfErr, MatchResult, OnOk, refl, sym, ap, subst, arith, append-nil, append_assoc, length-append}
+use Rattle.std.proofs.Common.{◌≡◌, ◌∙◌, ℕ, zero, suc, ◌+◌, ◌-◌, ◌*◌, ◌^◌, ◌<◌, ◌≤◌, Bool, true, List, [], ◌∷◌, ◌++◌, length, min, take, Option, Some, None, Result, Ok, Err, OnOk, refl, sym, ap, subst, arith, append-nil, append_assoc, length-append}
 use Rattle.std.proofs.lemmas.List.Sums.{sum_by-cons}
 use Rattle.std.proofs.Math.Seq.{take-append_seam}
-use Rattle.std.proofs.lemmas.Bool.{cases_lt}
-use Rattle.std.specs.Prelude.{IfSome, is_some}
+use Rattle.std.specs.Prelude.{IfSome}
 use Rattle.target_machine.specs.Attempt.{bank}
 use Rattle.target_machine.specs.InRange.{IsInRange}
 use Rattle.target_machine.specs.declared.unit.ProbeCall.{ProbeCall}
 use Rattle.target_machine.specs.declared.unit.ProbeCall.TheVariants as probe
 use Rattle.access_regs.specs.Costs.{command_cost, portions}
-use Rattle.target_machine.specs.Plain.{Action, Makes}
+use Rattle.target_machine.specs.Plain.{Makes}
 use Rattle.target_machine.specs.declared.access.RegAccess.{RegAccess}
 use Rattle.probe_core.specs.Bench.{BenchState, StepsTo}
 use Rattle.probe_core.specs.Bench.{Reported as BenchReported}
@@ -24,20 +23,9 @@ use Rattle.call_terms.proofs.EntryLemmas.{registers_append}
 use Rattle.access_regs.specs.Journal.{issued, making}
 use Rattle.access_calls.specs.Bounds.{capacity}
 use Rattle.access_calls.specs.Standing.{WhereObservable}
-use Rattle.flight_forms.proofs.Capacity.{few_fit_transfer, none_fits}
-use Rattle.flight_forms.specs.Forms.{fits_transfer, form_of}
-use Rattle.flight_forms.specs.declared.form.Form.{Form}
-use Rattle.batch_packer.specs.FlightEnds.{FlewCut}
-use Rattle.batch_packer.specs.FlightStates.{SentBy, has_room, sent_form}
 use Rattle.batch_packer.specs.Flying.{CanFly}
-use Rattle.batch_packer.specs.declared.ends.FlightEnd.{FlightEnd}
-use Rattle.batch_packer.specs.declared.ends.FlightEnd.TheVariants as ends
-use Rattle.calls_in_flight.proofs.BlockLemmas.{full_by_form}
-use Rattle.dap_messages.specs.Responses.{response_of}
-use Rattle.dap_messages.specs.declared.request.Response.{Response}
 use Rattle.packed_access.specs.Begun.{HasIssued, IsIssuing}
-use Rattle.bench_flights.specs.Full.{IsFull, transfer_accesses}
-use Rattle.bench_flights.specs.Clearing.{is_fault_end}
+use Rattle.bench_flights.specs.Full.{IsFull}
 use Rattle.bench_flights.specs.Flown.{HasCome, SendsFew}
 use Rattle.packed_access.specs.Forgiving.{closed}
 use Rattle.packed_access.specs.Logs.{IsFurther, LogState, nothing_logged, with_needs}
@@ -46,7 +34,6 @@ use Rattle.bench_flights.specs.Opening.{HasOpened, MayBegin}
 use Rattle.probe_core.specs.declared.job.Config.{Config as OpenConfig}
 use Rattle.packed_access.specs.Sparing.{HasPaid, HasSpared, IsSpared, counted}
 use Rattle.packed_access.proofs.BlockLemmas.{blocks_full, blocks_grown, head_same, sum_longer, sum_upto}
-use Rattle.bench_flights.proofs.SendLemmas.{counted_few}
 use Rattle.bench_flights.proofs.WireLemmas.{steps_map}
 use Rattle.access_regs.specs.declared.planner.Planner.{Planner}
 use Rattle.access_regs.specs.declared.planner.Planner.TheVariants.{Managed, Plain}
@@ -280,11 +267,6 @@ pub polled_few : (x y : Option BenchState) (zero_is : Bool) (turns points : ℕ)
 polled_few x y zero_is turns points zeroed is h =
     let less : portions turns ≡ points - 1 = omega (arith, is) in
     steps_map _ _ (λ m o f flies zeros. subst (λ (n : ℕ). SendsFew n m o) less (f flies (zeros zeroed))) x y h
-
-pub read_few : (x y : Option BenchState) (zero_is : Bool) (reads points : ℕ) → points ≡ 1 + reads → StepsTo (λ m o. CanFly m → SendsFew reads m o) x y → StepsTo (λ m o. CanFly m → (zero_is ≡ true → bank (target_of m.probe) ≡ 0) → SendsFew (points - 1) m o) x y
-read_few x y zero_is reads points is h =
-    let less : reads ≡ points - 1 = omega (arith, is) in
-    steps_map _ _ (λ m o f flies zeros. subst (λ (n : ℕ). SendsFew n m o) less (f flies)) x y h
 
 -- ---- units that are made alone
 

@@ -1,5 +1,5 @@
 -- How many starting packets the flights of a unit that is made alone are.
-use Rattle.std.proofs.Common.{◌≡◌, ℕ, ◌+◌, ◌≤◌, List, Option, Some, None, Result, Ok, Err, IfOk, OnOk, sym, subst, arith}
+use Rattle.std.proofs.Common.{◌≡◌, ℕ, ◌+◌, ◌≤◌, List, Option, Some, None, Result, Ok, Err, IfOk, OnOk, subst, arith}
 use Rattle.target_machine.specs.InRange.{IsInRange}
 use Rattle.target_machine.specs.declared.access.RegAccess.{RegAccess}
 use Rattle.probe_core.specs.Bench.{BenchState, StepsTo}
@@ -7,7 +7,7 @@ use Rattle.probe_core.specs.Probe.{target_of}
 use Rattle.batch_packer.specs.Flying.{CanFly}
 use Rattle.bench_flights.specs.Clearing.{CanClear}
 use Rattle.bench_flights.specs.Flown.{HasCome, SendsFew}
-use Rattle.bench_flights.proofs.PacketLemmas.{few_begins, few_joined, few_most, few_then}
+use Rattle.bench_flights.proofs.PacketLemmas.{few_joined, few_most, few_then}
 use Rattle.bench_flights.proofs.WireLemmas.{steps_map}
 use Rattle.packed_access.specs.Sparing.{WentFew}
 
@@ -50,6 +50,3 @@ pub went_thens : {E : Type 0} (x y z : Option BenchState) (w : Option ℕ) (v : 
     OnOk result (StepsTo (λ m o. CanFly m → SendsFew 3 m o) x z)
 went_thens x y z w v (Err e) is h d = tt
 went_thens x y z w v (Ok u) is h d = went_then x y z w v 2 is h (went_most y z u 2 (omega arith) d)
-
-pub few_begun : (x y : Option BenchState) (b : ℕ) → y ≡ x → StepsTo (λ m o. CanFly m → SendsFew b m o) x y
-few_begun x y b same = subst (λ (w : Option BenchState). StepsTo (λ m o. CanFly m → SendsFew b m o) x w) (sym same) (flies_most x x 0 b (omega arith) (few_begins (λ m. CanFly m) x))

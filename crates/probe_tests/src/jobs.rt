@@ -1,13 +1,47 @@
-//! The target and the bench of the tests.
-ghost use Rattle.std.specs.Prelude.{◌≡◌, ◌≤◌, IfOk};
+//! The jobs of the benches in memory that tests run over.
+ghost use Rattle.std.specs.Prelude.{◌≡◌, ◌≤◌, ◌↔◌, IfOk, IsTrue};
 ghost use Rattle.std.specs.List.{All};
 ghost use Rattle.target_machine.specs.Ranges.{IsTargetJob};
-ghost use Rattle.probe_core.specs.Ranges.{IsBenchJob};
+ghost use Rattle.probe_core.specs.Ranges.{AreLimits, IsBenchJob};
 
 use dap_base::{ItemList, OutOfMemory};
 use probe_core::{BenchJob, Limits};
 use std::alloc::Global;
+use std::process::Abort;
 use target_machine::{ApJob, RegionJob, ScriptJobs, TargetJob, WordJob, WordJobs};
+
+/// What differs from one test to another.
+#[derive(Clone, Copy, Drop)]
+pub struct Setting<'a> {
+    /// How many packets a bench takes ahead, where a test asks for limits of its own.
+    pub packet_count: u8,
+    /// How often each transfer that may wait is answered WAIT, the first ones in order; at most 65,536, each at most 100,000.
+    pub stalls: &'a [u32],
+    /// Whether the target is powered.
+    pub powered: bool,
+    /// After how many reads of CTRL/STAT a requested power-up is acknowledged, at most 1,000,000.
+    pub power_reads: u32,
+    /// Whether AP 0 has large addresses.
+    pub la: bool,
+    /// Whether TAR carries past 1,024 bytes.
+    pub carry: bool,
+    /// CSW at the beginning.
+    pub csw: u32,
+    /// The words at 0x20000000 and 0x20000004.
+    pub words: [u32; 2],
+}
+
+/// A powered target with 32-bit addresses whose words are 0, over a bench of one packet.
+pub const BASE: Setting<'static> = Setting {
+    packet_count: 1,
+    stalls: &[],
+    powered: true,
+    power_reads: 0,
+    la: false,
+    carry: false,
+    csw: 0x40,
+    words: [0, 0],
+};
 
 fn list<T: Copy + Drop>(alloc: Global, items: &[T]) -> Result<ItemList<T>, OutOfMemory>
     ensures { IfOk result (λ list. list ≡ items.now) }
@@ -19,58 +53,84 @@ fn list<T: Copy + Drop>(alloc: Global, items: &[T]) -> Result<ItemList<T>, OutOf
     Ok(list)
 }
 
-// A powered target with AP 0, and 4,096 bytes at 0x20000000, the first word of which is 7.
-pub(crate) fn target(alloc: Global) -> Result<TargetJob, OutOfMemory>
+/// A target so set, with AP 0, and 4,096 bytes at 0x20000000 and at 0x100000000. An error where memory is refused.
+pub fn target(alloc: Global, setting: &Setting<'_>) -> Result<TargetJob, OutOfMemory>
+    requires { setting.now.power_reads ≤ 1000000 }
     ensures { IfOk result IsTargetJob }
 {
     Ok(TargetJob {
         dpidr: 0x2BA0_1477,
-        powered: true,
-        power_reads: 0,
+        powered: setting.powered,
+        power_reads: setting.power_reads,
         pins: 0xA0,
-        carry: false,
+        carry: setting.carry,
         aps: list(
             alloc,
             &[ApJob {
                 ap: 0,
                 idr: 0x2477_0011,
                 base: 0xE00F_F003,
-                csw: 0,
-                la: false,
+                csw: setting.csw,
+                la: setting.la,
             }],
         )?,
         memory: list(
             alloc,
-            &[RegionJob {
-                address: 0x2000_0000,
-                length: 4096,
-                read_only: false,
-            }],
+            &[
+                RegionJob {
+                    address: 0x2000_0000,
+                    length: 4096,
+                    read_only: false,
+                },
+                RegionJob {
+                    address: 0x1_0000_0000,
+                    length: 4096,
+                    read_only: false,
+                },
+            ],
         )?,
         words: list(
             alloc,
-            &[WordJob {
-                address: 0x2000_0000,
-                value: 7,
-            }],
+            &[
+                WordJob {
+                    address: 0x2000_0000,
+                    value: setting.words[0],
+                },
+                WordJob {
+                    address: 0x2000_0004,
+                    value: setting.words[1],
+                },
+            ],
         )?,
         scripts: ScriptJobs::new(alloc),
         reset: WordJobs::new(alloc),
     })
 }
 
-// No stall, or a fifth transfer that is answered WAIT once too often.
-pub(crate) fn bench(alloc: Global, stalls: &[u32; 5]) -> Result<BenchJob, OutOfMemory>
-    requires { All (λ stall. stall ≤ 100000) stalls.now }
-    ensures in_range { IfOk result IsBenchJob }
-    ensures size { IfOk result (λ job. job.limits.packet_size ≡ 64) }
+// Whether these may be stalls of a bench.
+fn are_stalls(stalls: &[u32]) -> bool
+    ensures { IsTrue result ↔ All (λ stall. stall ≤ 100000) stalls.now }
 {
+    stalls.iter().all(|stall| *stall <= 100_000)
+}
+
+/// The job of a bench so set, with these limits. An error where memory is refused.
+pub fn job_of(
+    rt: &impl Abort,
+    alloc: Global,
+    setting: &Setting<'_>,
+    limits: Limits,
+) -> Result<BenchJob, OutOfMemory>
+    requires limits { AreLimits limits }
+    ensures in_range { IfOk result IsBenchJob }
+    ensures limits { IfOk result (λ job. job.limits ≡ limits) }
+{
+    assert!(rt; setting.power_reads <= 1_000_000);
+    assert!(rt; setting.stalls.len() <= 65_536);
+    assert!(rt; are_stalls(setting.stalls));
     Ok(BenchJob {
-        limits: Limits {
-            packet_size: 64,
-            packet_count: 1,
-        },
-        stalls: list(alloc, stalls)?,
-        target: target(alloc)?,
+        limits,
+        stalls: list(alloc, setting.stalls)?,
+        target: target(alloc, setting)?,
     })
 }

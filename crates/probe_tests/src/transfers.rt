@@ -1,7 +1,7 @@
 //! Commands over a small target, worked out by hand from CMSIS-DAP and ADIv5.
 ghost use Rattle.std.specs.Prelude.{◌≤◌, length};
 
-use crate::jobs::target;
+use crate::jobs::{BASE, Setting, target};
 use dap_base::OutOfMemory;
 use dap_messages::{CommandValue, Request, Response, packet_view};
 use dap_transfer::{BlockReplied, TransferEngine};
@@ -9,6 +9,12 @@ use std::alloc::Global;
 use std::process::Abort;
 use std::test::Fail;
 use target_machine::Target;
+
+// A target whose first word is 7.
+const TARGET: Setting<'static> = Setting {
+    words: [7, 0],
+    ..BASE
+};
 
 // An engine that has made no transfer yet.
 fn engine(alloc: Global, waits: &[u32; 4]) -> Result<TransferEngine, OutOfMemory> {
@@ -18,7 +24,7 @@ fn engine(alloc: Global, waits: &[u32; 4]) -> Result<TransferEngine, OutOfMemory
             return Err(OutOfMemory);
         }
     }
-    Ok(TransferEngine::new(Target::new(alloc, &target(alloc)?)?, stalls))
+    Ok(TransferEngine::new(Target::new(alloc, &target(alloc, &TARGET)?)?, stalls))
 }
 
 // What a Transfer answers: executed, response and words.

@@ -9,7 +9,7 @@ use Rattle.probe_core.specs.Bench.{BenchState, IsAsBefore, Seen}
 use Rattle.probe_core.specs.Probe.{target_of}
 use Rattle.report_lines.specs.Target.{lines_below}
 use Rattle.text_lines.proofs.PutLemmas.{prefix_first, put_after}
-use Rattle.text_lines.proofs.RowLemmas.{row_cut, row_more}
+use Rattle.text_lines.proofs.RowLemmas.{row_cut}
 
 -- a bench that is twice as it was before
 pub before-trans : (a b c : Seen) → IsAsBefore a b → IsAsBefore b c → IsAsBefore a c
@@ -60,10 +60,6 @@ below_cut (Some m) a b c line i n below first second =
     subst (λ k. AppendsPrefix a c (lines_below g k)) all (below_front g (i + 1) (n - (i + 1)) a c so_far)
 
 -- ---- the lines of a list
-
-pub rows_more : {X : Type 0} (s : Option BenchState) (a b c : Option (List ℕ)) (g : TargetState → X → List ℕ) (xs : List X) (i : ℕ) (x : X) → slice_get xs i ≡ Some x → Wrote s (λ t. flat_map (g t) (take i xs)) a b → Wrote s (λ t. g t x) b c → Wrote s (λ t. flat_map (g t) (take (i + 1) xs)) a c
-rows_more None a b c g xs i x at first second = tt
-rows_more (Some m) a b c g xs i x at first second = row_more a b c (g (target_of m.probe)) xs i x at first second
 
 pub rows_cut : {X : Type 0} (s : Option BenchState) (a b c : Option (List ℕ)) (g : TargetState → X → List ℕ) (xs : List X) (i : ℕ) (x : X) → slice_get xs i ≡ Some x → Wrote s (λ t. flat_map (g t) (take i xs)) a b → Began s (λ t. g t x) b c → Began s (λ t. flat_map (g t) xs) a c
 rows_cut None a b c g xs i x at first second = tt

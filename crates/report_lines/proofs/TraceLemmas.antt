@@ -1,5 +1,5 @@
 -- The lines of a log, one entry after the other.
-use Rattle.std.proofs.Common.{◌≡◌, ◌⊎◌, ◌+◌, ◌-◌, ◌^◌, ◌<◌, ◌≤◌, ℕ, zero, suc, List, [], ◌∷◌, ◌++◌, Option, None, Some, Result, Ok, Err, IfSome, inl, inr, length, min, take, drop, slice_get, subst, sym, ap, refl, arith}
+use Rattle.std.proofs.Common.{◌≡◌, ◌⊎◌, ◌+◌, ◌-◌, ◌<◌, ◌≤◌, ℕ, zero, suc, List, [], ◌∷◌, Option, None, Some, Result, Ok, Err, IfSome, inl, inr, length, min, take, drop, slice_get, subst, sym, ap, refl, arith}
 use Rattle.std.proofs.lemmas.Grind.{common_steps, flat_map-append}
 use Rattle.std.proofs.lemmas.List.{take-append-drop}
 use Rattle.std.proofs.Math.Seq.{take-length}
@@ -7,31 +7,15 @@ use Rattle.std.specs.Io.KnownBytes.{Appends}
 use Rattle.std.specs.List.{flat_map}
 use Rattle.dap_base.specs.Streams.{AppendsPrefix, PutAppends}
 use Rattle.probe_core.specs.Bench.{BenchState}
-use Rattle.probe_core.specs.Log.{Entry, IsCountedLog, Log, packet_entry, reply_entry}
-use Rattle.probe_core.specs.Shows.{Shows}
-use Rattle.probe_core.specs.declared.interface.Shown.TheVariants.{NotKept, Past, Replied, Sent}
-use Rattle.report_lines.specs.Trace.{EntriesPut, EntryPut, LinePut, StepPut, entry_line, kept_line, trace}
+use Rattle.probe_core.specs.Log.{Entry, IsCountedLog, Log}
+use Rattle.probe_core.specs.declared.interface.Shown.TheVariants.{NotKept, Past}
+use Rattle.report_lines.specs.Trace.{EntriesPut, EntryPut, StepPut, entry_line, kept_line, trace}
 use Rattle.report_lines.specs.declared.put.TextEnd.{TextEnd}
-use Rattle.report_lines.specs.declared.trace.Seen.{Seen}
 use Rattle.report_lines.specs.declared.trace.Seen.TheVariants as seen
 use Rattle.text_lines.proofs.RowLemmas.{row_cut, row_more}
 use Rattle.text_lines.proofs.PutLemmas.{prefix_first, put_after}
 
 -- ---- one entry
-
-kept_put : (log : Log) (index : ℕ) (entry : Entry) (r : Result Seen TextEnd) (a b : Option (List ℕ)) → slice_get log.kept index ≡ Some entry → LinePut entry r a b → EntryPut log index r a b
-kept_put log index entry (Ok seen.Kept) a b at put = (entry, at, put)
-kept_put log index entry (Ok seen.NotKept) a b at put = absurd put
-kept_put log index entry (Ok seen.Past) a b at put = absurd put
-kept_put log index entry (Err end) a b at put = inr (entry, at, put)
-
-pub sent_put : (state : Option BenchState) (index n : ℕ) (out : List ℕ) (r : Result Seen TextEnd) (a b : Option (List ℕ)) → IfSome state (λ m. Shows m.log index (Sent n) out) → LinePut (packet_entry (take n out)) r a b → IfSome state (λ m. EntryPut m.log index r a b)
-sent_put None index n out r a b shows put = tt
-sent_put (Some m) index n out r a b shows put = kept_put m.log index (packet_entry (take n out)) r a b shows put
-
-pub reply_put : (state : Option BenchState) (index n : ℕ) (out : List ℕ) (r : Result Seen TextEnd) (a b : Option (List ℕ)) → IfSome state (λ m. Shows m.log index (Replied n) out) → LinePut (reply_entry (take n out)) r a b → IfSome state (λ m. EntryPut m.log index r a b)
-reply_put None index n out r a b shows put = tt
-reply_put (Some m) index n out r a b shows put = kept_put m.log index (reply_entry (take n out)) r a b shows put
 
 -- ---- the first entries
 
@@ -91,10 +75,6 @@ stops_at log i k a b c end come (inr part) = row_cut a b c entry_line log.kept i
 
 -- ---- over a bench, where it is observable
 
-pub entries_begin : (state : Option BenchState) (a : Option (List ℕ)) → Appends a a [] → IfSome state (λ m. IsCountedLog m.log → HaveCome m.log 0 0 a a)
-entries_begin None a none = tt
-entries_begin (Some m) a none = λ few. record { counted = omega arith; kept_are = grind (arith, common_steps); written = none }
-
 step_comes : (log : Log) (i k n : ℕ) (a b c : Option (List ℕ)) → IsCountedLog log → HaveCome log i k a b → ((n ≡ k + 1) × EntryPut log i (Ok seen.Kept) b c) ⊎ ((n ≡ k) × EntryPut log i (Ok seen.NotKept) b c) → HaveCome log (i + 1) n a c
 step_comes log i k n a b c few come (inl kept) = rw (kept.0) (kept_comes log i k a b c few come kept.1)
 step_comes log i k n a b c few come (inr passed) = rw (passed.0) (passed_comes log i k a b c come passed.1)
@@ -110,10 +90,6 @@ entries_end None t i k a b c same come put = tt
 entries_end (Some m) t i k a b c same come put = λ few.
     let past : EntryPut m.log i (Ok seen.Past) b c = subst (λ u. IfSome u (λ m. StepPut m.log i k (Ok None) b c)) same put in
     rw (past.1) (all_come m.log i k a b few (come few) past.0)
-
-pub entries_full : (s : Option BenchState) (i k : ℕ) (a b : Option (List ℕ)) → 2 ^ 32 - 1 ≤ i → IfSome s (λ m. IsCountedLog m.log → HaveCome m.log i k a b) → IfSome s (λ m. IsCountedLog m.log → EntriesPut m.log (Ok (k, i)) a b)
-entries_full None i k a b last come = tt
-entries_full (Some m) i k a b last come = λ few. all_come m.log i k a b few (come few) (let most = few.few in omega arith)
 
 pub entries_stop : (s t : Option BenchState) (i k : ℕ) (a b c : Option (List ℕ)) (end : TextEnd) → t ≡ s → IfSome s (λ m. IsCountedLog m.log → HaveCome m.log i k a b) → IfSome t (λ m. StepPut m.log i k (Err end) b c) → IfSome s (λ m. IsCountedLog m.log → EntriesPut m.log (Err end) a c)
 unfolding StepPut

@@ -4,7 +4,13 @@ ghost use Rattle.batch_packer.specs.Exchanges.{IsOpen};
 ghost use Rattle.batch_packer.specs.Flying.{IsWithin};
 ghost use Rattle.batch_packer.specs.SlotList.{slot_room};
 
-use super::*;
+use crate::flights::{FOUR, ONE, Push, are, comes, faulty, gives, logs, memory, push_all};
+use batch_packer::{Cut, Flight, FlightEnd, Slots};
+use dap_base::OutOfMemory;
+use probe_core::Bench;
+use std::alloc::Global;
+use std::process::Abort;
+use std::test::Fail;
 
 // Sends a flight of these accesses that is cut, and compares the packet and the reply of its end. Another
 // flight is then answered the same.

@@ -2,7 +2,7 @@ use Rattle.std.proofs.Common.{◌≡◌, ◌≤◌, None}
 use Rattle.probe_core.specs.Memory.{reported_of}
 use Rattle.batch_packer.specs.Exchanges.{IsOpen}
 use Rattle.batch_packer.specs.SlotList.{slot_room}
-use Rattle.access_tests.proofs.flights.packets.row.Given as goal
+use Rattle.flight_tests.proofs.packets.row.Given as goal
 
 abbrev pub invariant-loop-pushes : goal.invariant-loop-pushes
 invariant-loop-pushes g l = record {

@@ -3,8 +3,14 @@ ghost use Rattle.std.specs.Prelude.{◌≡◌, true};
 ghost use Rattle.dap_messages.specs.Commands.{IsCommand, command_value};
 ghost use Rattle.batch_packer.specs.Commands.{is_single};
 
-use super::*;
+use crate::flights::{ONE, Push, are, comes, faulty, logs, memory};
+use batch_packer::{Config, Cut, Flight, FlightEnd, PollAsk, Slots};
+use dap_base::OutOfMemory;
 use dap_messages::Command;
+use probe_core::Bench;
+use std::alloc::Global;
+use std::process::Abort;
+use std::test::Fail;
 
 const CONFIG: Config = Config {
     idle: 0,

@@ -1,7 +1,13 @@
 //! Flights that come to their end: their packets, replies and values.
 ghost use Rattle.probe_core.specs.Ranges.{AreLimits};
 
-use super::*;
+use crate::flights::{FOUR, ONE, Push, comes, gives, logs, memory};
+use batch_packer::{Flight, Slots};
+use dap_base::OutOfMemory;
+use probe_core::{Bench, Limits};
+use std::alloc::Global;
+use std::process::Abort;
+use std::test::Fail;
 
 // The packets and replies of flights, one after the other over one bench, each of which comes to its end.
 fn row(

@@ -1,4 +1,4 @@
-//! Flights over benches in memory, against packets and numbers worked out by hand from the standards.
+//! Flights over benches in memory, and their packets.
 ghost use Rattle.std.specs.Prelude.{◌≡◌, ◌≤◌, ◌<◌, ◌⊎◌, [], None, IfOk};
 ghost use Rattle.probe_core.specs.Ranges.{AreLimits};
 ghost use Rattle.probe_core.specs.Memory.{faulty_reported, reported_of};
@@ -7,32 +7,26 @@ ghost use Rattle.batch_packer.specs.Exchanges.{IsOpen};
 ghost use Rattle.batch_packer.specs.Flying.{IsWithin};
 ghost use Rattle.batch_packer.specs.SlotList.{slot_room};
 
-use crate::jobs::{BASE, Setting, job_of};
-use batch_packer::{Config, Cut, Flight, FlightEnd, PollAsk, Slots};
+use batch_packer::{Flight, Slots};
 use dap_base::OutOfMemory;
 use probe_core::{Bench, FaultyBench, Limits, MemoryBench, Shown};
+use probe_tests::jobs::{BASE, Setting, job_of};
 use std::alloc::Global;
 use std::process::Abort;
-use std::test::Fail;
 use target_machine::RegAccess;
 
-mod actions;
-mod cuts;
-mod packets;
-mod scripted;
-
-const ONE: Limits = Limits {
+pub(crate) const ONE: Limits = Limits {
     packet_size: 64,
     packet_count: 1,
 };
 
-const FOUR: Limits = Limits {
+pub(crate) const FOUR: Limits = Limits {
     packet_size: 64,
     packet_count: 4,
 };
 
 // A target whose CSW is 0 and whose first word is 7.
-const TARGET: Setting<'static> = Setting {
+pub(crate) const TARGET: Setting<'static> = Setting {
     power_reads: 70_000,
     csw: 0,
     words: [7, 0],
@@ -41,7 +35,7 @@ const TARGET: Setting<'static> = Setting {
 
 // A bench in memory with these limits. It is powered, or acknowledges its power-up after 70,000 reads of CTRL/STAT;
 // some of its transfers are answered WAIT so often.
-fn memory(
+pub(crate) fn memory(
     rt: &impl Abort,
     alloc: Global,
     limits: Limits,
@@ -64,7 +58,7 @@ fn memory(
 }
 
 // The same whose call of this number fails.
-fn faulty(
+pub(crate) fn faulty(
     rt: &impl Abort,
     alloc: Global,
     limits: Limits,
@@ -83,7 +77,7 @@ fn faulty(
 // An access that a test pushes: a write of SELECT or CTRL/STAT, or an access of CSW, TAR or DRW of the
 // selected AP.
 #[derive(Clone, Copy, Debug, Drop)]
-enum Push {
+pub(crate) enum Push {
     Select(u32),
     Control(u32),
     ReadCsw,
@@ -93,7 +87,7 @@ enum Push {
     ReadDrw,
 }
 
-fn dp_write(addr: u8, value: u32) -> RegAccess
+pub(crate) fn dp_write(addr: u8, value: u32) -> RegAccess
     requires { (addr ≡ 0x4) ⊎ (addr ≡ 0x8) }
     ensures { IsTaken result }
 {
@@ -105,7 +99,7 @@ fn dp_write(addr: u8, value: u32) -> RegAccess
     }
 }
 
-fn ap_access(read: bool, addr: u8, value: u32) -> RegAccess
+pub(crate) fn ap_access(read: bool, addr: u8, value: u32) -> RegAccess
     ensures { IsTaken result }
 {
     RegAccess {
@@ -117,7 +111,7 @@ fn ap_access(read: bool, addr: u8, value: u32) -> RegAccess
 }
 
 impl Push {
-    fn access(self) -> RegAccess
+    pub(crate) fn access(self) -> RegAccess
         ensures { IsTaken result }
     {
         match self {
@@ -133,7 +127,7 @@ impl Push {
 }
 
 // Pushes the accesses, for each of which there is room.
-fn push_all(rt: &impl Abort, flight: &mut Flight, pushes: &[Push])
+pub(crate) fn push_all(rt: &impl Abort, flight: &mut Flight, pushes: &[Push])
     ensures { flight.new ≡ record flight.old { accesses = flight.new.accesses } }
 {
     for push in pushes {
@@ -144,7 +138,7 @@ fn push_all(rt: &impl Abort, flight: &mut Flight, pushes: &[Push])
 }
 
 // Sends a flight of these accesses, which comes to its end.
-fn comes<B: Bench>(
+pub(crate) fn comes<B: Bench>(
     rt: &impl Abort,
     flight: &mut Flight,
     slots: &mut Slots,
@@ -169,7 +163,7 @@ fn comes<B: Bench>(
 }
 
 // The value of a hexadecimal digit.
-fn digit(byte: u8) -> u8
+pub(crate) fn digit(byte: u8) -> u8
     ensures { result < 16 }
 {
     match byte {
@@ -180,7 +174,7 @@ fn digit(byte: u8) -> u8
 }
 
 // The bytes are those that are written so.
-fn are(rt: &impl Abort, bytes: &[u8], text: &str) {
+pub(crate) fn are(rt: &impl Abort, bytes: &[u8], text: &str) {
     let digits = text.as_bytes();
     assert!(rt; bytes.len() <= 1024);
     assert_eq!(rt; digits.len(), 2 * bytes.len(), "{bytes:?} for {text}");
@@ -192,7 +186,7 @@ fn are(rt: &impl Abort, bytes: &[u8], text: &str) {
 
 // The packets and replies of a bench, from the first on, are those that are written so: packets with `>`
 // before them, and replies with `<`.
-fn logs<B: Bench>(rt: &impl Abort, bench: &mut B, lines: &[(u8, &str)]) {
+pub(crate) fn logs<B: Bench>(rt: &impl Abort, bench: &mut B, lines: &[(u8, &str)]) {
     let mut out = [0; 1024];
     let mut index = 0;
     for (mark, text) in lines {
@@ -212,7 +206,7 @@ fn logs<B: Bench>(rt: &impl Abort, bench: &mut B, lines: &[(u8, &str)]) {
 }
 
 // The values at the places from 0 on.
-fn gives(rt: &impl Abort, slots: &Slots, values: &[Option<u32>]) {
+pub(crate) fn gives(rt: &impl Abort, slots: &Slots, values: &[Option<u32>]) {
     let mut place: u32 = 0;
     for value in values {
         assert_eq!(rt; slots.get(place), *value, "at {place}");

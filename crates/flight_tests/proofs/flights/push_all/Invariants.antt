@@ -1,5 +1,5 @@
 use Rattle.std.proofs.Common.{◌≡◌}
-use Rattle.access_tests.proofs.flights.push_all.Given as goal
+use Rattle.flight_tests.proofs.flights.push_all.Given as goal
 
 abbrev pub invariant-loop-push : goal.invariant-loop-push
 invariant-loop-push g l = l.flight ≡ record l.fn.flight { accesses = l.flight.accesses }

@@ -1,0 +1,13 @@
+//! Tests of flights: their packets, where they are cut, polls, commands, and replies that no packet may get.
+#![tactic(auto)]
+
+#[cfg(test)]
+mod actions;
+#[cfg(test)]
+mod cuts;
+#[cfg(test)]
+mod flights;
+#[cfg(test)]
+mod packets;
+#[cfg(test)]
+mod replies;
