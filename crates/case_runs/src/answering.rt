@@ -3,7 +3,7 @@
 use dap_base::{MemorySink, MemorySource, NameText, OutOfMemory, Words};
 use dapseq_tool::{InMemory, Status, dapseq, dapseq_in_memory, dapseq_over};
 use packed_access::Single;
-use probe_core::{FaultyBench, MemoryBench};
+use probe_core::{FaultyBench, MemoryBench, SilentBench};
 use std::alloc::Global;
 
 /// The numbers of the calls that fail, from 1, of each object of a run.
@@ -50,7 +50,20 @@ pub fn answer_where_calls_fail(
     Ok((status, sink))
 }
 
-/// The same where no call fails, by the access that sends each register access by itself.
+/// The same where no call fails, over a bench that is not observable.
+pub fn answer_over_silent(
+    alloc: Global,
+    words: &Words,
+    job: &[u8],
+) -> Result<(Status, MemorySink), OutOfMemory> {
+    let mut source = MemorySource::new(alloc, job, &[])?;
+    let mut sink = MemorySink::new(alloc, &[])?;
+    let mut bench = SilentBench::new(alloc);
+    let status = dapseq(alloc, words, &mut source, &mut sink, &mut bench);
+    Ok((status, sink))
+}
+
+/// The same over a bench in memory, by the access that sends each register access by itself.
 pub fn answer_by_single(
     alloc: Global,
     words: &Words,

@@ -4,7 +4,7 @@
 mod answering;
 mod failing;
 
-use answering::{answer, answer_by_single, words_of};
+use answering::{answer, answer_by_single, answer_over_silent, words_of};
 use dap_base::{OutOfMemory, Words};
 use failing::{Object, failing_calls};
 use std::io::ErrorKind;
@@ -31,6 +31,15 @@ fn read_stored(rt: &HostRuntime, name: &str) -> io::Result<Stored> {
     Ok(Stored { job, words, text })
 }
 
+// How a text is to the one that is expected.
+fn compared(written: &[u8], expected: &[u8]) -> &'static str {
+    if written == expected {
+        "as expected"
+    } else {
+        "differs"
+    }
+}
+
 /// Runs the job `NAME.json` of the folder that the program runs in, with the words of `NAME.json.args`, one a
 /// line, and prints its name, its exit status, and `as expected` where what was written is the content of
 /// `NAME.json.stdout`, else `differs`.
@@ -40,12 +49,21 @@ pub fn run_case(rt: &HostRuntime, name: &str) -> io::Result<()> {
     let stored = read_stored(rt, name)?;
     let (status, sink) = answer(rt.alloc(), &stored.words, &stored.job).map_err(no_memory)?;
     let code = status.code();
-    if sink.bytes() == stored.text.as_slice() {
-        println!(rt; "{name} {code} as expected")?;
-    } else {
-        println!(rt; "{name} {code} differs")?;
-    }
-    Ok(())
+    println!(rt; "{name} {code} {}", compared(sink.bytes(), &stored.text))
+}
+
+/// Runs the same job over a bench that is not observable, and prints the name, the exit status, and whether the text is the
+/// same.
+///
+/// An error where a file cannot be read, standard output cannot be written, or memory is refused.
+pub fn run_silent(rt: &HostRuntime, name: &str) -> io::Result<()> {
+    let Stored { job, words, text } = read_stored(rt, name)?;
+    let (status, sink) = answer_over_silent(rt.alloc(), &words, &job).map_err(no_memory)?;
+    let code = status.code();
+    println!(rt;
+        "{name} {code} over a silent bench {}",
+        compared(sink.bytes(), &text)
+    )
 }
 
 // What is written before the first packet of a trace.
@@ -69,11 +87,7 @@ pub fn run_single(rt: &HostRuntime, name: &str) -> io::Result<()> {
     let (status, sink) = answer_by_single(rt.alloc(), &words, &job).map_err(no_memory)?;
     let written = sink.bytes();
     let code = status.code();
-    let is = if written == expected.as_slice() {
-        "as expected"
-    } else {
-        "differs"
-    };
+    let is = compared(written, &expected);
     let report = if report_of(written) == report_of(text.as_slice()) {
         "the same report"
     } else {
