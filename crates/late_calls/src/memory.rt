@@ -18,8 +18,7 @@ use crate::ports::port_of;
 use crate::uses::{both, confirmed};
 use access_calls::Access;
 use call_terms::Value;
-use sequence_terms::memory_unit;
-use target_machine::HaltCause;
+use sequence_terms::{memory_port, memory_unit};
 
 // The number of two words, the lower one first.
 #[tactic(auto, using(crate::proofs::UseLemmas::joined_is))]
@@ -127,8 +126,8 @@ fn two_units<A: Access>(
     }
 }
 
-// A memory call, with its halts in their order.
-#[tactic(auto, unfolding(sequence_terms::specs::Calls::memory_at, sequence_terms::specs::Calls::one_unit))]
+// A memory call, once the port is known.
+#[tactic(auto, unfolding(sequence_terms::specs::Calls::memory_at, sequence_terms::specs::Calls::one_unit, sequence_terms::specs::Calls::or_halt))]
 fn memory_at<A: Access>(
     size: u8,
     read: bool,
@@ -151,15 +150,10 @@ fn memory_at<A: Access>(
     ensures identity { A.identity access.new ≡ A.identity access.old }
     ensures goes { GoesOn (A.reported access.old) (A.reported access.new) }
 {
-    if port.dp != 0 {
-        return Err(End::Halted(HaltCause::Unsupported));
-    }
-    let Ok(ap) = u8::try_from(port.ap) else {
-        return Err(End::Halted(HaltCause::AddressTooLarge));
+    let ap = match memory_port(size, address, port.ap, port.dp) {
+        Ok(ap) => ap,
+        Err(cause) => return Err(End::Halted(cause)),
     };
-    if address % u64::from(size) != 0 {
-        return Err(End::Halted(HaltCause::Misaligned));
-    }
     if size == 8 {
         return two_units(read, ap, port.forgive, address, value, held, access);
     }

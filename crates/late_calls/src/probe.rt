@@ -15,7 +15,7 @@ use crate::held::Held;
 use crate::ports::debug_port;
 use access_calls::Access;
 use call_terms::Value;
-use sequence_terms::low_bits;
+use sequence_terms::{low_bits, pins_command};
 use target_machine::{HaltCause, ProbeCall};
 
 // `DAP_WriteABORT`, on debug port 0 alone.
@@ -104,7 +104,7 @@ pub(crate) fn clock<A: Access>(hertz: u64, held: &mut Held, access: &mut A) -> R
 }
 
 // `DAP_SWJ_Pins`, with a wait of 32 bits.
-#[tactic(auto, unfolding(sequence_terms::specs::Calls::pins))]
+#[tactic(auto, unfolding(sequence_terms::specs::Calls::pins, sequence_terms::specs::Calls::or_halt))]
 pub(crate) fn pins<A: Access>(
     output: u64,
     select: u64,
@@ -124,15 +124,10 @@ pub(crate) fn pins<A: Access>(
     ensures identity { A.identity access.new ≡ A.identity access.old }
     ensures goes { GoesOn (A.reported access.old) (A.reported access.new) }
 {
-    if wait > 0xFFFF_FFFF {
-        return Err(End::Halted(HaltCause::ArgumentOutOfRange));
+    match pins_command(output, select, wait) {
+        Ok(call) => command(call, held, access),
+        Err(cause) => Err(End::Halted(cause)),
     }
-    let call = ProbeCall::Pins {
-        output: (output % 256) as u8,
-        select: (select % 256) as u8,
-        wait: wait as u32,
-    };
-    command(call, held, access)
 }
 
 // `DAP_SWJ_Sequence`, of 1 to 64 bits.

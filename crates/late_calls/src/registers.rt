@@ -15,10 +15,10 @@ use crate::held::Held;
 use crate::ports::{debug_port, port_of};
 use access_calls::Access;
 use call_terms::Value;
-use target_machine::{HaltCause, Unit};
+use sequence_terms::{ap_unit, dp_unit};
 
-// `ReadAP` and `WriteAP`, with their halts in their order.
-#[tactic(auto, unfolding(sequence_terms::specs::Calls::ap_at))]
+// `ReadAP` and `WriteAP`, once the port is known.
+#[tactic(auto, unfolding(sequence_terms::specs::Calls::ap_at, sequence_terms::specs::Calls::or_halt))]
 fn ap_at<A: Access>(
     read: bool,
     addr: u64,
@@ -39,29 +39,10 @@ fn ap_at<A: Access>(
     ensures identity { A.identity access.new ≡ A.identity access.old }
     ensures goes { GoesOn (A.reported access.old) (A.reported access.new) }
 {
-    if port.dp != 0 {
-        return Err(End::Halted(HaltCause::Unsupported));
+    match ap_unit(read, addr, value, port.ap, port.dp) {
+        Ok(unit) => asked(read, unit, port.forgive, held, access),
+        Err(cause) => Err(End::Halted(cause)),
     }
-    let Ok(ap) = u8::try_from(port.ap) else {
-        return Err(End::Halted(HaltCause::AddressTooLarge));
-    };
-    if addr > 0xFC {
-        return Err(End::Halted(HaltCause::AddressTooLarge));
-    }
-    if addr % 4 != 0 {
-        return Err(End::Halted(HaltCause::Misaligned));
-    }
-    let unit = Unit::Ap {
-        read,
-        ap,
-        addr: addr as u8,
-        value: if read {
-            0
-        } else {
-            (value % 0x1_0000_0000) as u32
-        },
-    };
-    asked(read, unit, port.forgive, held, access)
 }
 
 // `ReadAP` and `WriteAP`.
@@ -91,8 +72,8 @@ pub(crate) fn ap_register<A: Access>(
     }
 }
 
-// `ReadDP` and `WriteDP`, with their halts in their order.
-#[tactic(auto, unfolding(sequence_terms::specs::Calls::dp_at))]
+// `ReadDP` and `WriteDP`, once the debug port is known.
+#[tactic(auto, unfolding(sequence_terms::specs::Calls::dp_at, sequence_terms::specs::Calls::or_halt))]
 fn dp_at<A: Access>(
     read: bool,
     addr: u64,
@@ -113,25 +94,10 @@ fn dp_at<A: Access>(
     ensures identity { A.identity access.new ≡ A.identity access.old }
     ensures goes { GoesOn (A.reported access.old) (A.reported access.new) }
 {
-    if dp != 0 || (read && addr == 8 || addr == 0xC) {
-        return Err(End::Halted(HaltCause::Unsupported));
+    match dp_unit(read, addr, value, dp) {
+        Ok(unit) => asked(read, unit, false, held, access),
+        Err(cause) => Err(End::Halted(cause)),
     }
-    if addr > 0xC {
-        return Err(End::Halted(HaltCause::AddressTooLarge));
-    }
-    if addr % 4 != 0 {
-        return Err(End::Halted(HaltCause::Misaligned));
-    }
-    let unit = Unit::Dp {
-        read,
-        addr: addr as u8,
-        value: if read {
-            0
-        } else {
-            (value % 0x1_0000_0000) as u32
-        },
-    };
-    asked(read, unit, false, held, access)
 }
 
 // `ReadDP` and `WriteDP`.

@@ -1,11 +1,12 @@
 -- Calls of functions lack nothing where the predefined variables that they use are there.
-use Rattle.std.proofs.Common.{◌≡◌, ℕ, ◌%◌, Bool, true, false, not, ◌&&◌, ◌||◌, List, [], ◌∷◌, slice_index, nat_eq, nat_lt, Result, Ok, Err, codes, ap, ◌∙◌}
+use Rattle.std.proofs.Common.{◌≡◌, ℕ, Bool, true, false, ◌||◌, List, [], ◌∷◌, slice_index, nat_eq, nat_lt, Result, Ok, Err, codes, ap, ◌∙◌}
 use Rattle.code_check.specs.Names.{has_name}
 use Rattle.function_table.specs.declared.function.Function.{Function}
 use Rattle.function_table.specs.declared.function.Function.TheVariants as f
+use Rattle.target_machine.specs.declared.unit.HaltCause.{HaltCause}
 use Rattle.target_machine.specs.declared.unit.ProbeCall.{ProbeCall}
 use Rattle.target_machine.specs.declared.unit.Unit.{Unit as AccessUnit}
-use Rattle.sequence_terms.specs.Calls.{Port, use_now, global, port, port_from, port_with, answered, ask, numbered, command, zero_of, if_read, low_and_high, second_half, two_units, one_unit, memory_at, memory, ap_at, ap_register, dp_at, dp_register, abort, abort_at, delay, clock, pins, line_bits, lined, performed}
+use Rattle.sequence_terms.specs.Calls.{Port, or_halt, use_now, global, port, port_from, port_with, answered, ask, numbered, command, zero_of, if_read, low_and_high, second_half, two_units, one_unit, memory_port, memory_at, memory, ap_unit, ap_at, ap_register, dp_unit, dp_at, dp_register, pins_command, abort, abort_at, delay, clock, pins, line_bits, lined, performed}
 use Rattle.sequence_terms.specs.Machine.{Over, Machine, State, Out, with_rest}
 use Rattle.sequence_terms.specs.Values.{all_used}
 use Rattle.sequence_terms.specs.Variables.{value_in}
@@ -87,15 +88,17 @@ module _ {V T : Type 0} (m : Machine V T) (safe : LacksNothing m) (gs ls : List 
     unfolding second_half
     fine_second read p address value low s h = fine_bind Now Now (ask m _ p.forgive s) _ (fine_ask _ p.forgive s h) (λ x q. fine_cond Now read _ _ (fine_low low x.0 x.1 q) q)
 
+    fine_or_halt : {A : Type 0} (o : Result A HaltCause) (f : A → S → Out V T V) (s : S) → ((x : A) → Fine (Has gs ls) (f x s)) → Fine (Has gs ls) (or_halt o f s)
+    unfolding or_halt
+    fine_or_halt (Ok x) f s k = k x
+    fine_or_halt (Err cause) f s k = tt
+
     fine_memory_at : (size : ℕ) (read : Bool) (address value : ℕ) (p : Port) (s : S) → Has gs ls s → Fine (Has gs ls) (memory_at m size read address value p s)
     unfolding memory_at two_units one_unit
-    fine_memory_at size read address value p s h =
-        fine_cond Now (not (nat_eq p.dp 0)) _ _ tt
-        (fine_cond Now (nat_lt 255 p.ap) _ _ tt
-        (fine_cond Now (not (nat_eq (address % size) 0)) _ _ tt
-        (fine_cond Now (nat_eq size 8) _ _
+    fine_memory_at size read address value p s h = fine_or_halt (memory_port size address p.ap p.dp) _ s (λ n.
+        fine_cond Now (nat_eq size 8) _ _
         (fine_bind Now Now (ask m _ p.forgive s) _ (fine_ask _ p.forgive s h) (λ x q. fine_second read p address value x.0 x.1 q))
-        (fine_read read _ (fine_ask _ p.forgive s h)))))
+        (fine_read read _ (fine_ask _ p.forgive s h)))
 
     fine_memory : (size : ℕ) (read : Bool) (address value : ℕ) (s : S) → Has gs ls s → Fine (Has gs ls) (memory m size read address value s)
     unfolding memory
@@ -103,13 +106,11 @@ module _ {V T : Type 0} (m : Machine V T) (safe : LacksNothing m) (gs ls : List 
 
     fine_ap : (read : Bool) (addr value : ℕ) (s : S) → Has gs ls s → Fine (Has gs ls) (ap_register m read addr value s)
     unfolding ap_register ap_at
-    fine_ap read addr value s h = fine_bind Now Now (port m s) _ (fine_port s h) (λ p q.
-        fine_cond Now (not (nat_eq p.0.dp 0)) _ _ tt (fine_cond Now (nat_lt 255 p.0.ap || nat_lt 0xFC addr) _ _ tt (fine_cond Now (not (nat_eq (addr % 4) 0)) _ _ tt (fine_read read _ (fine_ask _ p.0.forgive p.1 q)))))
+    fine_ap read addr value s h = fine_bind Now Now (port m s) _ (fine_port s h) (λ p q. fine_or_halt (ap_unit read addr value p.0.ap p.0.dp) _ p.1 (λ u. fine_read read _ (fine_ask u p.0.forgive p.1 q)))
 
     fine_dp : (read : Bool) (addr value : ℕ) (s : S) → Has gs ls s → Fine (Has gs ls) (dp_register m read addr value s)
     unfolding dp_register dp_at
-    fine_dp read addr value s h = fine_bind Now Now (global m (codes "__dp") s) _ (fine_global (codes "__dp") s dp_there h) (λ d q.
-        fine_cond Now (not (nat_eq d.0 0) || (read && nat_eq addr 8 || nat_eq addr 0xC)) _ _ tt (fine_cond Now (nat_lt 0xC addr) _ _ tt (fine_cond Now (not (nat_eq (addr % 4) 0)) _ _ tt (fine_read read _ (fine_ask _ false d.1 q)))))
+    fine_dp read addr value s h = fine_bind Now Now (global m (codes "__dp") s) _ (fine_global (codes "__dp") s dp_there h) (λ d q. fine_or_halt (dp_unit read addr value d.0) _ d.1 (λ u. fine_read read _ (fine_ask u false d.1 q)))
 
     fine_abort : (value : ℕ) (s : S) → Has gs ls s → Fine (Has gs ls) (abort m value s)
     unfolding abort abort_at
@@ -136,7 +137,7 @@ module _ {V T : Type 0} (m : Machine V T) (safe : LacksNothing m) (gs ls : List 
     fine_performed f.DapDelay text n s h = fine_zero _ (fine_cond Now (nat_lt 60000000 (slice_index n 0)) _ _ tt (fine_command _ s h))
     fine_performed f.DapSwjClock text n s h = fine_zero _ (fine_cond Now (nat_eq (slice_index n 0) 0 || nat_lt 0xFFFFFFFF (slice_index n 0)) _ _ tt (fine_command _ s h))
     fine_performed f.DapWriteAbort text n s h = fine_zero _ (fine_abort (slice_index n 0) s h)
-    fine_performed f.DapSwjPins text n s h = fine_cond Now (nat_lt 0xFFFFFFFF (slice_index n 2)) _ _ tt (fine_command _ s h)
+    fine_performed f.DapSwjPins text n s h = fine_or_halt (pins_command (slice_index n 0) (slice_index n 1) (slice_index n 2)) _ s (λ c. fine_command c s h)
     fine_performed f.DapSwjSequence text n s h = fine_zero _ (fine_cond Now (nat_eq (slice_index n 0) 0 || nat_lt 64 (slice_index n 0)) _ _ tt (fine_command _ s h))
     fine_performed f.DapJtagSequence text n s h = tt
     fine_performed f.Sequence text n s h = h

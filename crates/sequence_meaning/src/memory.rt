@@ -9,8 +9,8 @@ ghost use Rattle.sequence_meaning.specs.Held.{IsCaused, IsMade, Gives, state_of}
 use crate::asking::{Port, ask, asked, port_of};
 use crate::end::End;
 use crate::held::Held;
-use sequence_terms::memory_unit;
-use target_machine::{HaltCause, Target};
+use sequence_terms::{memory_port, memory_unit};
+use target_machine::Target;
 
 // The value of `Read64`.
 #[tactic(auto, unfolding(sequence_terms::specs::Calls::low_and_high, sequence_terms::specs::Calls::use_now, sequence_terms::specs::Direct::direct))]
@@ -73,8 +73,8 @@ fn two_units(
     second_half(read, ap, forgive, address, value, low, held, target)
 }
 
-// A memory call, with its halts in their order.
-#[tactic(auto, unfolding(sequence_terms::specs::Calls::memory_at, sequence_terms::specs::Calls::one_unit))]
+// A memory call, once the port is known.
+#[tactic(auto, unfolding(sequence_terms::specs::Calls::memory_at, sequence_terms::specs::Calls::one_unit, sequence_terms::specs::Calls::or_halt))]
 fn memory_at(
     size: u8,
     read: bool,
@@ -89,15 +89,10 @@ fn memory_at(
     ensures made { (w : World) → IsMade w held.old target.old → IsMade w held.new target.new }
     ensures cause { (faults : ℕ) → IsCaused result faults faults }
 {
-    if port.dp != 0 {
-        return Err(End::Halted(HaltCause::Unsupported));
-    }
-    let Ok(ap) = u8::try_from(port.ap) else {
-        return Err(End::Halted(HaltCause::AddressTooLarge));
+    let ap = match memory_port(size, address, port.ap, port.dp) {
+        Ok(ap) => ap,
+        Err(cause) => return Err(End::Halted(cause)),
     };
-    if address % u64::from(size) != 0 {
-        return Err(End::Halted(HaltCause::Misaligned));
-    }
     if size == 8 {
         two_units(read, ap, port.forgive, address, value, held, target)
     } else {

@@ -10,7 +10,7 @@ ghost use Rattle.sequence_meaning.specs.Held.{IsCaused, IsMade, Gives, state_of}
 use crate::asking::{command, debug_port};
 use crate::end::End;
 use crate::held::Held;
-use sequence_terms::low_bits;
+use sequence_terms::{low_bits, pins_command};
 use target_machine::{HaltCause, ProbeCall, Target};
 
 // A command whose result is dropped.
@@ -70,7 +70,7 @@ pub(crate) fn clock(hertz: u64, held: &mut Held, target: &mut Target) -> Result<
 }
 
 // `DAP_SWJ_Pins`, with a wait of 32 bits.
-#[tactic(auto, unfolding(sequence_terms::specs::Calls::pins))]
+#[tactic(auto, unfolding(sequence_terms::specs::Calls::pins, sequence_terms::specs::Calls::or_halt))]
 pub(crate) fn pins(
     output: u64,
     select: u64,
@@ -82,15 +82,10 @@ pub(crate) fn pins(
     ensures made { (w : World) → IsMade w held.old target.old → IsMade w held.new target.new }
     ensures cause { (faults : ℕ) → IsCaused result faults faults }
 {
-    if wait > 0xFFFF_FFFF {
-        return Err(End::Halted(HaltCause::ArgumentOutOfRange));
+    match pins_command(output, select, wait) {
+        Ok(call) => command(call, held, target),
+        Err(cause) => Err(End::Halted(cause)),
     }
-    let call = ProbeCall::Pins {
-        output: (output % 256) as u8,
-        select: (select % 256) as u8,
-        wait: wait as u32,
-    };
-    command(call, held, target)
 }
 
 // `DAP_SWJ_Sequence`, of 1 to 64 bits.

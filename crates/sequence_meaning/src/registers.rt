@@ -9,10 +9,11 @@ ghost use Rattle.sequence_meaning.specs.Held.{IsCaused, IsMade, Gives, state_of}
 use crate::asking::{Port, asked, debug_port, port_of};
 use crate::end::End;
 use crate::held::Held;
-use target_machine::{HaltCause, Target, Unit};
+use sequence_terms::{ap_unit, dp_unit};
+use target_machine::Target;
 
-// `ReadAP` and `WriteAP`, with their halts in their order.
-#[tactic(auto, unfolding(sequence_terms::specs::Calls::ap_at))]
+// `ReadAP` and `WriteAP`, once the port is known.
+#[tactic(auto, unfolding(sequence_terms::specs::Calls::ap_at, sequence_terms::specs::Calls::or_halt))]
 fn ap_at(
     read: bool,
     addr: u64,
@@ -25,29 +26,10 @@ fn ap_at(
     ensures made { (w : World) → IsMade w held.old target.old → IsMade w held.new target.new }
     ensures cause { (faults : ℕ) → IsCaused result faults faults }
 {
-    if port.dp != 0 {
-        return Err(End::Halted(HaltCause::Unsupported));
+    match ap_unit(read, addr, value, port.ap, port.dp) {
+        Ok(unit) => asked(read, unit, port.forgive, held, target),
+        Err(cause) => Err(End::Halted(cause)),
     }
-    let Ok(ap) = u8::try_from(port.ap) else {
-        return Err(End::Halted(HaltCause::AddressTooLarge));
-    };
-    if addr > 0xFC {
-        return Err(End::Halted(HaltCause::AddressTooLarge));
-    }
-    if addr % 4 != 0 {
-        return Err(End::Halted(HaltCause::Misaligned));
-    }
-    let unit = Unit::Ap {
-        read,
-        ap,
-        addr: addr as u8,
-        value: if read {
-            0
-        } else {
-            (value % 0x1_0000_0000) as u32
-        },
-    };
-    asked(read, unit, port.forgive, held, target)
 }
 
 // `ReadAP` and `WriteAP`.
@@ -66,8 +48,8 @@ pub(crate) fn ap_register(
     ap_at(read, addr, value, port_of(held), held, target)
 }
 
-// `ReadDP` and `WriteDP`, with their halts in their order.
-#[tactic(auto, unfolding(sequence_terms::specs::Calls::dp_at))]
+// `ReadDP` and `WriteDP`, once the debug port is known.
+#[tactic(auto, unfolding(sequence_terms::specs::Calls::dp_at, sequence_terms::specs::Calls::or_halt))]
 fn dp_at(
     read: bool,
     addr: u64,
@@ -80,25 +62,10 @@ fn dp_at(
     ensures made { (w : World) → IsMade w held.old target.old → IsMade w held.new target.new }
     ensures cause { (faults : ℕ) → IsCaused result faults faults }
 {
-    if dp != 0 || (read && addr == 8 || addr == 0xC) {
-        return Err(End::Halted(HaltCause::Unsupported));
+    match dp_unit(read, addr, value, dp) {
+        Ok(unit) => asked(read, unit, false, held, target),
+        Err(cause) => Err(End::Halted(cause)),
     }
-    if addr > 0xC {
-        return Err(End::Halted(HaltCause::AddressTooLarge));
-    }
-    if addr % 4 != 0 {
-        return Err(End::Halted(HaltCause::Misaligned));
-    }
-    let unit = Unit::Dp {
-        read,
-        addr: addr as u8,
-        value: if read {
-            0
-        } else {
-            (value % 0x1_0000_0000) as u32
-        },
-    };
-    asked(read, unit, false, held, target)
 }
 
 // `ReadDP` and `WriteDP`.

@@ -1,5 +1,5 @@
 -- A watched run of a program that lacks nothing is never lost.
-use Rattle.std.proofs.Common.{◌≡◌, ℕ, ◌%◌, Bool, true, false, cond, not, ◌&&◌, ◌||◌, List, [], ◌∷◌, ◌++◌, length, take, codes, nat_lt, nat_eq, bytes_eq, Option, None, Some, Ok, Err, refl, ap, ◌∙◌}
+use Rattle.std.proofs.Common.{◌≡◌, ℕ, Bool, true, false, cond, ◌||◌, List, [], ◌∷◌, ◌++◌, length, take, codes, nat_lt, nat_eq, bytes_eq, Option, None, Some, Result, Ok, Err, refl, ap, ◌∙◌}
 use Rattle.std.specs.Bool.{⊤}
 use Rattle.std.specs.Option.{option_or}
 use Rattle.dap_base.specs.Outcome.{◌>>=◌}
@@ -16,10 +16,11 @@ use Rattle.call_terms.specs.Asks.{unit_ask, probe_ask}
 use Rattle.call_terms.specs.World.{World, is_over, done_now, next_world}
 use Rattle.call_terms.specs.declared.calls.Ask.{Ask}
 use Rattle.target_machine.specs.Plain.{CallEnd, Answered, Skipped, Faulted, Small}
+use Rattle.target_machine.specs.declared.unit.HaltCause.{HaltCause}
 use Rattle.target_machine.specs.declared.unit.ProbeCall.{ProbeCall}
 use Rattle.target_machine.specs.declared.unit.Unit.{Unit as AccessUnit}
 use Rattle.sequence_terms.specs.declared.bindings.Binding.{Binding}
-use Rattle.sequence_terms.specs.Calls.{Port, use_now, given, guarded, global, port_with, port_from, port, answered, ask, numbered, command, zero_of, if_read, low_and_high, second_half, two_units, one_unit, memory_at, memory, ap_at, ap_register, dp_at, dp_register, abort_at, abort, delay, clock, pins, line_bits, lined, performed}
+use Rattle.sequence_terms.specs.Calls.{Port, or_halt, use_now, given, guarded, global, port_with, port_from, port, answered, ask, numbered, command, zero_of, if_read, low_and_high, second_half, two_units, one_unit, memory_port, memory_at, memory, ap_unit, ap_at, ap_register, dp_unit, dp_at, dp_register, pins_command, abort_at, abort, delay, clock, pins, line_bits, lined, performed}
 use Rattle.sequence_terms.specs.Complete.{names_in, has_name, with_name, with_names, Sees, MayCall, ExprComplete, ArgComplete, ArgsComplete}
 use Rattle.sequence_terms.specs.Direct.{Now, with_call, answers, made, direct}
 use Rattle.sequence_terms.specs.Machine as machine
@@ -213,27 +214,23 @@ module _ (shared own : List (List ℕ)) where
   unfolding two_units
   two_fine read p address n s h = fine_bind (Has shared own) (Has shared own) (ask (direct true) _ p.forgive s) _ (ask_fine _ p.forgive s h) (λ x j. second_fine read p address n x.0 x.1 j)
 
+  or_halt_fine : {A : Type 0} (o : Result A HaltCause) (f : A → S → O ℕ) (s : S) → ((x : A) → F (f x s)) → F (or_halt o f s)
+  unfolding or_halt
+  or_halt_fine (Ok x) f s k = k x
+  or_halt_fine (Err cause) f s k = tt
+
   memory_at_fine : (size : ℕ) (read : Bool) (address n : ℕ) (p : Port) (s : S) → H s → F (memory_at (direct true) size read address n p s)
   unfolding memory_at one_unit
-  memory_at_fine size read address n p s h =
-      fine_cond (Has shared own) (not (nat_eq p.dp 0)) _ _ tt
-      (fine_cond (Has shared own) (nat_lt 255 p.ap) _ _ tt
-      (fine_cond (Has shared own) (not (nat_eq (address % size) 0)) _ _ tt
-      (fine_cond (Has shared own) (nat_eq size 8) _ _ (two_fine read p address n s h) (read_fine read _ (ask_fine _ p.forgive s h)))))
+  memory_at_fine size read address n p s h = or_halt_fine (memory_port size address p.ap p.dp) _ s
+      (λ x. fine_cond (Has shared own) (nat_eq size 8) _ _ (two_fine read p address n s h) (read_fine read _ (ask_fine _ p.forgive s h)))
 
   ap_at_fine : (read : Bool) (addr n : ℕ) (p : Port) (s : S) → H s → F (ap_at (direct true) read addr n p s)
   unfolding ap_at
-  ap_at_fine read addr n p s h =
-      fine_cond (Has shared own) (not (nat_eq p.dp 0)) _ _ tt
-      (fine_cond (Has shared own) (nat_lt 255 p.ap || nat_lt 0xFC addr) _ _ tt
-      (fine_cond (Has shared own) (not (nat_eq (addr % 4) 0)) _ _ tt (read_fine read _ (ask_fine _ p.forgive s h))))
+  ap_at_fine read addr n p s h = or_halt_fine (ap_unit read addr n p.ap p.dp) _ s (λ u. read_fine read _ (ask_fine u p.forgive s h))
 
   dp_at_fine : (read : Bool) (addr n dp : ℕ) (s : S) → H s → F (dp_at (direct true) read addr n dp s)
   unfolding dp_at
-  dp_at_fine read addr n dp s h =
-      fine_cond (Has shared own) (not (nat_eq dp 0) || (read && nat_eq addr 8 || nat_eq addr 0xC)) _ _ tt
-      (fine_cond (Has shared own) (nat_lt 0xC addr) _ _ tt
-      (fine_cond (Has shared own) (not (nat_eq (addr % 4) 0)) _ _ tt (read_fine read _ (ask_fine _ false s h))))
+  dp_at_fine read addr n dp s h = or_halt_fine (dp_unit read addr n dp) _ s (λ u. read_fine read _ (ask_fine u false s h))
 
   lined_fine : (line : List ℕ) (n : ℕ) (s : S) → H s → F (lined (direct true) line n s)
   unfolding lined
@@ -249,7 +246,7 @@ module _ (shared own : List (List ℕ)) where
 
   pins_fine : (output select wait : ℕ) (s : S) → H s → F (pins (direct true) output select wait s)
   unfolding pins
-  pins_fine output select wait s h = fine_cond (Has shared own) (nat_lt 0xFFFFFFFF wait) _ _ tt (command_fine _ s h)
+  pins_fine output select wait s h = or_halt_fine (pins_command output select wait) _ s (λ c. command_fine c s h)
 
   bits_fine : (count bits : ℕ) (s : S) → H s → F (line_bits (direct true) count bits s)
   unfolding line_bits

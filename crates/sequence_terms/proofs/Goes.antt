@@ -1,5 +1,5 @@
 -- What each operation of a machine keeps of the rest is kept by all that is done on it.
-use Rattle.std.proofs.Common.{◌≡◌, ℕ, zero, suc, ◌%◌, Bool, true, false, cond, not, ◌&&◌, ◌||◌, List, [], ◌∷◌, codes, nat_lt, nat_eq, Option, None, Some, Result, Ok, Err, refl}
+use Rattle.std.proofs.Common.{◌≡◌, ℕ, zero, suc, Bool, true, false, cond, not, ◌&&◌, ◌||◌, List, [], ◌∷◌, codes, nat_lt, nat_eq, Option, None, Some, Result, Ok, Err, refl}
 use Rattle.expr_grammar.specs.declared.code.Name.{Name}
 use Rattle.expr_grammar.specs.declared.code.UnaryOp.{UnaryOp}
 use Rattle.expr_grammar.specs.declared.code.BinaryOp.{BinaryOp}
@@ -11,6 +11,7 @@ use Rattle.function_table.specs.declared.function.Function.TheVariants as f
 use Rattle.function_table.specs.Lookup.{function_named}
 use Rattle.sequence_code.specs.Trees as c
 use Rattle.sequence_code.specs.Trees.{CodeStep, CodeSteps, SequenceTrees, SetTrees, steps_named}
+use Rattle.target_machine.specs.declared.unit.HaltCause.{HaltCause}
 use Rattle.target_machine.specs.declared.unit.HaltCause.TheVariants.{AccessLimit}
 use Rattle.target_machine.specs.declared.unit.ProbeCall.{ProbeCall}
 use Rattle.target_machine.specs.declared.unit.Unit.{Unit as AccessUnit}
@@ -20,7 +21,7 @@ use Rattle.sequence_terms.specs.Polls.{poll_of}
 use Rattle.sequence_terms.specs.Machine as machine
 use Rattle.sequence_terms.specs.Machine.{Over, Machine, State, Out, halt, with_rest, unit_more, line_more, step_more, with_locals, with_variables, end_state, rest_of}
 use Rattle.sequence_terms.specs.Steady.{Steady, Goes}
-use Rattle.sequence_terms.specs.Calls.{Port, use_now, missing, given, guarded, global, port_with, port_from, port, answered, ask, numbered, command, zero_of, if_read, low_and_high, second_half, two_units, one_unit, memory_at, memory, ap_at, ap_register, dp_at, dp_register, abort_at, abort, delay, clock, pins, line_bits, lined, performed}
+use Rattle.sequence_terms.specs.Calls.{Port, or_halt, use_now, missing, given, guarded, global, port_with, port_from, port, answered, ask, numbered, command, zero_of, if_read, low_and_high, second_half, two_units, one_unit, memory_port, memory_at, memory, ap_unit, ap_at, ap_register, dp_unit, dp_at, dp_register, pins_command, abort_at, abort, delay, clock, pins, line_bits, lined, performed}
 use Rattle.sequence_terms.specs.Values.{named, stored, assigned, used_now, of_unary, both, operands, result_of, strict_binary, truth_of, conjunction, disjunction, of_binary, choice, appended, chained, all_used, numbers_of, called, call_of, value, argument, arguments}
 use Rattle.sequence_terms.specs.Steps.{timeout_of, counted, declared, dropped, after_counted, in_order, inside, turn, turns, polled_at, polled, statement, block, condition, looped, repeated, controlled, step, done, given_back, entered, steps_at, sequence_at, debugged, run_of}
 
@@ -93,6 +94,11 @@ module _ {V T : Type 0} (m : Machine V T) (P : T → T → Type 0) (h : Steady m
   goes_if_read true out s g = g
   goes_if_read false out s g = goes_zero out s g
 
+  goes_or_halt : {A B : Type 0} (o : Result A HaltCause) (f : A → State V T → Out V T B) (s : State V T) → ((x : A) → Goes P s (f x s)) → Goes P s (or_halt o f s)
+  unfolding or_halt
+  goes_or_halt (Ok x) f s g = g x
+  goes_or_halt (Err cause) f s g = goes_err s _
+
   pub goes_low_and_high : (low high : V) (s : State V T) → Goes P s (low_and_high m low high s)
   unfolding low_and_high
   goes_low_and_high low high s =
@@ -109,11 +115,8 @@ module _ {V T : Type 0} (m : Machine V T) (P : T → T → Type 0) (h : Steady m
 
   pub goes_memory_at : (size : ℕ) (read : Bool) (address n : ℕ) (p : Port) (s : State V T) → Goes P s (memory_at m size read address n p s)
   unfolding memory_at one_unit
-  goes_memory_at size read address n p s =
-      goes_cond s (not (nat_eq p.dp 0)) _ _ (goes_err s _)
-      (goes_cond s (nat_lt 255 p.ap) _ _ (goes_err s _)
-      (goes_cond s (not (nat_eq (address % size) 0)) _ _ (goes_err s _)
-      (goes_cond s (nat_eq size 8) _ _ (goes_two_units read p address n s) (goes_if_read read _ s (goes_ask _ p.forgive s)))))
+  goes_memory_at size read address n p s = goes_or_halt (memory_port size address p.ap p.dp) _ s
+      (λ x. goes_cond s (nat_eq size 8) _ _ (goes_two_units read p address n s) (goes_if_read read _ s (goes_ask _ p.forgive s)))
 
   pub goes_memory : (size : ℕ) (read : Bool) (address n : ℕ) (s : State V T) → Goes P s (memory m size read address n s)
   unfolding memory
@@ -121,10 +124,7 @@ module _ {V T : Type 0} (m : Machine V T) (P : T → T → Type 0) (h : Steady m
 
   pub goes_ap_at : (read : Bool) (addr n : ℕ) (p : Port) (s : State V T) → Goes P s (ap_at m read addr n p s)
   unfolding ap_at
-  goes_ap_at read addr n p s =
-      goes_cond s (not (nat_eq p.dp 0)) _ _ (goes_err s _)
-      (goes_cond s (nat_lt 255 p.ap || nat_lt 0xFC addr) _ _ (goes_err s _)
-      (goes_cond s (not (nat_eq (addr % 4) 0)) _ _ (goes_err s _) (goes_if_read read _ s (goes_ask _ p.forgive s))))
+  goes_ap_at read addr n p s = goes_or_halt (ap_unit read addr n p.ap p.dp) _ s (λ u. goes_if_read read _ s (goes_ask u p.forgive s))
 
   pub goes_ap_register : (read : Bool) (addr n : ℕ) (s : State V T) → Goes P s (ap_register m read addr n s)
   unfolding ap_register
@@ -132,10 +132,7 @@ module _ {V T : Type 0} (m : Machine V T) (P : T → T → Type 0) (h : Steady m
 
   pub goes_dp_at : (read : Bool) (addr n dp : ℕ) (s : State V T) → Goes P s (dp_at m read addr n dp s)
   unfolding dp_at
-  goes_dp_at read addr n dp s =
-      goes_cond s (not (nat_eq dp 0) || (read && nat_eq addr 8 || nat_eq addr 0xC)) _ _ (goes_err s _)
-      (goes_cond s (nat_lt 0xC addr) _ _ (goes_err s _)
-      (goes_cond s (not (nat_eq (addr % 4) 0)) _ _ (goes_err s _) (goes_if_read read _ s (goes_ask _ false s))))
+  goes_dp_at read addr n dp s = goes_or_halt (dp_unit read addr n dp) _ s (λ u. goes_if_read read _ s (goes_ask u false s))
 
   pub goes_dp_register : (read : Bool) (addr n : ℕ) (s : State V T) → Goes P s (dp_register m read addr n s)
   unfolding dp_register
@@ -159,7 +156,7 @@ module _ {V T : Type 0} (m : Machine V T) (P : T → T → Type 0) (h : Steady m
 
   pub goes_pins : (output select wait : ℕ) (s : State V T) → Goes P s (pins m output select wait s)
   unfolding pins
-  goes_pins output select wait s = goes_cond s (nat_lt 0xFFFFFFFF wait) _ _ (goes_err s _) (goes_command _ s)
+  goes_pins output select wait s = goes_or_halt (pins_command output select wait) _ s (λ c. goes_command c s)
 
   pub goes_line_bits : (count bits : ℕ) (s : State V T) → Goes P s (line_bits m count bits s)
   unfolding line_bits

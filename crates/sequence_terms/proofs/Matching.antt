@@ -1,5 +1,5 @@
 -- Where each operation of two machines is related, so is all that is done on them.
-use Rattle.std.proofs.Common.{◌≡◌, sym, ap, subst, bytes_eq, ℕ, zero, suc, ◌+◌, ◌/◌, ◌%◌, ◌^◌, Bool, true, false, cond, not, ◌&&◌, ◌||◌, List, [], ◌∷◌, ◌++◌, length, take, codes, nat_lt, nat_eq, Option, None, Some, unwrap_or, Result, Ok, Err, refl}
+use Rattle.std.proofs.Common.{◌≡◌, sym, ap, subst, bytes_eq, ℕ, zero, suc, ◌+◌, ◌/◌, ◌^◌, Bool, true, false, cond, not, ◌&&◌, ◌||◌, List, [], ◌∷◌, ◌++◌, length, take, codes, nat_lt, nat_eq, Option, None, Some, unwrap_or, Result, Ok, Err, refl}
 use Rattle.expr_grammar.specs.declared.code.Name.{Name}
 use Rattle.expr_grammar.specs.declared.code.UnaryOp.{UnaryOp}
 use Rattle.expr_grammar.specs.declared.code.BinaryOp.{BinaryOp}
@@ -11,7 +11,7 @@ use Rattle.function_table.specs.declared.function.Function.TheVariants as f
 use Rattle.function_table.specs.Lookup.{function_named}
 use Rattle.sequence_code.specs.Trees as c
 use Rattle.sequence_code.specs.Trees.{CodeStep, CodeSteps, SequenceTrees, SetTrees, steps_named}
-use Rattle.target_machine.specs.declared.unit.HaltCause.TheVariants.{Unsupported, AddressTooLarge, Misaligned, ArgumentOutOfRange, AccessLimit, MessageLimit, DivideByZero, StepLimit}
+use Rattle.target_machine.specs.declared.unit.HaltCause.TheVariants.{Unsupported, ArgumentOutOfRange, AccessLimit, MessageLimit, DivideByZero, StepLimit}
 use Rattle.target_machine.specs.declared.unit.ProbeCall.{ProbeCall}
 use Rattle.target_machine.specs.declared.unit.Unit.{Unit as AccessUnit}
 use Rattle.sequence_terms.specs.declared.bindings.Binding.{Binding}
@@ -21,7 +21,7 @@ use Rattle.sequence_terms.specs.Polls.{poll_of}
 use Rattle.sequence_terms.specs.Machine as machine
 use Rattle.sequence_terms.specs.Machine.{Over, Machine, State, Out, halt, with_rest, unit_more, line_more, step_more, with_locals, with_variables, end_state, rest_of}
 use Rattle.sequence_terms.specs.Steady.{Goes}
-use Rattle.sequence_terms.specs.Calls.{Port, memory_unit, use_now, missing, given, guarded, global, port_with, port_from, port, answered, ask, numbered, command, zero_of, if_read, low_and_high, second_half, two_units, one_unit, memory_at, memory, ap_at, ap_register, dp_at, dp_register, abort_at, abort, delay, clock, pins, line_bits, lined, performed}
+use Rattle.sequence_terms.specs.Calls.{Port, or_halt, memory_unit, use_now, missing, given, guarded, global, port_with, port_from, port, answered, ask, numbered, command, zero_of, if_read, low_and_high, second_half, two_units, one_unit, memory_port, memory_at, memory, ap_unit, ap_at, ap_register, dp_unit, dp_at, dp_register, pins_command, abort_at, abort, delay, clock, pins, line_bits, lined, performed}
 use Rattle.sequence_terms.specs.Values.{named, stored, assigned, used_now, of_unary, both, operands, result_of, strict_binary, truth_of, conjunction, disjunction, of_binary, choice, appended, chained, all_used, numbers_of, is_call, called, call_of, value, argument, arguments}
 use Rattle.sequence_terms.specs.Steps.{timeout_of, counted, declared, dropped, after_counted, in_order, inside, turn, turns, polled_at, polled, statement, block, condition, looped, repeated, controlled, step, done, given_back, entered, steps_at, sequence_at, debugged, run_of}
 use Rattle.std.specs.Bool.{⊤}
@@ -321,13 +321,15 @@ module _ {V W T U : Type 0} (m : Machine V T) (d : Machine W U) (Val : T → V �
       match_then Val Val (ask m u p.forgive s) (ask d u p.forgive r) _ _ (ask_of u p.forgive s r al) (λ x. g.goes_second_half m P h.steady read p address n x.0 x.1)
       (λ x y al2 a. second_half_of read p address n x.0 y.0 x.1 y.1 al2 a)
 
+  or_halt_of : {A : Type 0} (o : Result A HaltCause) (f : A → State V T → Out V T V) (f2 : A → State W U → Out W U W) (s : State V T) (r : State W U) → Sim s r → ((x : A) → Comes Val (f x s) (f2 x r)) → Comes Val (or_halt o f s) (or_halt o f2 r)
+  unfolding or_halt
+  or_halt_of (Ok x) f f2 s r al k = k x
+  or_halt_of (Err cause) f f2 s r al k = halt_of Val cause s r al
+
   memory_at_of : (size : ℕ) (read : Bool) (address n : ℕ) (p : Port) (s : State V T) (r : State W U) → Sim s r → Comes Val (memory_at m size read address n p s) (memory_at d size read address n p r)
   unfolding memory_at one_unit
-  memory_at_of size read address n p s r al =
-      match_if Val (not (nat_eq p.dp 0)) _ _ _ _ (halt_of Val Unsupported s r al)
-      (match_if Val (nat_lt 255 p.ap) _ _ _ _ (halt_of Val AddressTooLarge s r al)
-      (match_if Val (not (nat_eq (address % size) 0)) _ _ _ _ (halt_of Val Misaligned s r al)
-      (match_if Val (nat_eq size 8) _ _ _ _ (two_units_of read p address n s r al) (if_read_of read _ _ (ask_of _ p.forgive s r al)))))
+  memory_at_of size read address n p s r al = or_halt_of (memory_port size address p.ap p.dp) _ _ s r al
+      (λ x. match_if Val (nat_eq size 8) _ _ _ _ (two_units_of read p address n s r al) (if_read_of read _ _ (ask_of _ p.forgive s r al)))
 
   memory_of : (size : ℕ) (read : Bool) (address n : ℕ) (s : State V T) (r : State W U) → Sim s r → Comes Val (memory m size read address n s) (memory d size read address n r)
   unfolding memory
@@ -336,10 +338,7 @@ module _ {V W T U : Type 0} (m : Machine V T) (d : Machine W U) (Val : T → V �
 
   ap_at_of : (read : Bool) (addr n : ℕ) (p : Port) (s : State V T) (r : State W U) → Sim s r → Comes Val (ap_at m read addr n p s) (ap_at d read addr n p r)
   unfolding ap_at
-  ap_at_of read addr n p s r al =
-      match_if Val (not (nat_eq p.dp 0)) _ _ _ _ (halt_of Val Unsupported s r al)
-      (match_if Val (nat_lt 255 p.ap || nat_lt 0xFC addr) _ _ _ _ (halt_of Val AddressTooLarge s r al)
-      (match_if Val (not (nat_eq (addr % 4) 0)) _ _ _ _ (halt_of Val Misaligned s r al) (if_read_of read _ _ (ask_of _ p.forgive s r al))))
+  ap_at_of read addr n p s r al = or_halt_of (ap_unit read addr n p.ap p.dp) _ _ s r al (λ u. if_read_of read _ _ (ask_of u p.forgive s r al))
 
   ap_register_of : (read : Bool) (addr n : ℕ) (s : State V T) (r : State W U) → Sim s r → Comes Val (ap_register m read addr n s) (ap_register d read addr n r)
   unfolding ap_register
@@ -348,10 +347,7 @@ module _ {V W T U : Type 0} (m : Machine V T) (d : Machine W U) (Val : T → V �
 
   dp_at_of : (read : Bool) (addr n dp : ℕ) (s : State V T) (r : State W U) → Sim s r → Comes Val (dp_at m read addr n dp s) (dp_at d read addr n dp r)
   unfolding dp_at
-  dp_at_of read addr n dp s r al =
-      match_if Val (not (nat_eq dp 0) || (read && nat_eq addr 8 || nat_eq addr 0xC)) _ _ _ _ (halt_of Val Unsupported s r al)
-      (match_if Val (nat_lt 0xC addr) _ _ _ _ (halt_of Val AddressTooLarge s r al)
-      (match_if Val (not (nat_eq (addr % 4) 0)) _ _ _ _ (halt_of Val Misaligned s r al) (if_read_of read _ _ (ask_of _ false s r al))))
+  dp_at_of read addr n dp s r al = or_halt_of (dp_unit read addr n dp) _ _ s r al (λ u. if_read_of read _ _ (ask_of u false s r al))
 
   dp_register_of : (read : Bool) (addr n : ℕ) (s : State V T) (r : State W U) → Sim s r → Comes Val (dp_register m read addr n s) (dp_register d read addr n r)
   unfolding dp_register
@@ -378,7 +374,7 @@ module _ {V W T U : Type 0} (m : Machine V T) (d : Machine W U) (Val : T → V �
 
   pins_of : (output select wait : ℕ) (s : State V T) (r : State W U) → Sim s r → Comes Val (pins m output select wait s) (pins d output select wait r)
   unfolding pins
-  pins_of output select wait s r al = match_if Val (nat_lt 0xFFFFFFFF wait) _ _ _ _ (halt_of Val ArgumentOutOfRange s r al) (command_of _ s r al)
+  pins_of output select wait s r al = or_halt_of (pins_command output select wait) _ _ s r al (λ c. command_of c s r al)
 
   line_bits_of : (count bits : ℕ) (s : State V T) (r : State W U) → Sim s r → Comes Val (line_bits m count bits s) (line_bits d count bits r)
   unfolding line_bits

@@ -3,7 +3,7 @@ use Rattle.std.proofs.Common.{refl}
 use Rattle.std.specs.Fmt.{digits}
 use Rattle.function_table.specs.Front.{read_conversion}
 use Rattle.call_terms.specs.World.{World}
-use Rattle.sequence_terms.specs.Calls.{use_now, missing, given, guarded, global, port_with, port_from, port, zero_of, memory_at, memory, ap_at, ap_register, dp_at, dp_register, delay, clock, line_bits, lined, performed}
+use Rattle.sequence_terms.specs.Calls.{use_now, missing, given, guarded, global, port_with, port_from, port, or_halt, zero_of, memory_port, memory_at, memory, ap_unit, ap_at, ap_register, dp_unit, dp_at, dp_register, delay, clock, line_bits, lined, performed}
 use Rattle.sequence_terms.specs.Direct.{direct}
 use Rattle.sequence_terms.specs.Lines.{formatted, message_line, query_line, value_line, load_line}
 use Rattle.sequence_terms.specs.Values.{named, stored, assigned, used_now, of_unary, both, operands, result_of, strict_binary, truth_of, conjunction, disjunction, of_binary, choice, appended, chained, all_used, numbers_of, called, call_of, value}
@@ -39,7 +39,7 @@ unfolding digits read_conversion direct use_now missing given guarded named stor
 orders_is w = record { ending = refl; steps = refl; variables = refl; lines = refl; calls = refl }
 
 pub halts_are : (w : World) → Halts w
-unfolding direct use_now missing given guarded global port_with port_from port zero_of memory_at memory ap_at ap_register dp_at dp_register delay clock line_bits named stored assigned used_now appended chained all_used numbers_of called call_of performed value counted after_counted dropped in_order statement block step steps_at debugged run_of
+unfolding direct use_now missing given guarded global port_with port_from port or_halt zero_of memory_port memory_at memory ap_unit ap_at ap_register dp_unit dp_at dp_register delay clock line_bits named stored assigned used_now appended chained all_used numbers_of called call_of performed value counted after_counted dropped in_order statement block step steps_at debugged run_of
 halts_are w = record {
   port_first = record { ending = refl; steps = refl; variables = refl; lines = refl; calls = refl };
   then_ap = record { ending = refl; steps = refl; variables = refl; lines = refl; calls = refl };

@@ -2,6 +2,7 @@
 use Rattle.std.specs.Prelude.{ℕ, ◌+◌, ◌*◌, ◌/◌, ◌%◌, ◌^◌, Bool, true, false, not, ◌&&◌, ◌||◌, List, drop, slice_index, codes, Option, Some, None, Result, Ok, Err, if◌then◌else◌, nat_lt, nat_eq}
 use Rattle.function_table.specs.declared.function.Function.{Function}
 use Rattle.function_table.specs.declared.function.Function.TheVariants as f
+use Rattle.target_machine.specs.declared.unit.HaltCause.{HaltCause}
 use Rattle.target_machine.specs.declared.unit.HaltCause.TheVariants.{Unsupported, AddressTooLarge, Misaligned, ArgumentOutOfRange, AccessLimit, MessageLimit}
 use Rattle.target_machine.specs.declared.unit.ProbeCall.{ProbeCall}
 use Rattle.target_machine.specs.declared.unit.ProbeCall.TheVariants as probe
@@ -18,9 +19,43 @@ pub record Port : Type 0 where
   pub forgive : Bool
   pub dp : ℕ
 
+-- ---- what a call asks, or why it halts
+
+-- what is done with this, or the halt
+unfoldable pub or_halt : {V T A B : Type 0} → Result A HaltCause → (A → State V T → Out V T B) → State V T → Out V T B
+or_halt (Ok x) rest s = rest x s
+or_halt (Err cause) rest s = halt cause s
+
 -- a memory access; a value that is written is cut to the access's size
 unfoldable pub memory_unit : ℕ → Bool → ℕ → ℕ → ℕ → AccessUnit
 memory_unit size read ap address value = unit.Memory size read ap address (if read then 0 else value % 2 ^ (8 * size))
+
+-- the access port of a memory call of so many bytes, with its halts in their order
+unfoldable pub memory_port : ℕ → ℕ → ℕ → ℕ → Result ℕ HaltCause
+memory_port size address ap dp =
+    if not (nat_eq dp 0) then Err Unsupported else
+    if nat_lt 255 ap then Err AddressTooLarge else
+    if not (nat_eq (address % size) 0) then Err Misaligned else Ok ap
+
+-- the unit of `ReadAP` and `WriteAP`, with their halts in their order
+unfoldable pub ap_unit : Bool → ℕ → ℕ → ℕ → ℕ → Result AccessUnit HaltCause
+ap_unit read addr value ap dp =
+    if not (nat_eq dp 0) then Err Unsupported else
+    if nat_lt 255 ap || nat_lt 0xFC addr then Err AddressTooLarge else
+    if not (nat_eq (addr % 4) 0) then Err Misaligned else
+    Ok (unit.Ap read ap addr (if read then 0 else value % 2 ^ 32))
+
+-- the unit of `ReadDP` and `WriteDP`, with their halts in their order; a read of RESEND or RDBUFF and a write of address 0xC are not supported
+unfoldable pub dp_unit : Bool → ℕ → ℕ → ℕ → Result AccessUnit HaltCause
+dp_unit read addr value dp =
+    if not (nat_eq dp 0) || (read && nat_eq addr 8 || nat_eq addr 0xC) then Err Unsupported else
+    if nat_lt 0xC addr then Err AddressTooLarge else
+    if not (nat_eq (addr % 4) 0) then Err Misaligned else
+    Ok (unit.Dp read addr (if read then 0 else value % 2 ^ 32))
+
+-- the command of `DAP_SWJ_Pins`, with a wait of 32 bits
+unfoldable pub pins_command : ℕ → ℕ → ℕ → Result ProbeCall HaltCause
+pins_command output select wait = if nat_lt 0xFFFFFFFF wait then Err ArgumentOutOfRange else Ok (probe.Pins (output % 256) (select % 256) wait)
 
 module _ {V T : Type 0} (m : Machine V T) where
   -- the number of a value, where it is used
@@ -104,13 +139,10 @@ module _ {V T : Type 0} (m : Machine V T) where
   unfoldable pub one_unit : ℕ → Bool → Port → ℕ → ℕ → State V T → Out V T V
   one_unit size read p address value s = if_read read (ask (memory_unit size read p.ap address value) p.forgive s)
 
-  -- a memory call, with its halts in their order
+  -- a memory call, once the port is known
   unfoldable pub memory_at : ℕ → Bool → ℕ → ℕ → Port → State V T → Out V T V
   memory_at size read address value p s =
-      if not (nat_eq p.dp 0) then halt Unsupported s else
-      if nat_lt 255 p.ap then halt AddressTooLarge s else
-      if not (nat_eq (address % size) 0) then halt Misaligned s else
-      if nat_eq size 8 then two_units read p address value s else one_unit size read p address value s
+      or_halt (memory_port size address p.ap p.dp) (λ ap r. if nat_eq size 8 then two_units read p address value r else one_unit size read p address value r) s
 
   -- a memory call: size in bytes, whether it reads, address, and what a write writes
   unfoldable pub memory : ℕ → Bool → ℕ → ℕ → State V T → Out V T V
@@ -118,25 +150,17 @@ module _ {V T : Type 0} (m : Machine V T) where
 
   -- ---- registers
 
-  -- `ReadAP` and `WriteAP`, with their halts in their order
+  -- `ReadAP` and `WriteAP`, once the port is known
   unfoldable pub ap_at : Bool → ℕ → ℕ → Port → State V T → Out V T V
-  ap_at read addr value p s =
-      if not (nat_eq p.dp 0) then halt Unsupported s else
-      if nat_lt 255 p.ap || nat_lt 0xFC addr then halt AddressTooLarge s else
-      if not (nat_eq (addr % 4) 0) then halt Misaligned s else
-      if_read read (ask (unit.Ap read p.ap addr (if read then 0 else value % 2 ^ 32)) p.forgive s)
+  ap_at read addr value p s = or_halt (ap_unit read addr value p.ap p.dp) (λ u r. if_read read (ask u p.forgive r)) s
 
   -- `ReadAP` and `WriteAP`
   unfoldable pub ap_register : Bool → ℕ → ℕ → State V T → Out V T V
   ap_register read addr value s = port s >>= λ p. ap_at read addr value p.0 p.1
 
-  -- `ReadDP` and `WriteDP`, with their halts in their order; a read of RESEND or RDBUFF and a write of address 0xC are not supported
+  -- `ReadDP` and `WriteDP`, once the debug port is known; a fault is not forgiven
   unfoldable pub dp_at : Bool → ℕ → ℕ → ℕ → State V T → Out V T V
-  dp_at read addr value dp s =
-      if not (nat_eq dp 0) || (read && nat_eq addr 8 || nat_eq addr 0xC) then halt Unsupported s else
-      if nat_lt 0xC addr then halt AddressTooLarge s else
-      if not (nat_eq (addr % 4) 0) then halt Misaligned s else
-      if_read read (ask (unit.Dp read addr (if read then 0 else value % 2 ^ 32)) false s)
+  dp_at read addr value dp s = or_halt (dp_unit read addr value dp) (λ u r. if_read read (ask u false r)) s
 
   -- `ReadDP` and `WriteDP`
   unfoldable pub dp_register : Bool → ℕ → ℕ → State V T → Out V T V
@@ -160,9 +184,9 @@ module _ {V T : Type 0} (m : Machine V T) where
   unfoldable pub clock : ℕ → State V T → Out V T V
   clock hertz s = if nat_eq hertz 0 || nat_lt 0xFFFFFFFF hertz then halt ArgumentOutOfRange s else command (probe.Clock hertz) s
 
-  -- `DAP_SWJ_Pins`, with a wait of 32 bits
+  -- `DAP_SWJ_Pins`
   unfoldable pub pins : ℕ → ℕ → ℕ → State V T → Out V T V
-  pins output select wait s = if nat_lt 0xFFFFFFFF wait then halt ArgumentOutOfRange s else command (probe.Pins (output % 256) (select % 256) wait) s
+  pins output select wait s = or_halt (pins_command output select wait) (λ c r. command c r) s
 
   -- `DAP_SWJ_Sequence`, of 1 to 64 bits
   unfoldable pub line_bits : ℕ → ℕ → State V T → Out V T V

@@ -18,7 +18,7 @@ pub use lines::{load_line, message_line, query_line, value_line};
 pub use loops::turn_count;
 pub use polls::poll_of;
 pub use sequences::steps_of;
-pub use units::{low_bits, memory_unit};
+pub use units::{ap_unit, dp_unit, low_bits, memory_port, memory_unit, pins_command};
 
 #[cfg(test)]
 mod tests;
