@@ -1,152 +1,16 @@
-//! Rows by the access that sends each register access by itself.
-use crate::rows::{Step, ask, begun, bench_of, row_alone, take_slot, word, write, write_dp};
-use access_calls::{Access, Report, Stop, StopCause};
+//! The access that sends each register access by itself. Whole rows are jobs of `worked_runs`.
+use crate::rows::{Step, ask, begun, bench_of, row_alone, take_slot, word};
+use access_calls::{Access, Stop};
 use bench_access::OverBench;
 use bench_flights::Alone;
 use call_terms::Slot;
 use packed_access::Single;
 use probe_core::{Bench, Config, FaultyBench, Limits, MemoryBench};
-use probe_tests::jobs::{BASE, Setting, job_of};
+use probe_tests::jobs::{BASE, job_of};
 use std::alloc::Global;
 use std::process::Abort;
 use std::test::Fail;
-use target_machine::{Call, ProbeCall, Unit};
-
-// One write of a word: each of its five accesses a packet.
-const ONE_WRITE: [&str; 10] = [
-    ">0500010800000000",
-    "<050101",
-    ">05000103",
-    "<05010140000000",
-    ">0500010142000000",
-    "<050101",
-    ">0500010500000020",
-    "<050101",
-    ">0500010d2a000000",
-    "<050101",
-];
-
-#[test]
-fn one_write(rt: HostRuntime) -> Result<(), Fail> {
-    row_alone(
-        &rt,
-        rt.alloc(),
-        &BASE,
-        &[write(0x2000_0000, 42), Step::Finish],
-        &ONE_WRITE,
-    )
-}
-
-// The second of two writes faults: SELECT, CSW and TAR are written again before it.
-#[test]
-fn a_fault(rt: HostRuntime) -> Result<(), Fail> {
-    let report = Report {
-        cause: StopCause::Faulted,
-        unit: 2,
-        what: Call::Access(word(false, 0x3000_0000, 2)),
-        attempted: 2,
-        accesses: 10,
-        confirmed: 9,
-    };
-    row_alone(
-        &rt,
-        rt.alloc(),
-        &BASE,
-        &[
-            write(0x2000_0000, 1),
-            Step::Fails(word(false, 0x3000_0000, 2), StopCause::Faulted),
-            Step::FinishFails(report),
-        ],
-        &[
-            ">0500010800000000",
-            "<050101",
-            ">05000103",
-            "<05010140000000",
-            ">0500010142000000",
-            "<050101",
-            ">0500010500000020",
-            "<050101",
-            ">0500010d01000000",
-            "<050101",
-            ">0500010800000000",
-            "<050101",
-            ">05000103",
-            "<05010142000000",
-            ">0500010142000000",
-            "<050101",
-            ">0500010500000030",
-            "<050101",
-            ">0500010d02000000",
-            "<050104",
-        ],
-    )
-}
-
-// Runs one write whose stall at a place ends it, after so many attempted, issued and confirmed.
-fn stalls_at(
-    rt: &impl Abort,
-    alloc: Global,
-    stalls: &[u32],
-    counts: [u32; 3],
-    reply: &str,
-) -> Result<(), Fail> {
-    let setting = Setting { stalls, ..BASE };
-    let report = Report {
-        cause: StopCause::NoAnswer,
-        unit: 1,
-        what: Call::Access(word(false, 0x2000_0000, 42)),
-        attempted: counts[0],
-        accesses: counts[1],
-        confirmed: counts[2],
-    };
-    let last = (counts[2] % 5) as usize * 2 + 1;
-    let mut lines = ONE_WRITE;
-    lines[last] = reply;
-    row_alone(
-        rt,
-        alloc,
-        &setting,
-        &[
-            Step::Fails(word(false, 0x2000_0000, 42), StopCause::NoAnswer),
-            Step::FinishFails(report),
-        ],
-        &lines[..last + 1],
-    )
-}
-
-// A retry ends at each access of one write, and at the check or the fetch after it.
-#[test]
-fn a_retry_ends(rt: HostRuntime) -> Result<(), Fail> {
-    let alloc = rt.alloc();
-    stalls_at(&rt, alloc, &[101], [0, 0, 0], "<050002")?;
-    stalls_at(&rt, alloc, &[0, 101], [0, 1, 0], "<050102")?;
-    stalls_at(&rt, alloc, &[0, 0, 101], [0, 1, 1], "<050002")?;
-    stalls_at(&rt, alloc, &[0, 0, 0, 101], [0, 2, 1], "<050102")?;
-    stalls_at(&rt, alloc, &[0, 0, 0, 0, 101], [0, 2, 2], "<050002")?;
-    stalls_at(&rt, alloc, &[0, 0, 0, 0, 0, 101], [0, 3, 2], "<050102")?;
-    stalls_at(&rt, alloc, &[0, 0, 0, 0, 0, 0, 101], [0, 3, 3], "<050002")?;
-    stalls_at(
-        &rt,
-        alloc,
-        &[0, 0, 0, 0, 0, 0, 0, 101],
-        [0, 4, 3],
-        "<050102",
-    )?;
-    stalls_at(
-        &rt,
-        alloc,
-        &[0, 0, 0, 0, 0, 0, 0, 0, 101],
-        [0, 4, 4],
-        "<050002",
-    )?;
-    stalls_at(
-        &rt,
-        alloc,
-        &[0, 0, 0, 0, 0, 0, 0, 0, 0, 101],
-        [1, 5, 4],
-        "<050102",
-    )
-}
+use target_machine::{ProbeCall, Unit};
 
 // A fault that is forgiven: ABORT is written after it.
 #[test]
@@ -173,65 +37,6 @@ fn a_skip(rt: HostRuntime) -> Result<(), Fail> {
             "<050104",
             ">08001e000000",
             "<0800",
-        ],
-    )
-}
-
-#[test]
-fn no_large_addresses(rt: HostRuntime) -> Result<(), Fail> {
-    row_alone(
-        &rt,
-        rt.alloc(),
-        &BASE,
-        &[Step::Small(word(false, 0x1_0000_0000, 1)), Step::Finish],
-        &[
-            ">05000108f0000000",
-            "<050101",
-            ">05000107",
-            "<05010100000000",
-        ],
-    )
-}
-
-// The power-up comes with the fourth read.
-#[test]
-fn a_poll(rt: HostRuntime) -> Result<(), Fail> {
-    let poll = Unit::Poll {
-        mask: 0xA000_0000,
-        value: 0xA000_0000,
-        turns: 10,
-    };
-    row_alone(
-        &rt,
-        rt.alloc(),
-        &Setting {
-            powered: false,
-            power_reads: 3,
-            ..BASE
-        },
-        &[
-            write_dp(8, 0),
-            write_dp(4, 0x5000_0000),
-            Step::Ask(poll),
-            write_dp(0, 0x1E),
-            Step::Finish,
-            Step::Value(2, 1),
-        ],
-        &[
-            ">0500010800000000",
-            "<050101",
-            ">0500010400000050",
-            "<050101",
-            ">05000106",
-            "<05010100000050",
-            ">05000106",
-            "<05010100000050",
-            ">05000106",
-            "<05010100000050",
-            ">05000106",
-            "<050101000000f0",
-            ">050001001e000000",
-            "<050101",
         ],
     )
 }

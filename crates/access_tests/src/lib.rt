@@ -6,8 +6,6 @@ mod alone;
 #[cfg(test)]
 mod calls;
 #[cfg(test)]
-mod ends;
-#[cfg(test)]
 mod openings;
 #[cfg(test)]
 mod replies;

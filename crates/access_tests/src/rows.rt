@@ -22,21 +22,17 @@ use target_machine::{ProbeCall, Unit};
 #[derive(Drop)]
 pub(crate) enum Step {
     Ask(Unit),
-    // so many words from 0x20000000 on, the first of them 1
-    Writes(u32),
     Forgive(Unit),
     Make(ProbeCall),
     // the result of a call
     Value(u32, u64),
-    Flush,
     Finish,
     // the next unit ends so
     Small(Unit),
     // a call ends the access
     Fails(Unit, StopCause),
-    ForgiveFails(Unit, StopCause),
+    // a flush ends it
     FlushFails(Report),
-    FinishFails(Report),
 }
 
 // A bench in memory so set.
@@ -72,14 +68,6 @@ pub(crate) fn write(address: u64, value: u32) -> Step {
 
 pub(crate) fn read(address: u64) -> Step {
     Step::Ask(word(true, address, 0))
-}
-
-pub(crate) fn write_dp(addr: u8, value: u32) -> Step {
-    Step::Ask(Unit::Dp {
-        read: false,
-        addr,
-        value,
-    })
 }
 
 // The byte of two hexadecimal digits.
@@ -229,24 +217,10 @@ pub(crate) fn take_slot<F: Flights>(
 }
 
 // Asks a unit, at which the access ends by this cause.
-fn fails<F: Flights>(
-    rt: &impl Abort,
-    access: &mut PackedAccess<F>,
-    unit: &Unit,
-    forgive: bool,
-    cause: StopCause,
-) {
-    match ask(rt, access, unit, forgive) {
+fn fails<F: Flights>(rt: &impl Abort, access: &mut PackedAccess<F>, unit: &Unit, cause: StopCause) {
+    match ask(rt, access, unit, false) {
         Err(Stop::Cut(report)) => assert_eq!(rt; report.cause, cause),
         _ => assert!(rt; false, "{unit:?}"),
-    }
-}
-
-// Asks for words written from 0x20000000 on.
-fn make_writes<F: Flights>(rt: &impl Abort, access: &mut PackedAccess<F>, count: u32) {
-    for index in 0..count {
-        let address = 0x2000_0000 + 4 * index as u64;
-        take_slot(rt, access, &word(false, address, index + 1), false);
     }
 }
 
@@ -254,19 +228,15 @@ fn make_writes<F: Flights>(rt: &impl Abort, access: &mut PackedAccess<F>, count:
 fn make<F: Flights>(rt: &impl Abort, access: &mut PackedAccess<F>, step: &Step) {
     match step {
         Step::Ask(unit) => take_slot(rt, access, unit, false),
-        Step::Writes(count) => make_writes(rt, access, *count),
         Step::Forgive(unit) => take_slot(rt, access, unit, true),
         Step::Make(call) => assert!(rt; command(rt, access, call).is_ok(), "{call:?}"),
         Step::Value(index, value) => {
             assert_eq!(rt; access.value(Slot { index: *index }), Ok(*value));
         }
-        Step::Flush => assert_eq!(rt; access.flush(), Ok(())),
         Step::Finish => assert_eq!(rt; access.finish(), Ok(())),
         Step::Small(unit) => assert_eq!(rt; ask(rt, access, unit, false), Ok(Asked::Small)),
-        Step::Fails(unit, cause) => fails(rt, access, unit, false, *cause),
-        Step::ForgiveFails(unit, cause) => fails(rt, access, unit, true, *cause),
+        Step::Fails(unit, cause) => fails(rt, access, unit, *cause),
         Step::FlushFails(report) => assert_eq!(rt; access.flush(), Err(Stop::Cut(*report))),
-        Step::FinishFails(report) => assert_eq!(rt; access.finish(), Err(Stop::Cut(*report))),
     }
 }
 
