@@ -1,11 +1,9 @@
 //! The access that sends each register access by itself. Whole rows are jobs of `worked_runs`.
-use crate::rows::{Step, ask, begun, bench_of, row_alone, take_slot, word};
+use crate::rows::{Step, ask, row_alone, word};
 use access_calls::{Access, Stop};
 use bench_access::OverBench;
-use bench_flights::Alone;
-use call_terms::Slot;
 use packed_access::Single;
-use probe_core::{Bench, Config, FaultyBench, Limits, MemoryBench};
+use probe_core::{Bench, Config, FaultyBench, Limits};
 use probe_tests::jobs::{BASE, job_of};
 use std::alloc::Global;
 use std::process::Abort;
@@ -125,29 +123,6 @@ fn failing_calls_end_it(rt: HostRuntime) -> Result<(), Fail> {
         for call in calls {
             faults_at(&rt, rt.alloc(), *call, access as u32 + 1, access as u32)?;
         }
-    }
-    Ok(())
-}
-
-// A hundred thousand reads of DPIDR, each a packet of its own.
-#[test]
-fn a_hundred_thousand_units(rt: HostRuntime) -> Result<(), Fail> {
-    let limits = Limits {
-        packet_size: 64,
-        packet_count: 1,
-    };
-    let bench = bench_of(&rt, rt.alloc(), &BASE, limits)?;
-    if let Some(mut access) = begun::<Alone<MemoryBench>>(&rt, rt.alloc(), bench, limits) {
-        let unit = Unit::Dp {
-            read: true,
-            addr: 0,
-            value: 0,
-        };
-        for _ in 0..100_000 {
-            take_slot(&rt, &mut access, &unit, false);
-        }
-        assert_eq!(rt; access.finish(), Ok(()));
-        assert_eq!(rt; access.value(Slot { index: 99_999 }), Ok(0x2BA0_1477));
     }
     Ok(())
 }
