@@ -1,14 +1,14 @@
 //! The access that sends each register access by itself. Whole rows are jobs of `worked_runs`.
-use crate::rows::{Step, ask, row_alone, word};
+use crate::rows::{ONE, Step, ask, begun, faulty_of, row_alone, word};
 use access_calls::{Access, Stop};
-use bench_access::OverBench;
-use packed_access::Single;
-use probe_core::{Bench, Config, FaultyBench, Limits};
-use probe_tests::jobs::{BASE, job_of};
+use bench_flights::{Alone, Flights};
+use packed_access::PackedAccess;
+use probe_core::FaultyBench;
+use probe_tests::jobs::BASE;
 use std::alloc::Global;
 use std::process::Abort;
 use std::test::Fail;
-use target_machine::{ProbeCall, Unit};
+use target_machine::ProbeCall;
 
 // A fault that is forgiven: ABORT is written after it.
 #[test]
@@ -78,8 +78,20 @@ fn probe_commands(rt: HostRuntime) -> Result<(), Fail> {
     )
 }
 
-// A write of a word over a bench whose call of this number fails, where the load is the first and the opening has six: so
-// many of its accesses were issued, and so many are confirmed.
+// A write of a word, in which the bench fails: so many of its accesses were issued, and so many are confirmed.
+fn ends_by_fault<F: Flights>(
+    rt: &impl Abort,
+    access: &mut PackedAccess<F>,
+    issued: u32,
+    confirmed: u32,
+) {
+    let unit = word(false, 0x2000_0000, 42);
+    let end = Stop::BenchFault { issued, confirmed };
+    assert_eq!(rt; ask(rt, access, &unit, false), Err(end));
+    assert_eq!(rt; access.finish(), Err(end));
+}
+
+// The same over a bench whose call of this number fails, where the load is the first and the opening has six.
 fn faults_at(
     rt: &impl Abort,
     alloc: Global,
@@ -87,28 +99,9 @@ fn faults_at(
     issued: u32,
     confirmed: u32,
 ) -> Result<(), Fail> {
-    let limits = Limits {
-        packet_size: 64,
-        packet_count: 1,
-    };
-    let job = job_of(rt, alloc, &BASE, limits)?;
-    let mut bench = FaultyBench::new(alloc, &[call])?;
-    assert_eq!(rt; bench.load(alloc, &job), Ok(()));
-    let config = Config {
-        idle: 0,
-        retry: 100,
-    };
-    match Single::<FaultyBench>::begin(alloc, bench, config, limits) {
-        Ok(mut access) => {
-            let end = Err(Stop::BenchFault { issued, confirmed });
-            let unit = word(false, 0x2000_0000, 42);
-            assert_eq!(rt; ask(rt, &mut access, &unit, false), end);
-            assert_eq!(rt;
-                access.finish(),
-                Err(Stop::BenchFault { issued, confirmed })
-            );
-        }
-        Err(_) => assert!(rt; false, "not begun"),
+    let bench = faulty_of(rt, alloc, call)?;
+    if let Some(mut access) = begun::<FaultyBench, Alone<FaultyBench>>(rt, alloc, bench, ONE) {
+        ends_by_fault(rt, &mut access, issued, confirmed);
     }
     Ok(())
 }

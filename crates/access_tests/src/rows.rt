@@ -1,7 +1,7 @@
 //! A row of the tests: what is asked over a bench in memory, and its packets and replies.
 ghost use Rattle.std.specs.Prelude.{◌≡◌, true, IfOk};
 ghost use Rattle.target_machine.specs.Sound.{IsSound, IsSoundMemory, IsSoundProbe};
-ghost use Rattle.probe_core.specs.Memory.{reported_of};
+ghost use Rattle.probe_core.specs.Memory.{faulty_reported, reported_of};
 ghost use Rattle.probe_core.specs.Ranges.{AreLimits};
 ghost use Rattle.bench_access.specs.Opening.{IsIdle};
 
@@ -11,8 +11,8 @@ use bench_flights::{Alone, Flights, FlightsOver, Wire};
 use call_terms::{Asked, Slot};
 use dap_base::OutOfMemory;
 use packed_access::PackedAccess;
-use probe_core::{Bench, Config, Limits, MemoryBench, Shown};
-use probe_tests::jobs::{Setting, job_of};
+use probe_core::{Bench, Config, FaultyBench, Limits, MemoryBench, Shown};
+use probe_tests::jobs::{BASE, Setting, job_of};
 use std::alloc::Global;
 use std::process::Abort;
 use std::test::Fail;
@@ -35,8 +35,14 @@ pub(crate) enum Step {
     FlushFails(Report),
 }
 
+// The packet limits of a bench of one packet.
+pub(crate) const ONE: Limits = Limits {
+    packet_size: 64,
+    packet_count: 1,
+};
+
 // A bench in memory so set.
-pub(crate) fn bench_of(
+fn bench_of(
     rt: &impl Abort,
     alloc: Global,
     setting: &Setting<'_>,
@@ -48,6 +54,21 @@ pub(crate) fn bench_of(
 {
     let job = job_of(rt, alloc, setting, limits)?;
     let mut bench = MemoryBench::new(alloc);
+    assert_eq!(rt; bench.load(alloc, &job), Ok(()));
+    Ok(bench)
+}
+
+// A bench of one packet whose call of this number fails, where the load is the first.
+pub(crate) fn faulty_of(
+    rt: &impl Abort,
+    alloc: Global,
+    call: u32,
+) -> Result<FaultyBench, OutOfMemory>
+    ensures idle { IfOk result (λ bench. IsIdle (faulty_reported bench)) }
+    ensures limits { IfOk result (λ bench. (faulty_reported bench).limits ≡ record { packet_size = 64; packet_count = 1 }) }
+{
+    let job = job_of(rt, alloc, &BASE, ONE)?;
+    let mut bench = FaultyBench::new(alloc, &[call])?;
     assert_eq!(rt; bench.load(alloc, &job), Ok(()));
     Ok(bench)
 }
@@ -247,21 +268,23 @@ fn shows_all(rt: &impl Abort, bench: &mut MemoryBench, packet_count: u8, lines: 
     assert_eq!(rt; bench.show(end, &mut [0; 1024]), Ok(Shown::Past));
 }
 
+// How accesses are begun.
+pub(crate) const CONFIG: Config = Config {
+    idle: 0,
+    retry: 100,
+};
+
 // Begins an access over a bench with these limits.
-pub(crate) fn begun<F: FlightsOver<MemoryBench>>(
+pub(crate) fn begun<B: Bench + Drop, F: FlightsOver<B>>(
     rt: &impl Abort,
     alloc: Global,
-    bench: MemoryBench,
+    bench: B,
     limits: Limits,
 ) -> Option<PackedAccess<F>>
-    requires idle { IsIdle (reported_of bench) }
-    requires limits { limits ≡ (reported_of bench).limits }
+    requires idle { IsIdle (B.reported bench) }
+    requires limits { limits ≡ (B.reported bench).limits }
 {
-    let config = Config {
-        idle: 0,
-        retry: 100,
-    };
-    match PackedAccess::<F>::begin(alloc, bench, config, limits) {
+    match PackedAccess::<F>::begin(alloc, bench, CONFIG, limits) {
         Ok(access) => Some(access),
         Err(_) => {
             assert!(rt; false, "not begun");
@@ -314,7 +337,7 @@ fn row_by<F: FlightsOver<MemoryBench>>(
         packet_count,
     };
     let bench = bench_of(rt, alloc, setting, limits)?;
-    if let Some(mut access) = begun::<F>(rt, alloc, bench, limits) {
+    if let Some(mut access) = begun::<MemoryBench, F>(rt, alloc, bench, limits) {
         make_all(rt, &mut access, steps);
         let mut bench = access.into_bench();
         shows_all(rt, &mut bench, packet_count, lines);
