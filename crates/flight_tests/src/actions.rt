@@ -1,7 +1,8 @@
 //! Polls and commands of the probe.
-ghost use Rattle.std.specs.Prelude.{◌≡◌, true};
+ghost use Rattle.std.specs.Prelude.{◌≡◌, [], None, Some, true, IfErr};
 ghost use Rattle.dap_messages.specs.Commands.{IsCommand, command_value};
 ghost use Rattle.batch_packer.specs.Commands.{is_single};
+ghost use Rattle.batch_packer.specs.Exchanges.{IsOpen};
 
 use crate::flights::{ONE, Push, are, comes, faulty, logs, memory};
 use batch_packer::{Config, Cut, Flight, FlightEnd, PollAsk, Slots};
@@ -28,6 +29,16 @@ const fn power(turns: u32) -> PollAsk
     }
 }
 
+// Two portions of a poll, of which the second matches.
+fn matches_later<B: Bench>(rt: &impl Abort, flight: &mut Flight, bench: &mut B)
+    requires usable { flight.old.end ≡ None }
+    requires empty { flight.old.accesses ≡ [] }
+    requires open { IsOpen (B.reported bench.old) }
+{
+    assert_eq!(rt; flight.poll(bench, CONFIG, power(65_536)), Ok(false));
+    assert_eq!(rt; flight.poll(bench, CONFIG, power(34_464)), Ok(true));
+}
+
 // A power-up that is acknowledged after 70,000 reads: the second portion of a poll of 100,000 turns matches.
 #[test]
 fn a_poll_takes_two_portions(rt: HostRuntime) -> Result<(), Fail> {
@@ -41,8 +52,7 @@ fn a_poll_takes_two_portions(rt: HostRuntime) -> Result<(), Fail> {
         &mut bench,
         &[Push::Select(0), Push::Control(0x5000_0000)],
     );
-    assert_eq!(rt; flight.poll(&mut bench, CONFIG, power(65_536)), Ok(false));
-    assert_eq!(rt; flight.poll(&mut bench, CONFIG, power(34_464)), Ok(true));
+    matches_later(&rt, &mut flight, &mut bench);
     logs(
         &rt,
         &mut bench,
@@ -64,6 +74,23 @@ fn a_poll_takes_two_portions(rt: HostRuntime) -> Result<(), Fail> {
     Ok(())
 }
 
+// A poll that ends the flight, with this reply; another is then answered the same.
+fn poll_ends<B: Bench>(
+    rt: &impl Abort,
+    flight: &mut Flight,
+    bench: &mut B,
+    end: FlightEnd,
+    got: &str,
+)
+    requires usable { flight.old.end ≡ None }
+    requires empty { flight.old.accesses ≡ [] }
+    requires open { IsOpen (B.reported bench.old) }
+{
+    assert_eq!(rt; flight.poll(bench, CONFIG, power(1)), Err(end));
+    are(rt, flight.got(), got);
+    assert_eq!(rt; flight.poll(bench, CONFIG, power(1)), Err(end));
+}
+
 // With another DPBANKSEL address 0x4 is read like any register, so its read can be answered WAIT.
 #[test]
 fn a_poll_is_cut(rt: HostRuntime) -> Result<(), Fail> {
@@ -76,10 +103,26 @@ fn a_poll_is_cut(rt: HostRuntime) -> Result<(), Fail> {
         confirmed: 0,
         response: 2,
     });
-    assert_eq!(rt; flight.poll(&mut bench, CONFIG, power(1)), Err(end));
-    are(&rt, flight.got(), "7f0404000501020501010400");
-    assert_eq!(rt; flight.poll(&mut bench, CONFIG, power(1)), Err(end));
+    let got = "7f0404000501020501010400";
+    poll_ends(&rt, &mut flight, &mut bench, end, got);
     Ok(())
+}
+
+// What a command answers.
+fn commanded<B: Bench>(
+    rt: &impl Abort,
+    flight: &mut Flight,
+    bench: &mut B,
+    command: &Command<'_>,
+    answer: Result<u32, FlightEnd>,
+)
+    requires empty { flight.old.end ≡ None → flight.old.accesses ≡ [] }
+    requires open { flight.old.end ≡ None → IsOpen (B.reported bench.old) }
+    requires command { IsCommand (command_value command.now) }
+    requires single { is_single (command_value command.now) ≡ true }
+    ensures again { IfErr answer (λ end. flight.new.end ≡ Some end) }
+{
+    assert_eq!(rt; flight.command(bench, command), answer);
 }
 
 // A command of a fresh bench, what it answers, and its packet and reply.
@@ -95,7 +138,7 @@ fn answers(
 {
     let mut bench = memory(rt, alloc, ONE, true, &[])?;
     let mut flight = Flight::new(alloc, ONE)?;
-    assert_eq!(rt; flight.command(&mut bench, &command), Ok(answer));
+    commanded(rt, &mut flight, &mut bench, &command, Ok(answer));
     logs(rt, &mut bench, lines);
     Ok(())
 }
@@ -160,19 +203,17 @@ fn commands_of_the_lines_are_answered(rt: HostRuntime) -> Result<(), Fail> {
 fn poll_fails_at(rt: &impl Abort, alloc: Global, call: u32) -> Result<(), OutOfMemory> {
     let mut bench = faulty(rt, alloc, ONE, call)?;
     let mut flight = Flight::new(alloc, ONE)?;
-    let end = Err(FlightEnd::BenchFault);
-    assert_eq!(rt; flight.poll(&mut bench, CONFIG, power(1)), end);
-    assert_eq!(rt; flight.poll(&mut bench, CONFIG, power(1)), end);
+    poll_ends(rt, &mut flight, &mut bench, FlightEnd::BenchFault, "");
     Ok(())
 }
 
-// A command over such a bench.
+// A command over such a bench, and another.
 fn command_fails_at(rt: &impl Abort, alloc: Global, call: u32) -> Result<(), OutOfMemory> {
     let mut bench = faulty(rt, alloc, ONE, call)?;
     let mut flight = Flight::new(alloc, ONE)?;
     let end = Err(FlightEnd::BenchFault);
-    assert_eq!(rt; flight.command(&mut bench, &Command::Delay(0)), end);
-    assert_eq!(rt; flight.command(&mut bench, &Command::Delay(0)), end);
+    commanded(rt, &mut flight, &mut bench, &Command::Delay(0), end);
+    commanded(rt, &mut flight, &mut bench, &Command::Delay(0), end);
     Ok(())
 }
 

@@ -4,41 +4,16 @@ ghost use Rattle.batch_packer.specs.Exchanges.{IsOpen};
 ghost use Rattle.batch_packer.specs.Flying.{IsWithin};
 ghost use Rattle.batch_packer.specs.SlotList.{slot_room};
 
-use crate::flights::{FOUR, ONE, Push, are, comes, faulty, gives, logs, memory, push_all};
+use crate::flights::{FOUR, ONE, Push, are, comes, faulty, gives, is_cut, logs, memory, push_all};
 use batch_packer::{Cut, Flight, FlightEnd, Slots};
 use dap_base::OutOfMemory;
+use dap_messages::Command;
 use probe_core::Bench;
 use std::alloc::Global;
 use std::process::Abort;
 use std::test::Fail;
 
-// Sends a flight of these accesses that is cut, and compares the packet and the reply of its end. Another
-// flight is then answered the same.
-fn is_cut<B: Bench>(
-    rt: &impl Abort,
-    flight: &mut Flight,
-    slots: &mut Slots,
-    bench: &mut B,
-    pushes: &[Push],
-    end: FlightEnd,
-    sent: &str,
-    got: &str,
-)
-    requires usable { flight.old.end ≡ None }
-    requires open { IsOpen (B.reported bench.old) }
-    requires within { IsWithin flight.old.limits (B.reported bench.old).limits }
-    requires room { slot_room flight.old.limits ≤ slots.old.room }
-    ensures room { slots.new.room ≡ slots.old.room }
-{
-    push_all(rt, flight, pushes);
-    assert_eq!(rt; flight.send(bench, slots), Err(end));
-    are(rt, flight.sent(), sent);
-    are(rt, flight.got(), got);
-    assert_eq!(rt; flight.send(bench, slots), Err(end));
-    are(rt, flight.got(), got);
-}
-
-const fn cut(performed: u32, confirmed: u32, response: u8) -> FlightEnd {
+pub(crate) const fn cut(performed: u32, confirmed: u32, response: u8) -> FlightEnd {
     FlightEnd::Cut(Cut {
         performed,
         confirmed,
@@ -211,33 +186,39 @@ fn a_block_of_writes_faults(rt: HostRuntime) -> Result<(), Fail> {
 }
 
 // A fault of one Transfer; after ABORT the flight is used again.
+fn resumes<B: Bench>(rt: &impl Abort, flight: &mut Flight, slots: &mut Slots, bench: &mut B)
+    requires usable { flight.old.end ≡ None }
+    requires open { IsOpen (B.reported bench.old) }
+    requires within { IsWithin flight.old.limits (B.reported bench.old).limits }
+    requires room { slot_room flight.old.limits ≤ slots.old.room }
+{
+    push_all(
+        rt,
+        flight,
+        &[Push::Csw(0x42), Push::Tar(0x3000_0000), Push::ReadDrw],
+    );
+    assert_eq!(rt; flight.send(bench, slots), Err(cut(3, 2, 4)));
+    are(rt, flight.got(), "050304");
+    assert!(rt; flight.can_resume());
+    flight.resume();
+    assert!(rt; flight.got().is_empty());
+    assert_eq!(rt; flight.command(bench, &Command::Abort(0x1E)), Ok(0));
+    comes(
+        rt,
+        flight,
+        slots,
+        bench,
+        &[Push::Tar(0x2000_0000), Push::ReadDrw],
+    );
+    gives(rt, slots, &[None, Some(7)]);
+}
+
 #[test]
 fn a_flight_resumes_after_a_fault(rt: HostRuntime) -> Result<(), Fail> {
     let mut bench = memory(&rt, rt.alloc(), ONE, true, &[])?;
     let mut flight = Flight::new(rt.alloc(), ONE)?;
     let mut slots = Slots::new(rt.alloc(), ONE)?;
-    push_all(
-        &rt,
-        &mut flight,
-        &[Push::Csw(0x42), Push::Tar(0x3000_0000), Push::ReadDrw],
-    );
-    assert_eq!(rt; flight.send(&mut bench, &mut slots), Err(cut(3, 2, 4)));
-    are(&rt, flight.got(), "050304");
-    assert!(rt; flight.can_resume());
-    flight.resume();
-    assert!(rt; flight.got().is_empty());
-    assert_eq!(rt;
-        flight.command(&mut bench, &dap_messages::Command::Abort(0x1E)),
-        Ok(0)
-    );
-    comes(
-        &rt,
-        &mut flight,
-        &mut slots,
-        &mut bench,
-        &[Push::Tar(0x2000_0000), Push::ReadDrw],
-    );
-    gives(&rt, &slots, &[None, Some(7)]);
+    resumes(&rt, &mut flight, &mut slots, &mut bench);
     Ok(())
 }
 

@@ -7,7 +7,7 @@ ghost use Rattle.batch_packer.specs.Exchanges.{IsOpen};
 ghost use Rattle.batch_packer.specs.Flying.{IsWithin};
 ghost use Rattle.batch_packer.specs.SlotList.{slot_room};
 
-use batch_packer::{Flight, Slots};
+use batch_packer::{Flight, FlightEnd, Slots};
 use dap_base::OutOfMemory;
 use probe_core::{Bench, FaultyBench, Limits, MemoryBench, Shown};
 use probe_tests::jobs::{BASE, Setting, job_of};
@@ -160,6 +160,32 @@ pub(crate) fn comes<B: Bench>(
     assert_eq!(rt; flight.send(bench, slots), Ok(()));
     assert_eq!(rt; flight.count(), 0);
     assert!(rt; flight.sent().is_empty() && flight.got().is_empty());
+}
+
+// Sends a flight of these accesses that is cut, and compares the packet and the reply of its end. Another
+// flight is then answered the same.
+pub(crate) fn is_cut<B: Bench>(
+    rt: &impl Abort,
+    flight: &mut Flight,
+    slots: &mut Slots,
+    bench: &mut B,
+    pushes: &[Push],
+    end: FlightEnd,
+    sent: &str,
+    got: &str,
+)
+    requires usable { flight.old.end ≡ None }
+    requires open { IsOpen (B.reported bench.old) }
+    requires within { IsWithin flight.old.limits (B.reported bench.old).limits }
+    requires room { slot_room flight.old.limits ≤ slots.old.room }
+    ensures room { slots.new.room ≡ slots.old.room }
+{
+    push_all(rt, flight, pushes);
+    assert_eq!(rt; flight.send(bench, slots), Err(end));
+    are(rt, flight.sent(), sent);
+    are(rt, flight.got(), got);
+    assert_eq!(rt; flight.send(bench, slots), Err(end));
+    are(rt, flight.got(), got);
 }
 
 // The value of a hexadecimal digit.

@@ -1,10 +1,20 @@
 //! Replies that no packet may get, and one that cuts a flight.
-use crate::flights::{ONE, Push, are, push_all};
-use batch_packer::{Config, Cut, Flight, FlightEnd, PollAsk, Slots};
+ghost use Rattle.std.specs.Prelude.{◌≡◌, [], None};
+ghost use Rattle.batch_packer.specs.Exchanges.{IsOpen};
+
+use crate::cuts::cut;
+use crate::flights::{ONE, Push, are, is_cut};
+use batch_packer::{Config, Flight, FlightEnd, PollAsk, Slots};
 use dap_messages::Command;
+use probe_core::Bench;
 use probe_tests::scripted::Scripted;
 use std::process::Abort;
 use std::test::Fail;
+
+// A write of SELECT and a read, and what they are as a packet.
+const TWO: [Push; 2] = [Push::Select(0), Push::ReadCsw];
+
+const PACKET: &str = "050002080000000003";
 
 // The reply is one that a Transfer of two requests may not get: a write and a posted read.
 #[test]
@@ -23,18 +33,15 @@ fn replies_are_bad(rt: HostRuntime) -> Result<(), Fail> {
         let mut bench = Scripted::new(rt.alloc(), reply);
         let mut flight = Flight::new(rt.alloc(), ONE)?;
         let mut slots = Slots::new(rt.alloc(), ONE)?;
-        push_all(&rt, &mut flight, &[Push::Select(0), Push::ReadCsw]);
-        assert_eq!(rt;
-            flight.send(&mut bench, &mut slots),
-            Err(FlightEnd::ReplyBad),
-            "{text}"
-        );
-        are(&rt, flight.sent(), "050002080000000003");
-        are(&rt, flight.got(), text);
-        assert_eq!(rt;
-            flight.send(&mut bench, &mut slots),
-            Err(FlightEnd::ReplyBad),
-            "{text}"
+        is_cut(
+            &rt,
+            &mut flight,
+            &mut slots,
+            &mut bench,
+            &TWO,
+            FlightEnd::ReplyBad,
+            PACKET,
+            text,
         );
     }
     Ok(())
@@ -46,29 +53,37 @@ fn a_reply_cuts_a_flight(rt: HostRuntime) -> Result<(), Fail> {
     let mut bench = Scripted::new(rt.alloc(), &[5, 1, 4]);
     let mut flight = Flight::new(rt.alloc(), ONE)?;
     let mut slots = Slots::new(rt.alloc(), ONE)?;
-    push_all(&rt, &mut flight, &[Push::Select(0), Push::ReadCsw]);
-    let end = FlightEnd::Cut(Cut {
-        performed: 1,
-        confirmed: 0,
-        response: 4,
-    });
-    assert_eq!(rt; flight.send(&mut bench, &mut slots), Err(end));
+    is_cut(
+        &rt,
+        &mut flight,
+        &mut slots,
+        &mut bench,
+        &TWO,
+        cut(1, 0, 4),
+        PACKET,
+        "050104",
+    );
     Ok(())
 }
 
-// A packet size of 63, and a poll whose value match executes nothing.
-#[test]
-fn replies_to_polls_and_commands_are_bad(rt: HostRuntime) -> Result<(), Fail> {
-    let mut small = Scripted::new(rt.alloc(), &[0, 2, 0x3F, 0]);
-    let mut first = Flight::new(rt.alloc(), ONE)?;
-    assert_eq!(rt;
-        first.command(&mut small, &Command::Info(0xFF)),
-        Err(FlightEnd::ReplyBad)
-    );
-    are(&rt, first.sent(), "00ff");
-    are(&rt, first.got(), "00023f00");
-    let mut unmet = Scripted::new(rt.alloc(), &[0x7F, 4, 4, 0, 5, 0, 0x11, 5, 1, 1, 4, 0]);
-    let mut second = Flight::new(rt.alloc(), ONE)?;
+// A packet size of 63 bytes, which no probe may have.
+fn size_is_bad<B: Bench>(rt: &impl Abort, flight: &mut Flight, bench: &mut B)
+    requires usable { flight.old.end ≡ None }
+    requires empty { flight.old.accesses ≡ [] }
+    requires open { IsOpen (B.reported bench.old) }
+{
+    let answer = flight.command(bench, &Command::Info(0xFF));
+    assert_eq!(rt; answer, Err(FlightEnd::ReplyBad));
+    are(rt, flight.sent(), "00ff");
+    are(rt, flight.got(), "00023f00");
+}
+
+// A poll whose value match executes nothing.
+fn poll_is_bad<B: Bench>(rt: &impl Abort, flight: &mut Flight, bench: &mut B)
+    requires usable { flight.old.end ≡ None }
+    requires empty { flight.old.accesses ≡ [] }
+    requires open { IsOpen (B.reported bench.old) }
+{
     let config = Config {
         idle: 0,
         retry: 100,
@@ -78,10 +93,17 @@ fn replies_to_polls_and_commands_are_bad(rt: HostRuntime) -> Result<(), Fail> {
         value: 1,
         turns: 1,
     };
-    assert_eq!(rt;
-        second.poll(&mut unmet, config, ask),
-        Err(FlightEnd::ReplyBad)
-    );
-    are(&rt, second.got(), "7f0404000500110501010400");
+    assert_eq!(rt; flight.poll(bench, config, ask), Err(FlightEnd::ReplyBad));
+    are(rt, flight.got(), "7f0404000500110501010400");
+}
+
+#[test]
+fn replies_to_polls_and_commands_are_bad(rt: HostRuntime) -> Result<(), Fail> {
+    let mut small = Scripted::new(rt.alloc(), &[0, 2, 0x3F, 0]);
+    let mut first = Flight::new(rt.alloc(), ONE)?;
+    size_is_bad(&rt, &mut first, &mut small);
+    let mut unmet = Scripted::new(rt.alloc(), &[0x7F, 4, 4, 0, 5, 0, 0x11, 5, 1, 1, 4, 0]);
+    let mut second = Flight::new(rt.alloc(), ONE)?;
+    poll_is_bad(&rt, &mut second, &mut unmet);
     Ok(())
 }
