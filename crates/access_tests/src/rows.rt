@@ -52,7 +52,8 @@ fn bench_of(
     ensures idle { IfOk result (λ bench. IsIdle (reported_of bench)) }
     ensures limits { IfOk result (λ bench. (reported_of bench).limits ≡ limits) }
 {
-    let job = job_of(rt, alloc, setting, limits)?;
+    assert!(rt; setting.is_in_range());
+    let job = job_of(alloc, setting, limits)?;
     let mut bench = MemoryBench::new(alloc);
     assert_eq!(rt; bench.load(alloc, &job), Ok(()));
     Ok(bench)
@@ -67,7 +68,8 @@ pub(crate) fn faulty_of(
     ensures idle { IfOk result (λ bench. IsIdle (faulty_reported bench)) }
     ensures limits { IfOk result (λ bench. (faulty_reported bench).limits ≡ record { packet_size = 64; packet_count = 1 }) }
 {
-    let job = job_of(rt, alloc, &BASE, ONE)?;
+    assert!(rt; BASE.is_in_range());
+    let job = job_of(alloc, &BASE, ONE)?;
     let mut bench = FaultyBench::new(alloc, &[call])?;
     assert_eq!(rt; bench.load(alloc, &job), Ok(()));
     Ok(bench)

@@ -51,7 +51,8 @@ pub(crate) fn memory(
         stalls,
         ..TARGET
     };
-    let job = job_of(rt, alloc, &setting, limits)?;
+    assert!(rt; setting.is_in_range());
+    let job = job_of(alloc, &setting, limits)?;
     let mut bench = MemoryBench::new(alloc);
     assert_eq!(rt; bench.load(alloc, &job), Ok(()));
     Ok(bench)
@@ -68,7 +69,8 @@ pub(crate) fn faulty(
     ensures open { IfOk result (λ bench. IsOpen (faulty_reported bench)) }
     ensures limits { IfOk result (λ bench. (faulty_reported bench).limits ≡ limits) }
 {
-    let job = job_of(rt, alloc, &TARGET, limits)?;
+    assert!(rt; TARGET.is_in_range());
+    let job = job_of(alloc, &TARGET, limits)?;
     let mut bench = FaultyBench::new(alloc, &[call])?;
     assert_eq!(rt; bench.load(alloc, &job), Ok(()));
     Ok(bench)

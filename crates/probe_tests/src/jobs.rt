@@ -1,5 +1,5 @@
 //! The jobs of the benches in memory that tests run over.
-ghost use Rattle.std.specs.Prelude.{◌≡◌, ◌≤◌, ◌↔◌, IfOk, IsTrue};
+ghost use Rattle.std.specs.Prelude.{◌≡◌, ◌≤◌, ◌↔◌, IfOk, IsTrue, length, true};
 ghost use Rattle.std.specs.List.{All};
 ghost use Rattle.target_machine.specs.Ranges.{IsTargetJob};
 ghost use Rattle.probe_core.specs.Ranges.{AreLimits, IsBenchJob};
@@ -7,7 +7,6 @@ ghost use Rattle.probe_core.specs.Ranges.{AreLimits, IsBenchJob};
 use dap_base::{ItemList, OutOfMemory};
 use probe_core::{BenchJob, Limits};
 use std::alloc::Global;
-use std::process::Abort;
 use target_machine::{ApJob, RegionJob, ScriptJobs, TargetJob, WordJob, WordJobs};
 
 /// What differs from one test to another.
@@ -114,20 +113,26 @@ fn are_stalls(stalls: &[u32]) -> bool
     stalls.iter().all(|stall| *stall <= 100_000)
 }
 
+impl Setting<'_> {
+    /// Whether its numbers are in the ranges of a bench: at most 1,000,000 reads, and at most 65,536 stalls of at most 100,000.
+    pub fn is_in_range(&self) -> bool
+        ensures reads { result ≡ true → self.now.power_reads ≤ 1000000 }
+        ensures few { result ≡ true → length self.now.stalls.now ≤ 65536 }
+        ensures stalls { result ≡ true → All (λ stall. stall ≤ 100000) self.now.stalls.now }
+    {
+        self.power_reads <= 1_000_000 && self.stalls.len() <= 65_536 && are_stalls(self.stalls)
+    }
+}
+
 /// The job of a bench so set, with these limits. An error where memory is refused.
-pub fn job_of(
-    rt: &impl Abort,
-    alloc: Global,
-    setting: &Setting<'_>,
-    limits: Limits,
-) -> Result<BenchJob, OutOfMemory>
+pub fn job_of(alloc: Global, setting: &Setting<'_>, limits: Limits) -> Result<BenchJob, OutOfMemory>
+    requires reads { setting.now.power_reads ≤ 1000000 }
+    requires few { length setting.now.stalls.now ≤ 65536 }
+    requires stalls { All (λ stall. stall ≤ 100000) setting.now.stalls.now }
     requires limits { AreLimits limits }
     ensures in_range { IfOk result IsBenchJob }
     ensures limits { IfOk result (λ job. job.limits ≡ limits) }
 {
-    assert!(rt; setting.power_reads <= 1_000_000);
-    assert!(rt; setting.stalls.len() <= 65_536);
-    assert!(rt; are_stalls(setting.stalls));
     Ok(BenchJob {
         limits,
         stalls: list(alloc, setting.stalls)?,
