@@ -50,7 +50,7 @@ fn failing_calls_refuse(rt: HostRuntime) -> Result<(), Fail> {
     Ok(())
 }
 
-// The first reply tells a packet size of 63 bytes, which no probe may have.
+// The first reply reports a packet size of 63 bytes, which no probe may have.
 #[test]
 fn a_bad_reply_refuses(rt: HostRuntime) -> Result<(), Fail> {
     let bench = Scripted::new(rt.alloc(), &[0, 2, 63, 0]);
