@@ -1,10 +1,10 @@
-//! Flights that end before their end.
-ghost use Rattle.std.specs.Prelude.{◌≡◌, ◌<◌, ◌≤◌, None};
+//! Flights that end before their end. A retry that ends at each of their transfers is in the jobs of `worked_runs`.
+ghost use Rattle.std.specs.Prelude.{◌≡◌, ◌≤◌, None};
 ghost use Rattle.batch_packer.specs.Exchanges.{IsOpen};
 ghost use Rattle.batch_packer.specs.Flying.{IsWithin};
 ghost use Rattle.batch_packer.specs.SlotList.{slot_room};
 
-use crate::flights::{FOUR, ONE, Push, are, comes, faulty, gives, is_cut, logs, memory, push_all};
+use crate::flights::{FOUR, ONE, Push, are, comes, faulty, gives, is_cut, memory, push_all};
 use batch_packer::{Cut, Flight, FlightEnd, Slots};
 use dap_base::OutOfMemory;
 use dap_messages::Command;
@@ -19,124 +19,6 @@ pub(crate) const fn cut(performed: u32, confirmed: u32, response: u8) -> FlightE
         confirmed,
         response,
     })
-}
-
-// A flight of seven accesses makes nine wire transfers: one for each, one that fetches the word of the
-// posted read, and the check of the last write.
-const SEVEN: [Push; 7] = [
-    Push::Select(0),
-    Push::ReadCsw,
-    Push::Csw(0x52),
-    Push::Tar(0x2000_0000),
-    Push::Drw(0x2A),
-    Push::Csw(0x42),
-    Push::Tar(0x2000_0000),
-];
-
-// Its wire transfer number j is answered WAIT once more than it is tried again.
-fn stops_at(
-    rt: &impl Abort,
-    alloc: Global,
-    j: usize,
-    end: FlightEnd,
-    got: &str,
-    word: Option<u32>,
-) -> Result<(), OutOfMemory>
-    requires { j < 9 }
-{
-    let mut stalls = [0; 9];
-    stalls[j] = 101;
-    let mut bench = memory(rt, alloc, ONE, true, &stalls)?;
-    let mut flight = Flight::new(alloc, ONE)?;
-    let mut slots = Slots::new(alloc, ONE)?;
-    let sent = "050007080000000003015200000005000000200d2a00000001420000000500000020";
-    is_cut(
-        rt,
-        &mut flight,
-        &mut slots,
-        &mut bench,
-        &SEVEN,
-        end,
-        sent,
-        got,
-    );
-    gives(rt, &slots, &[None, word, None, None, None, None, None]);
-    Ok(())
-}
-
-#[test]
-fn a_flight_stops_at_each_wire_transfer(rt: HostRuntime) -> Result<(), Fail> {
-    let csw = Some(0x40);
-    let rows = [
-        (cut(0, 0, 2), "050002", None),
-        (cut(1, 0, 2), "050102", None),
-        (cut(2, 1, 2), "050202", None),
-        (cut(2, 2, 2), "05020240000000", csw),
-        (cut(3, 2, 2), "05030240000000", csw),
-        (cut(4, 3, 2), "05040240000000", csw),
-        (cut(5, 4, 2), "05050240000000", csw),
-        (cut(6, 5, 2), "05060240000000", csw),
-        (cut(7, 6, 2), "05070240000000", csw),
-    ];
-    for (j, (end, got, word)) in rows.iter().enumerate() {
-        stops_at(&rt, rt.alloc(), j, *end, got, *word)?;
-    }
-    Ok(())
-}
-
-// Two reads of DRW whose last word is never fetched.
-#[test]
-fn a_posted_read_without_its_word_is_not_confirmed(rt: HostRuntime) -> Result<(), Fail> {
-    let mut bench = memory(&rt, rt.alloc(), ONE, true, &[0, 0, 0, 0, 101])?;
-    let mut flight = Flight::new(rt.alloc(), ONE)?;
-    let mut slots = Slots::new(rt.alloc(), ONE)?;
-    let pushes = [
-        Push::Csw(0x42),
-        Push::Tar(0x2000_0000),
-        Push::ReadDrw,
-        Push::ReadDrw,
-    ];
-    let sent = "050004014200000005000000200f0f";
-    is_cut(
-        &rt,
-        &mut flight,
-        &mut slots,
-        &mut bench,
-        &pushes,
-        cut(4, 3, 2),
-        sent,
-        "05040207000000",
-    );
-    gives(&rt, &slots, &[None, None, Some(7), None]);
-    Ok(())
-}
-
-// A chain is cut in its first packet, so the later ones do nothing.
-#[test]
-fn a_chain_is_cut_in_its_first_packet(rt: HostRuntime) -> Result<(), Fail> {
-    let mut bench = memory(&rt, rt.alloc(), FOUR, true, &[0, 0, 0, 101])?;
-    let mut flight = Flight::new(rt.alloc(), FOUR)?;
-    let mut slots = Slots::new(rt.alloc(), FOUR)?;
-    let mut pushes = [Push::Csw(0x52); 24];
-    pushes[1] = Push::Tar(0x2000_0000);
-    for i in 2..22 {
-        pushes[i] = Push::Drw(i as u32 - 1);
-    }
-    pushes[22] = Push::Csw(0x42);
-    pushes[23] = Push::Tar(0x2000_004C);
-    let sent =
-        "7e0105000c12000000002001000000015200000005000000200d010000000d020000000d030000000d040000000d050000000d060000000e2000000000";
-    is_cut(
-        &rt,
-        &mut flight,
-        &mut slots,
-        &mut bench,
-        &pushes,
-        cut(3, 2, 2),
-        sent,
-        "7f01050502",
-    );
-    Ok(())
 }
 
 // The second packet of a chain, a write at an address without memory, is answered FAULT.
