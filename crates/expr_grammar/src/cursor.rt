@@ -24,24 +24,24 @@ pub fn next<'t, 'a>(tokens: &'t [Token<'a>]) -> Option<(Token<'a>, &'t [Token<'a
 }
 
 /// The tokens after this mark, if it is the next.
-pub fn after_mark<'t, 'a>(tokens: &'t [Token<'a>], text: &str) -> Option<&'t [Token<'a>]>
-    ensures tokens { MatchOption result (reading.IsNotNext text.now (lexemes tokens.now)) (λ rest. reading.IsNext text.now (lexemes tokens.now) (lexemes rest.now)) }
+pub fn after_mark<'t, 'a>(tokens: &'t [Token<'a>], mark: u8) -> Option<&'t [Token<'a>]>
+    ensures tokens { MatchOption result (reading.IsNotNext (mark ∷ []) (lexemes tokens.now)) (λ rest. reading.IsNext (mark ∷ []) (lexemes tokens.now) (lexemes rest.now)) }
     ensures shorter { IfSome result (λ rest. length rest.now < length tokens.now) }
 {
     match next(tokens) {
-        Some((token, rest)) if is_mark(&token, text) => Some(rest),
+        Some((token, rest)) if is_mark(&token, mark) => Some(rest),
         _ => None,
     }
 }
 
 /// The tokens after this mark, which has to be the next.
 #[tactic(auto, unfolding(crate::specs::Reading::expect))]
-pub fn expect<'t, 'a>(tokens: &'t [Token<'a>], text: &str) -> Result<&'t [Token<'a>], Fault>
-    ensures reads { Gives (λ rest. (tt, lexemes rest.now)) result (reading.expect text.now (lexemes tokens.now)) }
+pub fn expect<'t, 'a>(tokens: &'t [Token<'a>], mark: u8) -> Result<&'t [Token<'a>], Fault>
+    ensures reads { Gives (λ rest. (tt, lexemes rest.now)) result (reading.expect (mark ∷ []) (lexemes tokens.now)) }
     ensures shorter { IfOk result (λ rest. length rest.now < length tokens.now) }
 {
     match next(tokens) {
-        Some((token, rest)) if is_mark(&token, text) => Ok(rest),
+        Some((token, rest)) if is_mark(&token, mark) => Ok(rest),
         _ => Err(Fault::Unexpected(tokens.len())),
     }
 }

@@ -11,6 +11,9 @@ use crate::token_list::{TokenError, Tokens};
 use dap_base::{ItemList, Place};
 use std::alloc::Global;
 
+// For how many tokens there is room at first, at most. A text of a block seldom has more than a token for each three bytes.
+const MOST_ROOM: usize = 64;
+
 /// The tokens of `text`, in order, each a slice of the text and the longest at its place, with
 /// blanks and comments alone between them. `BadToken` exactly where some place of the text is
 /// reached from which no token, blank or comment can be taken, with the first such place.
@@ -27,7 +30,7 @@ pub fn tokens<'a>(alloc: Global, text: &'a str) -> Result<Tokens<'a>, TokenError
 fn cut<'a>(alloc: Global, text: &'a str) -> Result<Tokens<'a>, TokenError>
     ensures { Lexes text.now result }
 {
-    let mut items = ItemList::new(alloc);
+    let mut items = ItemList::with_room(alloc, (text.len() / 3 + 1).min(MOST_ROOM))?;
     let mut rest = text;
     let mut at = Place { line: 1, column: 1 };
     while !rest.is_empty() {

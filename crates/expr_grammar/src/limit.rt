@@ -47,7 +47,7 @@ impl Count {
         ensures { result ≡ counting.is_full self.now (lexeme token.now) }
     {
         self.tokens == MAX_TOKENS
-            || (is_mark(token, "(") && self.opened.saturating_sub(self.closed) == MAX_OPEN)
+            || (is_mark(token, b'(') && self.opened.saturating_sub(self.closed) == MAX_OPEN)
     }
 
     // The count with this token, or from nothing after the end of a statement.
@@ -57,13 +57,13 @@ impl Count {
         requires closed { self.now.closed ≤ 512 }
         ensures { result ≡ counting.with_token span self.now (lexeme token.now) }
     {
-        if span == Span::Statement && is_mark(token, ";") {
+        if span == Span::Statement && is_mark(token, b';') {
             return Count::nothing();
         }
         Count {
             tokens: self.tokens + 1,
-            opened: self.opened + usize::from(is_mark(token, "(")),
-            closed: self.closed + usize::from(is_mark(token, ")")),
+            opened: self.opened + usize::from(is_mark(token, b'(')),
+            closed: self.closed + usize::from(is_mark(token, b')')),
         }
     }
 }

@@ -1,6 +1,6 @@
 //! What a token stands for: marks, operators and how tightly they bind, and strings.
 
-ghost use Rattle.std.specs.Prelude.{◌≡◌, ◌≤◌, MatchOption, None, Some, IfOk};
+ghost use Rattle.std.specs.Prelude.{◌≡◌, ◌∷◌, [], codes, ◌≤◌, MatchOption, None, Some, IfOk};
 ghost use Rattle.expr_grammar.specs.Grammar as spec;
 ghost use Rattle.expr_grammar.specs.Lexeme.{lexeme};
 ghost use Rattle.expr_grammar.specs.Reading as reading;
@@ -11,11 +11,24 @@ use dap_base::{NameText, OutOfMemory};
 use std::alloc::Global;
 
 /// Whether the token is this mark.
-pub fn is_mark(token: &Token<'_>, text: &str) -> bool
-    ensures { result ≡ reading.is_mark text.now (lexeme token.now) }
+pub fn is_mark(token: &Token<'_>, mark: u8) -> bool
+    ensures { result ≡ reading.is_mark (mark ∷ []) (lexeme token.now) }
 {
     match token.kind {
-        TokenKind::Mark => token.text == text,
+        TokenKind::Mark => match token.text.as_bytes() {
+            [only] => *only == mark,
+            _ => false,
+        },
+        _ => false,
+    }
+}
+
+/// Whether the token is the keyword `__var`.
+pub fn is_declaration(token: &Token<'_>) -> bool
+    ensures { result ≡ reading.is_mark (codes "__var") (lexeme token.now) }
+{
+    match token.kind {
+        TokenKind::Mark => token.text == "__var",
         _ => false,
     }
 }
@@ -24,11 +37,11 @@ pub fn is_mark(token: &Token<'_>, text: &str) -> bool
 pub fn unary_of(text: &str) -> Option<UnaryOp>
     ensures { result ≡ reading.unary_of text.now }
 {
-    match text {
-        "!" => Some(UnaryOp::Not),
-        "~" => Some(UnaryOp::Flip),
-        "-" => Some(UnaryOp::Minus),
-        "+" => Some(UnaryOp::Plus),
+    match text.as_bytes() {
+        b"!" => Some(UnaryOp::Not),
+        b"~" => Some(UnaryOp::Flip),
+        b"-" => Some(UnaryOp::Minus),
+        b"+" => Some(UnaryOp::Plus),
         _ => None,
     }
 }
@@ -36,25 +49,25 @@ pub fn unary_of(text: &str) -> Option<UnaryOp>
 fn operator_of(text: &str) -> Option<BinaryOp>
     ensures { result ≡ reading.operator_of text.now }
 {
-    match text {
-        "*" => Some(BinaryOp::Mul),
-        "/" => Some(BinaryOp::Div),
-        "%" => Some(BinaryOp::Rem),
-        "+" => Some(BinaryOp::Add),
-        "-" => Some(BinaryOp::Sub),
-        "<<" => Some(BinaryOp::Shl),
-        ">>" => Some(BinaryOp::Shr),
-        "<" => Some(BinaryOp::Lt),
-        "<=" => Some(BinaryOp::Le),
-        ">" => Some(BinaryOp::Gt),
-        ">=" => Some(BinaryOp::Ge),
-        "==" => Some(BinaryOp::Eq),
-        "!=" => Some(BinaryOp::Ne),
-        "&" => Some(BinaryOp::BitAnd),
-        "^" => Some(BinaryOp::BitXor),
-        "|" => Some(BinaryOp::BitOr),
-        "&&" => Some(BinaryOp::And),
-        "||" => Some(BinaryOp::Or),
+    match text.as_bytes() {
+        b"*" => Some(BinaryOp::Mul),
+        b"/" => Some(BinaryOp::Div),
+        b"%" => Some(BinaryOp::Rem),
+        b"+" => Some(BinaryOp::Add),
+        b"-" => Some(BinaryOp::Sub),
+        b"<<" => Some(BinaryOp::Shl),
+        b">>" => Some(BinaryOp::Shr),
+        b"<" => Some(BinaryOp::Lt),
+        b"<=" => Some(BinaryOp::Le),
+        b">" => Some(BinaryOp::Gt),
+        b">=" => Some(BinaryOp::Ge),
+        b"==" => Some(BinaryOp::Eq),
+        b"!=" => Some(BinaryOp::Ne),
+        b"&" => Some(BinaryOp::BitAnd),
+        b"^" => Some(BinaryOp::BitXor),
+        b"|" => Some(BinaryOp::BitOr),
+        b"&&" => Some(BinaryOp::And),
+        b"||" => Some(BinaryOp::Or),
         _ => None,
     }
 }

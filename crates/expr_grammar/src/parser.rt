@@ -44,7 +44,7 @@ fn assignment<'t, 'a>(
     ensures shorter { IfOk result (λ x. length x.1.now ≤ length tokens.now) }
 {
     match next(tokens) {
-        Some((mark, after)) if is_mark(&mark, "=") => {
+        Some((mark, after)) if is_mark(&mark, b'=') => {
             let (value, rest) = whole(alloc, after)?;
             Ok((made::assignment(alloc, name, value)?, rest))
         }
@@ -61,9 +61,9 @@ fn choice<'t, 'a>(alloc: Global, tokens: &'t [Token<'a>]) -> Result<(Expr, &'t [
 {
     let (test, rest) = at_level(alloc, 2, tokens)?;
     match next(rest) {
-        Some((mark, after)) if is_mark(&mark, "?") => {
+        Some((mark, after)) if is_mark(&mark, b'?') => {
             let (then, rest) = whole(alloc, after)?;
-            let rest = expect(rest, ":")?;
+            let rest = expect(rest, b':')?;
             let (other, rest) = choice(alloc, rest)?;
             Ok((made::choice(alloc, test, then, other)?, rest))
         }
@@ -102,7 +102,7 @@ fn grouped<'t, 'a>(alloc: Global, tokens: &'t [Token<'a>]) -> Result<(Expr, &'t 
     ensures shorter { IfOk result (λ x. length x.1.now < length tokens.now) }
 {
     let (inner, rest) = whole(alloc, tokens)?;
-    let rest = expect(rest, ")")?;
+    let rest = expect(rest, b')')?;
     Ok((made::group(alloc, inner)?, rest))
 }
 
@@ -129,7 +129,7 @@ fn operand<'t, 'a>(alloc: Global, tokens: &'t [Token<'a>]) -> Result<(Expr, &'t 
                 Ok((made::unary(alloc, op, inner)?, rest))
             }
             None => {
-                if token.text == "(" {
+                if is_mark(&token, b'(') {
                     grouped(alloc, rest)
                 } else {
                     Err(Fault::Unexpected(tokens.len()))
@@ -151,7 +151,7 @@ fn named<'t, 'a>(
     ensures shorter { IfOk result (λ x. length x.1.now ≤ length tokens.now) }
 {
     match next(tokens) {
-        Some((mark, after)) if is_mark(&mark, "(") => called(alloc, name, after),
+        Some((mark, after)) if is_mark(&mark, b'(') => called(alloc, name, after),
         _ => Ok((made::named(name), tokens)),
     }
 }
@@ -170,7 +170,7 @@ fn called<'t, 'a>(
     let Some((mark, after)) = next(tokens) else {
         return Err(Fault::Unexpected(0));
     };
-    if is_mark(&mark, ")") {
+    if is_mark(&mark, b')') {
         return Ok((made::call(name, Args::new(alloc)), after));
     }
     let (args, rest) = arguments(alloc, tokens)?;
@@ -209,14 +209,15 @@ fn arguments<'t, 'a>(
     ensures reads { Gives (λ x. (arg_trees x.0, lexemes x.1.now)) result (reading.arguments reading.read (lexemes tokens.now)) }
     ensures shorter { IfOk result (λ x. length x.1.now < length tokens.now) }
 {
-    let mut args = Args::new(alloc);
     let (first, mut rest) = argument(alloc, tokens)?;
+    let room = 1 + usize::from(after_mark(rest, b',').is_some());
+    let mut args = Args::with_room(alloc, room)?;
     args.push(first)?;
-    while let Some(after) = after_mark(rest, ",") {
+    while let Some(after) = after_mark(rest, b',') {
         let (arg, later) = argument(alloc, after)?;
         args.push(arg)?;
         rest = later;
     }
-    let rest = expect(rest, ")")?;
+    let rest = expect(rest, b')')?;
     Ok((args, rest))
 }

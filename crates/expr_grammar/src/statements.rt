@@ -11,7 +11,7 @@ use crate::code::{Code, Stmt};
 use crate::cursor::{expect, expect_name, next};
 use crate::fault::Fault;
 use crate::made;
-use crate::operators::is_mark;
+use crate::operators::{is_declaration, is_mark};
 use crate::parser::whole;
 use crate::token::Token;
 use dap_base::Place;
@@ -27,9 +27,9 @@ fn declaration<'t, 'a>(
     ensures shorter { IfOk result (λ x. length x.1.now < length tokens.now) }
 {
     let (name, rest) = expect_name(alloc, tokens)?;
-    let rest = expect(rest, "=")?;
+    let rest = expect(rest, b'=')?;
     let (value, rest) = whole(alloc, rest)?;
-    let rest = expect(rest, ";")?;
+    let rest = expect(rest, b';')?;
     Ok((made::declaration(name, value), rest))
 }
 
@@ -44,7 +44,7 @@ fn plain<'t, 'a>(
     ensures shorter { IfOk result (λ x. length x.1.now < length tokens.now) }
 {
     let (value, rest) = whole(alloc, tokens)?;
-    let rest = expect(rest, ";")?;
+    let rest = expect(rest, b';')?;
     Ok((made::plain(at, value), rest))
 }
 
@@ -60,9 +60,9 @@ fn statement<'t, 'a>(
     let Some((token, rest)) = next(tokens) else {
         return Err(Fault::Unexpected(0));
     };
-    if is_mark(&token, ";") {
+    if is_mark(&token, b';') {
         Ok((made::empty(token.at), rest))
-    } else if is_mark(&token, "__var") {
+    } else if is_declaration(&token) {
         declaration(alloc, rest)
     } else {
         plain(alloc, token.at, tokens)
@@ -89,7 +89,8 @@ fn next_statement<'t, 'a>(
 pub fn statements(alloc: Global, tokens: &[Token<'_>]) -> Result<Code, Fault>
     ensures { Gives (λ code. let none : List Lexeme = [] in (code_trees code, none)) result (reading.statements reading.read (lexemes tokens.now)) }
 {
-    let mut code = Code::new(alloc);
+    let room = tokens.iter().filter(|t| is_mark(t, b';')).count();
+    let mut code = Code::with_room(alloc, room)?;
     let mut found = next_statement(alloc, tokens)?;
     while let Some((statement, rest)) = found {
         code.push(statement)?;

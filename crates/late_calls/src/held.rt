@@ -60,6 +60,16 @@ impl Held {
         }
     }
 
+    /// The same of a variable that is at `index` among those that all sequences share, where it is there.
+    pub fn predefined(&self, index: usize, name: &str) -> Value
+        ensures { result ≡ unwrap_or (value_in (bindings_of self.now.globals) name.now) (Number 0) }
+    {
+        match self.globals.get_near(index, name) {
+            Some(value) => value,
+            None => Value::Number(0),
+        }
+    }
+
     /// The value of a visible variable, 0 where there is none.
     pub fn visible(&self, name: &str) -> Value
         ensures { (s : State Value Late) → s.globals ≡ bindings_of self.now.globals → s.locals ≡ self.now.locals.items

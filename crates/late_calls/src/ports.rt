@@ -15,9 +15,9 @@ use crate::held::Held;
 use crate::uses::number_of;
 use access_calls::Access;
 
-// The number of a variable that all sequences share.
+// The number of a variable that all sequences share, which is found at once where it is at `index` among them.
 #[tactic(auto, using(crate::proofs::Leaves::global_gives))]
-fn global_of<A: Access>(name: &str, held: &Held, access: &mut A) -> Result<u64, End>
+fn global_of<A: Access>(index: usize, name: &str, held: &Held, access: &mut A) -> Result<u64, End>
     requires open { (A.reported access.old).end ≡ None }
     ensures gives { (m : BenchState) (answered : Option ℕ) (written : Option (List ℕ)) → A.begun access.old m → IsLeft (A.reported access.new) answered
         → Gives (world_from m answered) (A.reported access.new).lines result (state_of held.now (A.reported access.new).asks written) (c.global (late A.cost (world_from m answered)) name.now (state_of held.now (A.reported access.old).asks written)) }
@@ -29,7 +29,7 @@ fn global_of<A: Access>(name: &str, held: &Held, access: &mut A) -> Result<u64, 
     ensures identity { A.identity access.new ≡ A.identity access.old }
     ensures goes { GoesOn (A.reported access.old) (A.reported access.new) }
 {
-    number_of(held.global(name), access)
+    number_of(held.predefined(index, name), access)
 }
 
 /// The number of `__dp`, which is used.
@@ -45,7 +45,7 @@ pub fn debug_port<A: Access>(held: &Held, access: &mut A) -> Result<u64, End>
     ensures identity { A.identity access.new ≡ A.identity access.old }
     ensures goes { GoesOn (A.reported access.old) (A.reported access.new) }
 {
-    global_of("__dp", held, access)
+    global_of(2, "__dp", held, access)
 }
 
 // `__dp` is used last.
@@ -84,7 +84,7 @@ fn port_from<A: Access>(ap: u64, held: &Held, access: &mut A) -> Result<Port, En
     ensures identity { A.identity access.new ≡ A.identity access.old }
     ensures goes { GoesOn (A.reported access.old) (A.reported access.new) }
 {
-    match global_of("__errorcontrol", held, access) {
+    match global_of(5, "__errorcontrol", held, access) {
         Ok(control) => port_with(ap, control, held, access),
         Err(end) => Err(end),
     }
@@ -104,7 +104,7 @@ pub(crate) fn port_of<A: Access>(held: &Held, access: &mut A) -> Result<Port, En
     ensures identity { A.identity access.new ≡ A.identity access.old }
     ensures goes { GoesOn (A.reported access.old) (A.reported access.new) }
 {
-    match global_of("__ap", held, access) {
+    match global_of(3, "__ap", held, access) {
         Ok(ap) => port_from(ap, held, access),
         Err(end) => Err(end),
     }

@@ -45,18 +45,20 @@ fn inner_path(alloc: Global, path: &[u64], number: u64) -> Result<StepPath, OutO
     Ok(inner)
 }
 
-// Appends the calls of a text as those of a part of the step at the path.
+// Appends the calls of a text as those of a part of the step of this number inside the one at the path. A path is made for each
+// call, and none where there is no call.
 fn push_calls(
     alloc: Global,
     path: &[u64],
+    number: u64,
     part: Part,
     texts: &[TextCall],
     calls: &mut ItemList<StepCall>,
 ) -> Result<(), OutOfMemory>
-    ensures { OnOk result (calls.new ≡ calls.old ++ calls_at path.now part texts.now) }
+    ensures { OnOk result (calls.new ≡ calls.old ++ calls_at (path.now ++ number ∷ []) part texts.now) }
 {
     for text in texts {
-        let path = copy_path(alloc, path)?;
+        let path = inner_path(alloc, path, number)?;
         calls.push(StepCall {
             path,
             part,
@@ -71,52 +73,59 @@ fn push_block_step(
     alloc: Global,
     names: &Names,
     path: &[u64],
+    number: u64,
     code: &[Stmt],
     calls: &mut ItemList<StepCall>,
 ) -> Result<(), OutOfMemory>
-    ensures { OnOk result (calls.new ≡ calls.old ++ calls_at path.now parts.Block (block_calls names.now (code_trees code.now))) }
+    ensures { OnOk result (calls.new ≡ calls.old ++ calls_at (path.now ++ number ∷ []) parts.Block (block_calls names.now (code_trees code.now))) }
 {
     let mut texts = ItemList::new(alloc);
     push_block(names, code, &mut texts)?;
-    push_calls(alloc, path, Part::Block, texts.as_slice(), calls)
+    push_calls(alloc, path, number, Part::Block, texts.as_slice(), calls)
 }
 
 fn push_part(
     alloc: Global,
     names: &Names,
     path: &[u64],
+    number: u64,
     part: Part,
     condition: &Option<Expr>,
     calls: &mut ItemList<StepCall>,
 ) -> Result<(), OutOfMemory>
-    ensures { OnOk result (calls.new ≡ calls.old ++ calls_at path.now part (condition_calls names.now (option_map tree condition.now))) }
+    ensures { OnOk result (calls.new ≡ calls.old ++ calls_at (path.now ++ number ∷ []) part (condition_calls names.now (option_map tree condition.now))) }
 {
     let mut texts = ItemList::new(alloc);
     push_condition(names, condition, &mut texts)?;
-    push_calls(alloc, path, part, texts.as_slice(), calls)
+    push_calls(alloc, path, number, part, texts.as_slice(), calls)
 }
 
+// Appends the calls of the step of this number inside the one at the path.
 #[cycle(step_calls)]
 fn push_step(
     alloc: Global,
     names: &Names,
     path: &[u64],
+    number: u64,
     step: &CheckedStep,
     calls: &mut ItemList<StepCall>,
 ) -> Result<(), OutOfMemory>
-    ensures { OnOk result (calls.new ≡ calls.old ++ step_calls names.now path.now (step_tree step.now)) }
+    ensures { OnOk result (calls.new ≡ calls.old ++ step_calls names.now (path.now ++ number ∷ []) (step_tree step.now)) }
 {
     match step {
-        CheckedStep::Block(code) => push_block_step(alloc, names, path, code.as_slice(), calls),
+        CheckedStep::Block(code) => {
+            push_block_step(alloc, names, path, number, code.as_slice(), calls)
+        }
         CheckedStep::Control {
             cond,
             repeat,
             timeout: _,
             steps,
         } => {
-            push_part(alloc, names, path, Part::If, cond, calls)?;
-            push_part(alloc, names, path, Part::While, repeat, calls)?;
-            push_steps(alloc, names, path, steps.as_slice(), calls)
+            push_part(alloc, names, path, number, Part::If, cond, calls)?;
+            push_part(alloc, names, path, number, Part::While, repeat, calls)?;
+            let inner = inner_path(alloc, path, number)?;
+            push_steps(alloc, names, inner.as_slice(), steps.as_slice(), calls)
         }
     }
 }
@@ -133,8 +142,7 @@ pub fn push_steps(
     ensures { OnOk result (calls.new ≡ calls.old ++ steps_calls names.now path.now 0 (steps_tree steps.now)) }
 {
     for (number, step) in steps.iter().enumerate() {
-        let inner = inner_path(alloc, path, number as u64)?;
-        push_step(alloc, names, inner.as_slice(), step, calls)?;
+        push_step(alloc, names, path, number as u64, step, calls)?;
     }
     Ok(())
 }

@@ -18,7 +18,7 @@ loop-rest-init c =
       utf8 = c.utf8.text;
       within = omega arith;
       back = ap (λ (k : ℕ). drop k text) zero;
-      divides = rw c.new-items.ensures (subst (λ (k : ℕ). Divides text 0 [] k) zero nothing);
+      divides = rw c.in_ok-items.ensures (subst (λ (k : ℕ). Divides text 0 [] k) zero nothing);
       place = ap (place_at text) zero;
     }
 

@@ -33,8 +33,8 @@ arguments-loop-after-preserved t c =
 pub arguments-returns-in_err-rest-clause-reads : goal.arguments-returns-in_err-rest-clause-reads
 arguments-returns-in_err-rest-clause-reads t c =
     let p = err_from_is_err_and c.from_residual-in_err-rest.result c.from_residual-in_err-rest.ensures.1 in
-    rw (p.1, p.2) (turns.not_closed c.in_err-rest.field-0.0 c.loop-after.args (lexemes c.loop-after.rest.now) (arguments read (lexemes c.args.tokens.now)) (rw c.in_default.is at c.after_mark.ensures.tokens) c.in_err-rest.ensures.reads c.loop-after.invariant.0)
+    rw (p.1, p.2) (turns.not_closed c.in_err-rest.field-0.0 c.loop-after.args (lexemes c.loop-after.rest.now) (arguments read (lexemes c.args.tokens.now)) (rw c.in_default.is at c.after_mark-in-loop-after.ensures.tokens) c.in_err-rest.ensures.reads c.loop-after.invariant.0)
 
 pub arguments-returns-clause-reads : goal.arguments-returns-clause-reads
 arguments-returns-clause-reads t c =
-    turns.closes c.loop-after.args (lexemes c.loop-after.rest.now) (lexemes c.in_ok-rest.rest.now) (arguments read (lexemes c.args.tokens.now)) (rw c.in_default.is at c.after_mark.ensures.tokens) c.in_ok-rest.ensures.reads c.loop-after.invariant.0
+    turns.closes c.loop-after.args (lexemes c.loop-after.rest.now) (lexemes c.in_ok-rest.rest.now) (arguments read (lexemes c.args.tokens.now)) (rw c.in_default.is at c.after_mark-in-loop-after.ensures.tokens) c.in_ok-rest.ensures.reads c.loop-after.invariant.0

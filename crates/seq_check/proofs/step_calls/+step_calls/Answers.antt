@@ -12,5 +12,5 @@ push_steps-loop-number-preserved t c =
     let i = c.loop-number.number in
     let x = c.index-steps-number.result in
     grown c.args.calls.now c.loop-number.calls c.push_step.new.calls (steps_calls names path 0 (steps_tree (take i xs))) (step_calls names (path ++ i ∷ []) (step_tree x)) _
-    (rw (← c.in_ok-inner.ensures, ← c.as_slice.ensures) c.in_ok-push_step.ensures) c.loop-number.invariant
+    c.in_ok-push_step.ensures c.loop-number.invariant
     (rw (← c.index-steps-number.is) at (steps_calls_more names path xs i x c.loop-number-test.true))
