@@ -43,7 +43,7 @@ pub fn sequence_text(alloc: Global, entry: &SeqEntry) -> Result<Line, OutOfMemor
     ensures { IfOk result (λ line. line ≡ sequence_line entry.now) }
 {
     let line = begin_sequence(alloc, entry)?;
-    let line = with_counts(line, &entry.steps)?;
+    let line = with_counts(line, entry.steps.as_steps())?;
     line.text(disabled_text(entry.disabled))?.text("\n")
 }
 

@@ -5,6 +5,7 @@ pub mod laws;
 mod levels;
 mod pack;
 mod sequences;
+mod shared;
 mod step_reader;
 mod steps;
 
@@ -14,6 +15,7 @@ pub use pack::{
     Device, Devices, Families, Family, Level, Pack, SeqText, SeqTexts, SubFamilies, SubFamily,
     Variant, Variants,
 };
+pub use shared::SharedSteps;
 pub use steps::{Step, Steps};
 
 #[cfg(test)]

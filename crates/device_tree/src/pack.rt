@@ -1,5 +1,5 @@
 //! A pack: its levels and the sequences of each.
-use crate::steps::Steps;
+use crate::shared::SharedSteps;
 use dap_base::{ItemList, NameText};
 
 /// A debug access sequence as one level has it: the element `sequence` of the Open-CMSIS-Pack
@@ -13,7 +13,7 @@ pub struct SeqText {
     /// `disable`: whether the sequence has no effect.
     pub disable: bool,
     /// The blocks and controls in order.
-    pub steps: Steps,
+    pub steps: SharedSteps,
 }
 
 /// The sequences of a level, in order, no two of one name and one `Pname`.

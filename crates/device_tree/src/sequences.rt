@@ -7,6 +7,7 @@ ghost use Rattle.device_tree.specs.PackReading.{sequence_in, level_in};
 ghost use Rattle.device_tree.specs.Same.{same_text, same_sequence};
 
 use crate::pack::{Level, SeqText};
+use crate::shared::SharedSteps;
 use crate::step_reader::StepList;
 use dap_base::{ItemList, NameText, OutOfMemory};
 use json_form::{
@@ -39,7 +40,7 @@ impl Reader for Sequence {
             name,
             pname,
             disable,
-            steps,
+            steps: SharedSteps::new(alloc, steps)?,
         })
     }
 }

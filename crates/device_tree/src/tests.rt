@@ -25,8 +25,8 @@ fn reads_each_level(rt: HostRuntime) -> Result<(), Fail> {
     let sequence = device.level.sequences.get(0).ok_or("no sequence")?;
     assert!(rt; sequence.pname.is_some());
     assert_eq!(rt; sequence.disable, false);
-    assert_eq!(rt; sequence.steps.len(), 2);
-    match sequence.steps.get(1) {
+    assert_eq!(rt; sequence.steps.as_steps().len(), 2);
+    match sequence.steps.as_steps().get(1) {
         Some(
             Step::Control {
                 cond,

@@ -77,7 +77,7 @@ fn entry_steps(alloc: Global, entry: &SeqEntry) -> Result<CheckedSteps, SetFault
     if entry.disabled {
         return Ok(ItemList::new(alloc));
     }
-    match steps_of(alloc, &entry.steps) {
+    match steps_of(alloc, entry.steps.as_steps()) {
         Ok(steps) => Ok(steps),
         Err(StepFault::Syntax(faulty)) => {
             Err(SetFault::Syntax(spot_of(alloc, &entry.name, &faulty)?))

@@ -1,4 +1,3 @@
-pub mod Copies
 pub mod PlaceLemmas
 pub mod WinnerLemmas
 pub mod Greatest

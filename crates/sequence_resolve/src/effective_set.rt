@@ -13,14 +13,14 @@ ghost use Rattle.sequence_resolve.specs.Winners.{with_all};
 ghost use Rattle.sequence_resolve.specs.Views.{place_view, winner_view};
 ghost use Rattle.sequence_resolve.specs.Resolving.{IsEffectiveSet, HasNone};
 
-use crate::copy::{copy_steps, copy_text};
+use crate::copy::copy_text;
 use crate::entry::{SeqEntries, SeqEntry, SeqSet};
 use crate::fault::ResolveFault;
 use crate::levels::{debugvars_of, levels_of};
 use crate::place::{DevicePlace, place_of_device, variant_named};
 use crate::winners::{Winner, winners_of};
 use dap_base::{ItemList, OutOfMemory};
-use device_tree::{Device, Pack, Steps, Variant};
+use device_tree::{Device, Pack, SharedSteps, Steps, Variant};
 use std::alloc::Global;
 
 fn entry_from(alloc: Global, winner: &Winner) -> Result<SeqEntry, OutOfMemory>
@@ -28,9 +28,9 @@ fn entry_from(alloc: Global, winner: &Winner) -> Result<SeqEntry, OutOfMemory>
 {
     let sequence = winner.sequence;
     let steps = if sequence.disable {
-        Steps::new(alloc)
+        SharedSteps::new(alloc, Steps::new(alloc))?
     } else {
-        copy_steps(alloc, &sequence.steps)?
+        sequence.steps.share()?
     };
     Ok(SeqEntry {
         name: copy_text(alloc, &sequence.name)?,

@@ -1,6 +1,6 @@
 //! The set of sequences that apply to a device.
 use dap_base::{ItemList, NameText};
-use device_tree::Steps;
+use device_tree::SharedSteps;
 
 /// The level of a pack that a sequence comes from.
 #[derive(Clone, Copy, Debug, PartialEq, Eq)]
@@ -21,8 +21,8 @@ pub struct SeqEntry {
     pub from: LevelKind,
     /// Whether it is disabled; then it has no steps.
     pub disabled: bool,
-    /// Its steps.
-    pub steps: Steps,
+    /// Its steps, which are those of the pack.
+    pub steps: SharedSteps,
 }
 
 /// The sequences of a set, in the order in which their names first appear along the levels.

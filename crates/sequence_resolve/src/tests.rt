@@ -17,7 +17,7 @@ fn pack(alloc: Global, text: &str) -> Result<Pack, Fail> {
 // The name, level, mark of being disabled and first block of an entry.
 fn entry(set: &SeqSet, index: usize) -> Option<(&str, LevelKind, bool, &str)> {
     let entry = set.entries.get(index)?;
-    let code = match entry.steps.get(0) {
+    let code = match entry.steps.as_steps().get(0) {
         Some(Step::Block { code, .. }) => code.as_str(),
         _ => "",
     };
