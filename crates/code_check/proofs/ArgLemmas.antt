@@ -26,9 +26,9 @@ args_from : (s : Scope) (front : List ArgTree) (a : ArgTree) (f : CodeFault) →
 args_from s [] a f h = elim h [ here p ↦ there p | there q ↦ elim q [ ] ]
 args_from s (x ∷ front) a f h = elim h [ here p ↦ here (here p) | there q ↦ elim (args_from s front a f q) [ here u ↦ here (there u) | there v ↦ there v ] ]
 
-pub args_more : (s : Scope) (xs : List Arg) (i : ℕ) (x : Arg) (r a b : Option CodeFault) → i < length xs → r ≡ earlier a b
+pub args_more : (s : Scope) (xs : List Arg) (i : ℕ) (x : Arg) → i < length xs → (r a b : Option CodeFault) → r ≡ earlier a b
     → IsFirst is_before (ArgsFault s (arg_trees (take i xs))) a → IsFirst is_before (ArgFault s (arg_tree (get_or xs i x))) b → IsFirst is_before (ArgsFault s (arg_trees (take (i + 1) xs))) r
-args_more s xs i x r a b h e p q =
+args_more s xs i x h r a b e p q =
     rw (arg_trees-take xs i x h) (first_of_same (args_to s (map arg_tree (take i xs)) (arg_tree (get_or xs i x))) (args_from s (map arg_tree (take i xs)) (arg_tree (get_or xs i x))) (first_of_two r a b e p q))
 
 -- ---- the kinds of the arguments
@@ -48,9 +48,9 @@ kinds_from fn k (x ∷ front) a f h =
 length-taken : (xs : List Arg) (i : ℕ) → i < length xs → 0 + length (map arg_tree (take i xs)) ≡ i
 length-taken xs i h = omega (arith, length-map (take i xs) arg_tree, length-take-le i xs (omega arith))
 
-pub kinds_more : (fn : Function) (xs : List Arg) (i : ℕ) (x : Arg) (r a b : Option CodeFault) → i < length xs → r ≡ earlier a b
+pub kinds_more : (fn : Function) (xs : List Arg) (i : ℕ) (x : Arg) → i < length xs → (r a b : Option CodeFault) → r ≡ earlier a b
     → IsFirst is_before (KindsFault fn 0 (arg_trees (take i xs))) a → IsFirst is_before (KindFault (kind_at fn i) (arg_tree (get_or xs i x))) b → IsFirst is_before (KindsFault fn 0 (arg_trees (take (i + 1) xs))) r
-kinds_more fn xs i x r a b h e p q =
+kinds_more fn xs i x h r a b e p q =
     let t = arg_tree (get_or xs i x) in
     let front = map arg_tree (take i xs) in
     let q' = subst (λ j. IsFirst is_before (KindFault (kind_at fn j) t) b) (sym (length-taken xs i h)) q in

@@ -36,11 +36,11 @@ block_from s (x ∷ code) st f h =
     let s' = seeing s (names_after s.visible x) in
     elim h [ here p ↦ here (here p) | there q ↦ elim (block_from s' code st f q) [ here u ↦ here (there u) | there v ↦ there v ] ]
 
-pub block_more : (s : Scope) (xs : List Stmt) (i : ℕ) (x : Stmt) (r a b : Option CodeFault) → i < length xs → r ≡ earlier a b
+pub block_more : (s : Scope) (xs : List Stmt) (i : ℕ) (x : Stmt) → i < length xs → (r a b : Option CodeFault) → r ≡ earlier a b
     → IsFirst is_before (BlockFault s (code_trees (take i xs))) a
     → IsFirst is_before (StmtFault (seeing s (names_after_all s.visible (code_trees (take i xs)))) (stmt_tree (get_or xs i x))) b
     → IsFirst is_before (BlockFault s (code_trees (take (i + 1) xs))) r
-block_more s xs i x r a b h e p q =
+block_more s xs i x h r a b e p q =
     let code = code_trees (take i xs) in
     let st = stmt_tree (get_or xs i x) in
     rw (code_trees-take xs i x h) (first_of_same (block_to s code st) (block_from s code st) (first_of_two r a b e p q))

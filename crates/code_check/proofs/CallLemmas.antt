@@ -10,7 +10,7 @@ use Rattle.code_check.specs.declared.fault.FaultKind.TheVariants as k
 use Rattle.code_check.specs.declared.fault.CodeFault.{CodeFault}
 use Rattle.code_check.specs.Order.{is_before, earlier}
 use Rattle.code_check.specs.First.{IsFirst}
-use Rattle.code_check.specs.ExprFaults.{Scope, arg_count, text_at, OfText, SequenceFault, FormatFault, TextsFault, KindsFault, KnownFault, NamesNone, FunctionFault, CallFault}
+use Rattle.code_check.specs.ExprFaults.{Scope, arg_count, text_at, OfText, SequenceFault, FormatFault, TextsFault, KindsFault, KnownFault, NamesNone, FunctionFault}
 use Rattle.code_check.proofs.OrderLemmas.{first_of_two, first_of_here, first_of_there, first_of_none, first_where, first_where_not, first_of_where, first_of_where_not, first_of_same}
 
 first_at_text : (P : string.TextArg → CodeFault → Type 0) (r : Option CodeFault) (o : Option string.TextArg) (t : string.TextArg) → o ≡ Some t → IsFirst is_before (P t) r → IsFirst is_before (OfText P o) r
@@ -25,16 +25,16 @@ no_message fn e h = cc
 no_sequence : (fn : Function) → fn ≡ functions.Message → fn ≡ functions.Sequence → ⊥
 no_sequence fn e h = cc
 
-pub at_sequence : (s : Scope) (fn : Function) (args : ArgTrees) (t : string.TextArg) (r : Option CodeFault) → fn ≡ functions.Sequence → text_at args 0 ≡ Some t
+pub at_sequence : (s : Scope) (fn : Function) (args : ArgTrees) (t : string.TextArg) → fn ≡ functions.Sequence → text_at args 0 ≡ Some t → (r : Option CodeFault)
     → IsFirst is_before (SequenceFault s t) r → IsFirst is_before (TextsFault s fn args) r
-at_sequence s fn args t r e is h = first_of_here (first_of_where e (first_at_text (SequenceFault s) r (text_at args 0) t is h)) (first_of_where_not (no_message fn e))
+at_sequence s fn args t e is r h = first_of_here (first_of_where e (first_at_text (SequenceFault s) r (text_at args 0) t is h)) (first_of_where_not (no_message fn e))
 
 pub at_sequence_none : (s : Scope) (fn : Function) (args : ArgTrees) → fn ≡ functions.Sequence → text_at args 0 ≡ None → IsFirst is_before (TextsFault s fn args) None
 at_sequence_none s fn args e is = first_of_here (first_of_where e (first_at_no_text (SequenceFault s) (text_at args 0) is)) (first_of_where_not (no_message fn e))
 
-pub at_message : (s : Scope) (fn : Function) (args : ArgTrees) (t : string.TextArg) (count : ℕ) (r : Option CodeFault) → fn ≡ functions.Message → text_at args 1 ≡ Some t → count ≡ arg_count args - 2
+pub at_message : (s : Scope) (fn : Function) (args : ArgTrees) (t : string.TextArg) (count : ℕ) → fn ≡ functions.Message → text_at args 1 ≡ Some t → count ≡ arg_count args - 2 → (r : Option CodeFault)
     → IsFirst is_before (FormatFault count t) r → IsFirst is_before (TextsFault s fn args) r
-at_message s fn args t count r e is n h =
+at_message s fn args t count e is n r h =
     let h' = subst (λ m. IsFirst is_before (FormatFault m t) r) n h in
     first_of_there (first_of_where_not (no_sequence fn e)) (first_of_where e (first_at_text (FormatFault (arg_count args - 2)) r (text_at args 1) t is h'))
 
@@ -51,15 +51,15 @@ is_so : (b : Bool) (P : Type 0) → (IsTrue b ↔ P) → b ≡ true → P
 is_so true P h e = h.0 refl
 is_so false P h e = absurd (true≢false (sym e))
 
-pub at_wrong_count : (s : Scope) (name : Name) (args : ArgTrees) (fn : Function) (n : ℕ) (b : Bool) (r : Option CodeFault) → n ≡ arg_count args → (IsTrue b ↔ Takes fn n) → b ≡ false
-    → r ≡ Some (record { place = name.at; kind = k.ArgumentCount }) → IsFirst is_before (KnownFault s name args fn) r
-at_wrong_count s name args fn n b r is h e found =
+pub at_wrong_count : (s : Scope) (name : Name) (args : ArgTrees) (fn : Function) (n : ℕ) (b : Bool) → n ≡ arg_count args → (IsTrue b ↔ Takes fn n) → b ≡ false
+    → IsFirst is_before (KnownFault s name args fn) (Some (record { place = name.at; kind = k.ArgumentCount }))
+at_wrong_count s name args fn n b is h e =
     let wrong = subst (λ m. Takes fn m → ⊥) is (not_so b (Takes fn n) h e) in
-    subst (IsFirst is_before (KnownFault s name args fn)) (sym found) (first_of_here (first_where _ _ _ wrong) (first_of_where_not wrong))
+    first_of_here (first_where _ _ _ wrong) (first_of_where_not wrong)
 
-pub at_right_count : (s : Scope) (name : Name) (args : ArgTrees) (fn : Function) (n : ℕ) (b : Bool) (r x y : Option CodeFault) → n ≡ arg_count args → (IsTrue b ↔ Takes fn n) → b ≡ true
+pub at_right_count : (s : Scope) (name : Name) (args : ArgTrees) (fn : Function) (n : ℕ) (b : Bool) → n ≡ arg_count args → (IsTrue b ↔ Takes fn n) → b ≡ true → (r x y : Option CodeFault)
     → r ≡ earlier x y → IsFirst is_before (KindsFault fn 0 args) x → IsFirst is_before (TextsFault s fn args) y → IsFirst is_before (KnownFault s name args fn) r
-at_right_count s name args fn n b r x y is h e found kinds texts =
+at_right_count s name args fn n b is h e r x y found kinds texts =
     let right = subst (Takes fn) is (is_so b (Takes fn n) h e) in
     first_of_there (first_where_not _ _ _ (λ wrong. wrong right)) (first_of_where right (first_of_two r x y found kinds texts))
 
@@ -81,8 +81,3 @@ pub at_no_function : (s : Scope) (name : Name) (args : ArgTrees) (o : Option Fun
 at_no_function s name args o r each e found =
     let none : NamesNone name.text = λ f p. (let q = (each f).1 p in cc) in
     subst (IsFirst is_before (FunctionFault s name args)) (sym found) (first_of_here (first_where _ _ _ none) (record { holds = tt; none_before = λ g p. absurd (none p.function p.named) }))
-
-pub at_debugvars : (s : Scope) (name : Name) (args : ArgTrees) (r x y : Option CodeFault) → s.in_debugvars ≡ true → x ≡ Some (record { place = name.at; kind = k.BadDebugvars }) → r ≡ earlier x y
-    → IsFirst is_before (FunctionFault s name args) y → IsFirst is_before (CallFault s name args) r
-at_debugvars s name args r x y e bad found h =
-    first_of_two r x y found (subst (IsFirst is_before _) (sym bad) (first_where _ _ _ e)) h

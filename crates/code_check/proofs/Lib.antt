@@ -1,5 +1,6 @@
 pub mod NameLemmas
 pub mod OrderLemmas
+pub mod NoteLemmas
 pub mod OneFirst
 pub mod TreeLemmas
 pub mod ArgLemmas

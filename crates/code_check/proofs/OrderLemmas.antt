@@ -111,5 +111,3 @@ first_of_where {Cause} {P} {r} c h = record { holds = where_of Cause P r c h.hol
 
 pub first_of_where_not : {Cause : Type 0} {P : CodeFault → Type 0} → (Cause → ⊥) → IsFirst is_before (Where Cause P) None
 first_of_where_not c = record { holds = tt; none_before = λ g s. absurd (c s.cause) }
-
-pub ruleset firsts = (first_of_two, first_of_none, first_where, first_where_not, first_of_where, first_of_where_not)

@@ -3,45 +3,52 @@ ghost use Rattle.std.specs.Prelude.{◌≡◌, ℕ, map, take, IfOk, OnErr, OnOk
 ghost use Rattle.expr_grammar.specs.Tree.{stmt_tree, code_trees};
 ghost use Rattle.code_check.specs.Order.{is_before};
 ghost use Rattle.code_check.specs.First.{IsFirst, FaultWhere};
+ghost use Rattle.code_check.specs.Notes.{Notes};
 ghost use Rattle.code_check.specs.Names.{has_name};
 ghost use Rattle.code_check.specs.BlockFaults.{names_after, names_after_all, StmtFault, BlockFault};
 ghost use Rattle.code_check.specs.Views.{scope_view};
 
-use crate::calls::fault_at;
-use crate::exprs::expr_fault;
+use crate::calls::note_at;
+use crate::exprs::note_expr;
 use crate::fault::{CodeFault, FaultKind};
 use crate::names::Names;
-use crate::order::earlier;
 use crate::scope::Scope;
 use dap_base::{OutOfMemory, Place};
 use expr_grammar::{Name, Stmt};
 use std::alloc::Global;
 
-fn bad_in_debugvars(scope: Scope<'_>, at: Place) -> Option<CodeFault>
-    ensures { IsFirst is_before (FaultWhere (scope.entry.in_debugvars ≡ true) at FaultKind.BadDebugvars) result }
+// Notes a statement that the debug variables must not have.
+fn note_in_debugvars(scope: Scope<'_>, at: Place, found: &mut Option<CodeFault>)
+    ensures { Notes (FaultWhere (scope.entry.in_debugvars ≡ true) at FaultKind.BadDebugvars) found.old found.new }
 {
-    if !scope.in_debugvars {
-        return None;
+    if scope.in_debugvars {
+        note_at(at, FaultKind::BadDebugvars, found);
     }
-    fault_at(at, FaultKind::BadDebugvars)
 }
 
-fn redeclared(scope: Scope<'_>, name: &Name) -> Option<CodeFault>
-    ensures { IsFirst is_before (FaultWhere (has_name (scope_view scope.entry).visible name.now.text ≡ true) name.now.at FaultKind.Redeclared) result }
+// Notes the declaration of a name that is visible already.
+fn note_redeclared(scope: Scope<'_>, name: &Name, found: &mut Option<CodeFault>)
+    ensures { Notes (FaultWhere (has_name (scope_view scope.entry).visible name.now.text ≡ true) name.now.at FaultKind.Redeclared) found.old found.new }
 {
-    if !scope.visible.has(name.text.as_str()) {
-        return None;
+    if scope.visible.has(name.text.as_str()) {
+        note_at(name.at, FaultKind::Redeclared, found);
     }
-    fault_at(name.at, FaultKind::Redeclared)
 }
 
-fn statement_fault(scope: Scope<'_>, statement: &Stmt) -> Option<CodeFault>
-    ensures { IsFirst is_before (StmtFault (scope_view scope.entry) (stmt_tree statement.now)) result }
+// Notes the first fault of a statement.
+fn note_statement(scope: Scope<'_>, statement: &Stmt, found: &mut Option<CodeFault>)
+    ensures { Notes (StmtFault (scope_view scope.entry) (stmt_tree statement.now)) found.old found.new }
 {
     match statement {
-        Stmt::Empty(at) => bad_in_debugvars(scope, *at),
-        Stmt::Declare(name, value) => earlier(redeclared(scope, name), expr_fault(scope, value)),
-        Stmt::Plain(at, value) => earlier(bad_in_debugvars(scope, *at), expr_fault(scope, value)),
+        Stmt::Empty(at) => note_in_debugvars(scope, *at, found),
+        Stmt::Declare(name, value) => {
+            note_redeclared(scope, name, found);
+            note_expr(scope, value, found);
+        }
+        Stmt::Plain(at, value) => {
+            note_in_debugvars(scope, *at, found);
+            note_expr(scope, value, found);
+        }
     }
 }
 
@@ -77,7 +84,7 @@ pub fn block_fault(
             sequences,
             in_debugvars,
         };
-        found = earlier(found, statement_fault(scope, statement));
+        note_statement(scope, statement, &mut found);
         declare(alloc, names, statement)?;
     }
     Ok(found)

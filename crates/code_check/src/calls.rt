@@ -2,71 +2,74 @@
 ghost use Rattle.std.specs.Prelude.{◌≡◌, ◌↔◌, IsTrue, Some, false, slice_get};
 ghost use Rattle.std.specs.Option.{option_copied};
 ghost use Rattle.expr_grammar.specs.Tree.{arg_tree, arg_trees};
-ghost use Rattle.code_check.specs.Order.{is_before};
-ghost use Rattle.code_check.specs.First.{IsFirst, FaultWhere};
+ghost use Rattle.code_check.specs.Order.{earlier};
+ghost use Rattle.code_check.specs.First.{FaultWhere};
+ghost use Rattle.code_check.specs.Notes.{Notes};
 ghost use Rattle.code_check.specs.ExprFaults.{NameFault, KindFault, KindsFault, text_of, text_at, SequenceFault, IsFormatOf, FormatFault, TextsFault, KnownFault, FunctionFault, CallFault};
 ghost use Rattle.code_check.specs.Views.{scope_view};
 
 use crate::fault::{CodeFault, FaultKind};
-use crate::order::earlier;
+use crate::order::note;
 use crate::scope::Scope;
 use dap_base::Place;
 use expr_grammar::{Arg, Name, TextArg};
 use function_table::{Function, ParameterKind, conversions, function_of};
 
-pub fn fault_at(place: Place, kind: FaultKind) -> Option<CodeFault>
-    ensures { result ≡ Some (record { place = place; kind = kind }) }
+/// Notes the fault of this kind at this place, unless the one that was found comes first.
+pub fn note_at(place: Place, kind: FaultKind, found: &mut Option<CodeFault>)
+    ensures { found.new ≡ earlier found.old (Some (record { place = place; kind = kind })) }
 {
-    Some(CodeFault { place, kind })
+    note(found, CodeFault { place, kind });
 }
 
-/// The fault of a variable that is used or assigned.
-pub fn name_fault(scope: Scope<'_>, name: &Name) -> Option<CodeFault>
-    ensures { IsFirst is_before (NameFault (scope_view scope.entry) name.now) result }
+/// Notes the fault of a variable that is used or assigned.
+pub fn note_name(scope: Scope<'_>, name: &Name, found: &mut Option<CodeFault>)
+    ensures { Notes (NameFault (scope_view scope.entry) name.now) found.old found.new }
 {
-    if scope.visible.has(name.text.as_str()) {
-        return None;
+    if !scope.visible.has(name.text.as_str()) {
+        note_at(name.at, FaultKind::UndefinedName, found);
     }
-    fault_at(name.at, FaultKind::UndefinedName)
 }
 
-#[tactic(auto, using(crate::proofs::OrderLemmas::firsts))]
-fn text_expected(requested: Option<ParameterKind>, at: Place) -> Option<CodeFault>
-    ensures { IsFirst is_before (FaultWhere (requested ≡ Some ParameterKind.Text) at FaultKind.TextExpected) result }
+// Notes a number where the function takes a text.
+#[tactic(auto, using(crate::proofs::NoteLemmas::notes))]
+fn note_text_expected(requested: Option<ParameterKind>, at: Place, found: &mut Option<CodeFault>)
+    ensures { Notes (FaultWhere (requested ≡ Some ParameterKind.Text) at FaultKind.TextExpected) found.old found.new }
 {
     match requested {
-        Some(ParameterKind::Text) => fault_at(at, FaultKind::TextExpected),
-        _ => None,
+        Some(ParameterKind::Text) => note_at(at, FaultKind::TextExpected, found),
+        _ => {}
     }
 }
 
-#[tactic(auto, using(crate::proofs::OrderLemmas::firsts))]
-fn number_expected(requested: Option<ParameterKind>, at: Place) -> Option<CodeFault>
-    ensures { IsFirst is_before (FaultWhere (requested ≡ Some ParameterKind.Number) at FaultKind.NumberExpected) result }
+// Notes a text where the function takes a number.
+#[tactic(auto, using(crate::proofs::NoteLemmas::notes))]
+fn note_number_expected(requested: Option<ParameterKind>, at: Place, found: &mut Option<CodeFault>)
+    ensures { Notes (FaultWhere (requested ≡ Some ParameterKind.Number) at FaultKind.NumberExpected) found.old found.new }
 {
     match requested {
-        Some(ParameterKind::Number) => fault_at(at, FaultKind::NumberExpected),
-        _ => None,
+        Some(ParameterKind::Number) => note_at(at, FaultKind::NumberExpected, found),
+        _ => {}
     }
 }
 
-fn kind_fault(requested: Option<ParameterKind>, arg: &Arg) -> Option<CodeFault>
-    ensures { IsFirst is_before (KindFault requested (arg_tree arg.now)) result }
+// Notes an argument of another kind than the function takes there.
+fn note_kind(requested: Option<ParameterKind>, arg: &Arg, found: &mut Option<CodeFault>)
+    ensures { Notes (KindFault requested (arg_tree arg.now)) found.old found.new }
 {
     match arg {
-        Arg::Number(at, _) => text_expected(requested, *at),
-        Arg::Text(text) => number_expected(requested, text.at),
+        Arg::Number(at, _) => note_text_expected(requested, *at, found),
+        Arg::Text(text) => note_number_expected(requested, text.at, found),
     }
 }
 
-fn kinds_fault(function: Function, args: &[Arg]) -> Option<CodeFault>
-    ensures { IsFirst is_before (KindsFault function 0 (arg_trees args.now)) result }
+// Notes the first of the arguments of another kind than the function takes.
+fn note_kinds(function: Function, args: &[Arg], found: &mut Option<CodeFault>)
+    ensures { Notes (KindsFault function 0 (arg_trees args.now)) found.old found.new }
 {
-    let mut found = None;
     for (index, arg) in args.iter().enumerate() {
-        found = earlier(found, kind_fault(function.kind_at(index), arg));
+        note_kind(function.kind_at(index), arg, found);
     }
-    found
 }
 
 fn arg_at(args: &[Arg], index: usize) -> Option<&Arg>
@@ -94,14 +97,13 @@ pub fn text_at(args: &[Arg], index: usize) -> Option<&TextArg>
     }
 }
 
-#[tactic(auto, using(crate::proofs::OrderLemmas::firsts))]
-fn sequence_fault(scope: Scope<'_>, text: &TextArg) -> Option<CodeFault>
-    ensures { IsFirst is_before (SequenceFault (scope_view scope.entry) text.now) result }
+// Notes a text that names no sequence.
+fn note_sequence(scope: Scope<'_>, text: &TextArg, found: &mut Option<CodeFault>)
+    ensures { Notes (SequenceFault (scope_view scope.entry) text.now) found.old found.new }
 {
-    if scope.sequences.has(text.text.as_str()) {
-        return None;
+    if !scope.sequences.has(text.text.as_str()) {
+        note_at(text.at, FaultKind::UndefinedSequence, found);
     }
-    fault_at(text.at, FaultKind::UndefinedSequence)
 }
 
 // Whether the text is a format with this many conversions.
@@ -114,62 +116,68 @@ fn is_format_of(count: usize, text: &str) -> bool
     }
 }
 
-#[tactic(auto, using(crate::proofs::OrderLemmas::firsts))]
-fn format_fault(count: usize, text: &TextArg) -> Option<CodeFault>
-    ensures { IsFirst is_before (FormatFault count text.now) result }
+// Notes a text that is no format with this many conversions.
+fn note_format(count: usize, text: &TextArg, found: &mut Option<CodeFault>)
+    ensures { Notes (FormatFault count text.now) found.old found.new }
 {
-    if is_format_of(count, text.text.as_str()) {
-        return None;
+    if !is_format_of(count, text.text.as_str()) {
+        note_at(text.at, FaultKind::FormatMismatch, found);
     }
-    fault_at(text.at, FaultKind::FormatMismatch)
 }
 
-// What the texts of `Sequence` and of `Message` say.
-fn texts_fault(scope: Scope<'_>, function: Function, args: &[Arg]) -> Option<CodeFault>
-    ensures { IsFirst is_before (TextsFault (scope_view scope.entry) function (arg_trees args.now)) result }
+// Notes what is wrong with the texts of `Sequence` and of `Message`.
+fn note_texts(scope: Scope<'_>, function: Function, args: &[Arg], found: &mut Option<CodeFault>)
+    ensures { Notes (TextsFault (scope_view scope.entry) function (arg_trees args.now)) found.old found.new }
 {
     match function {
-        Function::Sequence => match text_at(args, 0) {
-            Some(text) => sequence_fault(scope, text),
-            None => None,
-        },
-        Function::Message => match text_at(args, 1) {
-            Some(text) => format_fault(args.len().saturating_sub(2), text),
-            None => None,
-        },
-        _ => None,
+        Function::Sequence => {
+            if let Some(text) = text_at(args, 0) {
+                note_sequence(scope, text, found);
+            }
+        }
+        Function::Message => {
+            if let Some(text) = text_at(args, 1) {
+                note_format(args.len().saturating_sub(2), text, found);
+            }
+        }
+        _ => {}
     }
 }
 
-fn known_fault(scope: Scope<'_>, function: Function, name: &Name, args: &[Arg]) -> Option<CodeFault>
-    ensures { IsFirst is_before (KnownFault (scope_view scope.entry) name.now (arg_trees args.now) function) result }
+// Notes the first fault of the call of this function.
+fn note_known(
+    scope: Scope<'_>,
+    function: Function,
+    name: &Name,
+    args: &[Arg],
+    found: &mut Option<CodeFault>,
+)
+    ensures { Notes (KnownFault (scope_view scope.entry) name.now (arg_trees args.now) function) found.old found.new }
 {
-    if !function.takes(args.len()) {
-        return fault_at(name.at, FaultKind::ArgumentCount);
+    if function.takes(args.len()) {
+        note_kinds(function, args, found);
+        note_texts(scope, function, args, found);
+    } else {
+        note_at(name.at, FaultKind::ArgumentCount, found);
     }
-    earlier(
-        kinds_fault(function, args),
-        texts_fault(scope, function, args),
-    )
 }
 
-fn function_fault(scope: Scope<'_>, name: &Name, args: &[Arg]) -> Option<CodeFault>
-    ensures { IsFirst is_before (FunctionFault (scope_view scope.entry) name.now (arg_trees args.now)) result }
+// Notes a name of no function, or the first fault of the call of the function of that name.
+fn note_function(scope: Scope<'_>, name: &Name, args: &[Arg], found: &mut Option<CodeFault>)
+    ensures { Notes (FunctionFault (scope_view scope.entry) name.now (arg_trees args.now)) found.old found.new }
 {
     match function_of(name.text.as_str()) {
-        Some(function) => known_fault(scope, function, name, args),
-        None => fault_at(name.at, FaultKind::UndefinedFunction),
+        Some(function) => note_known(scope, function, name, args, found),
+        None => note_at(name.at, FaultKind::UndefinedFunction, found),
     }
 }
 
-/// The first fault of a call, except those inside its arguments.
-pub fn call_fault(scope: Scope<'_>, name: &Name, args: &[Arg]) -> Option<CodeFault>
-    ensures { IsFirst is_before (CallFault (scope_view scope.entry) name.now (arg_trees args.now)) result }
+/// Notes the first fault of a call, except those inside its arguments.
+pub fn note_call(scope: Scope<'_>, name: &Name, args: &[Arg], found: &mut Option<CodeFault>)
+    ensures { Notes (CallFault (scope_view scope.entry) name.now (arg_trees args.now)) found.old found.new }
 {
-    let called = function_fault(scope, name, args);
     if scope.in_debugvars {
-        earlier(fault_at(name.at, FaultKind::BadDebugvars), called)
-    } else {
-        called
+        note_at(name.at, FaultKind::BadDebugvars, found);
     }
+    note_function(scope, name, args, found);
 }

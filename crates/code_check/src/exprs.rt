@@ -3,57 +3,71 @@ ghost use Rattle.std.specs.Prelude.{◌≡◌, map};
 ghost use Rattle.expr_grammar.specs.Tree.{tree, arg_tree, arg_trees};
 ghost use Rattle.code_check.specs.Order.{is_before};
 ghost use Rattle.code_check.specs.First.{IsFirst};
+ghost use Rattle.code_check.specs.Notes.{Notes};
 ghost use Rattle.code_check.specs.ExprFaults.{ExprFault, ArgFault, ArgsFault};
 ghost use Rattle.code_check.specs.Views.{scope_view};
 
-use crate::calls::{call_fault, name_fault};
+use crate::calls::{note_call, note_name};
 use crate::fault::CodeFault;
-use crate::order::earlier;
 use crate::scope::Scope;
 use expr_grammar::{Arg, Expr};
 
 /// The first fault of an expression.
-#[cycle(exprs)]
 pub fn expr_fault(scope: Scope<'_>, expr: &Expr) -> Option<CodeFault>
     ensures { IsFirst is_before (ExprFault (scope_view scope.entry) (tree expr.now)) result }
 {
+    let mut found = None;
+    note_expr(scope, expr, &mut found);
+    found
+}
+
+/// Notes the first fault of an expression, unless the one that was found comes first.
+#[cycle(exprs)]
+pub fn note_expr(scope: Scope<'_>, expr: &Expr, found: &mut Option<CodeFault>)
+    ensures { Notes (ExprFault (scope_view scope.entry) (tree expr.now)) found.old found.new }
+{
     match expr {
-        Expr::Number(_) => None,
-        Expr::Name(name) => name_fault(scope, name),
-        Expr::Group(inner) => expr_fault(scope, inner),
-        Expr::Unary(_, operand) => expr_fault(scope, operand),
+        Expr::Number(_) => {}
+        Expr::Name(name) => note_name(scope, name, found),
+        Expr::Group(inner) => note_expr(scope, inner, found),
+        Expr::Unary(_, operand) => note_expr(scope, operand, found),
         Expr::Binary(_, left, right) => {
-            earlier(expr_fault(scope, left), expr_fault(scope, right))
+            note_expr(scope, left, found);
+            note_expr(scope, right, found);
         }
         Expr::Cond(test, first, second) => {
-            let chosen = earlier(expr_fault(scope, first), expr_fault(scope, second));
-            earlier(expr_fault(scope, test), chosen)
+            note_expr(scope, test, found);
+            note_expr(scope, first, found);
+            note_expr(scope, second, found);
         }
-        Expr::Assign(name, value) => earlier(name_fault(scope, name), expr_fault(scope, value)),
-        Expr::Call(name, args) => earlier(
-            call_fault(scope, name, args.as_slice()),
-            args_fault(scope, args.as_slice()),
-        ),
+        Expr::Assign(name, value) => {
+            note_name(scope, name, found);
+            note_expr(scope, value, found);
+        }
+        Expr::Call(name, args) => {
+            note_call(scope, name, args.as_slice(), found);
+            note_args(scope, args.as_slice(), found);
+        }
     }
 }
 
+// Notes the first fault inside an argument.
 #[cycle(exprs)]
-fn arg_fault(scope: Scope<'_>, arg: &Arg) -> Option<CodeFault>
-    ensures { IsFirst is_before (ArgFault (scope_view scope.entry) (arg_tree arg.now)) result }
+fn note_arg(scope: Scope<'_>, arg: &Arg, found: &mut Option<CodeFault>)
+    ensures { Notes (ArgFault (scope_view scope.entry) (arg_tree arg.now)) found.old found.new }
 {
     match arg {
-        Arg::Number(_, value) => expr_fault(scope, value),
-        Arg::Text(_) => None,
+        Arg::Number(_, value) => note_expr(scope, value, found),
+        Arg::Text(_) => {}
     }
 }
 
+// Notes the first fault inside the arguments.
 #[cycle(exprs)]
-fn args_fault(scope: Scope<'_>, args: &[Arg]) -> Option<CodeFault>
-    ensures { IsFirst is_before (ArgsFault (scope_view scope.entry) (arg_trees args.now)) result }
+fn note_args(scope: Scope<'_>, args: &[Arg], found: &mut Option<CodeFault>)
+    ensures { Notes (ArgsFault (scope_view scope.entry) (arg_trees args.now)) found.old found.new }
 {
-    let mut found = None;
     for arg in args {
-        found = earlier(found, arg_fault(scope, arg));
+        note_arg(scope, arg, found);
     }
-    found
 }

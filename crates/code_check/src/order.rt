@@ -1,5 +1,5 @@
 //! Which of two faults comes first.
-ghost use Rattle.std.specs.Prelude.{◌≡◌};
+ghost use Rattle.std.specs.Prelude.{◌≡◌, Some};
 ghost use Rattle.code_check.specs.Order as order;
 
 use crate::fault::{CodeFault, FaultKind};
@@ -19,13 +19,16 @@ fn is_before(fault: CodeFault, other: CodeFault) -> bool
                 || fault.place.column == other.place.column && rank(fault.kind) < rank(other.kind))
 }
 
-/// The one that comes first, of those that there are.
-pub fn earlier(fault: Option<CodeFault>, other: Option<CodeFault>) -> Option<CodeFault>
-    ensures { result ≡ order.earlier fault other }
+/// Notes a fault, unless the one that was found comes first.
+pub fn note(found: &mut Option<CodeFault>, fault: CodeFault)
+    ensures { found.new ≡ order.earlier found.old (Some fault) }
 {
-    match (fault, other) {
-        (Some(fault), Some(other)) if is_before(other, fault) => Some(other),
-        (None, other) => other,
-        (fault, _) => fault,
+    match found {
+        Some(first) => {
+            if is_before(fault, *first) {
+                *first = fault;
+            }
+        }
+        None => *found = Some(fault),
     }
 }
