@@ -157,10 +157,14 @@ module _ (p : (aim : Aim) → List Lexeme → Front (Made aim)) where
     rest ← expect (codes ")") x.1
     Ok (Group x.0, rest.1)
 
-  abbrev pub marked : Option UnaryOp → Lexeme → List Lexeme → Read
-  marked (Some op) k ts = do
+  -- the operand of an operator before it
+  abbrev pub signed : UnaryOp → List Lexeme → Read
+  signed op ts = do
     x ← p Operand ts
     Ok (Unary op x.0, x.1)
+
+  abbrev pub marked : Option UnaryOp → Lexeme → List Lexeme → Read
+  marked (Some op) k ts = signed op ts
   marked None k ts = if bytes_eq k.text (codes "(") then grouped ts else Err (suc (length ts))
 
   -- a call, after the opening parenthesis
@@ -204,15 +208,17 @@ module _ (p : (aim : Aim) → List Lexeme → Front (Made aim)) where
     x ← operand ts
     p (Climb l x.0) x.1
 
+  -- the two values of a choice
+  abbrev pub chosen : Tree → List Lexeme → Read
+  chosen e ts = do
+    x ← p Whole ts
+    rest ← expect (codes ":") x.1
+    y ← p Choice rest.1
+    Ok (Cond e x.0 y.0, y.1)
+
   unfoldable pub asked : Tree → List Lexeme → Read
   asked e [] = Ok (e, [])
-  asked e (k ∷ ts) =
-      if is_mark (codes "?") k then (do
-        x ← p Whole ts
-        rest ← expect (codes ":") x.1
-        y ← p Choice rest.1
-        Ok (Cond e x.0 y.0, y.1))
-      else Ok (e, k ∷ ts)
+  asked e (k ∷ ts) = if is_mark (codes "?") k then chosen e ts else Ok (e, k ∷ ts)
 
   unfoldable pub choice : List Lexeme → Read
   choice ts = do

@@ -6,7 +6,7 @@ ghost use Rattle.expr_grammar.specs.Lexeme.{lexemes};
 ghost use Rattle.expr_grammar.specs.Reading as reading;
 ghost use Rattle.expr_grammar.specs.Reading.{Gives};
 
-use crate::code::{Arg, Args, Expr, Name};
+use crate::code::{Arg, Args, Expr, Name, UnaryOp};
 use crate::cursor::{after_mark, expect, next};
 use crate::fault::Fault;
 use crate::made;
@@ -34,6 +34,7 @@ pub fn whole<'t, 'a>(
 
 // What stands after a name: a value for it, or nothing of it.
 #[cycle(parser)]
+#[inline(never)]
 #[tactic(auto, using(crate::proofs::Fix::fixes))]
 fn assignment<'t, 'a>(
     alloc: Global,
@@ -61,14 +62,28 @@ fn choice<'t, 'a>(alloc: Global, tokens: &'t [Token<'a>]) -> Result<(Expr, &'t [
 {
     let (test, rest) = at_level(alloc, 2, tokens)?;
     match next(rest) {
-        Some((mark, after)) if is_mark(&mark, b'?') => {
-            let (then, rest) = whole(alloc, after)?;
-            let rest = expect(rest, b':')?;
-            let (other, rest) = choice(alloc, rest)?;
-            Ok((made::choice(alloc, test, then, other)?, rest))
-        }
+        Some((mark, after)) if is_mark(&mark, b'?') => chosen(alloc, test, after),
         _ => Ok((test, rest)),
     }
+}
+
+// The two values of a choice, after its question mark. It is not inlined, as the next ones are not: few expressions have a part of
+// this kind, and all would pay for its room.
+#[cycle(parser)]
+#[inline(never)]
+#[tactic(auto, using(crate::proofs::Fix::fixes))]
+fn chosen<'t, 'a>(
+    alloc: Global,
+    test: Expr,
+    tokens: &'t [Token<'a>],
+) -> Result<(Expr, &'t [Token<'a>]), Fault>
+    ensures reads { Gives (λ x. (tree x.0, lexemes x.1.now)) result (reading.chosen reading.read (tree test) (lexemes tokens.now)) }
+    ensures shorter { IfOk result (λ x. length x.1.now < length tokens.now) }
+{
+    let (then, rest) = whole(alloc, tokens)?;
+    let rest = expect(rest, b':')?;
+    let (other, rest) = choice(alloc, rest)?;
+    Ok((made::choice(alloc, test, then, other)?, rest))
 }
 
 // Operands joined by operators that bind at least so tightly, which group to the left.
@@ -96,6 +111,7 @@ fn at_level<'t, 'a>(
 
 // An expression in parentheses, after the first of them.
 #[cycle(parser)]
+#[inline(never)]
 #[tactic(auto, using(crate::proofs::Fix::fixes))]
 fn grouped<'t, 'a>(alloc: Global, tokens: &'t [Token<'a>]) -> Result<(Expr, &'t [Token<'a>]), Fault>
     ensures reads { Gives (λ x. (tree x.0, lexemes x.1.now)) result (reading.grouped reading.read (lexemes tokens.now)) }
@@ -124,10 +140,7 @@ fn operand<'t, 'a>(alloc: Global, tokens: &'t [Token<'a>]) -> Result<(Expr, &'t 
         TokenKind::Name => named(alloc, name_of(alloc, &token)?, rest),
         TokenKind::Text => Err(Fault::Unexpected(tokens.len())),
         TokenKind::Mark => match unary_of(token.text) {
-            Some(op) => {
-                let (inner, rest) = operand(alloc, rest)?;
-                Ok((made::unary(alloc, op, inner)?, rest))
-            }
+            Some(op) => signed(alloc, op, rest),
             None => {
                 if is_mark(&token, b'(') {
                     grouped(alloc, rest)
@@ -137,6 +150,22 @@ fn operand<'t, 'a>(alloc: Global, tokens: &'t [Token<'a>]) -> Result<(Expr, &'t 
             }
         },
     }
+}
+
+// The operand of an operator that stands before it.
+#[cycle(parser)]
+#[inline(never)]
+#[tactic(auto, using(crate::proofs::Fix::fixes))]
+fn signed<'t, 'a>(
+    alloc: Global,
+    op: UnaryOp,
+    tokens: &'t [Token<'a>],
+) -> Result<(Expr, &'t [Token<'a>]), Fault>
+    ensures reads { Gives (λ x. (tree x.0, lexemes x.1.now)) result (reading.signed reading.read op (lexemes tokens.now)) }
+    ensures shorter { IfOk result (λ x. length x.1.now < length tokens.now) }
+{
+    let (inner, rest) = operand(alloc, tokens)?;
+    Ok((made::unary(alloc, op, inner)?, rest))
 }
 
 // A name, or a call of it, after the name.

@@ -20,6 +20,12 @@ decreases-at_level l = 7 * length l.tokens.now + 1
 abbrev pub decreases-choice : goal.decreases-choice
 decreases-choice l = 7 * length l.tokens.now + 2
 
+abbrev pub decreases-chosen : goal.decreases-chosen
+decreases-chosen l = 7 * length l.tokens.now + 4
+
+abbrev pub decreases-signed : goal.decreases-signed
+decreases-signed l = 7 * length l.tokens.now + 1
+
 abbrev pub decreases-whole : goal.decreases-whole
 decreases-whole l = 7 * length l.tokens.now + 3
 
