@@ -12,7 +12,7 @@ use Rattle.clap.specs.Words.{first_value}
 use Rattle.clap.specs.declared.parser.matches.Found.{Found}
 use Rattle.std.proofs.Math.Path.{fun_ext}
 use Rattle.command_words.specs.Line.{Finds, IsTaken, given}
-use Rattle.command_words.specs.Table.{IsCommand, IsRow, for_device, mode_text, options_by}
+use Rattle.command_words.specs.Table.{IsCommand, IsRow, IsShortNumber, for_device, for_number, mode_text, options_by}
 
 -- two names of modes differ at their first bytes
 differ : (a b : List ℕ) → nat_eq (slice_index a 0) (slice_index b 0) ≡ false → a ≡ b → ⊥
@@ -35,6 +35,12 @@ no_trace options never (Check s) row = differ (codes "trace") (codes "check") re
 no_trace options never (Run s name) row = differ (codes "trace") (codes "run") refl row.0
 no_trace options never (Trace s name) row = never s name row.1
 no_trace options never (Gen n) row = differ (codes "trace") (codes "gen") refl row.0
+
+pub no_gen : (options : Options) → ((text : List ℕ) (n : ℕ) → IsShortNumber text n → options ≡ for_number text → ⊥) → (c : Command) → IsRow (codes "gen") options c → ⊥
+no_gen options never (Check s) row = differ (codes "gen") (codes "check") refl row.0
+no_gen options never (Run s name) row = differ (codes "gen") (codes "run") refl row.0
+no_gen options never (Trace s name) row = differ (codes "gen") (codes "trace") refl row.0
+no_gen options never (Gen n) row = never row.1 n row.2 row.3
 
 pub none_of : (m : Mode) (text : List ℕ) (options : Options) (r : Option Command) → r ≡ None → mode_text m ≡ text → ((c : Command) → IsRow text options c → ⊥)
     → MatchOption r ((c : Command) → IsRow (mode_text m) options c → ⊥) (λ c. IsRow (mode_text m) options c)

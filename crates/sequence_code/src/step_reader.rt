@@ -121,7 +121,7 @@ fn control_of(
     let cond = condition_of(alloc, cond, Part::If)?;
     let repeat = condition_of(alloc, repeat, Part::While)?;
     let inner = steps_of(alloc, steps)?;
-    Ok(made::control(cond, repeat, timeout, inner))
+    Ok(made::control(alloc, cond, repeat, timeout, inner)?)
 }
 
 #[cycle(steps)]

@@ -1,6 +1,6 @@
 use Rattle.std.proofs.Common.{ap, codes}
 use Rattle.command_words.specs.Table.{mode_text}
-use Rattle.command_words.proofs.TableLemmas.{no_check, no_run, no_trace, none_of}
+use Rattle.command_words.proofs.TableLemmas.{no_check, no_gen, no_run, no_trace, none_of}
 use Rattle.command_words.proofs.table.command_in.Goals as goal
 
 pub returns-in_err-selection-in-Check : goal.returns-in_err-selection-in-Check
@@ -11,3 +11,6 @@ returns-in_err-selection-in-Run c = none_of _ (codes "run") _ _ c.from_residual-
 
 pub returns-in_err-selection-in-Trace : goal.returns-in_err-selection-in-Trace
 returns-in_err-selection-in-Trace c = none_of _ (codes "trace") _ _ c.from_residual-in_err-selection-in-Trace.ensures (ap mode_text c.in-Trace.is) (no_trace _ c.in_err-selection-in-Trace.ensures)
+
+pub returns-in_err-number-in-Gen : goal.returns-in_err-number-in-Gen
+returns-in_err-number-in-Gen c = none_of _ (codes "gen") _ _ c.from_residual-in_err-number-in-Gen.ensures (ap mode_text c.in-Gen.is) (no_gen _ c.in_err-number-in-Gen.ensures)
