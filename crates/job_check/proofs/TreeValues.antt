@@ -36,6 +36,9 @@ the_global = record { memory = record { seal = tt } }
 boxed : Expr → Box Expr Global
 boxed x = record { ptr = null_ptr; alloc = the_global; value = x }
 
+boxed_condition : Option Expr → Box (Option Expr) Global
+boxed_condition o = record { ptr = null_ptr; alloc = the_global; value = o }
+
 same_cond : (c a b d f g : Tree) → c ≡ d → a ≡ f → b ≡ g → t.Cond c a b ≡ t.Cond d f g
 same_cond c a b d f g p q r = cc
 
@@ -83,13 +86,17 @@ same_control : (f g h i : Option Tree) (timeout : Option ℕ) (x y : CodeSteps) 
 same_control f g h i timeout x y p q r = cc
 
 mutual
+  unfolding boxed_condition
+
   step_of : (x : CodeStep) → (v : CheckedStep) × (step_tree v ≡ x)
   step_of (Block code) = let vs = code_of code in (c.Block vs.0, step_tree-Block vs.0 ∙ ap Block vs.1)
   step_of (Control cond repeat timeout inner) =
       let f = condition_of cond in
       let g = condition_of repeat in
       let vs = steps_of inner in
-      (c.Control f.0 g.0 timeout vs.0, step_tree-Control f.0 g.0 timeout vs.0 ∙ same_control (option_map tree f.0) (option_map tree g.0) cond repeat timeout (steps_tree vs.0) inner f.1 g.1 vs.1)
+      let cond' = boxed_condition f.0 in
+      let repeat' = boxed_condition g.0 in
+      (c.Control cond' repeat' timeout vs.0, step_tree-Control cond' repeat' timeout vs.0 ∙ same_control (option_map tree f.0) (option_map tree g.0) cond repeat timeout (steps_tree vs.0) inner f.1 g.1 vs.1)
 
   steps_of : (xs : CodeSteps) → (vs : List CheckedStep) × (steps_tree vs ≡ xs)
   steps_of NoSteps = ([], refl)

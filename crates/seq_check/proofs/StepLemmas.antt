@@ -1,5 +1,5 @@
 -- The first fault of steps.
-use Rattle.std.proofs.Common.{◌≡◌, ◌∙◌, sym, ap, subst, ℕ, suc, ◌+◌, ◌<◌, ◌≤◌, ◌==◌, nat_lt, ◌&&◌, ◌||◌, not, Bool, true, false, List, [], ◌∷◌, ◌++◌, map, length, take, drop, get_or, Option, Some, None, option_map, Result, Ok, Err, IfOk, refl, arith, drop-cons}
+use Rattle.std.proofs.Common.{Box, Global, ◌≡◌, ◌∙◌, sym, ap, subst, ℕ, suc, ◌+◌, ◌<◌, ◌≤◌, ◌==◌, nat_lt, ◌&&◌, ◌||◌, not, Bool, true, false, List, [], ◌∷◌, ◌++◌, map, length, take, drop, get_or, Option, Some, None, option_map, Result, Ok, Err, IfOk, refl, arith, drop-cons}
 use Rattle.std.proofs.lemmas.Bool.Decides.{nat_tests}
 use Rattle.std.proofs.lemmas.List.{take_more, map-append, length-map, length-take-le, take-append-drop}
 use Rattle.expr_grammar.specs.Tree.{Tree, tree, code_trees}
@@ -26,8 +26,8 @@ use Rattle.seq_check.proofs.FirstLemmas.{first_of_none, first_of_same, first_her
 pub step_tree-Block : (code : List Stmt) → step_tree (c.Block code) ≡ Block (code_trees code)
 step_tree-Block code = ap step_tree (sym (c.rolls-Block code)) ∙ fold-roll-CheckedStep CodeStep checked_step (CheckedStep-F.Block code)
 
-pub step_tree-Control : (cond repeat : Option Expr) (timeout : Option ℕ) (steps : List CheckedStep)
-    → step_tree (c.Control cond repeat timeout steps) ≡ Control (option_map tree cond) (option_map tree repeat) timeout (steps_tree steps)
+pub step_tree-Control : (cond repeat : Box (Option Expr) Global) (timeout : Option ℕ) (steps : List CheckedStep)
+    → step_tree (c.Control cond repeat timeout steps) ≡ Control (option_map tree cond.value) (option_map tree repeat.value) timeout (steps_tree steps)
 step_tree-Control cond repeat timeout steps = ap step_tree (sym (c.rolls-Control cond repeat timeout steps)) ∙ fold-roll-CheckedStep CodeStep checked_step (CheckedStep-F.Control cond repeat timeout steps)
 
 -- ---- the order of steps

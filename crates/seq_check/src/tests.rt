@@ -4,7 +4,7 @@ ghost use Rattle.std.specs.Str.{bytes_eq};
 
 use crate::{CheckFault, Checked, FaultKind, check};
 use dap_base::{ItemList, NameText};
-use device_tree::{Step, Steps};
+use device_tree::{SharedSteps, Step, Steps};
 use sequence_code::Part;
 use sequence_resolve::{LevelKind, SeqEntry, SeqSet};
 use std::alloc::Global;
@@ -26,7 +26,7 @@ fn sequence(alloc: Global, name: &str, disabled: bool, steps: Steps) -> Result<S
         name,
         from: LevelKind::Device,
         disabled,
-        steps,
+        steps: SharedSteps::new(alloc, steps)?,
     })
 }
 

@@ -2,7 +2,7 @@
 use crate::{write_check, write_check_fault, write_no_sequence, write_too_long, write_usage};
 use code_check::FaultKind;
 use dap_base::{ItemList, MemorySink, NameText, OutOfMemory, Place};
-use device_tree::{Step, Steps};
+use device_tree::{SharedSteps, Step, Steps};
 use sequence_code::{Part, Spot};
 use sequence_resolve::{LevelKind, SeqEntry, SeqSet};
 use std::alloc::Global;
@@ -34,7 +34,7 @@ fn entry(
         name: NameText::new(alloc, name)?,
         from,
         disabled,
-        steps,
+        steps: SharedSteps::new(alloc, steps)?,
     })
 }
 

@@ -5,7 +5,7 @@ ghost use Rattle.std.specs.Str.{bytes_eq};
 ghost use Rattle.function_table.specs.Variables.{predefined};
 
 use dap_base::{ItemList, NameText, OutOfMemory};
-use device_tree::{Step, Steps};
+use device_tree::{SharedSteps, Step, Steps};
 use seq_check::{CheckFault, Checked, check};
 use sequence_resolve::{LevelKind, SeqEntry, SeqSet};
 use std::alloc::Global;
@@ -67,7 +67,7 @@ fn sequence(alloc: Global, name: &str, pieces: &[Piece]) -> Result<SeqEntry, Fai
         name,
         from: LevelKind::Device,
         disabled: false,
-        steps,
+        steps: SharedSteps::new(alloc, steps)?,
     })
 }
 

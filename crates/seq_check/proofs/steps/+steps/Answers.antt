@@ -15,15 +15,15 @@ pub step_fault-returns-in-Some-clause-first : goal.step_fault-returns-in-Some-cl
 step_fault-returns-in-Some-clause-first t c =
     let a = c.in-Control in
     let s : Scope = record { visible = c.args.names.now; sequences = c.args.sequences.now; in_debugvars = false } in
-    rw (a.is, step_tree-Control a.cond a.repeat a.timeout a.steps, c.at_own_step.ensures)
-    (control_own s c.args.around (option_map tree a.cond) (option_map tree a.repeat) a.timeout (steps_tree a.steps) (own_view c.in-Some.fault) c.in-Some.ensures.first)
+    rw (a.is, step_tree-Control a.cond a.repeat a.timeout a.steps, ← c.deref.ensures, ← c.deref-in-Control.ensures, c.at_own_step.ensures)
+    (control_own s c.args.around (option_map tree c.deref.result.now) (option_map tree c.deref-in-Control.result.now) a.timeout (steps_tree a.steps) (own_view c.in-Some.fault) c.in-Some.ensures.first)
 
 pub step_fault-returns-in_default-clause-first : goal.step_fault-returns-in_default-clause-first
 step_fault-returns-in_default-clause-first t c =
     let a = c.in-Control in
     let s : Scope = record { visible = c.args.names.now; sequences = c.args.sequences.now; in_debugvars = false } in
-    rw (a.is, step_tree-Control a.cond a.repeat a.timeout a.steps)
-    (inner_answer s c.args.around _ (option_map tree a.cond) (option_map tree a.repeat) a.timeout (steps_tree a.steps) c.inner_fault.result (add-one c.args.around) (rw c.in_default.is at c.own_fault.ensures.first)
+    rw (a.is, step_tree-Control a.cond a.repeat a.timeout a.steps, ← c.deref.ensures, ← c.deref-in-Control.ensures)
+    (inner_answer s c.args.around _ (option_map tree c.deref.result.now) (option_map tree c.deref-in-Control.result.now) a.timeout (steps_tree a.steps) c.inner_fault.result (add-one c.args.around) (rw c.in_default.is at c.own_fault.ensures.first)
     (rw (← c.as_slice-in-Control.ensures) c.inner_fault.ensures.first))
 
 pub steps_fault-returns-in-Some-clause-first : goal.steps_fault-returns-in-Some-clause-first
