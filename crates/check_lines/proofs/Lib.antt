@@ -1,2 +1,3 @@
+pub mod StepWeights
 pub mod RowLemmas
 pub mod CountLemmas

@@ -2,7 +2,7 @@ use Rattle.std.proofs.Common.{◌*◌, ◌≤◌, arith}
 use Rattle.device_tree.specs.StepTree.{tree_size}
 use Rattle.device_tree.specs.StepsView.{steps_view}
 use Rattle.check_lines.proofs.CountLemmas.{counts_more}
-use Rattle.sequence_resolve.proofs.Copies.{step_weight, weight_below}
+use Rattle.check_lines.proofs.StepWeights.{step_weight, weight_below}
 use Rattle.check_lines.proofs.counts.+counts.Goals as goal
 
 pub counts_in-step_counts-requires : goal.counts_in-step_counts-requires

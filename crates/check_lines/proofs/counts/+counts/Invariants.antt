@@ -2,7 +2,7 @@ use Rattle.std.proofs.Common.{◌+◌, ◌*◌, take}
 use Rattle.device_tree.specs.StepsView.{steps_view}
 use Rattle.device_tree.specs.StepTree.{tree_size}
 use Rattle.check_lines.specs.Counts.{AreCounts}
-use Rattle.sequence_resolve.proofs.Copies.{step_weight}
+use Rattle.check_lines.proofs.StepWeights.{step_weight}
 use Rattle.check_lines.proofs.counts.+counts.Given as goal
 
 abbrev pub invariant-counts_in-loop-item : goal.invariant-counts_in-loop-item
