@@ -9,7 +9,7 @@ use Rattle.sequence_resolve.specs.declared.selection.Selection.{Selection}
 use Rattle.job_check.specs.Running.{IsRefusedRun, OnEnd}
 use Rattle.job_check.specs.declared.running.RunRefusal.{RunRefusal}
 use Rattle.job_check.specs.declared.running.RunRefusal.TheVariants as refusals
-use Rattle.dapseq_tool.specs.Asked.{OnRun, of_refused, Asks, AsksOfBytes, AsksOfCommand, AsksOfRun, IsReadLine, IsUsage, ReadsSource, command, generated, limit, usage}
+use Rattle.dapseq_tool.specs.Asked.{OnRun, of_refused, Asks, AsksOfBytes, AsksOfCommand, AsksOfRun, IsReadLine, IsRunCommand, IsRunLine, IsUsage, ReadsSource, command, generated, limit, usage}
 use Rattle.dapseq_tool.specs.Generated.{its_device, its_sequence, job_text}
 use Rattle.dapseq_tool.specs.Headline.{AreBytesOf}
 use Rattle.dapseq_tool.specs.declared.asking.Answer.{Answer}
@@ -99,3 +99,12 @@ pub with_source : {E : Type 0} (words : List (List ℕ)) (left : Option (List �
     → IfOk r (λ asked. (bytes : List ℕ) × AreBytesOf left bytes × Asks words bytes asked)
 with_source words left c (Ok asked) is reads number asks = command_asked words left c asked is reads number asks
 with_source words left c (Err e) is reads number asks = tt
+
+-- a run that a command asks for is one that the words ask for
+run_of_line : (words : List (List ℕ)) (c : Command) (what : What) → IsCommand words c → OnRun what (λ run. IsRunCommand c) → OnRun what (λ run. IsRunLine words)
+run_of_line words c (whats.Run run) is runs = (c, is, runs)
+run_of_line words c (whats.Answer answer) is runs = tt
+
+pub with_run : {E : Type 0} (words : List (List ℕ)) (c : Command) (r : Result Asked E) → IsCommand words c → IfOk r (λ asked. OnRun asked.what (λ run. IsRunCommand c)) → IfOk r (λ asked. OnRun asked.what (λ run. IsRunLine words))
+with_run words c (Ok asked) is runs = run_of_line words c asked.what is runs
+with_run words c (Err e) is runs = tt

@@ -1,7 +1,7 @@
 use Rattle.std.proofs.Common.{None, refl}
 use Rattle.dapseq_tool.specs.declared.asking.Answer.TheVariants as answers
 use Rattle.dapseq_tool.specs.declared.asking.What.TheVariants as whats
-use Rattle.dapseq_tool.proofs.AskedLemmas.{usage_asked, with_number, with_source}
+use Rattle.dapseq_tool.proofs.AskedLemmas.{usage_asked, with_number, with_run, with_source}
 use Rattle.dapseq_tool.proofs.asking.ask.Goals as goal
 
 pub returns-in-Err-Usage-clause-asked : goal.returns-in-Err-Usage-clause-asked
@@ -24,3 +24,6 @@ pub returns-clause-asked : goal.returns-clause-asked
 returns-clause-asked g c =
     with_source c.args.words.now (g.S.Source.left c.args.source.now) c.in-Ok.command c.asked_of_words.result c.in-Ok.ensures.answer c.in-None.ensures
     c.asked_of_words.ensures.number c.asked_of_words.ensures.asked
+
+pub returns-clause-run : goal.returns-clause-run
+returns-clause-run g c = with_run c.args.words.now c.in-Ok.command c.asked_of_words.result c.in-Ok.ensures.answer c.asked_of_words.ensures.run
