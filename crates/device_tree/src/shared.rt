@@ -35,7 +35,7 @@ impl SharedSteps {
         }
     }
 
-    /// One more owner of the same steps, in constant time. `OutOfMemory` where they have 2^63 - 1 owners.
+    /// One more owner of the same steps, in constant time. `OutOfMemory` where they have 2^64 - 1 owners.
     pub fn share(&self) -> Result<SharedSteps, OutOfMemory>
         ensures { IfOk result (λ shared. shared ≡ self.now) }
     {
