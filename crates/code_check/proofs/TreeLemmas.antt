@@ -16,7 +16,7 @@ use Rattle.expr_grammar.specs.Tree.{Tree, ArgTree, tree, arg_tree, arg_trees, ar
 pub tree-Number : (n : ℕ) → tree (e.Number n) ≡ Number n
 tree-Number n = ap tree (sym (e.rolls-Number n)) ∙ fold-roll-Expr ArgTree Tree arg_step expr_step (Expr-F.«Expr::Number» n)
 
-pub tree-Name : (n : Name) → tree (e.Name n) ≡ Named n
+pub tree-Name : (n : Box Name Global) → tree (e.Name n) ≡ Named n.value
 tree-Name n = ap tree (sym (e.rolls-Name n)) ∙ fold-roll-Expr ArgTree Tree arg_step expr_step (Expr-F.Name n)
 
 pub tree-Group : (x : Box Expr Global) → tree (e.Group x) ≡ Group (tree x.value)
@@ -31,14 +31,14 @@ tree-Binary op x y = ap tree (sym (e.rolls-Binary op x y)) ∙ fold-roll-Expr Ar
 pub tree-Cond : (x y z : Box Expr Global) → tree (e.Cond x y z) ≡ Cond (tree x.value) (tree y.value) (tree z.value)
 tree-Cond x y z = ap tree (sym (e.rolls-Cond x y z)) ∙ fold-roll-Expr ArgTree Tree arg_step expr_step (Expr-F.Cond x y z)
 
-pub tree-Assign : (n : Name) (x : Box Expr Global) → tree (e.Assign n x) ≡ Assign n (tree x.value)
+pub tree-Assign : (n : Box Name Global) (x : Box Expr Global) → tree (e.Assign n x) ≡ Assign n.value (tree x.value)
 tree-Assign n x = ap tree (sym (e.rolls-Assign n x)) ∙ fold-roll-Expr ArgTree Tree arg_step expr_step (Expr-F.Assign n x)
 
-pub tree-Call : (n : Name) (args : List Arg) → tree (e.Call n args) ≡ Call n (arg_trees args)
+pub tree-Call : (n : Box Name Global) (args : List Arg) → tree (e.Call n args) ≡ Call n.value (arg_trees args)
 tree-Call n args = ap tree (sym (e.rolls-Call n args)) ∙ fold-roll-Expr ArgTree Tree arg_step expr_step (Expr-F.Call n args)
 
 pub arg_tree-Number : (at : Place) (x : Expr) → arg_tree (a.Number at x) ≡ ExprArg at (tree x)
 arg_tree-Number at x = ap arg_tree (sym (a.rolls-Number at x)) ∙ fold-roll-Arg ArgTree Tree arg_step expr_step (Arg-F.«Arg::Number» at x)
 
-pub arg_tree-Text : (t : string.TextArg) → arg_tree (a.Text t) ≡ TextArg t
+pub arg_tree-Text : (t : Box string.TextArg Global) → arg_tree (a.Text t) ≡ TextArg t.value
 arg_tree-Text t = ap arg_tree (sym (a.rolls-Text t)) ∙ fold-roll-Arg ArgTree Tree arg_step expr_step (Arg-F.Text t)

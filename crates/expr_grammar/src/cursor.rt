@@ -51,8 +51,8 @@ pub fn expect<'t, 'a>(tokens: &'t [Token<'a>], mark: u8) -> Result<&'t [Token<'a
 pub fn expect_name<'t, 'a>(
     alloc: Global,
     tokens: &'t [Token<'a>],
-) -> Result<(Name, &'t [Token<'a>]), Fault>
-    ensures reads { Gives (λ x. (x.0, lexemes x.1.now)) result (reading.name_first (lexemes tokens.now)) }
+) -> Result<(Box<Name>, &'t [Token<'a>]), Fault>
+    ensures reads { Gives (λ x. (x.0.value, lexemes x.1.now)) result (reading.name_first (lexemes tokens.now)) }
     ensures shorter { IfOk result (λ x. length x.1.now < length tokens.now) }
 {
     let Some((token, rest)) = next(tokens) else {

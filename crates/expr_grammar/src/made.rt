@@ -20,8 +20,8 @@ pub fn number(n: u64) -> Expr
     Expr::Number(n)
 }
 
-pub fn named(name: Name) -> Expr
-    ensures { tree result ≡ trees.Named name }
+pub fn named(name: Box<Name>) -> Expr
+    ensures { tree result ≡ trees.Named name.value }
 {
     Expr::Name(name)
 }
@@ -50,14 +50,14 @@ pub fn choice(alloc: Global, test: Expr, a: Expr, b: Expr) -> Result<Expr, OutOf
     Ok(Expr::Cond(boxed(alloc, test)?, boxed(alloc, a)?, boxed(alloc, b)?))
 }
 
-pub fn assignment(alloc: Global, name: Name, a: Expr) -> Result<Expr, OutOfMemory>
-    ensures { IfOk result (λ e. tree e ≡ trees.Assign name (tree a)) }
+pub fn assignment(alloc: Global, name: Box<Name>, a: Expr) -> Result<Expr, OutOfMemory>
+    ensures { IfOk result (λ e. tree e ≡ trees.Assign name.value (tree a)) }
 {
     Ok(Expr::Assign(name, boxed(alloc, a)?))
 }
 
-pub fn call(name: Name, args: Args) -> Expr
-    ensures { tree result ≡ trees.Call name (arg_trees args) }
+pub fn call(name: Box<Name>, args: Args) -> Expr
+    ensures { tree result ≡ trees.Call name.value (arg_trees args) }
 {
     Expr::Call(name, args)
 }
@@ -68,8 +68,8 @@ pub fn expr_arg(at: Place, e: Expr) -> Arg
     Arg::Number(at, e)
 }
 
-pub fn text_arg(text: TextArg) -> Arg
-    ensures { arg_tree result ≡ trees.TextArg text }
+pub fn text_arg(text: Box<TextArg>) -> Arg
+    ensures { arg_tree result ≡ trees.TextArg text.value }
 {
     Arg::Text(text)
 }
@@ -80,8 +80,8 @@ pub fn empty(at: Place) -> Stmt
     Stmt::Empty(at)
 }
 
-pub fn declaration(name: Name, value: Expr) -> Stmt
-    ensures { stmt_tree result ≡ trees.Declare name (tree value) }
+pub fn declaration(name: Box<Name>, value: Expr) -> Stmt
+    ensures { stmt_tree result ≡ trees.Declare name.value (tree value) }
 {
     Stmt::Declare(name, value)
 }

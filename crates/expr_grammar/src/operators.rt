@@ -104,13 +104,14 @@ pub fn level(op: BinaryOp) -> u8
 }
 
 /// The name that the token writes.
-pub fn name_of(alloc: Global, token: &Token<'_>) -> Result<Name, OutOfMemory>
-    ensures { IfOk result (λ n. n ≡ reading.name_of (lexeme token.now)) }
+pub fn name_of(alloc: Global, token: &Token<'_>) -> Result<Box<Name>, OutOfMemory>
+    ensures { IfOk result (λ n. n.value ≡ reading.name_of (lexeme token.now)) }
 {
-    Ok(Name {
+    let name = Name {
         text: NameText::new(alloc, token.text)?,
         at: token.at,
-    })
+    };
+    Box::new(alloc, name).map_err(|_| OutOfMemory)
 }
 
 /// What stands between the quotes of a string.
@@ -124,14 +125,17 @@ pub fn between_quotes(text: &str) -> Option<&str>
 }
 
 /// The string that the token is, if it has both quotes.
-pub fn string_of(alloc: Global, token: &Token<'_>) -> Result<Option<TextArg>, OutOfMemory>
-    ensures { IfOk result (λ s. MatchOption s (reading.between_quotes token.now.text.now ≡ None) (λ t. (reading.between_quotes token.now.text.now ≡ Some t.text) × (t.at ≡ token.now.at))) }
+pub fn string_of(alloc: Global, token: &Token<'_>) -> Result<Option<Box<TextArg>>, OutOfMemory>
+    ensures { IfOk result (λ s. MatchOption s (reading.between_quotes token.now.text.now ≡ None) (λ t. (reading.between_quotes token.now.text.now ≡ Some t.value.text) × (t.value.at ≡ token.now.at))) }
 {
     match between_quotes(token.text) {
-        Some(text) => Ok(Some(TextArg {
-            text: NameText::new(alloc, text)?,
-            at: token.at,
-        })),
+        Some(text) => {
+            let text = TextArg {
+                text: NameText::new(alloc, text)?,
+                at: token.at,
+            };
+            Ok(Some(Box::new(alloc, text).map_err(|_| OutOfMemory)?))
+        }
         None => Ok(None),
     }
 }

@@ -38,10 +38,10 @@ pub fn whole<'t, 'a>(
 #[tactic(auto, using(crate::proofs::Fix::fixes))]
 fn assignment<'t, 'a>(
     alloc: Global,
-    name: Name,
+    name: Box<Name>,
     tokens: &'t [Token<'a>],
 ) -> Result<(Expr, &'t [Token<'a>]), Fault>
-    ensures reads { Gives (λ x. (tree x.0, lexemes x.1.now)) result (reading.set_to reading.read name (lexemes tokens.now)) }
+    ensures reads { Gives (λ x. (tree x.0, lexemes x.1.now)) result (reading.set_to reading.read name.value (lexemes tokens.now)) }
     ensures shorter { IfOk result (λ x. length x.1.now ≤ length tokens.now) }
 {
     match next(tokens) {
@@ -173,10 +173,10 @@ fn signed<'t, 'a>(
 #[tactic(auto, using(crate::proofs::Fix::fixes))]
 fn named<'t, 'a>(
     alloc: Global,
-    name: Name,
+    name: Box<Name>,
     tokens: &'t [Token<'a>],
 ) -> Result<(Expr, &'t [Token<'a>]), Fault>
-    ensures reads { Gives (λ x. (tree x.0, lexemes x.1.now)) result (reading.named reading.read name (lexemes tokens.now)) }
+    ensures reads { Gives (λ x. (tree x.0, lexemes x.1.now)) result (reading.named reading.read name.value (lexemes tokens.now)) }
     ensures shorter { IfOk result (λ x. length x.1.now ≤ length tokens.now) }
 {
     match next(tokens) {
@@ -190,10 +190,10 @@ fn named<'t, 'a>(
 #[tactic(auto, using(crate::proofs::Fix::fixes))]
 fn called<'t, 'a>(
     alloc: Global,
-    name: Name,
+    name: Box<Name>,
     tokens: &'t [Token<'a>],
 ) -> Result<(Expr, &'t [Token<'a>]), Fault>
-    ensures reads { Gives (λ x. (tree x.0, lexemes x.1.now)) result (reading.called reading.read name (lexemes tokens.now)) }
+    ensures reads { Gives (λ x. (tree x.0, lexemes x.1.now)) result (reading.called reading.read name.value (lexemes tokens.now)) }
     ensures shorter { IfOk result (λ x. length x.1.now < length tokens.now) }
 {
     let Some((mark, after)) = next(tokens) else {

@@ -8,8 +8,10 @@ use Rattle.expr_grammar.specs.declared.code.Expr.{Expr}
 use Rattle.expr_grammar.specs.declared.code.Expr.TheVariants as e
 use Rattle.expr_grammar.specs.declared.code.Arg.{Arg}
 use Rattle.expr_grammar.specs.declared.code.Arg.TheVariants as a
+use Rattle.expr_grammar.specs.declared.code.Name.{Name}
 use Rattle.expr_grammar.specs.declared.code.Stmt.{Stmt}
 use Rattle.expr_grammar.specs.declared.code.Stmt.TheVariants as s
+use Rattle.expr_grammar.specs.declared.code.TextArg as string
 use Rattle.expr_grammar.specs.Tree as t
 use Rattle.expr_grammar.specs.Tree.{Tree, ArgTree, ArgTrees, NoArgs, MoreArgs, StmtTree, tree, arg_tree, arg_trees, stmt_tree, code_trees}
 use Rattle.sequence_resolve.specs.declared.entry.SeqEntry.{SeqEntry}
@@ -36,6 +38,12 @@ the_global = record { memory = record { seal = tt } }
 boxed : Expr → Box Expr Global
 boxed x = record { ptr = null_ptr; alloc = the_global; value = x }
 
+boxed_name : Name → Box Name Global
+boxed_name n = record { ptr = null_ptr; alloc = the_global; value = n }
+
+boxed_text : string.TextArg → Box string.TextArg Global
+boxed_text s = record { ptr = null_ptr; alloc = the_global; value = s }
+
 boxed_condition : Option Expr → Box (Option Expr) Global
 boxed_condition o = record { ptr = null_ptr; alloc = the_global; value = o }
 
@@ -43,11 +51,11 @@ same_cond : (c a b d f g : Tree) → c ≡ d → a ≡ f → b ≡ g → t.Cond 
 same_cond c a b d f g p q r = cc
 
 mutual
-  unfolding boxed
+  unfolding boxed boxed_name boxed_text
 
   expr_of : (x : Tree) → (v : Expr) × (tree v ≡ x)
   expr_of (t.Number n) = (e.Number n, tree-Number n)
-  expr_of (t.Named n) = (e.Name n, tree-Name n)
+  expr_of (t.Named n) = (e.Name (boxed_name n), tree-Name (boxed_name n))
   expr_of (t.Group x) = let v = expr_of x in (e.Group (boxed v.0), tree-Group (boxed v.0) ∙ ap t.Group v.1)
   expr_of (t.Unary op x) = let v = expr_of x in (e.Unary op (boxed v.0), tree-Unary op (boxed v.0) ∙ ap (t.Unary op) v.1)
   expr_of (t.Binary op x y) = let v = expr_of x in let w = expr_of y in (e.Binary op (boxed v.0) (boxed w.0), tree-Binary op (boxed v.0) (boxed w.0) ∙ ap₂ (t.Binary op) v.1 w.1)
@@ -56,12 +64,12 @@ mutual
       let v = expr_of y in
       let w = expr_of z in
       (e.Cond (boxed u.0) (boxed v.0) (boxed w.0), tree-Cond (boxed u.0) (boxed v.0) (boxed w.0) ∙ same_cond (tree u.0) (tree v.0) (tree w.0) x y z u.1 v.1 w.1)
-  expr_of (t.Assign n x) = let v = expr_of x in (e.Assign n (boxed v.0), tree-Assign n (boxed v.0) ∙ ap (t.Assign n) v.1)
-  expr_of (t.Call n args) = let vs = args_of args in (e.Call n vs.0, tree-Call n vs.0 ∙ ap (t.Call n) vs.1)
+  expr_of (t.Assign n x) = let v = expr_of x in (e.Assign (boxed_name n) (boxed v.0), tree-Assign (boxed_name n) (boxed v.0) ∙ ap (t.Assign n) v.1)
+  expr_of (t.Call n args) = let vs = args_of args in (e.Call (boxed_name n) vs.0, tree-Call (boxed_name n) vs.0 ∙ ap (t.Call n) vs.1)
 
   arg_of : (x : ArgTree) → (v : Arg) × (arg_tree v ≡ x)
   arg_of (t.ExprArg at x) = let v = expr_of x in (a.Number at v.0, arg_tree-Number at v.0 ∙ ap (t.ExprArg at) v.1)
-  arg_of (t.TextArg text) = (a.Text text, arg_tree-Text text)
+  arg_of (t.TextArg text) = (a.Text (boxed_text text), arg_tree-Text (boxed_text text))
 
   args_of : (xs : ArgTrees) → (vs : List Arg) × (arg_trees vs ≡ xs)
   args_of NoArgs = ([], refl)
@@ -70,8 +78,9 @@ mutual
 -- ---- statements and steps
 
 statement_of : (x : StmtTree) → (v : Stmt) × (stmt_tree v ≡ x)
+unfolding boxed_name
 statement_of (t.Empty at) = (s.Empty at, refl)
-statement_of (t.Declare name x) = let v = expr_of x in (s.Declare name v.0, ap (t.Declare name) v.1)
+statement_of (t.Declare name x) = let v = expr_of x in (s.Declare (boxed_name name) v.0, ap (t.Declare name) v.1)
 statement_of (t.Plain at x) = let v = expr_of x in (s.Plain at v.0, ap (t.Plain at) v.1)
 
 code_of : (xs : List StmtTree) → (vs : List Stmt) × (code_trees vs ≡ xs)

@@ -228,7 +228,7 @@ sequence-returns-then-depth-eq0-clause-gives g t c = λ m answered known b l kno
 pub statement-returns-in-Declare-clause-gives : goal.statement-returns-in-Declare-clause-gives
 unfolding statement
 statement-returns-in-Declare-clause-gives g t c = λ m answered known b l knows.
-    rw c.in-Declare.is (c.declare.ensures.gives m answered known b l knows)
+    rw c.in-Declare.is (rw c.deref.ensures at (c.declare.ensures.gives m answered known b l knows))
 
 pub statement-returns-in-Plain-clause-gives : goal.statement-returns-in-Plain-clause-gives
 unfolding statement
@@ -273,4 +273,4 @@ value-returns-in-Number-clause-gives g t c = λ m answered known b l knows.
 
 pub value-returns-in-Name-clause-gives : goal.value-returns-in-Name-clause-gives
 value-returns-in-Name-clause-gives g t c = λ m answered known b l knows.
-    rw c.in-Name.is (rw (tree-Name c.in-Name.name) (name_on g.A.Access.cost (world_from m answered) (calls_of g.A.Access.cost (world_from m answered) c.args.self.now c.args.depth) c.in-Name.name c.visible.result (seen known c.args.held.now (g.A.Access.reported c.args.access.now).asks (g.K.Sink.written c.args.sink.now)) (rw c.as_str.ensures at (c.visible.ensures (seen known c.args.held.now (g.A.Access.reported c.args.access.now).asks (g.K.Sink.written c.args.sink.now)) refl refl))))
+    rw c.in-Name.is (rw (tree-Name c.in-Name.name) (name_on g.A.Access.cost (world_from m answered) (calls_of g.A.Access.cost (world_from m answered) c.args.self.now c.args.depth) c.in-Name.name.value c.visible.result (seen known c.args.held.now (g.A.Access.reported c.args.access.now).asks (g.K.Sink.written c.args.sink.now)) (rw (c.as_str.ensures, c.deref.ensures) at (c.visible.ensures (seen known c.args.held.now (g.A.Access.reported c.args.access.now).asks (g.K.Sink.written c.args.sink.now)) refl refl))))
