@@ -1,6 +1,7 @@
 //! The variables that all sequences share.
 
-ghost use Rattle.std.specs.Prelude.{◌≡◌, [], IfSome, OnOk, OnErr, Some, length, option_map, slice_get};
+ghost use Rattle.std.specs.Prelude.{◌≡◌, ◌<◌, true, false, [], IfSome, OnOk, OnErr, Some, length, option_map, slice_get};
+ghost use Rattle.indexmap.specs.IndexMap.{index_map_len};
 ghost use Rattle.sequence_terms.specs.Shared.{bindings_of, pair_of};
 ghost use Rattle.sequence_terms.specs.Variables.{has_in, value_in, set_in, with_new};
 
@@ -103,13 +104,41 @@ impl<V: Copy> Globals<V> {
         }
     }
 
-    /// Gives the variable with the name this value. Where none has it, nothing changes.
-    pub fn set(&mut self, name: &str, value: V)
+    // Gives the variable at the index this value, where it has the name; whether it has.
+    fn set_at(&mut self, index: usize, name: &str, value: V) -> bool
+        requires { index < index_map_len self.old.values }
+        ensures set { result ≡ true → bindings_of self.new ≡ set_in (bindings_of self.old) name.now value }
+        ensures same { result ≡ false → bindings_of self.new ≡ bindings_of self.old }
+    {
+        let (known, stored) = self.values.pair_mut(index);
+        if known.as_str() == name {
+            *stored = value;
+            true
+        } else {
+            false
+        }
+    }
+
+    // Gives the variable with the name this value, found without a look at the others.
+    fn set_stored(&mut self, name: &str, value: V)
         ensures { bindings_of self.new ≡ set_in (bindings_of self.old) name.now value }
     {
         if let Some(held) = self.values.get_mut(name) {
             *held = value;
         }
+    }
+
+    /// Gives the variable with the name this value. Where none has it, nothing changes. It takes the least time where the variable is the
+    /// last.
+    pub fn set(&mut self, name: &str, value: V)
+        ensures { bindings_of self.new ≡ set_in (bindings_of self.old) name.now value }
+    {
+        if let Some(last) = self.values.len().checked_sub(1)
+            && self.set_at(last, name, value)
+        {
+            return;
+        }
+        self.set_stored(name, value);
     }
 
     /// Adds a variable at the end, unless one has the name. `OutOfMemory` where memory is refused; nothing has changed then.

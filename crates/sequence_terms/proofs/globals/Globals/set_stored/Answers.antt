@@ -2,7 +2,7 @@ use Rattle.std.proofs.Common.{map, sym, ap, ◌∙◌}
 use Rattle.std.specs.Option.{option_copied_mut}
 use Rattle.sequence_terms.specs.Shared.{entry_binding}
 use Rattle.sequence_terms.proofs.GlobalLemmas.{value_set, none_set}
-use Rattle.sequence_terms.proofs.globals.Globals.set.Goals as goal
+use Rattle.sequence_terms.proofs.globals.Globals.set_stored.Goals as goal
 
 pub returns-in-Some : goal.returns-in-Some
 returns-in-Some g c = ap (map entry_binding) (c.get_mut.follows.holds c.args.value).0 ∙ value_set c.args.name.now c.args.self.now.values.entries c.args.value
