@@ -12,6 +12,7 @@ use Rattle.sequence_terms.specs.Machine.{State, Out}
 use Rattle.sequence_terms.specs.Steps.{done, steps_at, sequence_at, debugged, run_of}
 use Rattle.sequence_terms.specs.Values.{value, stored}
 use Rattle.sequence_meaning.specs.declared.end.End.{End}
+use Rattle.sequence_meaning.specs.declared.end.Stopped.{Stopped}
 use Rattle.sequence_meaning.specs.Held.{Ends, Gives}
 use Rattle.sequence_meaning.specs.Starting.{debugged_one, defined}
 use Rattle.sequence_terms.specs.Laws.{Adds}
@@ -66,13 +67,13 @@ module _ (turn_us : ℕ) (set : SetTrees) where
 
   -- ---- the run
 
-  pub run_on : (start : List ℕ) (s r now : S) (result : Result (Unit {0}) End) (steps : CodeSteps) → debugged (direct false) turn_us set set.debugvars s ≡ Ok (tt, r) → steps ≡ unwrap_or (steps_named start set.sequences) NoSteps
-      → Gives result now (done (direct false) turn_us (λ n q. sequence_at (direct false) turn_us set 31 n q) steps r) → Gives result now (run_of (direct false) turn_us set start s)
+  pub run_on : (start : List ℕ) (s r now : S) (e : End) (result : Result (Unit {0}) Stopped) (steps : CodeSteps) → debugged (direct false) turn_us set set.debugvars s ≡ Ok (tt, r) → steps ≡ unwrap_or (steps_named start set.sequences) NoSteps
+      → Gives e result now (done (direct false) turn_us (λ n q. sequence_at (direct false) turn_us set 31 n q) steps r) → Gives e result now (run_of (direct false) turn_us set start s)
   unfolding run_of
-  run_on start s r now result steps debug is h =
+  run_on start s r now e result steps debug is h =
       let f : CodeSteps × S → O (Unit {0}) = λ y. done (direct false) turn_us (λ n q. sequence_at (direct false) turn_us set 31 n q) y.0 y.1 in
       let found : (steps_at (direct false) turn_us set start r >>= f) ≡ done (direct false) turn_us (λ n q. sequence_at (direct false) turn_us set 31 n q) steps r =
       ap (λ o. o >>= f) (steps_found turn_us set start r) ∙ ap (λ k. done (direct false) turn_us (λ n q. sequence_at (direct false) turn_us set 31 n q) k r) (sym is) in
-      subst (λ o. Gives result now o) (sym (ap (λ o. o >>= λ x. steps_at (direct false) turn_us set start x.1 >>= f) debug ∙ found)) h
+      subst (λ o. Gives e result now o) (sym (ap (λ o. o >>= λ x. steps_at (direct false) turn_us set start x.1 >>= f) debug ∙ found)) h
 
 pub ruleset debugging = (debug_on, debug_fail, debug_over)

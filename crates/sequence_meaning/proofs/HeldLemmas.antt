@@ -3,7 +3,8 @@ use Rattle.std.proofs.Common.{◌≡◌, ℕ, Result, subst, sym}
 use Rattle.sequence_terms.specs.Direct.{Now}
 use Rattle.sequence_terms.specs.Machine.{Out, State}
 use Rattle.sequence_meaning.specs.declared.end.End.{End}
+use Rattle.sequence_meaning.specs.declared.end.Stopped.{Stopped}
 use Rattle.sequence_meaning.specs.Held.{Gives}
 
-pub between : {A : Type 0} (F : State ℕ Now → Out ℕ Now A) (result : Result A End) (s r q p : State ℕ Now) → r ≡ s → p ≡ q → Gives result q (F r) → Gives result p (F s)
-between F result s r q p before after h = subst (λ x. Gives result p (F x)) before (subst (λ x. Gives result x (F r)) (sym after) h)
+pub between : {A : Type 0} (F : State ℕ Now → Out ℕ Now A) (e : End) (result : Result A Stopped) (s r q p : State ℕ Now) → r ≡ s → p ≡ q → Gives e result q (F r) → Gives e result p (F s)
+between F e result s r q p before after h = subst (λ x. Gives e result p (F x)) before (subst (λ x. Gives e result x (F r)) (sym after) h)

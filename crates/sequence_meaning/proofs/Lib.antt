@@ -14,3 +14,4 @@ pub mod StartLemmas
 pub mod UnitLemmas
 pub mod StopLemmas
 pub mod PartLemmas
+pub mod SharedLemmas

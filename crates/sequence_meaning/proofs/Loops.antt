@@ -8,6 +8,7 @@ use Rattle.expr_grammar.specs.Tree.{arg_tree, arg_trees, stmt_tree, code_trees}
 use Rattle.sequence_code.specs.declared.steps.CheckedStep.{CheckedStep}
 use Rattle.sequence_code.specs.Trees.{CodeSteps, SetTrees, NoSteps, step_tree, steps_tree, steps_named}
 use Rattle.sequence_meaning.specs.declared.end.End.{End}
+use Rattle.sequence_meaning.specs.declared.end.Stopped.{Stopped}
 use Rattle.sequence_terms.specs.Direct.{Now, direct}
 use Rattle.sequence_terms.specs.declared.bindings.Binding.{Binding}
 use Rattle.sequence_terms.specs.Machine.{State, Out, with_locals, with_variables}
@@ -143,19 +144,19 @@ unfolding entered
 entered_same f g s h = ap (λ (o : O (Unit {0})). o >>= λ x. Ok (tt, with_variables x.1 (given_back (direct false) s.globals x.1.globals) s.locals)) (h (with_locals s []))
 
 module _ (turn_us : ℕ) (set : SetTrees) where
-  pub sequence_on : (d : ℕ) (name : List ℕ) (s now : S) (result : Result (Unit {0}) End) (steps : CodeSteps) → ¬ (d ≡ 0) → steps ≡ unwrap_or (steps_named name set.sequences) NoSteps
-      → Gives result now (entered (direct false) (λ r. done (direct false) turn_us (λ n q. sequence_at (direct false) turn_us set (d - 1) n q) steps r) s)
-      → Gives result now (sequence_at (direct false) turn_us set d name s)
+  pub sequence_on : (d : ℕ) (name : List ℕ) (s now : S) (e : End) (result : Result (Unit {0}) Stopped) (steps : CodeSteps) → ¬ (d ≡ 0) → steps ≡ unwrap_or (steps_named name set.sequences) NoSteps
+      → Gives e result now (entered (direct false) (λ r. done (direct false) turn_us (λ n q. sequence_at (direct false) turn_us set (d - 1) n q) steps r) s)
+      → Gives e result now (sequence_at (direct false) turn_us set d name s)
   unfolding sequence_at
-  sequence_on zero name s now result steps some is h = absurd (some refl)
-  sequence_on (suc d) name s now result steps some is h =
+  sequence_on zero name s now e result steps some is h = absurd (some refl)
+  sequence_on (suc d) name s now e result steps some is h =
       let less : suc d - 1 ≡ d = omega arith in
       let body : S → O (Unit {0}) = λ r. steps_at (direct false) turn_us set name r >>= λ x. done (direct false) turn_us (λ n q. sequence_at (direct false) turn_us set d n q) x.0 x.1 in
       let same : entered (direct false) (λ r. done (direct false) turn_us (λ n q. sequence_at (direct false) turn_us set d n q) steps r) s ≡ entered (direct false) body s =
       entered_same _ body s (λ r. ap (λ k. done (direct false) turn_us (λ n q. sequence_at (direct false) turn_us set d n q) k r) is
       ∙ ap (λ o. o >>= λ x. done (direct false) turn_us (λ n q. sequence_at (direct false) turn_us set d n q) x.0 x.1) (sym (steps_found turn_us set name r))) in
-      subst (λ o. Gives result now o) same
-      (subst (λ k. Gives result now (entered (direct false) (λ r. done (direct false) turn_us (λ n q. sequence_at (direct false) turn_us set k n q) steps r) s)) less h)
+      subst (λ o. Gives e result now o) same
+      (subst (λ k. Gives e result now (entered (direct false) (λ r. done (direct false) turn_us (λ n q. sequence_at (direct false) turn_us set k n q) steps r) s)) less h)
 
 module _ (body : S → O (Unit {0})) where
   pub entered_on : (s r q p : S) (dp ap control : ℕ) (outer : List (Binding ℕ)) → r ≡ with_locals s [] → body r ≡ Ok (tt, q)

@@ -18,7 +18,8 @@ use Rattle.sequence_meaning.specs.declared.end.End.{End}
 use Rattle.sequence_meaning.specs.declared.end.End.TheVariants as end
 use Rattle.sequence_meaning.specs.declared.held.Held.{Held}
 use Rattle.sequence_meaning.specs.Answers.{IsFirstPart}
-use Rattle.sequence_meaning.specs.Held.{Gives, IsMade, made_all, state_of, world_at}
+use Rattle.sequence_meaning.specs.declared.end.Stopped.{Stopped}
+use Rattle.sequence_meaning.specs.Held.{Ends, Gives, IsMade, made_all, state_of, world_at}
 use Rattle.sequence_meaning.proofs.StopLemmas.{nothing_added}
 
 abbrev O : Type 0
@@ -83,20 +84,20 @@ written_at_end (Err e) = over_written e.0 e.1
 
 -- ---- where the code is, the meaning adds to it
 
-adds_end : (e : End) (now : State ℕ Now) (out : O) → Gives (Err e) now out → Adds now.rest (end_state out).rest
+adds_end : (e : End) (now : State ℕ Now) (out : O) → Ends e now out → Adds now.rest (end_state out).rest
 adds_end (end.Halted cause) now out h = rw h (nothing_added now.rest)
 adds_end (end.Faulted u) now out h = rw h (nothing_added now.rest)
 adds_end end.WriteFault now out h = h
 adds_end end.OutOfMemory now out h = h
 
-adds_all : (ended : Result (Unit {0}) End) (now : State ℕ Now) (out : O) → Gives ended now out → Adds now.rest (end_state out).rest
-adds_all (Ok x) now out h = rw h (nothing_added now.rest)
-adds_all (Err e) now out h = adds_end e now out h
+adds_all : (e : End) (ended : Result (Unit {0}) Stopped) (now : State ℕ Now) (out : O) → Gives e ended now out → Adds now.rest (end_state out).rest
+adds_all e (Ok x) now out h = rw h (nothing_added now.rest)
+adds_all e (Err stopped) now out h = adds_end e now out h
 
-pub first_part : (ended : Result (Unit {0}) End) (held : Held) (start target : TargetState) (written : Option (List ℕ)) (out : O) → Gives ended (state_of held target written) out
+pub first_part : (ended : Result (Unit {0}) Stopped) (held : Held) (start target : TargetState) (written : Option (List ℕ)) (out : O) → Gives held.end ended (state_of held target written) out
     → IsMadeIn (start_world start None) (outcome_of out) → IsMade (start_world start None) held target → IsFirstPart start (outcome_of out) held.calls.items target written
 first_part ended held start target written out h law made =
-    let adds = adds_all ended (state_of held target written) out h in
+    let adds = adds_all held.end ended (state_of held target written) out h in
     let calls : (outcome_of out).calls ≡ held.calls.items ++ adds.more = calls_of_end out ∙ adds.calls in
     let last : EndsLast (start_world start None) (held.calls.items ++ adds.more) = subst (λ c. EndsLast (start_world start None) c) calls (stop_ends (start_world start None) _ _ law.ending) in
     record {

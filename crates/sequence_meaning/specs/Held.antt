@@ -15,13 +15,14 @@ use Rattle.sequence_terms.specs.Steps.{sequence_at}
 use Rattle.sequence_terms.specs.Shared.{bindings_of}
 use Rattle.sequence_meaning.specs.declared.end.End.{End}
 use Rattle.sequence_meaning.specs.declared.end.End.TheVariants as end
+use Rattle.sequence_meaning.specs.declared.end.Stopped.{Stopped}
 use Rattle.sequence_meaning.specs.declared.held.Held.{Held}
 use Rattle.sequence_meaning.specs.declared.runner.Runner.{Runner}
 
 -- the state of a run, in which all calls are answered
 abbrev pub state_of : Held → TargetState → Option (List ℕ) → State ℕ Now
 state_of held target written = record {
-  globals = bindings_of held.globals;
+  globals = bindings_of held.globals.variables;
   locals = held.locals.items;
   units = held.units;
   lines = held.lines;
@@ -46,15 +47,16 @@ Ends (end.Faulted u) now out = out ≡ Err (machine.Faulted (Access u), now)
 Ends end.WriteFault now out = Adds now.rest (end_state out).rest
 Ends end.OutOfMemory now out = Adds now.rest (end_state out).rest
 
--- what the code answers and the state that it leaves are those of the meaning; x is what an answer stands for
-abbrev pub GivesAs : {A B : Type 0} → B → Result A End → State ℕ Now → Out ℕ Now B → Type 0
-GivesAs x (Ok y) now out = out ≡ Ok (x, now)
-GivesAs x (Err e) now out = Ends e now out
+-- what the code answers and the state that it leaves are those of the meaning; x is what an answer stands for, and e is why the code
+-- stopped, where it did
+abbrev pub GivesAs : {A B : Type 0} → End → B → Result A Stopped → State ℕ Now → Out ℕ Now B → Type 0
+GivesAs e x (Ok y) now out = out ≡ Ok (x, now)
+GivesAs e x (Err stopped) now out = Ends e now out
 
 -- the same, where an answer stands for itself
-abbrev pub Gives : {A : Type 0} → Result A End → State ℕ Now → Out ℕ Now A → Type 0
-Gives (Ok x) now out = out ≡ Ok (x, now)
-Gives (Err e) now out = Ends e now out
+abbrev pub Gives : {A : Type 0} → End → Result A Stopped → State ℕ Now → Out ℕ Now A → Type 0
+Gives e (Ok x) now out = out ≡ Ok (x, now)
+Gives e (Err stopped) now out = Ends e now out
 
 -- why the code ends, by a count of the sink's faults: the sink failed only where it rose, or stands at its last value, and any other end
 -- leaves it
@@ -65,9 +67,9 @@ IsEndCaused end.WriteFault before now = Rose before now
 IsEndCaused end.OutOfMemory before now = now ≡ before
 
 -- the same of an answer
-abbrev pub IsCaused : {A : Type 0} → Result A End → ℕ → ℕ → Type 0
-IsCaused (Ok x) before now = now ≡ before
-IsCaused (Err e) before now = IsEndCaused e before now
+abbrev pub IsCaused : {A : Type 0} → End → Result A Stopped → ℕ → ℕ → Type 0
+IsCaused e (Ok x) before now = now ≡ before
+IsCaused e (Err stopped) before now = IsEndCaused e before now
 
 -- the world after calls, each made in the world that the one before left
 abbrev pub made_all : World → List Ask → World

@@ -8,7 +8,7 @@ ghost use Rattle.sequence_terms.specs.Machine.{State};
 ghost use Rattle.sequence_terms.specs.Shared.{bindings_of};
 ghost use Rattle.sequence_meaning.specs.Held.{IsCaused, IsMade, Gives, state_of};
 
-use crate::end::End;
+use crate::end::{End, Stopped};
 use crate::held::Held;
 use call_terms::Ask;
 use calls_at_once::{Made, call_at_once, command_at_once};
@@ -24,21 +24,21 @@ pub(crate) struct Port {
 
 // The variables that a memory or AP call uses.
 pub(crate) fn port_of(held: &Held) -> Port
-    ensures { (s : State ℕ Now) → s.globals ≡ bindings_of held.now.globals
+    ensures { (s : State ℕ Now) → s.globals ≡ bindings_of held.now.globals.variables
         → c.port (direct false) s ≡ Ok (record { ap = result.ap; forgive = result.forgive; dp = result.dp }, s) }
 {
     Port {
-        ap: held.predefined(3, "__ap"),
-        forgive: held.predefined(5, "__errorcontrol") % 2 == 1,
-        dp: held.predefined(2, "__dp"),
+        ap: held.globals.ap(),
+        forgive: held.globals.control() % 2 == 1,
+        dp: held.globals.dp(),
     }
 }
 
 // `__dp`.
 pub(crate) fn debug_port(held: &Held) -> u64
-    ensures { (s : State ℕ Now) → s.globals ≡ bindings_of held.now.globals → c.global (direct false) (codes "__dp") s ≡ Ok (result, s) }
+    ensures { (s : State ℕ Now) → s.globals ≡ bindings_of held.now.globals.variables → c.global (direct false) (codes "__dp") s ≡ Ok (result, s) }
 {
-    held.predefined(2, "__dp")
+    held.globals.dp()
 }
 
 // An access as a unit, made at once, unless it would be number 1,000,001.
@@ -48,15 +48,16 @@ pub(crate) fn ask(
     forgive: bool,
     held: &mut Held,
     target: &mut Target,
-) -> Result<u64, End>
+) -> Result<u64, Stopped>
     requires { IsSound unit }
-    ensures gives { (written : Option (List ℕ)) → Gives result (state_of held.new target.new written) (c.ask (direct false) unit forgive (state_of held.old target.old written)) }
+    ensures gives { (written : Option (List ℕ)) → Gives held.new.end result (state_of held.new target.new written) (c.ask (direct false) unit forgive (state_of held.old target.old written)) }
     ensures made { (w : World) → IsMade w held.old target.old → IsMade w held.new target.new }
-    ensures cause { (faults : ℕ) → IsCaused result faults faults }
+    ensures cause { (faults : ℕ) → IsCaused held.new.end result faults faults }
     ensures word { IfOk result (λ value. value < 2 ^ 32) }
 {
     if held.units >= 1_000_000 {
-        return Err(End::Halted(HaltCause::AccessLimit));
+        held.end = End::Halted(HaltCause::AccessLimit);
+        return Err(Stopped);
     }
     let call = Ask {
         call: Call::Access(unit),
@@ -66,11 +67,13 @@ pub(crate) fn ask(
     // The call is listed first, so that it was not made where memory is refused.
     let before = held.calls.len();
     let Ok(()) = held.calls.push(call) else {
-        return Err(End::OutOfMemory);
+        held.end = End::OutOfMemory;
+        return Err(Stopped);
     };
     let Ok(made) = call_at_once(target, Call::Access(unit), forgive, &mut held.large) else {
         held.calls.truncate(before);
-        return Err(End::OutOfMemory);
+        held.end = End::OutOfMemory;
+        return Err(Stopped);
     };
     held.units += 1;
     match made {
@@ -79,8 +82,14 @@ pub(crate) fn ask(
             held.skipped = held.skipped.saturating_add(1);
             Ok(0)
         }
-        Made::Faulted => Err(End::Faulted(unit)),
-        Made::Small => Err(End::Halted(HaltCause::AddressTooLarge)),
+        Made::Faulted => {
+            held.end = End::Faulted(unit);
+            Err(Stopped)
+        }
+        Made::Small => {
+            held.end = End::Halted(HaltCause::AddressTooLarge);
+            Err(Stopped)
+        }
     }
 }
 
@@ -92,11 +101,11 @@ pub(crate) fn asked(
     forgive: bool,
     held: &mut Held,
     target: &mut Target,
-) -> Result<u64, End>
+) -> Result<u64, Stopped>
     requires { IsSound unit }
-    ensures gives { (written : Option (List ℕ)) → Gives result (state_of held.new target.new written) (c.if_read (direct false) read (c.ask (direct false) unit forgive (state_of held.old target.old written))) }
+    ensures gives { (written : Option (List ℕ)) → Gives held.new.end result (state_of held.new target.new written) (c.if_read (direct false) read (c.ask (direct false) unit forgive (state_of held.old target.old written))) }
     ensures made { (w : World) → IsMade w held.old target.old → IsMade w held.new target.new }
-    ensures cause { (faults : ℕ) → IsCaused result faults faults }
+    ensures cause { (faults : ℕ) → IsCaused held.new.end result faults faults }
 {
     let value = ask(unit, forgive, held, target)?;
     Ok(if read { value } else { 0 })
@@ -104,14 +113,15 @@ pub(crate) fn asked(
 
 // A command of the probe as a unit, made at once, unless it would be number 1,000,001.
 #[tactic(auto, unfolding(sequence_terms::specs::Calls::command, sequence_terms::specs::Calls::numbered, sequence_terms::specs::Direct::direct, sequence_terms::specs::Direct::made))]
-pub(crate) fn command(call: ProbeCall, held: &mut Held, target: &mut Target) -> Result<u64, End>
+pub(crate) fn command(call: ProbeCall, held: &mut Held, target: &mut Target) -> Result<u64, Stopped>
     requires { IsSoundProbe call }
-    ensures gives { (written : Option (List ℕ)) → Gives result (state_of held.new target.new written) (c.command (direct false) call (state_of held.old target.old written)) }
+    ensures gives { (written : Option (List ℕ)) → Gives held.new.end result (state_of held.new target.new written) (c.command (direct false) call (state_of held.old target.old written)) }
     ensures made { (w : World) → IsMade w held.old target.old → IsMade w held.new target.new }
-    ensures cause { (faults : ℕ) → IsCaused result faults faults }
+    ensures cause { (faults : ℕ) → IsCaused held.new.end result faults faults }
 {
     if held.units >= 1_000_000 {
-        return Err(End::Halted(HaltCause::AccessLimit));
+        held.end = End::Halted(HaltCause::AccessLimit);
+        return Err(Stopped);
     }
     let asked = Ask {
         call: Call::Probe(call),
@@ -119,7 +129,8 @@ pub(crate) fn command(call: ProbeCall, held: &mut Held, target: &mut Target) -> 
         settled: false,
     };
     let Ok(()) = held.calls.push(asked) else {
-        return Err(End::OutOfMemory);
+        held.end = End::OutOfMemory;
+        return Err(Stopped);
     };
     held.units += 1;
     Ok(u64::from(command_at_once(target, call)))

@@ -11,7 +11,7 @@ ghost use Rattle.sequence_terms.specs.Values as v;
 ghost use Rattle.sequence_terms.specs.Known.{Knows};
 ghost use Rattle.sequence_meaning.specs.Held.{IsCaused, IsMade, Gives, GivesAs, calls_of, seen, state_of};
 
-use crate::end::End;
+use crate::end::{End, Stopped};
 use crate::functions::performed;
 use crate::held::Held;
 use crate::runner::Runner;
@@ -34,11 +34,11 @@ impl Runner<'_> {
         held: &mut Held,
         target: &mut Target,
         sink: &mut K,
-    ) -> Result<(), End>
-        ensures gives { (known : Bool) → Knows known (K.written sink.old) → GivesAs numbers.new.items result (seen known held.new target.new (K.written sink.new)) (v.argument (direct false) (calls_of self.now depth) (arg_tree arg.now) numbers.old.items (seen known held.old target.old (K.written sink.old))) }
+    ) -> Result<(), Stopped>
+        ensures gives { (known : Bool) → Knows known (K.written sink.old) → GivesAs held.new.end numbers.new.items result (seen known held.new target.new (K.written sink.new)) (v.argument (direct false) (calls_of self.now depth) (arg_tree arg.now) numbers.old.items (seen known held.old target.old (K.written sink.old))) }
         ensures knows { (known : Bool) → Knows known (K.written sink.old) → Knows known (K.written sink.new) }
         ensures made { (w : World) → IsMade w held.old target.old → IsMade w held.new target.new }
-        ensures cause { IsCaused result (K.faults sink.old) (K.faults sink.new) }
+        ensures cause { IsCaused held.new.end result (K.faults sink.old) (K.faults sink.new) }
     {
         match arg {
             Arg::Number(_, expr) => self.push_value(expr, numbers, depth, held, target, sink),
@@ -57,16 +57,19 @@ impl Runner<'_> {
         held: &mut Held,
         target: &mut Target,
         sink: &mut K,
-    ) -> Result<(), End>
-        ensures gives { (known : Bool) → Knows known (K.written sink.old) → GivesAs numbers.new.items result (seen known held.new target.new (K.written sink.new)) (v.appended (direct false) numbers.old.items (v.value (direct false) (calls_of self.now depth) (tree expr.now) (seen known held.old target.old (K.written sink.old)))) }
+    ) -> Result<(), Stopped>
+        ensures gives { (known : Bool) → Knows known (K.written sink.old) → GivesAs held.new.end numbers.new.items result (seen known held.new target.new (K.written sink.new)) (v.appended (direct false) numbers.old.items (v.value (direct false) (calls_of self.now depth) (tree expr.now) (seen known held.old target.old (K.written sink.old)))) }
         ensures knows { (known : Bool) → Knows known (K.written sink.old) → Knows known (K.written sink.new) }
         ensures made { (w : World) → IsMade w held.old target.old → IsMade w held.new target.new }
-        ensures cause { IsCaused result (K.faults sink.old) (K.faults sink.new) }
+        ensures cause { IsCaused held.new.end result (K.faults sink.old) (K.faults sink.new) }
     {
-        let number = self.value(expr, depth, held, target, sink)?;
+        let number = self.operand(expr, depth, held, target, sink)?;
         match numbers.push(number) {
             Ok(()) => Ok(()),
-            Err(_) => Err(End::OutOfMemory),
+            Err(_) => {
+                held.end = End::OutOfMemory;
+                Err(Stopped)
+            }
         }
     }
 
@@ -81,16 +84,16 @@ impl Runner<'_> {
         held: &mut Held,
         target: &mut Target,
         sink: &mut K,
-    ) -> Result<(), End>
-        ensures gives { (known : Bool) → Knows known (K.written sink.old) → GivesAs numbers.new.items result (seen known held.new target.new (K.written sink.new)) (v.arguments (direct false) (calls_of self.now depth) (arg_trees args.now) numbers.old.items (seen known held.old target.old (K.written sink.old))) }
+    ) -> Result<(), Stopped>
+        ensures gives { (known : Bool) → Knows known (K.written sink.old) → GivesAs held.new.end numbers.new.items result (seen known held.new target.new (K.written sink.new)) (v.arguments (direct false) (calls_of self.now depth) (arg_trees args.now) numbers.old.items (seen known held.old target.old (K.written sink.old))) }
         ensures knows { (known : Bool) → Knows known (K.written sink.old) → Knows known (K.written sink.new) }
         ensures made { (w : World) → IsMade w held.old target.old → IsMade w held.new target.new }
-        ensures cause { IsCaused result (K.faults sink.old) (K.faults sink.new) }
+        ensures cause { IsCaused held.new.end result (K.faults sink.old) (K.faults sink.new) }
     {
         for arg in args {
             match self.argument(arg, numbers, depth, held, target, sink) {
                 Ok(()) => {}
-                Err(end) => return Err(end),
+                Err(stopped) => return Err(stopped),
             }
         }
         Ok(())
@@ -108,12 +111,12 @@ impl Runner<'_> {
         held: &mut Held,
         target: &mut Target,
         sink: &mut K,
-    ) -> Result<u64, End>
+    ) -> Result<u64, Stopped>
         requires { numbers.old.items ≡ [] }
-        ensures gives { (known : Bool) → Knows known (K.written sink.old) → Gives result (seen known held.new target.new (K.written sink.new)) (v.call_of (direct false) (calls_of self.now depth) name.now (arg_trees args.now) (v.arguments (direct false) (calls_of self.now depth) (arg_trees args.now) [] (seen known held.old target.old (K.written sink.old)))) }
+        ensures gives { (known : Bool) → Knows known (K.written sink.old) → Gives held.new.end result (seen known held.new target.new (K.written sink.new)) (v.call_of (direct false) (calls_of self.now depth) name.now (arg_trees args.now) (v.arguments (direct false) (calls_of self.now depth) (arg_trees args.now) [] (seen known held.old target.old (K.written sink.old)))) }
         ensures knows { (known : Bool) → Knows known (K.written sink.old) → Knows known (K.written sink.new) }
         ensures made { (w : World) → IsMade w held.old target.old → IsMade w held.new target.new }
-        ensures cause { IsCaused result (K.faults sink.old) (K.faults sink.new) }
+        ensures cause { IsCaused held.new.end result (K.faults sink.old) (K.faults sink.new) }
     {
         self.arguments(args, numbers, depth, held, target, sink)?;
         self.called(
@@ -137,15 +140,15 @@ impl Runner<'_> {
         held: &mut Held,
         target: &mut Target,
         sink: &mut K,
-    ) -> Result<u64, End>
-        ensures gives { (known : Bool) → Knows known (K.written sink.old) → Gives result (seen known held.new target.new (K.written sink.new)) (v.call_of (direct false) (calls_of self.now depth) name.now (arg_trees args.now) (v.arguments (direct false) (calls_of self.now depth) (arg_trees args.now) [] (seen known held.old target.old (K.written sink.old)))) }
+    ) -> Result<u64, Stopped>
+        ensures gives { (known : Bool) → Knows known (K.written sink.old) → Gives held.new.end result (seen known held.new target.new (K.written sink.new)) (v.call_of (direct false) (calls_of self.now depth) name.now (arg_trees args.now) (v.arguments (direct false) (calls_of self.now depth) (arg_trees args.now) [] (seen known held.old target.old (K.written sink.old)))) }
         ensures knows { (known : Bool) → Knows known (K.written sink.old) → Knows known (K.written sink.new) }
         ensures made { (w : World) → IsMade w held.old target.old → IsMade w held.new target.new }
-        ensures cause { IsCaused result (K.faults sink.old) (K.faults sink.new) }
+        ensures cause { IsCaused held.new.end result (K.faults sink.old) (K.faults sink.new) }
     {
         let mut numbers = held.take_numbers(self.alloc);
         let answer = self.call_with(name, args, &mut numbers, depth, held, target, sink);
-        held.keep_numbers(numbers);
+        held.numbers = numbers;
         answer
     }
 
@@ -161,11 +164,11 @@ impl Runner<'_> {
         held: &mut Held,
         target: &mut Target,
         sink: &mut K,
-    ) -> Result<u64, End>
-        ensures gives { (known : Bool) → Knows known (K.written sink.old) → Gives result (seen known held.new target.new (K.written sink.new)) (v.called (direct false) (calls_of self.now depth) function text.now numbers.now (seen known held.old target.old (K.written sink.old))) }
+    ) -> Result<u64, Stopped>
+        ensures gives { (known : Bool) → Knows known (K.written sink.old) → Gives held.new.end result (seen known held.new target.new (K.written sink.new)) (v.called (direct false) (calls_of self.now depth) function text.now numbers.now (seen known held.old target.old (K.written sink.old))) }
         ensures knows { (known : Bool) → Knows known (K.written sink.old) → Knows known (K.written sink.new) }
         ensures made { (w : World) → IsMade w held.old target.old → IsMade w held.new target.new }
-        ensures cause { IsCaused result (K.faults sink.old) (K.faults sink.new) }
+        ensures cause { IsCaused held.new.end result (K.faults sink.old) (K.faults sink.new) }
     {
         match function {
             None => Ok(0),
@@ -184,11 +187,11 @@ impl Runner<'_> {
         held: &mut Held,
         target: &mut Target,
         sink: &mut K,
-    ) -> Result<u64, End>
-        ensures gives { (known : Bool) → Knows known (K.written sink.old) → Gives result (seen known held.new target.new (K.written sink.new)) (v.called (direct false) (calls_of self.now depth) (Some Function.Sequence) name.now [] (seen known held.old target.old (K.written sink.old))) }
+    ) -> Result<u64, Stopped>
+        ensures gives { (known : Bool) → Knows known (K.written sink.old) → Gives held.new.end result (seen known held.new target.new (K.written sink.new)) (v.called (direct false) (calls_of self.now depth) (Some Function.Sequence) name.now [] (seen known held.old target.old (K.written sink.old))) }
         ensures knows { (known : Bool) → Knows known (K.written sink.old) → Knows known (K.written sink.new) }
         ensures made { (w : World) → IsMade w held.old target.old → IsMade w held.new target.new }
-        ensures cause { IsCaused result (K.faults sink.old) (K.faults sink.new) }
+        ensures cause { IsCaused held.new.end result (K.faults sink.old) (K.faults sink.new) }
     {
         self.sequence(name, depth, held, target, sink)?;
         Ok(0)
@@ -204,11 +207,11 @@ impl Runner<'_> {
         held: &mut Held,
         target: &mut Target,
         sink: &mut K,
-    ) -> Result<(), End>
-        ensures gives { (known : Bool) → Knows known (K.written sink.old) → Gives result (seen known held.new target.new (K.written sink.new)) ((calls_of self.now depth) name.now (seen known held.old target.old (K.written sink.old))) }
+    ) -> Result<(), Stopped>
+        ensures gives { (known : Bool) → Knows known (K.written sink.old) → Gives held.new.end result (seen known held.new target.new (K.written sink.new)) ((calls_of self.now depth) name.now (seen known held.old target.old (K.written sink.old))) }
         ensures knows { (known : Bool) → Knows known (K.written sink.old) → Knows known (K.written sink.new) }
         ensures made { (w : World) → IsMade w held.old target.old → IsMade w held.new target.new }
-        ensures cause { IsCaused result (K.faults sink.old) (K.faults sink.new) }
+        ensures cause { IsCaused held.new.end result (K.faults sink.old) (K.faults sink.new) }
     {
         if depth == 0 {
             return Ok(());
@@ -236,22 +239,22 @@ impl Runner<'_> {
         held: &mut Held,
         target: &mut Target,
         sink: &mut K,
-    ) -> Result<(), End>
-        ensures gives { (known : Bool) → Knows known (K.written sink.old) → Gives result (seen known held.new target.new (K.written sink.new)) (m.entered (direct false) (m.done (direct false) self.now.turn_us (calls_of self.now depth) (steps_tree steps.now)) (seen known held.old target.old (K.written sink.old))) }
+    ) -> Result<(), Stopped>
+        ensures gives { (known : Bool) → Knows known (K.written sink.old) → Gives held.new.end result (seen known held.new target.new (K.written sink.new)) (m.entered (direct false) (m.done (direct false) self.now.turn_us (calls_of self.now depth) (steps_tree steps.now)) (seen known held.old target.old (K.written sink.old))) }
         ensures knows { (known : Bool) → Knows known (K.written sink.old) → Knows known (K.written sink.new) }
         ensures made { (w : World) → IsMade w held.old target.old → IsMade w held.new target.new }
-        ensures cause { IsCaused result (K.faults sink.old) (K.faults sink.new) }
+        ensures cause { IsCaused held.new.end result (K.faults sink.old) (K.faults sink.new) }
     {
-        let dp = held.global("__dp");
-        let ap = held.global("__ap");
-        let control = held.global("__errorcontrol");
+        let dp = held.globals.dp();
+        let ap = held.globals.ap();
+        let control = held.globals.control();
         let locals = held.take_locals(self.alloc);
         match self.done(steps, depth, held, target, sink) {
             Ok(()) => {
                 held.give_back(dp, ap, control, locals);
                 Ok(())
             }
-            Err(end) => Err(end),
+            Err(stopped) => Err(stopped),
         }
     }
 }

@@ -11,7 +11,7 @@ ghost use Rattle.sequence_terms.specs.Known.{Knows};
 ghost use Rattle.sequence_meaning.specs.Held.{IsCaused, IsMade, Gives, GivesAs, calls_of, seen, state_of};
 
 use crate::asking::{ask, debug_port};
-use crate::end::End;
+use crate::end::{End, Stopped};
 use crate::held::Held;
 use crate::runner::Runner;
 use crate::steps::counted;
@@ -35,11 +35,11 @@ impl Runner<'_> {
         held: &mut Held,
         target: &mut Target,
         sink: &mut K,
-    ) -> Result<(), End>
-        ensures gives { (known : Bool) → Knows known (K.written sink.old) → Gives result (seen known held.new target.new (K.written sink.new)) (m.controlled (direct false) self.now.turn_us (calls_of self.now depth) (option_map tree cond.now) (option_map tree repeat.now) timeout (steps_tree steps.now) (m.done (direct false) self.now.turn_us (calls_of self.now depth) (steps_tree steps.now)) (seen known held.old target.old (K.written sink.old))) }
+    ) -> Result<(), Stopped>
+        ensures gives { (known : Bool) → Knows known (K.written sink.old) → Gives held.new.end result (seen known held.new target.new (K.written sink.new)) (m.controlled (direct false) self.now.turn_us (calls_of self.now depth) (option_map tree cond.now) (option_map tree repeat.now) timeout (steps_tree steps.now) (m.done (direct false) self.now.turn_us (calls_of self.now depth) (steps_tree steps.now)) (seen known held.old target.old (K.written sink.old))) }
         ensures knows { (known : Bool) → Knows known (K.written sink.old) → Knows known (K.written sink.new) }
         ensures made { (w : World) → IsMade w held.old target.old → IsMade w held.new target.new }
-        ensures cause { IsCaused result (K.faults sink.old) (K.faults sink.new) }
+        ensures cause { IsCaused held.new.end result (K.faults sink.old) (K.faults sink.new) }
     {
         if self.condition(cond, depth, held, target, sink)? {
             self.repeated(repeat, timeout, steps, depth, held, target, sink)
@@ -58,11 +58,11 @@ impl Runner<'_> {
         held: &mut Held,
         target: &mut Target,
         sink: &mut K,
-    ) -> Result<bool, End>
-        ensures gives { (known : Bool) → Knows known (K.written sink.old) → Gives result (seen known held.new target.new (K.written sink.new)) (m.condition (direct false) self.now.turn_us (calls_of self.now depth) (option_map tree cond.now) (seen known held.old target.old (K.written sink.old))) }
+    ) -> Result<bool, Stopped>
+        ensures gives { (known : Bool) → Knows known (K.written sink.old) → Gives held.new.end result (seen known held.new target.new (K.written sink.new)) (m.condition (direct false) self.now.turn_us (calls_of self.now depth) (option_map tree cond.now) (seen known held.old target.old (K.written sink.old))) }
         ensures knows { (known : Bool) → Knows known (K.written sink.old) → Knows known (K.written sink.new) }
         ensures made { (w : World) → IsMade w held.old target.old → IsMade w held.new target.new }
-        ensures cause { IsCaused result (K.faults sink.old) (K.faults sink.new) }
+        ensures cause { IsCaused held.new.end result (K.faults sink.old) (K.faults sink.new) }
     {
         match cond {
             None => Ok(true),
@@ -80,11 +80,11 @@ impl Runner<'_> {
         held: &mut Held,
         target: &mut Target,
         sink: &mut K,
-    ) -> Result<bool, End>
-        ensures gives { (known : Bool) → Knows known (K.written sink.old) → Gives result (seen known held.new target.new (K.written sink.new)) (m.condition (direct false) self.now.turn_us (calls_of self.now depth) (Some (tree expr.now)) (seen known held.old target.old (K.written sink.old))) }
+    ) -> Result<bool, Stopped>
+        ensures gives { (known : Bool) → Knows known (K.written sink.old) → Gives held.new.end result (seen known held.new target.new (K.written sink.new)) (m.condition (direct false) self.now.turn_us (calls_of self.now depth) (Some (tree expr.now)) (seen known held.old target.old (K.written sink.old))) }
         ensures knows { (known : Bool) → Knows known (K.written sink.old) → Knows known (K.written sink.new) }
         ensures made { (w : World) → IsMade w held.old target.old → IsMade w held.new target.new }
-        ensures cause { IsCaused result (K.faults sink.old) (K.faults sink.new) }
+        ensures cause { IsCaused held.new.end result (K.faults sink.old) (K.faults sink.new) }
     {
         let number = self.value(expr, depth, held, target, sink)?;
         Ok(number != 0)
@@ -102,11 +102,11 @@ impl Runner<'_> {
         held: &mut Held,
         target: &mut Target,
         sink: &mut K,
-    ) -> Result<(), End>
-        ensures gives { (known : Bool) → Knows known (K.written sink.old) → Gives result (seen known held.new target.new (K.written sink.new)) (m.repeated (direct false) self.now.turn_us (calls_of self.now depth) (option_map tree repeat.now) timeout (steps_tree steps.now) (m.done (direct false) self.now.turn_us (calls_of self.now depth) (steps_tree steps.now)) (seen known held.old target.old (K.written sink.old))) }
+    ) -> Result<(), Stopped>
+        ensures gives { (known : Bool) → Knows known (K.written sink.old) → Gives held.new.end result (seen known held.new target.new (K.written sink.new)) (m.repeated (direct false) self.now.turn_us (calls_of self.now depth) (option_map tree repeat.now) timeout (steps_tree steps.now) (m.done (direct false) self.now.turn_us (calls_of self.now depth) (steps_tree steps.now)) (seen known held.old target.old (K.written sink.old))) }
         ensures knows { (known : Bool) → Knows known (K.written sink.old) → Knows known (K.written sink.new) }
         ensures made { (w : World) → IsMade w held.old target.old → IsMade w held.new target.new }
-        ensures cause { IsCaused result (K.faults sink.old) (K.faults sink.new) }
+        ensures cause { IsCaused held.new.end result (K.faults sink.old) (K.faults sink.new) }
     {
         match repeat {
             None => self.inside(steps, depth, held, target, sink),
@@ -134,13 +134,13 @@ impl Runner<'_> {
         held: &mut Held,
         target: &mut Target,
         sink: &mut K,
-    ) -> Result<(), End>
+    ) -> Result<(), Stopped>
         requires least { 1 ≤ count }
         requires most { count ≤ 60000000 }
-        ensures gives { (known : Bool) → Knows known (K.written sink.old) → Gives result (seen known held.new target.new (K.written sink.new)) (m.looped (direct false) self.now.turn_us (calls_of self.now depth) (p.poll_of (tree expr.now) (steps_tree steps.now)) (tree expr.now) count (m.done (direct false) self.now.turn_us (calls_of self.now depth) (steps_tree steps.now)) (seen known held.old target.old (K.written sink.old))) }
+        ensures gives { (known : Bool) → Knows known (K.written sink.old) → Gives held.new.end result (seen known held.new target.new (K.written sink.new)) (m.looped (direct false) self.now.turn_us (calls_of self.now depth) (p.poll_of (tree expr.now) (steps_tree steps.now)) (tree expr.now) count (m.done (direct false) self.now.turn_us (calls_of self.now depth) (steps_tree steps.now)) (seen known held.old target.old (K.written sink.old))) }
         ensures knows { (known : Bool) → Knows known (K.written sink.old) → Knows known (K.written sink.new) }
         ensures made { (w : World) → IsMade w held.old target.old → IsMade w held.new target.new }
-        ensures cause { IsCaused result (K.faults sink.old) (K.faults sink.new) }
+        ensures cause { IsCaused held.new.end result (K.faults sink.old) (K.faults sink.new) }
     {
         match poll_of(expr, steps) {
             Some((mask, requested)) => polled(mask, requested, count, held, target),
@@ -160,18 +160,18 @@ impl Runner<'_> {
         held: &mut Held,
         target: &mut Target,
         sink: &mut K,
-    ) -> Result<(), End>
-        ensures gives { (known : Bool) → Knows known (K.written sink.old) → Gives result (seen known held.new target.new (K.written sink.new)) (m.turns (direct false) (v.value (direct false) (calls_of self.now depth) (tree expr.now)) (λ r. m.inside (direct false) (m.done (direct false) self.now.turn_us (calls_of self.now depth) (steps_tree steps.now)) r) count (seen known held.old target.old (K.written sink.old))) }
+    ) -> Result<(), Stopped>
+        ensures gives { (known : Bool) → Knows known (K.written sink.old) → Gives held.new.end result (seen known held.new target.new (K.written sink.new)) (m.turns (direct false) (v.value (direct false) (calls_of self.now depth) (tree expr.now)) (λ r. m.inside (direct false) (m.done (direct false) self.now.turn_us (calls_of self.now depth) (steps_tree steps.now)) r) count (seen known held.old target.old (K.written sink.old))) }
         ensures knows { (known : Bool) → Knows known (K.written sink.old) → Knows known (K.written sink.new) }
         ensures made { (w : World) → IsMade w held.old target.old → IsMade w held.new target.new }
-        ensures cause { IsCaused result (K.faults sink.old) (K.faults sink.new) }
+        ensures cause { IsCaused held.new.end result (K.faults sink.old) (K.faults sink.new) }
     {
         let mut left = count;
         while left > 0 {
             match self.turn(expr, steps, depth, held, target, sink) {
                 Ok(true) => left -= 1,
                 Ok(false) => return Ok(()),
-                Err(end) => return Err(end),
+                Err(stopped) => return Err(stopped),
             }
         }
         Ok(())
@@ -188,19 +188,19 @@ impl Runner<'_> {
         held: &mut Held,
         target: &mut Target,
         sink: &mut K,
-    ) -> Result<bool, End>
-        ensures gives { (known : Bool) → Knows known (K.written sink.old) → Gives result (seen known held.new target.new (K.written sink.new)) (m.turn (direct false) (v.value (direct false) (calls_of self.now depth) (tree expr.now)) (λ r. m.inside (direct false) (m.done (direct false) self.now.turn_us (calls_of self.now depth) (steps_tree steps.now)) r) (seen known held.old target.old (K.written sink.old))) }
+    ) -> Result<bool, Stopped>
+        ensures gives { (known : Bool) → Knows known (K.written sink.old) → Gives held.new.end result (seen known held.new target.new (K.written sink.new)) (m.turn (direct false) (v.value (direct false) (calls_of self.now depth) (tree expr.now)) (λ r. m.inside (direct false) (m.done (direct false) self.now.turn_us (calls_of self.now depth) (steps_tree steps.now)) r) (seen known held.old target.old (K.written sink.old))) }
         ensures knows { (known : Bool) → Knows known (K.written sink.old) → Knows known (K.written sink.new) }
         ensures made { (w : World) → IsMade w held.old target.old → IsMade w held.new target.new }
-        ensures cause { IsCaused result (K.faults sink.old) (K.faults sink.new) }
+        ensures cause { IsCaused held.new.end result (K.faults sink.old) (K.faults sink.new) }
     {
         match counted(held) {
             Ok(()) => {}
-            Err(end) => return Err(end),
+            Err(stopped) => return Err(stopped),
         }
         let number = match self.value(expr, depth, held, target, sink) {
             Ok(number) => number,
-            Err(end) => return Err(end),
+            Err(stopped) => return Err(stopped),
         };
         if number == 0 {
             return Ok(false);
@@ -219,11 +219,11 @@ impl Runner<'_> {
         held: &mut Held,
         target: &mut Target,
         sink: &mut K,
-    ) -> Result<(), End>
-        ensures gives { (known : Bool) → Knows known (K.written sink.old) → Gives result (seen known held.new target.new (K.written sink.new)) (m.inside (direct false) (m.done (direct false) self.now.turn_us (calls_of self.now depth) (steps_tree steps.now)) (seen known held.old target.old (K.written sink.old))) }
+    ) -> Result<(), Stopped>
+        ensures gives { (known : Bool) → Knows known (K.written sink.old) → Gives held.new.end result (seen known held.new target.new (K.written sink.new)) (m.inside (direct false) (m.done (direct false) self.now.turn_us (calls_of self.now depth) (steps_tree steps.now)) (seen known held.old target.old (K.written sink.old))) }
         ensures knows { (known : Bool) → Knows known (K.written sink.old) → Knows known (K.written sink.new) }
         ensures made { (w : World) → IsMade w held.old target.old → IsMade w held.new target.new }
-        ensures cause { IsCaused result (K.faults sink.old) (K.faults sink.new) }
+        ensures cause { IsCaused held.new.end result (K.faults sink.old) (K.faults sink.new) }
     {
         let count = held.local_count();
         self.done(steps, depth, held, target, sink)?;
@@ -240,16 +240,17 @@ fn polled(
     count: u32,
     held: &mut Held,
     target: &mut Target,
-) -> Result<(), End>
+) -> Result<(), Stopped>
     requires least { 1 ≤ count }
     requires most { count ≤ 60000000 }
-    ensures gives { (written : Option (List ℕ)) → Gives result (state_of held.new target.new written) (m.polled (direct false) (mask, requested) count (state_of held.old target.old written)) }
+    ensures gives { (written : Option (List ℕ)) → Gives held.new.end result (state_of held.new target.new written) (m.polled (direct false) (mask, requested) count (state_of held.old target.old written)) }
     ensures made { (w : World) → IsMade w held.old target.old → IsMade w held.new target.new }
-    ensures cause { (faults : ℕ) → IsCaused result faults faults }
+    ensures cause { (faults : ℕ) → IsCaused held.new.end result faults faults }
 {
     counted(held)?;
     if debug_port(held) != 0 {
-        return Err(End::Halted(HaltCause::Unsupported));
+        held.end = End::Halted(HaltCause::Unsupported);
+        return Err(Stopped);
     }
     let unit = Unit::Poll {
         mask,

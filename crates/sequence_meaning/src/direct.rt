@@ -12,7 +12,7 @@ ghost use Rattle.sequence_terms.specs.Known.{Knows, known_part};
 ghost use Rattle.sequence_meaning.specs.Held.{Gives, IsCaused, IsMade, state_of};
 ghost use Rattle.sequence_meaning.specs.Starting.{program_of};
 
-use crate::end::End;
+use crate::end::{End, Stopped};
 use crate::ended::{Direct, Recorded};
 use crate::held::Held;
 use crate::runner::Runner;
@@ -23,31 +23,33 @@ use std::alloc::Global;
 use target_machine::{Settings, Target};
 
 // How a run ended, with the variables of that moment where it is done or halted.
-fn ending_of(alloc: Global, ended: Result<(), End>, held: &Held) -> Result<Direct, OutOfMemory>
-    ensures answer { (target : TargetState) (written : Option (List ℕ)) (out : Out ℕ Now (Unit {0})) → Gives ended (state_of held.now target written) out
+fn ending_of(alloc: Global, ended: Result<(), Stopped>, held: &Held) -> Result<Direct, OutOfMemory>
+    ensures answer { (target : TargetState) (written : Option (List ℕ)) (out : Out ℕ Now (Unit {0})) → Gives held.now.end ended (state_of held.now target written) out
         → (end_state out).units ≡ units_of (outcome_of out) → AnswersDirect (outcome_of out) result target written }
-    ensures records { (target : TargetState) (written : Option (List ℕ)) (out : Out ℕ Now (Unit {0})) → Gives ended (state_of held.now target written) out
+    ensures records { (target : TargetState) (written : Option (List ℕ)) (out : Out ℕ Now (Unit {0})) → Gives held.now.end ended (state_of held.now target written) out
         → (end_state out).units ≡ units_of (outcome_of out) → IfOk result (λ ending. Records (outcome_of out) ending held.now.calls.items held.now.skipped target written) }
-    ensures cause { (before now : ℕ) → IsCaused ended before now → IsDirectCaused result before now }
+    ensures cause { (before now : ℕ) → IsCaused held.now.end ended before now → IsDirectCaused result before now }
 {
-    match ended {
-        Ok(()) => Ok(Direct::Done(answered(alloc, &held.globals)?)),
-        Err(End::Halted(cause)) => Ok(Direct::Halted(cause, answered(alloc, &held.globals)?)),
-        Err(End::Faulted(what)) => Ok(Direct::Faulted {
+    let Err(Stopped) = ended else {
+        return Ok(Direct::Done(answered(alloc, held.globals.all())?));
+    };
+    match held.end {
+        End::Halted(cause) => Ok(Direct::Halted(cause, answered(alloc, held.globals.all())?)),
+        End::Faulted(what) => Ok(Direct::Faulted {
             unit: held.units,
             what,
         }),
-        Err(End::WriteFault) => Ok(Direct::WriteFault),
-        Err(End::OutOfMemory) => Err(OutOfMemory),
+        End::WriteFault => Ok(Direct::WriteFault),
+        End::OutOfMemory => Err(OutOfMemory),
     }
 }
 
 // What is answered at the end of a run.
-fn recorded(alloc: Global, ended: Result<(), End>, held: Held) -> Result<Recorded, OutOfMemory>
-    ensures answer { (target : TargetState) (written : Option (List ℕ)) (out : Out ℕ Now (Unit {0})) → Gives ended (state_of held target written) out
+fn recorded(alloc: Global, ended: Result<(), Stopped>, held: Held) -> Result<Recorded, OutOfMemory>
+    ensures answer { (target : TargetState) (written : Option (List ℕ)) (out : Out ℕ Now (Unit {0})) → Gives held.end ended (state_of held target written) out
         → (end_state out).units ≡ units_of (outcome_of out) → Answers (outcome_of out) result target written }
-    ensures cause { (before now : ℕ) → IsCaused ended before now → IsRecordedCaused result before now }
-    ensures part { (start target : TargetState) (written : Option (List ℕ)) (out : Out ℕ Now (Unit {0})) → Gives ended (state_of held target written) out
+    ensures cause { (before now : ℕ) → IsCaused held.end ended before now → IsRecordedCaused result before now }
+    ensures part { (start target : TargetState) (written : Option (List ℕ)) (out : Out ℕ Now (Unit {0})) → Gives held.end ended (state_of held target written) out
         → IsMadeIn (start_world start None) (outcome_of out) → IsMade (start_world start None) held target → Leaves start (outcome_of out) result target written }
 {
     let ending = match ending_of(alloc, ended, &held) {

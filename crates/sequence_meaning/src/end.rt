@@ -1,6 +1,10 @@
 //! Why a run goes no further.
 use target_machine::{HaltCause, Unit};
 
+// A run goes no further. Why is held, apart from the answers of all calls that the run was in.
+#[derive(Clone, Copy, Debug, PartialEq, Eq)]
+pub(crate) struct Stopped;
+
 // Why a run goes no further.
 #[derive(Clone, Copy, Debug, PartialEq, Eq)]
 pub(crate) enum End {

@@ -8,7 +8,7 @@ ghost use Rattle.sequence_terms.specs.Direct.{direct};
 ghost use Rattle.sequence_terms.specs.Known.{Knows};
 ghost use Rattle.sequence_meaning.specs.Held.{IsCaused, IsMade, Gives, seen};
 
-use crate::end::End;
+use crate::end::{End, Stopped};
 use crate::held::Held;
 use crate::memory::memory;
 use crate::probe::{abort, clock, delay, line_bits, pins};
@@ -27,26 +27,34 @@ fn lined<K: Sink>(
     value: u64,
     held: &mut Held,
     sink: &mut K,
-) -> Result<u64, End>
+) -> Result<u64, Stopped>
     ensures gives { (known : Bool) (target : TargetState) (text : List ℕ) → IfOk line (λ l. l ≡ text) → Knows known (K.written sink.old)
-        → Gives result (seen known held.new target (K.written sink.new)) (c.lined (direct false) text value (seen known held.old target (K.written sink.old))) }
+        → Gives held.new.end result (seen known held.new target (K.written sink.new)) (c.lined (direct false) text value (seen known held.old target (K.written sink.old))) }
     ensures knows { (known : Bool) → Knows known (K.written sink.old) → Knows known (K.written sink.new) }
     ensures made { (w : World) (target : TargetState) → IsMade w held.old target → IsMade w held.new target }
-    ensures cause { IsCaused result (K.faults sink.old) (K.faults sink.new) }
+    ensures cause { IsCaused held.new.end result (K.faults sink.old) (K.faults sink.new) }
 {
     if held.lines >= 100_000 {
-        return Err(End::Halted(HaltCause::MessageLimit));
+        held.end = End::Halted(HaltCause::MessageLimit);
+        return Err(Stopped);
     }
     let Ok(line) = line else {
-        return Err(End::OutOfMemory);
+        held.end = End::OutOfMemory;
+        return Err(Stopped);
     };
     match put_text(line.as_bytes(), sink) {
         Ok(()) => {
             held.lines += 1;
             Ok(value)
         }
-        Err(TextError::Failed) => Err(End::WriteFault),
-        Err(TextError::OutOfMemory) => Err(End::OutOfMemory),
+        Err(TextError::Failed) => {
+            held.end = End::WriteFault;
+            Err(Stopped)
+        }
+        Err(TextError::OutOfMemory) => {
+            held.end = End::OutOfMemory;
+            Err(Stopped)
+        }
     }
 }
 
@@ -67,12 +75,12 @@ fn message<K: Sink>(
     alloc: Global,
     held: &mut Held,
     sink: &mut K,
-) -> Result<u64, End>
+) -> Result<u64, Stopped>
     ensures gives { (known : Bool) (target : TargetState) → Knows known (K.written sink.old)
-        → Gives result (seen known held.new target (K.written sink.new)) (c.lined (direct false) (message_line (slice_index numbers.now 0) text.now (drop 1 numbers.now)) 0 (seen known held.old target (K.written sink.old))) }
+        → Gives held.new.end result (seen known held.new target (K.written sink.new)) (c.lined (direct false) (message_line (slice_index numbers.now 0) text.now (drop 1 numbers.now)) 0 (seen known held.old target (K.written sink.old))) }
     ensures knows { (known : Bool) → Knows known (K.written sink.old) → Knows known (K.written sink.new) }
     ensures made { (w : World) (target : TargetState) → IsMade w held.old target → IsMade w held.new target }
-    ensures cause { IsCaused result (K.faults sink.old) (K.faults sink.new) }
+    ensures cause { IsCaused held.new.end result (K.faults sink.old) (K.faults sink.new) }
 {
     let more = if numbers.is_empty() {
         numbers
@@ -97,12 +105,12 @@ pub(crate) fn performed<K: Sink>(
     held: &mut Held,
     target: &mut Target,
     sink: &mut K,
-) -> Result<u64, End>
+) -> Result<u64, Stopped>
     ensures gives { (known : Bool) → Knows known (K.written sink.old)
-        → Gives result (seen known held.new target.new (K.written sink.new)) (c.performed (direct false) function text.now numbers.now (seen known held.old target.old (K.written sink.old))) }
+        → Gives held.new.end result (seen known held.new target.new (K.written sink.new)) (c.performed (direct false) function text.now numbers.now (seen known held.old target.old (K.written sink.old))) }
     ensures knows { (known : Bool) → Knows known (K.written sink.old) → Knows known (K.written sink.new) }
     ensures made { (w : World) → IsMade w held.old target.old → IsMade w held.new target.new }
-    ensures cause { IsCaused result (K.faults sink.old) (K.faults sink.new) }
+    ensures cause { IsCaused held.new.end result (K.faults sink.old) (K.faults sink.new) }
 {
     match function {
         Function::Read8 => memory(1, true, number_at(numbers, 0), 0, held, target),
@@ -173,7 +181,10 @@ pub(crate) fn performed<K: Sink>(
             held,
             target,
         ),
-        Function::DapJtagSequence => Err(End::Halted(HaltCause::Unsupported)),
+        Function::DapJtagSequence => {
+            held.end = End::Halted(HaltCause::Unsupported);
+            Err(Stopped)
+        }
         Function::Sequence => Ok(0),
         Function::Message => message(text, numbers, alloc, held, sink),
         Function::Query => lined(

@@ -8,6 +8,8 @@ ghost use Rattle.sequence_terms.specs.Variables.{bound, set_in, set_visible, val
 ghost use Rattle.sequence_terms.specs.Shared.{bindings_of};
 ghost use Rattle.sequence_meaning.specs.Held.{IsMade, state_of};
 
+use crate::end::End;
+use crate::shared::SharedVariables;
 use call_terms::Ask;
 use dap_base::{NameText, OutOfMemory};
 use sequence_terms::{Binding, Globals, has_in, newest_in, set_newest};
@@ -17,7 +19,7 @@ use std::mem;
 // The variables, the counts, the calls that were made, and the access ports that are known to have large addresses.
 #[derive(Drop)]
 pub(crate) struct Held {
-    pub globals: Globals<u64>,
+    pub globals: SharedVariables,
     pub locals: Vec<Binding<u64>>,
     pub units: u32,
     pub lines: u32,
@@ -27,6 +29,8 @@ pub(crate) struct Held {
     pub skipped: u32,
     /// Where the numbers among the arguments of a call may stand: its content counts for nothing.
     pub numbers: Vec<u64>,
+    /// Why the run goes no further: it counts once the run has stopped.
+    pub end: End,
 }
 
 impl Held {
@@ -36,7 +40,7 @@ impl Held {
             ≡ record { globals = bindings_of globals; locals = []; units = 0; lines = 0; steps = 0; rest = now_at (start_world target None) written } }
     {
         Held {
-            globals,
+            globals: SharedVariables::new(globals),
             locals: Vec::new(alloc),
             units: 0,
             lines: 0,
@@ -45,32 +49,20 @@ impl Held {
             large: Vec::new(alloc),
             skipped: 0,
             numbers: Vec::new(alloc),
+            end: End::OutOfMemory,
         }
     }
 
     /// The value of a variable that all sequences share, 0 where there is none.
     pub fn global(&self, name: &str) -> u64
-        ensures { result ≡ unwrap_or (value_in (bindings_of self.now.globals) name.now) 0 }
+        ensures { result ≡ unwrap_or (value_in (bindings_of self.now.globals.variables) name.now) 0 }
     {
-        match self.globals.get(name) {
-            Some(value) => value,
-            None => 0,
-        }
-    }
-
-    /// The same of a variable that is at `index` among those that all sequences share, where it is there.
-    pub fn predefined(&self, index: usize, name: &str) -> u64
-        ensures { result ≡ unwrap_or (value_in (bindings_of self.now.globals) name.now) 0 }
-    {
-        match self.globals.get_near(index, name) {
-            Some(value) => value,
-            None => 0,
-        }
+        self.globals.get(name)
     }
 
     /// The value of a visible variable, 0 where there is none.
     pub fn visible(&self, name: &str) -> u64
-        ensures { (s : State ℕ Now) → s.globals ≡ bindings_of self.now.globals → s.locals ≡ self.now.locals.items
+        ensures { (s : State ℕ Now) → s.globals ≡ bindings_of self.now.globals.variables → s.locals ≡ self.now.locals.items
             → result ≡ unwrap_or (visible name.now s) 0 }
     {
         match newest_in(&self.locals, name) {
@@ -101,14 +93,6 @@ impl Held {
         let mut numbers = mem::replace(&mut self.numbers, Vec::new(alloc));
         numbers.clear();
         numbers
-    }
-
-    /// Keeps a list for the numbers of later calls.
-    pub fn keep_numbers(&mut self, numbers: Vec<u64>)
-        ensures state { (target : TargetState) (written : Option (List ℕ)) → state_of self.new target written ≡ state_of self.old target written }
-        ensures made { (w : World) (target : TargetState) → IsMade w self.old target → IsMade w self.new target }
-    {
-        self.numbers = numbers;
     }
 
     /// Declares a variable of the running sequence.
@@ -154,7 +138,7 @@ impl Held {
     // Gives a variable that all sequences share a value.
     fn set_global(&mut self, name: &str, value: u64)
         ensures state { (target : TargetState) (written : Option (List ℕ)) → state_of self.new target written
-            ≡ with_variables (state_of self.old target written) (set_in (bindings_of self.old.globals) name.now value) self.old.locals.items }
+            ≡ with_variables (state_of self.old target written) (set_in (bindings_of self.old.globals.variables) name.now value) self.old.locals.items }
         ensures made { (w : World) (target : TargetState) → IsMade w self.old target → IsMade w self.new target }
     {
         self.globals.set(name, value);
@@ -172,7 +156,7 @@ impl Held {
     pub fn give_back(&mut self, dp: u64, ap: u64, control: u64, locals: Vec<Binding<u64>>)
         ensures state { (target : TargetState) (written : Option (List ℕ)) → state_of self.new target written
             ≡ with_variables (state_of self.old target written)
-            (set_in (set_in (set_in (bindings_of self.old.globals) (codes "__dp") dp) (codes "__ap") ap) (codes "__errorcontrol") control) locals.items }
+            (set_in (set_in (set_in (bindings_of self.old.globals.variables) (codes "__dp") dp) (codes "__ap") ap) (codes "__errorcontrol") control) locals.items }
         ensures made { (w : World) (target : TargetState) → IsMade w self.old target → IsMade w self.new target }
     {
         self.set_global("__dp", dp);

@@ -15,6 +15,7 @@ mod probe;
 mod registers;
 mod runner;
 mod running;
+mod shared;
 mod start;
 mod steps;
 mod values;

@@ -7,20 +7,19 @@ ghost use Rattle.sequence_terms.specs.Machine.{State};
 ghost use Rattle.sequence_meaning.specs.Held.{IsCaused, IsMade, Gives, state_of};
 
 use crate::asking::{Port, ask, asked, port_of};
-use crate::end::End;
+use crate::end::{End, Stopped};
 use crate::held::Held;
 use sequence_terms::{memory_port, memory_unit};
 use target_machine::Target;
 
 // The value of `Read64`.
 #[tactic(auto, unfolding(sequence_terms::specs::Calls::low_and_high, sequence_terms::specs::Calls::use_now, sequence_terms::specs::Direct::direct))]
-fn low_and_high(low: u64, high: u64) -> Result<u64, End>
+fn low_and_high(low: u64, high: u64) -> u64
     requires low { low < 2 ^ 32 }
     requires high { high < 2 ^ 32 }
-    ensures gives { (s : State ℕ Now) → Gives result s (c.low_and_high (direct false) low high s) }
-    ensures cause { (faults : ℕ) → IsCaused result faults faults }
+    ensures { (s : State ℕ Now) → c.low_and_high (direct false) low high s ≡ Ok (result, s) }
 {
-    Ok(low + high * 0x1_0000_0000)
+    low + high * 0x1_0000_0000
 }
 
 // The second unit of a 64-bit call, at the higher address.
@@ -34,19 +33,19 @@ fn second_half(
     low: u64,
     held: &mut Held,
     target: &mut Target,
-) -> Result<u64, End>
+) -> Result<u64, Stopped>
     requires aligned { address % 8 ≡ 0 }
     requires low { low < 2 ^ 32 }
-    ensures gives { (written : Option (List ℕ)) → Gives result (state_of held.new target.new written) (c.second_half (direct false) read (record { ap = ap; forgive = forgive; dp = 0 }) address value low (state_of held.old target.old written)) }
+    ensures gives { (written : Option (List ℕ)) → Gives held.new.end result (state_of held.new target.new written) (c.second_half (direct false) read (record { ap = ap; forgive = forgive; dp = 0 }) address value low (state_of held.old target.old written)) }
     ensures made { (w : World) → IsMade w held.old target.old → IsMade w held.new target.new }
-    ensures cause { (faults : ℕ) → IsCaused result faults faults }
+    ensures cause { (faults : ℕ) → IsCaused held.new.end result faults faults }
 {
     let unit = memory_unit(4, read, ap, address + 4, value / 0x1_0000_0000);
     let high = match ask(unit, forgive, held, target) {
         Ok(high) => high,
-        Err(end) => return Err(end),
+        Err(stopped) => return Err(stopped),
     };
-    if read { low_and_high(low, high) } else { Ok(0) }
+    Ok(if read { low_and_high(low, high) } else { 0 })
 }
 
 // `Read64` and `Write64` are two units, the one at the lower address first.
@@ -59,16 +58,16 @@ fn two_units(
     value: u64,
     held: &mut Held,
     target: &mut Target,
-) -> Result<u64, End>
+) -> Result<u64, Stopped>
     requires aligned { address % 8 ≡ 0 }
-    ensures gives { (written : Option (List ℕ)) → Gives result (state_of held.new target.new written) (c.two_units (direct false) read (record { ap = ap; forgive = forgive; dp = 0 }) address value (state_of held.old target.old written)) }
+    ensures gives { (written : Option (List ℕ)) → Gives held.new.end result (state_of held.new target.new written) (c.two_units (direct false) read (record { ap = ap; forgive = forgive; dp = 0 }) address value (state_of held.old target.old written)) }
     ensures made { (w : World) → IsMade w held.old target.old → IsMade w held.new target.new }
-    ensures cause { (faults : ℕ) → IsCaused result faults faults }
+    ensures cause { (faults : ℕ) → IsCaused held.new.end result faults faults }
 {
     let unit = memory_unit(4, read, ap, address, value);
     let low = match ask(unit, forgive, held, target) {
         Ok(low) => low,
-        Err(end) => return Err(end),
+        Err(stopped) => return Err(stopped),
     };
     second_half(read, ap, forgive, address, value, low, held, target)
 }
@@ -83,15 +82,18 @@ fn memory_at(
     port: Port,
     held: &mut Held,
     target: &mut Target,
-) -> Result<u64, End>
+) -> Result<u64, Stopped>
     requires { (size ≡ 1) ⊎ ((size ≡ 2) ⊎ ((size ≡ 4) ⊎ (size ≡ 8))) }
-    ensures gives { (written : Option (List ℕ)) → Gives result (state_of held.new target.new written) (c.memory_at (direct false) size read address value (record { ap = port.ap; forgive = port.forgive; dp = port.dp }) (state_of held.old target.old written)) }
+    ensures gives { (written : Option (List ℕ)) → Gives held.new.end result (state_of held.new target.new written) (c.memory_at (direct false) size read address value (record { ap = port.ap; forgive = port.forgive; dp = port.dp }) (state_of held.old target.old written)) }
     ensures made { (w : World) → IsMade w held.old target.old → IsMade w held.new target.new }
-    ensures cause { (faults : ℕ) → IsCaused result faults faults }
+    ensures cause { (faults : ℕ) → IsCaused held.new.end result faults faults }
 {
     let ap = match memory_port(size, address, port.ap, port.dp) {
         Ok(ap) => ap,
-        Err(cause) => return Err(End::Halted(cause)),
+        Err(cause) => {
+            held.end = End::Halted(cause);
+            return Err(Stopped);
+        }
     };
     if size == 8 {
         two_units(read, ap, port.forgive, address, value, held, target)
@@ -115,11 +117,11 @@ pub(crate) fn memory(
     value: u64,
     held: &mut Held,
     target: &mut Target,
-) -> Result<u64, End>
+) -> Result<u64, Stopped>
     requires { (size ≡ 1) ⊎ ((size ≡ 2) ⊎ ((size ≡ 4) ⊎ (size ≡ 8))) }
-    ensures gives { (written : Option (List ℕ)) → Gives result (state_of held.new target.new written) (c.memory (direct false) size read address value (state_of held.old target.old written)) }
+    ensures gives { (written : Option (List ℕ)) → Gives held.new.end result (state_of held.new target.new written) (c.memory (direct false) size read address value (state_of held.old target.old written)) }
     ensures made { (w : World) → IsMade w held.old target.old → IsMade w held.new target.new }
-    ensures cause { (faults : ℕ) → IsCaused result faults faults }
+    ensures cause { (faults : ℕ) → IsCaused held.new.end result faults faults }
 {
     memory_at(size, read, address, value, port_of(held), held, target)
 }

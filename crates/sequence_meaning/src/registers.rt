@@ -7,7 +7,7 @@ ghost use Rattle.sequence_terms.specs.Machine.{State};
 ghost use Rattle.sequence_meaning.specs.Held.{IsCaused, IsMade, Gives, state_of};
 
 use crate::asking::{Port, asked, debug_port, port_of};
-use crate::end::End;
+use crate::end::{End, Stopped};
 use crate::held::Held;
 use sequence_terms::{ap_unit, dp_unit};
 use target_machine::Target;
@@ -21,14 +21,17 @@ fn ap_at(
     port: Port,
     held: &mut Held,
     target: &mut Target,
-) -> Result<u64, End>
-    ensures gives { (written : Option (List ℕ)) → Gives result (state_of held.new target.new written) (c.ap_at (direct false) read addr value (record { ap = port.ap; forgive = port.forgive; dp = port.dp }) (state_of held.old target.old written)) }
+) -> Result<u64, Stopped>
+    ensures gives { (written : Option (List ℕ)) → Gives held.new.end result (state_of held.new target.new written) (c.ap_at (direct false) read addr value (record { ap = port.ap; forgive = port.forgive; dp = port.dp }) (state_of held.old target.old written)) }
     ensures made { (w : World) → IsMade w held.old target.old → IsMade w held.new target.new }
-    ensures cause { (faults : ℕ) → IsCaused result faults faults }
+    ensures cause { (faults : ℕ) → IsCaused held.new.end result faults faults }
 {
     match ap_unit(read, addr, value, port.ap, port.dp) {
         Ok(unit) => asked(read, unit, port.forgive, held, target),
-        Err(cause) => Err(End::Halted(cause)),
+        Err(cause) => {
+            held.end = End::Halted(cause);
+            Err(Stopped)
+        }
     }
 }
 
@@ -40,10 +43,10 @@ pub(crate) fn ap_register(
     value: u64,
     held: &mut Held,
     target: &mut Target,
-) -> Result<u64, End>
-    ensures gives { (written : Option (List ℕ)) → Gives result (state_of held.new target.new written) (c.ap_register (direct false) read addr value (state_of held.old target.old written)) }
+) -> Result<u64, Stopped>
+    ensures gives { (written : Option (List ℕ)) → Gives held.new.end result (state_of held.new target.new written) (c.ap_register (direct false) read addr value (state_of held.old target.old written)) }
     ensures made { (w : World) → IsMade w held.old target.old → IsMade w held.new target.new }
-    ensures cause { (faults : ℕ) → IsCaused result faults faults }
+    ensures cause { (faults : ℕ) → IsCaused held.new.end result faults faults }
 {
     ap_at(read, addr, value, port_of(held), held, target)
 }
@@ -57,14 +60,17 @@ fn dp_at(
     dp: u64,
     held: &mut Held,
     target: &mut Target,
-) -> Result<u64, End>
-    ensures gives { (written : Option (List ℕ)) → Gives result (state_of held.new target.new written) (c.dp_at (direct false) read addr value dp (state_of held.old target.old written)) }
+) -> Result<u64, Stopped>
+    ensures gives { (written : Option (List ℕ)) → Gives held.new.end result (state_of held.new target.new written) (c.dp_at (direct false) read addr value dp (state_of held.old target.old written)) }
     ensures made { (w : World) → IsMade w held.old target.old → IsMade w held.new target.new }
-    ensures cause { (faults : ℕ) → IsCaused result faults faults }
+    ensures cause { (faults : ℕ) → IsCaused held.new.end result faults faults }
 {
     match dp_unit(read, addr, value, dp) {
         Ok(unit) => asked(read, unit, false, held, target),
-        Err(cause) => Err(End::Halted(cause)),
+        Err(cause) => {
+            held.end = End::Halted(cause);
+            Err(Stopped)
+        }
     }
 }
 
@@ -76,10 +82,10 @@ pub(crate) fn dp_register(
     value: u64,
     held: &mut Held,
     target: &mut Target,
-) -> Result<u64, End>
-    ensures gives { (written : Option (List ℕ)) → Gives result (state_of held.new target.new written) (c.dp_register (direct false) read addr value (state_of held.old target.old written)) }
+) -> Result<u64, Stopped>
+    ensures gives { (written : Option (List ℕ)) → Gives held.new.end result (state_of held.new target.new written) (c.dp_register (direct false) read addr value (state_of held.old target.old written)) }
     ensures made { (w : World) → IsMade w held.old target.old → IsMade w held.new target.new }
-    ensures cause { (faults : ℕ) → IsCaused result faults faults }
+    ensures cause { (faults : ℕ) → IsCaused held.new.end result faults faults }
 {
     dp_at(read, addr, value, debug_port(held), held, target)
 }

@@ -9,7 +9,7 @@ ghost use Rattle.sequence_terms.specs.Known.{Knows};
 ghost use Rattle.sequence_meaning.specs.Held.{IsCaused, IsMade, Gives, seen};
 ghost use Rattle.sequence_meaning.specs.Starting.{debugged_one, defined};
 
-use crate::end::End;
+use crate::end::{End, Stopped};
 use crate::held::Held;
 use crate::runner::Runner;
 use dap_base::Sink;
@@ -26,11 +26,11 @@ impl Runner<'_> {
         held: &mut Held,
         target: &mut Target,
         sink: &mut K,
-    ) -> Result<(), End>
-        ensures gives { (known : Bool) → Knows known (K.written sink.old) → Gives result (seen known held.new target.new (K.written sink.new)) (defined self.now.turn_us (checked_trees self.now.set.now) name.now (tree expr.now) (seen known held.old target.old (K.written sink.old))) }
+    ) -> Result<(), Stopped>
+        ensures gives { (known : Bool) → Knows known (K.written sink.old) → Gives held.new.end result (seen known held.new target.new (K.written sink.new)) (defined self.now.turn_us (checked_trees self.now.set.now) name.now (tree expr.now) (seen known held.old target.old (K.written sink.old))) }
         ensures knows { (known : Bool) → Knows known (K.written sink.old) → Knows known (K.written sink.new) }
         ensures made { (w : World) → IsMade w held.old target.old → IsMade w held.new target.new }
-        ensures cause { IsCaused result (K.faults sink.old) (K.faults sink.new) }
+        ensures cause { IsCaused held.new.end result (K.faults sink.old) (K.faults sink.new) }
     {
         let number = self.value(expr, 0, held, target, sink)?;
         held.store(name.text.as_str(), number);
@@ -44,11 +44,11 @@ impl Runner<'_> {
         held: &mut Held,
         target: &mut Target,
         sink: &mut K,
-    ) -> Result<(), End>
-        ensures gives { (known : Bool) → Knows known (K.written sink.old) → Gives result (seen known held.new target.new (K.written sink.new)) (debugged_one self.now.turn_us (checked_trees self.now.set.now) (stmt_tree one.now) (seen known held.old target.old (K.written sink.old))) }
+    ) -> Result<(), Stopped>
+        ensures gives { (known : Bool) → Knows known (K.written sink.old) → Gives held.new.end result (seen known held.new target.new (K.written sink.new)) (debugged_one self.now.turn_us (checked_trees self.now.set.now) (stmt_tree one.now) (seen known held.old target.old (K.written sink.old))) }
         ensures knows { (known : Bool) → Knows known (K.written sink.old) → Knows known (K.written sink.new) }
         ensures made { (w : World) → IsMade w held.old target.old → IsMade w held.new target.new }
-        ensures cause { IsCaused result (K.faults sink.old) (K.faults sink.new) }
+        ensures cause { IsCaused held.new.end result (K.faults sink.old) (K.faults sink.new) }
     {
         match one {
             Stmt::Declare(name, expr) => self.define(name, expr, held, target, sink),
@@ -64,16 +64,16 @@ impl Runner<'_> {
         held: &mut Held,
         target: &mut Target,
         sink: &mut K,
-    ) -> Result<(), End>
-        ensures gives { (known : Bool) → Knows known (K.written sink.old) → Gives result (seen known held.new target.new (K.written sink.new)) (m.debugged (direct false) self.now.turn_us (checked_trees self.now.set.now) (code_trees code.now) (seen known held.old target.old (K.written sink.old))) }
+    ) -> Result<(), Stopped>
+        ensures gives { (known : Bool) → Knows known (K.written sink.old) → Gives held.new.end result (seen known held.new target.new (K.written sink.new)) (m.debugged (direct false) self.now.turn_us (checked_trees self.now.set.now) (code_trees code.now) (seen known held.old target.old (K.written sink.old))) }
         ensures knows { (known : Bool) → Knows known (K.written sink.old) → Knows known (K.written sink.new) }
         ensures made { (w : World) → IsMade w held.old target.old → IsMade w held.new target.new }
-        ensures cause { IsCaused result (K.faults sink.old) (K.faults sink.new) }
+        ensures cause { IsCaused held.new.end result (K.faults sink.old) (K.faults sink.new) }
     {
         for one in code {
             match self.debug_one(one, held, target, sink) {
                 Ok(()) => {}
-                Err(end) => return Err(end),
+                Err(stopped) => return Err(stopped),
             }
         }
         Ok(())
@@ -87,15 +87,15 @@ impl Runner<'_> {
         held: &mut Held,
         target: &mut Target,
         sink: &mut K,
-    ) -> Result<(), End>
-        ensures gives { (known : Bool) → Knows known (K.written sink.old) → Gives result (seen known held.new target.new (K.written sink.new)) (m.run_of (direct false) self.now.turn_us (checked_trees self.now.set.now) start.now (seen known held.old target.old (K.written sink.old))) }
+    ) -> Result<(), Stopped>
+        ensures gives { (known : Bool) → Knows known (K.written sink.old) → Gives held.new.end result (seen known held.new target.new (K.written sink.new)) (m.run_of (direct false) self.now.turn_us (checked_trees self.now.set.now) start.now (seen known held.old target.old (K.written sink.old))) }
         ensures knows { (known : Bool) → Knows known (K.written sink.old) → Knows known (K.written sink.new) }
         ensures made { (w : World) → IsMade w held.old target.old → IsMade w held.new target.new }
-        ensures cause { IsCaused result (K.faults sink.old) (K.faults sink.new) }
+        ensures cause { IsCaused held.new.end result (K.faults sink.old) (K.faults sink.new) }
     {
         match self.debug(self.set.debugvars().as_slice(), held, target, sink) {
             Ok(()) => {}
-            Err(end) => return Err(end),
+            Err(stopped) => return Err(stopped),
         }
         self.done(self.steps_of(start), 31, held, target, sink)
     }

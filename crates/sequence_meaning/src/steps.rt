@@ -10,7 +10,7 @@ ghost use Rattle.sequence_terms.specs.Values as v;
 ghost use Rattle.sequence_terms.specs.Known.{Knows};
 ghost use Rattle.sequence_meaning.specs.Held.{IsCaused, IsMade, Gives, GivesAs, calls_of, seen, state_of};
 
-use crate::end::End;
+use crate::end::{End, Stopped};
 use crate::held::Held;
 use crate::runner::Runner;
 use dap_base::Sink;
@@ -29,16 +29,16 @@ impl Runner<'_> {
         held: &mut Held,
         target: &mut Target,
         sink: &mut K,
-    ) -> Result<(), End>
-        ensures gives { (known : Bool) → Knows known (K.written sink.old) → Gives result (seen known held.new target.new (K.written sink.new)) (m.done (direct false) self.now.turn_us (calls_of self.now depth) (steps_tree steps.now) (seen known held.old target.old (K.written sink.old))) }
+    ) -> Result<(), Stopped>
+        ensures gives { (known : Bool) → Knows known (K.written sink.old) → Gives held.new.end result (seen known held.new target.new (K.written sink.new)) (m.done (direct false) self.now.turn_us (calls_of self.now depth) (steps_tree steps.now) (seen known held.old target.old (K.written sink.old))) }
         ensures knows { (known : Bool) → Knows known (K.written sink.old) → Knows known (K.written sink.new) }
         ensures made { (w : World) → IsMade w held.old target.old → IsMade w held.new target.new }
-        ensures cause { IsCaused result (K.faults sink.old) (K.faults sink.new) }
+        ensures cause { IsCaused held.new.end result (K.faults sink.old) (K.faults sink.new) }
     {
         for one in steps {
             match self.step(one, depth, held, target, sink) {
                 Ok(()) => {}
-                Err(end) => return Err(end),
+                Err(stopped) => return Err(stopped),
             }
         }
         Ok(())
@@ -54,11 +54,11 @@ impl Runner<'_> {
         held: &mut Held,
         target: &mut Target,
         sink: &mut K,
-    ) -> Result<(), End>
-        ensures gives { (known : Bool) → Knows known (K.written sink.old) → Gives result (seen known held.new target.new (K.written sink.new)) (m.step (direct false) self.now.turn_us (calls_of self.now depth) (step_tree one.now) (seen known held.old target.old (K.written sink.old))) }
+    ) -> Result<(), Stopped>
+        ensures gives { (known : Bool) → Knows known (K.written sink.old) → Gives held.new.end result (seen known held.new target.new (K.written sink.new)) (m.step (direct false) self.now.turn_us (calls_of self.now depth) (step_tree one.now) (seen known held.old target.old (K.written sink.old))) }
         ensures knows { (known : Bool) → Knows known (K.written sink.old) → Knows known (K.written sink.new) }
         ensures made { (w : World) → IsMade w held.old target.old → IsMade w held.new target.new }
-        ensures cause { IsCaused result (K.faults sink.old) (K.faults sink.new) }
+        ensures cause { IsCaused held.new.end result (K.faults sink.old) (K.faults sink.new) }
     {
         match one {
             CheckedStep::Block(code) => self.block(code.as_slice(), depth, held, target, sink),
@@ -90,16 +90,16 @@ impl Runner<'_> {
         held: &mut Held,
         target: &mut Target,
         sink: &mut K,
-    ) -> Result<(), End>
-        ensures gives { (known : Bool) → Knows known (K.written sink.old) → Gives result (seen known held.new target.new (K.written sink.new)) (m.block (direct false) self.now.turn_us (calls_of self.now depth) (code_trees code.now) (seen known held.old target.old (K.written sink.old))) }
+    ) -> Result<(), Stopped>
+        ensures gives { (known : Bool) → Knows known (K.written sink.old) → Gives held.new.end result (seen known held.new target.new (K.written sink.new)) (m.block (direct false) self.now.turn_us (calls_of self.now depth) (code_trees code.now) (seen known held.old target.old (K.written sink.old))) }
         ensures knows { (known : Bool) → Knows known (K.written sink.old) → Knows known (K.written sink.new) }
         ensures made { (w : World) → IsMade w held.old target.old → IsMade w held.new target.new }
-        ensures cause { IsCaused result (K.faults sink.old) (K.faults sink.new) }
+        ensures cause { IsCaused held.new.end result (K.faults sink.old) (K.faults sink.new) }
     {
         for one in code {
             match self.statement(one, depth, held, target, sink) {
                 Ok(()) => {}
-                Err(end) => return Err(end),
+                Err(stopped) => return Err(stopped),
             }
         }
         Ok(())
@@ -115,11 +115,11 @@ impl Runner<'_> {
         held: &mut Held,
         target: &mut Target,
         sink: &mut K,
-    ) -> Result<(), End>
-        ensures gives { (known : Bool) → Knows known (K.written sink.old) → Gives result (seen known held.new target.new (K.written sink.new)) (m.statement (direct false) self.now.turn_us (calls_of self.now depth) (stmt_tree one.now) (seen known held.old target.old (K.written sink.old))) }
+    ) -> Result<(), Stopped>
+        ensures gives { (known : Bool) → Knows known (K.written sink.old) → Gives held.new.end result (seen known held.new target.new (K.written sink.new)) (m.statement (direct false) self.now.turn_us (calls_of self.now depth) (stmt_tree one.now) (seen known held.old target.old (K.written sink.old))) }
         ensures knows { (known : Bool) → Knows known (K.written sink.old) → Knows known (K.written sink.new) }
         ensures made { (w : World) → IsMade w held.old target.old → IsMade w held.new target.new }
-        ensures cause { IsCaused result (K.faults sink.old) (K.faults sink.new) }
+        ensures cause { IsCaused held.new.end result (K.faults sink.old) (K.faults sink.new) }
     {
         match one {
             Stmt::Empty(_) => counted(held),
@@ -139,23 +139,26 @@ impl Runner<'_> {
         held: &mut Held,
         target: &mut Target,
         sink: &mut K,
-    ) -> Result<(), End>
-        ensures gives { (known : Bool) → Knows known (K.written sink.old) → Gives result (seen known held.new target.new (K.written sink.new)) (m.after_counted (direct false) (λ r. m.declared (direct false) name.now (v.value (direct false) (calls_of self.now depth) (tree expr.now) r)) (seen known held.old target.old (K.written sink.old))) }
+    ) -> Result<(), Stopped>
+        ensures gives { (known : Bool) → Knows known (K.written sink.old) → Gives held.new.end result (seen known held.new target.new (K.written sink.new)) (m.after_counted (direct false) (λ r. m.declared (direct false) name.now (v.value (direct false) (calls_of self.now depth) (tree expr.now) r)) (seen known held.old target.old (K.written sink.old))) }
         ensures knows { (known : Bool) → Knows known (K.written sink.old) → Knows known (K.written sink.new) }
         ensures made { (w : World) → IsMade w held.old target.old → IsMade w held.new target.new }
-        ensures cause { IsCaused result (K.faults sink.old) (K.faults sink.new) }
+        ensures cause { IsCaused held.new.end result (K.faults sink.old) (K.faults sink.new) }
     {
         match counted(held) {
             Ok(()) => {}
-            Err(end) => return Err(end),
+            Err(stopped) => return Err(stopped),
         }
         let number = match self.value(expr, depth, held, target, sink) {
             Ok(number) => number,
-            Err(end) => return Err(end),
+            Err(stopped) => return Err(stopped),
         };
         match held.declare(self.alloc, &name.text, number) {
             Ok(()) => Ok(()),
-            Err(_) => Err(End::OutOfMemory),
+            Err(_) => {
+                held.end = End::OutOfMemory;
+                Err(Stopped)
+            }
         }
     }
 
@@ -169,32 +172,33 @@ impl Runner<'_> {
         held: &mut Held,
         target: &mut Target,
         sink: &mut K,
-    ) -> Result<(), End>
-        ensures gives { (known : Bool) → Knows known (K.written sink.old) → Gives result (seen known held.new target.new (K.written sink.new)) (m.after_counted (direct false) (λ r. m.dropped (direct false) (v.value (direct false) (calls_of self.now depth) (tree expr.now) r)) (seen known held.old target.old (K.written sink.old))) }
+    ) -> Result<(), Stopped>
+        ensures gives { (known : Bool) → Knows known (K.written sink.old) → Gives held.new.end result (seen known held.new target.new (K.written sink.new)) (m.after_counted (direct false) (λ r. m.dropped (direct false) (v.value (direct false) (calls_of self.now depth) (tree expr.now) r)) (seen known held.old target.old (K.written sink.old))) }
         ensures knows { (known : Bool) → Knows known (K.written sink.old) → Knows known (K.written sink.new) }
         ensures made { (w : World) → IsMade w held.old target.old → IsMade w held.new target.new }
-        ensures cause { IsCaused result (K.faults sink.old) (K.faults sink.new) }
+        ensures cause { IsCaused held.new.end result (K.faults sink.old) (K.faults sink.new) }
     {
         match counted(held) {
             Ok(()) => {}
-            Err(end) => return Err(end),
+            Err(stopped) => return Err(stopped),
         }
         match self.value(expr, depth, held, target, sink) {
             Ok(_) => Ok(()),
-            Err(end) => Err(end),
+            Err(stopped) => Err(stopped),
         }
     }
 }
 
 // Counts a step.
 #[tactic(auto, unfolding(sequence_terms::specs::Steps::counted))]
-pub(crate) fn counted(held: &mut Held) -> Result<(), End>
-    ensures gives { (target : TargetState) (written : Option (List ℕ)) → Gives result (state_of held.new target written) (m.counted (direct false) (state_of held.old target written)) }
+pub(crate) fn counted(held: &mut Held) -> Result<(), Stopped>
+    ensures gives { (target : TargetState) (written : Option (List ℕ)) → Gives held.new.end result (state_of held.new target written) (m.counted (direct false) (state_of held.old target written)) }
     ensures made { (w : World) (target : TargetState) → IsMade w held.old target → IsMade w held.new target }
-    ensures cause { (faults : ℕ) → IsCaused result faults faults }
+    ensures cause { (faults : ℕ) → IsCaused held.new.end result faults faults }
 {
     if held.steps >= 100_000_000 {
-        return Err(End::Halted(HaltCause::StepLimit));
+        held.end = End::Halted(HaltCause::StepLimit);
+        return Err(Stopped);
     }
     held.steps += 1;
     Ok(())

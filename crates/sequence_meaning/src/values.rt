@@ -10,7 +10,7 @@ ghost use Rattle.sequence_terms.specs.Values as v;
 ghost use Rattle.sequence_terms.specs.Known.{Knows};
 ghost use Rattle.sequence_meaning.specs.Held.{IsCaused, IsMade, Gives, GivesAs, calls_of, seen, state_of};
 
-use crate::end::End;
+use crate::end::{End, Stopped};
 use crate::held::Held;
 use crate::runner::Runner;
 use dap_base::Sink;
@@ -28,11 +28,11 @@ impl Runner<'_> {
         held: &mut Held,
         target: &mut Target,
         sink: &mut K,
-    ) -> Result<u64, End>
-        ensures gives { (known : Bool) → Knows known (K.written sink.old) → Gives result (seen known held.new target.new (K.written sink.new)) (v.value (direct false) (calls_of self.now depth) (tree expr.now) (seen known held.old target.old (K.written sink.old))) }
+    ) -> Result<u64, Stopped>
+        ensures gives { (known : Bool) → Knows known (K.written sink.old) → Gives held.new.end result (seen known held.new target.new (K.written sink.new)) (v.value (direct false) (calls_of self.now depth) (tree expr.now) (seen known held.old target.old (K.written sink.old))) }
         ensures knows { (known : Bool) → Knows known (K.written sink.old) → Knows known (K.written sink.new) }
         ensures made { (w : World) → IsMade w held.old target.old → IsMade w held.new target.new }
-        ensures cause { IsCaused result (K.faults sink.old) (K.faults sink.new) }
+        ensures cause { IsCaused held.new.end result (K.faults sink.old) (K.faults sink.new) }
     {
         match expr {
             Expr::Number(number) => Ok(*number),
@@ -50,6 +50,29 @@ impl Runner<'_> {
         }
     }
 
+    // The value of an operand or an argument. Most are numbers or names, which are taken here, without a call for each.
+    #[cycle(eval)]
+    #[tactic(auto, unfolding(sequence_terms::specs::Values::value, sequence_terms::specs::Values::named, sequence_terms::specs::Calls::given, sequence_terms::specs::Calls::missing, sequence_terms::specs::Direct::direct))]
+    pub(crate) fn operand<K: Sink>(
+        &self,
+        expr: &Expr,
+        depth: u32,
+        held: &mut Held,
+        target: &mut Target,
+        sink: &mut K,
+    ) -> Result<u64, Stopped>
+        ensures gives { (known : Bool) → Knows known (K.written sink.old) → Gives held.new.end result (seen known held.new target.new (K.written sink.new)) (v.value (direct false) (calls_of self.now depth) (tree expr.now) (seen known held.old target.old (K.written sink.old))) }
+        ensures knows { (known : Bool) → Knows known (K.written sink.old) → Knows known (K.written sink.new) }
+        ensures made { (w : World) → IsMade w held.old target.old → IsMade w held.new target.new }
+        ensures cause { IsCaused held.new.end result (K.faults sink.old) (K.faults sink.new) }
+    {
+        match expr {
+            Expr::Number(number) => Ok(*number),
+            Expr::Name(name) => Ok(held.visible(name.text.as_str())),
+            _ => self.value(expr, depth, held, target, sink),
+        }
+    }
+
     // An operator before its operand.
     #[cycle(eval)]
     #[tactic(auto, unfolding(sequence_terms::specs::Values::of_unary, sequence_terms::specs::Values::used_now, sequence_terms::specs::Calls::use_now, sequence_terms::specs::Direct::direct), using(crate::proofs::StopLemmas::ends_unary, crate::proofs::StopLemmas::cause_on))]
@@ -61,11 +84,11 @@ impl Runner<'_> {
         held: &mut Held,
         target: &mut Target,
         sink: &mut K,
-    ) -> Result<u64, End>
-        ensures gives { (known : Bool) → Knows known (K.written sink.old) → Gives result (seen known held.new target.new (K.written sink.new)) (v.of_unary (direct false) op (v.value (direct false) (calls_of self.now depth) (tree operand.now) (seen known held.old target.old (K.written sink.old)))) }
+    ) -> Result<u64, Stopped>
+        ensures gives { (known : Bool) → Knows known (K.written sink.old) → Gives held.new.end result (seen known held.new target.new (K.written sink.new)) (v.of_unary (direct false) op (v.value (direct false) (calls_of self.now depth) (tree operand.now) (seen known held.old target.old (K.written sink.old)))) }
         ensures knows { (known : Bool) → Knows known (K.written sink.old) → Knows known (K.written sink.new) }
         ensures made { (w : World) → IsMade w held.old target.old → IsMade w held.new target.new }
-        ensures cause { IsCaused result (K.faults sink.old) (K.faults sink.new) }
+        ensures cause { IsCaused held.new.end result (K.faults sink.old) (K.faults sink.new) }
     {
         let number = self.value(operand, depth, held, target, sink)?;
         Ok(unary_value(op, number))
@@ -83,17 +106,20 @@ impl Runner<'_> {
         held: &mut Held,
         target: &mut Target,
         sink: &mut K,
-    ) -> Result<u64, End>
-        ensures gives { (known : Bool) → Knows known (K.written sink.old) → Gives result (seen known held.new target.new (K.written sink.new)) (v.strict_binary (direct false) op (v.value (direct false) (calls_of self.now depth) (tree left.now) (seen known held.old target.old (K.written sink.old))) (v.value (direct false) (calls_of self.now depth) (tree right.now))) }
+    ) -> Result<u64, Stopped>
+        ensures gives { (known : Bool) → Knows known (K.written sink.old) → Gives held.new.end result (seen known held.new target.new (K.written sink.new)) (v.strict_binary (direct false) op (v.value (direct false) (calls_of self.now depth) (tree left.now) (seen known held.old target.old (K.written sink.old))) (v.value (direct false) (calls_of self.now depth) (tree right.now))) }
         ensures knows { (known : Bool) → Knows known (K.written sink.old) → Knows known (K.written sink.new) }
         ensures made { (w : World) → IsMade w held.old target.old → IsMade w held.new target.new }
-        ensures cause { IsCaused result (K.faults sink.old) (K.faults sink.new) }
+        ensures cause { IsCaused held.new.end result (K.faults sink.old) (K.faults sink.new) }
     {
-        let left = self.value(left, depth, held, target, sink)?;
-        let right = self.value(right, depth, held, target, sink)?;
+        let left = self.operand(left, depth, held, target, sink)?;
+        let right = self.operand(right, depth, held, target, sink)?;
         match binary_value(op, left, right) {
             Some(number) => Ok(number),
-            None => Err(End::Halted(HaltCause::DivideByZero)),
+            None => {
+                held.end = End::Halted(HaltCause::DivideByZero);
+                Err(Stopped)
+            }
         }
     }
 
@@ -108,11 +134,11 @@ impl Runner<'_> {
         held: &mut Held,
         target: &mut Target,
         sink: &mut K,
-    ) -> Result<u64, End>
-        ensures gives { (known : Bool) → Knows known (K.written sink.old) → Gives result (seen known held.new target.new (K.written sink.new)) (v.conjunction (direct false) (v.value (direct false) (calls_of self.now depth) (tree left.now) (seen known held.old target.old (K.written sink.old))) (v.value (direct false) (calls_of self.now depth) (tree right.now))) }
+    ) -> Result<u64, Stopped>
+        ensures gives { (known : Bool) → Knows known (K.written sink.old) → Gives held.new.end result (seen known held.new target.new (K.written sink.new)) (v.conjunction (direct false) (v.value (direct false) (calls_of self.now depth) (tree left.now) (seen known held.old target.old (K.written sink.old))) (v.value (direct false) (calls_of self.now depth) (tree right.now))) }
         ensures knows { (known : Bool) → Knows known (K.written sink.old) → Knows known (K.written sink.new) }
         ensures made { (w : World) → IsMade w held.old target.old → IsMade w held.new target.new }
-        ensures cause { IsCaused result (K.faults sink.old) (K.faults sink.new) }
+        ensures cause { IsCaused held.new.end result (K.faults sink.old) (K.faults sink.new) }
     {
         if self.value(left, depth, held, target, sink)? == 0 {
             return Ok(0);
@@ -132,11 +158,11 @@ impl Runner<'_> {
         held: &mut Held,
         target: &mut Target,
         sink: &mut K,
-    ) -> Result<u64, End>
-        ensures gives { (known : Bool) → Knows known (K.written sink.old) → Gives result (seen known held.new target.new (K.written sink.new)) (v.disjunction (direct false) (v.value (direct false) (calls_of self.now depth) (tree left.now) (seen known held.old target.old (K.written sink.old))) (v.value (direct false) (calls_of self.now depth) (tree right.now))) }
+    ) -> Result<u64, Stopped>
+        ensures gives { (known : Bool) → Knows known (K.written sink.old) → Gives held.new.end result (seen known held.new target.new (K.written sink.new)) (v.disjunction (direct false) (v.value (direct false) (calls_of self.now depth) (tree left.now) (seen known held.old target.old (K.written sink.old))) (v.value (direct false) (calls_of self.now depth) (tree right.now))) }
         ensures knows { (known : Bool) → Knows known (K.written sink.old) → Knows known (K.written sink.new) }
         ensures made { (w : World) → IsMade w held.old target.old → IsMade w held.new target.new }
-        ensures cause { IsCaused result (K.faults sink.old) (K.faults sink.new) }
+        ensures cause { IsCaused held.new.end result (K.faults sink.old) (K.faults sink.new) }
     {
         if self.value(left, depth, held, target, sink)? != 0 {
             return Ok(1);
@@ -157,11 +183,11 @@ impl Runner<'_> {
         held: &mut Held,
         target: &mut Target,
         sink: &mut K,
-    ) -> Result<u64, End>
-        ensures gives { (known : Bool) → Knows known (K.written sink.old) → Gives result (seen known held.new target.new (K.written sink.new)) (v.of_binary (direct false) op (v.value (direct false) (calls_of self.now depth) (tree left.now) (seen known held.old target.old (K.written sink.old))) (v.value (direct false) (calls_of self.now depth) (tree right.now))) }
+    ) -> Result<u64, Stopped>
+        ensures gives { (known : Bool) → Knows known (K.written sink.old) → Gives held.new.end result (seen known held.new target.new (K.written sink.new)) (v.of_binary (direct false) op (v.value (direct false) (calls_of self.now depth) (tree left.now) (seen known held.old target.old (K.written sink.old))) (v.value (direct false) (calls_of self.now depth) (tree right.now))) }
         ensures knows { (known : Bool) → Knows known (K.written sink.old) → Knows known (K.written sink.new) }
         ensures made { (w : World) → IsMade w held.old target.old → IsMade w held.new target.new }
-        ensures cause { IsCaused result (K.faults sink.old) (K.faults sink.new) }
+        ensures cause { IsCaused held.new.end result (K.faults sink.old) (K.faults sink.new) }
     {
         match op {
             BinaryOp::And => self.conjunction(left, right, depth, held, target, sink),
@@ -182,11 +208,11 @@ impl Runner<'_> {
         held: &mut Held,
         target: &mut Target,
         sink: &mut K,
-    ) -> Result<u64, End>
-        ensures gives { (known : Bool) → Knows known (K.written sink.old) → Gives result (seen known held.new target.new (K.written sink.new)) (v.choice (direct false) (v.value (direct false) (calls_of self.now depth) (tree test.now) (seen known held.old target.old (K.written sink.old))) (v.value (direct false) (calls_of self.now depth) (tree first.now)) (v.value (direct false) (calls_of self.now depth) (tree second.now))) }
+    ) -> Result<u64, Stopped>
+        ensures gives { (known : Bool) → Knows known (K.written sink.old) → Gives held.new.end result (seen known held.new target.new (K.written sink.new)) (v.choice (direct false) (v.value (direct false) (calls_of self.now depth) (tree test.now) (seen known held.old target.old (K.written sink.old))) (v.value (direct false) (calls_of self.now depth) (tree first.now)) (v.value (direct false) (calls_of self.now depth) (tree second.now))) }
         ensures knows { (known : Bool) → Knows known (K.written sink.old) → Knows known (K.written sink.new) }
         ensures made { (w : World) → IsMade w held.old target.old → IsMade w held.new target.new }
-        ensures cause { IsCaused result (K.faults sink.old) (K.faults sink.new) }
+        ensures cause { IsCaused held.new.end result (K.faults sink.old) (K.faults sink.new) }
     {
         if self.value(test, depth, held, target, sink)? == 0 {
             self.value(second, depth, held, target, sink)
@@ -206,11 +232,11 @@ impl Runner<'_> {
         held: &mut Held,
         target: &mut Target,
         sink: &mut K,
-    ) -> Result<u64, End>
-        ensures gives { (known : Bool) → Knows known (K.written sink.old) → Gives result (seen known held.new target.new (K.written sink.new)) (v.assigned (direct false) name.now (v.value (direct false) (calls_of self.now depth) (tree right.now) (seen known held.old target.old (K.written sink.old)))) }
+    ) -> Result<u64, Stopped>
+        ensures gives { (known : Bool) → Knows known (K.written sink.old) → Gives held.new.end result (seen known held.new target.new (K.written sink.new)) (v.assigned (direct false) name.now (v.value (direct false) (calls_of self.now depth) (tree right.now) (seen known held.old target.old (K.written sink.old)))) }
         ensures knows { (known : Bool) → Knows known (K.written sink.old) → Knows known (K.written sink.new) }
         ensures made { (w : World) → IsMade w held.old target.old → IsMade w held.new target.new }
-        ensures cause { IsCaused result (K.faults sink.old) (K.faults sink.new) }
+        ensures cause { IsCaused held.new.end result (K.faults sink.old) (K.faults sink.new) }
     {
         let number = self.value(right, depth, held, target, sink)?;
         held.store(name.text.as_str(), number);

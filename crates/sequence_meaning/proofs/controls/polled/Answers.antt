@@ -4,7 +4,7 @@ pub returns-in_err-counted-clause-made : goal.returns-in_err-counted-clause-made
 returns-in_err-counted-clause-made c = λ w made. c.counted.ensures.made w _ made
 
 pub returns-then-debug_port-ne0-clause-made : goal.returns-then-debug_port-ne0-clause-made
-returns-then-debug_port-ne0-clause-made c = λ w made. c.counted.ensures.made w _ made
+returns-then-debug_port-ne0-clause-made c = λ w made. record { world = (c.counted.ensures.made w _ made).world }
 
 pub returns-in_err-ask-clause-made : goal.returns-in_err-ask-clause-made
 returns-in_err-ask-clause-made c = λ w made. c.ask.ensures.made w (c.counted.ensures.made w _ made)

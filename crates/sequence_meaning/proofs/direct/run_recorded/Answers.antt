@@ -25,7 +25,7 @@ returns-clause-answer g c = λ known knows.
     let values = c.in-Ok.ensures ∙ ap (λ (l : List Variable). variables_of l) c.as_slice.ensures in
     let all = c.in-Ok-add_declared.ensures ∙ ap (λ bs. with_all_new bs (m.declared_names (code_trees c.as_slice-2.result.now)) 0) values ∙ ap (λ k. with_all_new (variables_of c.args.settings.now.start) (m.declared_names k) 0) code in
     let same = c.new-held.ensures c.args.target.now w ∙ start_is c.args.settings.now.turn_us set (variables_of c.args.settings.now.start) _ c.args.target.now w all in
-    let gives = subst (λ s. Gives c.run-ended.result (seen known c.run-ended.new.held c.run-ended.new.target (g.K.Sink.written c.run-ended.new.sink)) (m.run_of (direct false) c.args.settings.now.turn_us set c.args.start.now s)) same
+    let gives = subst (λ s. Gives c.run-ended.new.held.end c.run-ended.result (seen known c.run-ended.new.held c.run-ended.new.target (g.K.Sink.written c.run-ended.new.sink)) (m.run_of (direct false) c.args.settings.now.turn_us set c.args.start.now s)) same
     (c.run-ended.ensures.gives known knows) in
     let p = program_of c.args.checked.now c.args.start.now c.args.settings.now in
     let law = are_made (start_world c.args.target.now None) p w in
@@ -40,7 +40,7 @@ returns-clause-part g c = λ known knows.
     let values = c.in-Ok.ensures ∙ ap (λ (l : List Variable). variables_of l) c.as_slice.ensures in
     let all = c.in-Ok-add_declared.ensures ∙ ap (λ bs. with_all_new bs (m.declared_names (code_trees c.as_slice-2.result.now)) 0) values ∙ ap (λ k. with_all_new (variables_of c.args.settings.now.start) (m.declared_names k) 0) code in
     let same = c.new-held.ensures c.args.target.now w ∙ start_is c.args.settings.now.turn_us set (variables_of c.args.settings.now.start) _ c.args.target.now w all in
-    let gives = subst (λ s. Gives c.run-ended.result (seen known c.run-ended.new.held c.run-ended.new.target (g.K.Sink.written c.run-ended.new.sink)) (m.run_of (direct false) c.args.settings.now.turn_us set c.args.start.now s)) same
+    let gives = subst (λ s. Gives c.run-ended.new.held.end c.run-ended.result (seen known c.run-ended.new.held c.run-ended.new.target (g.K.Sink.written c.run-ended.new.sink)) (m.run_of (direct false) c.args.settings.now.turn_us set c.args.start.now s)) same
     (c.run-ended.ensures.gives known knows) in
     let p = program_of c.args.checked.now c.args.start.now c.args.settings.now in
     let law = are_made (start_world c.args.target.now None) p w in

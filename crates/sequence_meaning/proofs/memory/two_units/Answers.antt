@@ -9,5 +9,5 @@ pub returns-in-Err-clause-gives : goal.returns-in-Err-clause-gives
 returns-in-Err-clause-gives c = λ written.
     let s = state_of c.args.held.now c.args.target.now written in
     let now = state_of c.ask.new.held c.ask.new.target written in
-    ends_two_units c.in-Err.end now s c.args.read (record { ap = c.args.ap; forgive = c.args.forgive; dp = 0 }) c.args.address c.args.value
-    (subst (λ u. Ends c.in-Err.end now (ask (direct false) u c.args.forgive s)) c.memory_unit-unit.ensures.unit (c.in-Err.ensures.gives written))
+    ends_two_units c.ask.new.held.end now s c.args.read (record { ap = c.args.ap; forgive = c.args.forgive; dp = 0 }) c.args.address c.args.value
+    (subst (λ u. Ends c.ask.new.held.end now (ask (direct false) u c.args.forgive s)) c.memory_unit-unit.ensures.unit (c.in-Err.ensures.gives written))

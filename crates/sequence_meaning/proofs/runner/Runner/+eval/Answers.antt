@@ -1,4 +1,4 @@
-use Rattle.std.proofs.Common.{◌≡◌, false, [], Ok, subst, ◌<◌, ◌≤◌, ◌+◌, ◌*◌, ap, ◌∙◌, unwrap_or, rules, arith}
+use Rattle.std.proofs.Common.{◌≡◌, false, [], Ok, subst, ◌<◌, ◌≤◌, ◌+◌, ◌*◌, ap, ◌∙◌, unwrap_or, rules, refl, arith}
 use Rattle.expr_grammar.specs.Tree.{tree, arg_tree, arg_trees, stmt_tree, code_trees}
 use Rattle.seq_check.specs.Answers.{checked_trees}
 use Rattle.sequence_code.specs.Trees.{NoSteps, step_tree, steps_tree, steps_named}
@@ -32,10 +32,12 @@ arguments-loop-arg-preserved g t c = record {
 pub call-returns-clause-gives : goal.call-returns-clause-gives
 call-returns-clause-gives g t c = λ known knows.
     between (λ s. v.call_of (direct false) (calls_of c.args.self.now c.args.depth) c.args.name.now (arg_trees c.args.args.now) (v.arguments (direct false) (calls_of c.args.self.now c.args.depth) (arg_trees c.args.args.now) [] s))
-    c.call_with-answer.result _ _ _ _ (c.take_numbers-numbers.ensures.state c.args.target.now (known_part known (g.K.Sink.written c.args.sink.now))) (c.keep_numbers.ensures.state c.call_with-answer.new.target (known_part known (g.K.Sink.written c.call_with-answer.new.sink))) (c.call_with-answer.ensures.gives known knows)
+    c.call_with-answer.new.held.end c.call_with-answer.result _ _ _ _ (c.take_numbers-numbers.ensures.state c.args.target.now (known_part known (g.K.Sink.written c.args.sink.now))) refl (c.call_with-answer.ensures.gives known knows)
 
 pub call-returns-clause-made : goal.call-returns-clause-made
-call-returns-clause-made g t c = λ w made. c.keep_numbers.ensures.made w _ (c.call_with-answer.ensures.made w (c.take_numbers-numbers.ensures.made w _ made))
+call-returns-clause-made g t c = λ w made.
+    let so = c.call_with-answer.ensures.made w (c.take_numbers-numbers.ensures.made w _ made) in
+    record { world = so.world }
 
 pub block-statement-requires : goal.block-statement-requires
 block-statement-requires g t c =
@@ -52,29 +54,29 @@ declare-returns-in-Ok-declare-clause-gives g t c = λ known knows.
     declared_on c.args.name.now (λ r. v.value (direct false) (calls_of c.args.self.now c.args.depth) (tree c.args.expr.now) r) _ _ _ _ _ (c.in-Ok.ensures.gives c.args.target.now (known_part known (g.K.Sink.written c.args.sink.now))) (c.in-Ok-value.ensures.gives known knows) (c.in-Ok-declare.ensures.state c.value.new.target (known_part known (g.K.Sink.written c.value.new.sink)))
 
 pub declare-returns-in-Err-clause-gives : goal.declare-returns-in-Err-clause-gives
-declare-returns-in-Err-clause-gives g t c = λ known knows. declare_first c.args.self.now c.args.depth (tree c.args.expr.now) c.in-Err.end _ _ c.args.name.now (c.in-Err.ensures.gives c.args.target.now (known_part known (g.K.Sink.written c.args.sink.now)))
+declare-returns-in-Err-clause-gives g t c = λ known knows. declare_first c.args.self.now c.args.depth (tree c.args.expr.now) c.counted.new.held.end _ _ c.args.name.now (c.in-Err.ensures.gives c.args.target.now (known_part known (g.K.Sink.written c.args.sink.now)))
 
 pub declare-returns-in-Err-value-clause-gives : goal.declare-returns-in-Err-value-clause-gives
 declare-returns-in-Err-value-clause-gives g t c = λ known knows.
-    declare_value c.args.self.now c.args.depth (tree c.args.expr.now) c.in-Err-value.end _ _ _ c.args.name.now (c.in-Ok.ensures.gives c.args.target.now (known_part known (g.K.Sink.written c.args.sink.now))) (c.in-Err-value.ensures.gives known knows)
+    declare_value c.args.self.now c.args.depth (tree c.args.expr.now) c.value.new.held.end _ _ _ c.args.name.now (c.in-Ok.ensures.gives c.args.target.now (known_part known (g.K.Sink.written c.args.sink.now))) (c.in-Err-value.ensures.gives known knows)
 
 pub declare-returns-in-Err-declare-clause-gives : goal.declare-returns-in-Err-declare-clause-gives
 declare-returns-in-Err-declare-clause-gives g t c = λ known knows.
     declare_refused c.args.self.now c.args.depth (tree c.args.expr.now) _ _ _ _ c.args.name.now _ (c.in-Ok.ensures.gives c.args.target.now (known_part known (g.K.Sink.written c.args.sink.now))) (c.in-Ok-value.ensures.gives known knows) (c.in-Err-declare.ensures.same c.value.new.target (known_part known (g.K.Sink.written c.value.new.sink)))
 
 pub plain-returns-in-Err-clause-gives : goal.plain-returns-in-Err-clause-gives
-plain-returns-in-Err-clause-gives g t c = λ known knows. plain_first c.args.self.now c.args.depth (tree c.args.expr.now) c.in-Err.end _ _ (c.in-Err.ensures.gives c.args.target.now (known_part known (g.K.Sink.written c.args.sink.now)))
+plain-returns-in-Err-clause-gives g t c = λ known knows. plain_first c.args.self.now c.args.depth (tree c.args.expr.now) c.counted.new.held.end _ _ (c.in-Err.ensures.gives c.args.target.now (known_part known (g.K.Sink.written c.args.sink.now)))
 
 pub plain-returns-in-Err-value-clause-gives : goal.plain-returns-in-Err-value-clause-gives
 plain-returns-in-Err-value-clause-gives g t c = λ known knows.
-    plain_value c.args.self.now c.args.depth (tree c.args.expr.now) c.in-Err-value.end _ _ _ (c.in-Ok.ensures.gives c.args.target.now (known_part known (g.K.Sink.written c.args.sink.now))) (c.in-Err-value.ensures.gives known knows)
+    plain_value c.args.self.now c.args.depth (tree c.args.expr.now) c.value.new.held.end _ _ _ (c.in-Ok.ensures.gives c.args.target.now (known_part known (g.K.Sink.written c.args.sink.now))) (c.in-Err-value.ensures.gives known knows)
 
 pub turn-returns-in-Err-clause-gives : goal.turn-returns-in-Err-clause-gives
-turn-returns-in-Err-clause-gives g t c = λ known knows. ends_turn c.args.self.now c.args.depth (tree c.args.expr.now) c.in-Err.end _ _ (steps_tree c.args.steps.now) (c.in-Err.ensures.gives c.args.target.now (known_part known (g.K.Sink.written c.args.sink.now)))
+turn-returns-in-Err-clause-gives g t c = λ known knows. ends_turn c.args.self.now c.args.depth (tree c.args.expr.now) c.counted.new.held.end _ _ (steps_tree c.args.steps.now) (c.in-Err.ensures.gives c.args.target.now (known_part known (g.K.Sink.written c.args.sink.now)))
 
 pub turn-returns-in-Err-value-clause-gives : goal.turn-returns-in-Err-value-clause-gives
 turn-returns-in-Err-value-clause-gives g t c = λ known knows.
-    ends_test c.args.self.now c.args.depth c.in-Err-value.end _ _ _ (tree c.args.expr.now) (steps_tree c.args.steps.now) (c.in-Ok.ensures.gives c.args.target.now (known_part known (g.K.Sink.written c.args.sink.now))) (c.in-Err-value.ensures.gives known knows)
+    ends_test c.args.self.now c.args.depth c.value.new.held.end _ _ _ (tree c.args.expr.now) (steps_tree c.args.steps.now) (c.in-Ok.ensures.gives c.args.target.now (known_part known (g.K.Sink.written c.args.sink.now))) (c.in-Err-value.ensures.gives known knows)
 
 pub inside-returns-clause-gives : goal.inside-returns-clause-gives
 inside-returns-clause-gives g t c = λ known knows. inside_on _ _ _ _ _ (c.in_ok-done.ensures.gives known knows) c.local_count-count.ensures (c.cut_back.ensures.state _ _)
@@ -96,15 +98,15 @@ turns-loop-left-preserved g t c = record {
 
 pub turns-returns-in-Err-clause-gives : goal.turns-returns-in-Err-clause-gives
 turns-returns-in-Err-clause-gives g t c = λ known knows.
-    turns_fail _ _ _ c.loop-left.left _ _ c.in-Err.end (c.loop-left.invariant.same known knows) c.loop-left-test.true
+    turns_fail _ _ _ c.loop-left.left _ _ c.turn.new.held.end (c.loop-left.invariant.same known knows) c.loop-left-test.true
     (adds_value c.args.self.now c.args.depth (tree c.args.expr.now)) (adds_inside c.args.self.now c.args.depth (steps_tree c.args.steps.now)) (c.in-Err.ensures.gives known (c.loop-left.invariant.knows known knows))
 
 pub entered-returns-in-Err-clause-gives : goal.entered-returns-in-Err-clause-gives
-entered-returns-in-Err-clause-gives g t c = λ known knows. entered_fail _ _ _ _ c.in-Err.end (c.take_locals-locals.ensures.none _ _) (c.in-Err.ensures.gives known knows)
+entered-returns-in-Err-clause-gives g t c = λ known knows. entered_fail _ _ _ _ c.done.new.held.end (c.take_locals-locals.ensures.none _ _) (c.in-Err.ensures.gives known knows)
 
 pub entered-returns-in-Ok-clause-gives : goal.entered-returns-in-Ok-clause-gives
 entered-returns-in-Ok-clause-gives g t c = λ known knows.
-    entered_on _ _ _ _ _ _ _ _ _ (c.take_locals-locals.ensures.none _ _) (c.in-Ok.ensures.gives known knows) c.global-dp.ensures c.global-ap.ensures c.global-control.ensures c.take_locals-locals.ensures.taken (c.give_back.ensures.state _ _)
+    entered_on _ _ _ _ _ _ _ _ _ (c.take_locals-locals.ensures.none _ _) (c.in-Ok.ensures.gives known knows) c.dp-dp.ensures c.ap-ap.ensures c.control-control.ensures c.take_locals-locals.ensures.taken (c.give_back.ensures.state _ _)
 
 pub sequence-entered-requires : goal.sequence-entered-requires
 sequence-entered-requires g t c =
@@ -115,7 +117,7 @@ sequence-entered-requires g t c =
 
 pub sequence-returns-clause-gives : goal.sequence-returns-clause-gives
 sequence-returns-clause-gives g t c = λ known knows.
-    sequence_on c.args.self.now.turn_us (checked_trees c.args.self.now.set.now) c.args.depth c.args.name.now _ _ c.entered.result (steps_tree c.steps_of.result.now) c.if-depth-eq0.false c.steps_of.ensures (c.entered.ensures.gives known knows)
+    sequence_on c.args.self.now.turn_us (checked_trees c.args.self.now.set.now) c.args.depth c.args.name.now _ _ c.entered.new.held.end c.entered.result (steps_tree c.steps_of.result.now) c.if-depth-eq0.false c.steps_of.ensures (c.entered.ensures.gives known knows)
 
 pub assign-returns-clause-made : goal.assign-returns-clause-made
 assign-returns-clause-made g t c = λ w made. c.store.ensures.made w _ (c.value.ensures.made w made)
@@ -130,7 +132,7 @@ pub declare-returns-in-Ok-declare-clause-made : goal.declare-returns-in-Ok-decla
 declare-returns-in-Ok-declare-clause-made g t c = λ w made. c.declare.ensures.made w _ (c.value.ensures.made w (c.counted.ensures.made w _ made))
 
 pub declare-returns-in-Err-declare-clause-made : goal.declare-returns-in-Err-declare-clause-made
-declare-returns-in-Err-declare-clause-made g t c = λ w made. c.declare.ensures.made w _ (c.value.ensures.made w (c.counted.ensures.made w _ made))
+declare-returns-in-Err-declare-clause-made g t c = λ w made. record { world = (c.declare.ensures.made w _ (c.value.ensures.made w (c.counted.ensures.made w _ made))).world }
 
 pub entered-returns-in-Ok-clause-made : goal.entered-returns-in-Ok-clause-made
 entered-returns-in-Ok-clause-made g t c = λ w made. c.give_back.ensures.made w _ (c.done.ensures.made w (c.take_locals-locals.ensures.made w _ made))

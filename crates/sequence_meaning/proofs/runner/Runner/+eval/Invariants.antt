@@ -14,6 +14,9 @@ use Rattle.sequence_meaning.proofs.runner.Runner.+eval.Given as goal
 abbrev pub decreases-value : goal.decreases-value
 decreases-value g l = budget l.depth (10 * all_size (checked_trees l.self.now.set.now).sequences + 20) + 10 * size (tree l.expr.now)
 
+abbrev pub decreases-operand : goal.decreases-operand
+decreases-operand g l = budget l.depth (10 * all_size (checked_trees l.self.now.set.now).sequences + 20) + 10 * size (tree l.expr.now) + 1
+
 abbrev pub decreases-unary_of : goal.decreases-unary_of
 decreases-unary_of g l = budget l.depth (10 * all_size (checked_trees l.self.now.set.now).sequences + 20) + 10 * size (tree l.operand.now) + 5
 
