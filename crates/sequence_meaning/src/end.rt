@@ -1,7 +1,7 @@
 //! Why a run goes no further.
 use target_machine::{HaltCause, Unit};
 
-// A run goes no further. Why is held, apart from the answers of all calls that the run was in.
+// A run goes no further; `Held::end` says why. The reason lies there, so that the answer of each call is small.
 #[derive(Clone, Copy, Debug, PartialEq, Eq)]
 pub(crate) struct Stopped;
 

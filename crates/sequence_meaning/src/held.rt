@@ -29,7 +29,7 @@ pub(crate) struct Held {
     pub skipped: u32,
     /// Where the numbers among the arguments of a call may stand: its content counts for nothing.
     pub numbers: Vec<u64>,
-    /// Why the run goes no further: it counts once the run has stopped.
+    /// Why the run goes no further. It counts only where the run has stopped.
     pub end: End,
 }
 
