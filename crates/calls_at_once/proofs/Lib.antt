@@ -1,2 +1,3 @@
 pub mod ActionLemmas
 pub mod AtOnceLemmas
+pub mod ListLemmas

@@ -1,6 +1,6 @@
 //! Register accesses, made one after the other.
 ghost use Rattle.std.specs.Prelude.{◌≡◌, map};
-ghost use Rattle.target_machine.specs.Plain.{Makes, given, in_order, is_fault};
+ghost use Rattle.target_machine.specs.Plain.{Makes, given, in_order, is_fault, then_acted};
 
 use target_machine::{Outcome, RegAccess, Target, attempt};
 
@@ -21,6 +21,17 @@ pub(crate) fn has_faulted(outcome: Outcome) -> bool
     match outcome {
         Outcome::Fault => true,
         Outcome::Value(_) | Outcome::Done => false,
+    }
+}
+
+// Makes an access after another one, whose answer this is, unless that one faulted: what the last one answered.
+pub(crate) fn make_next(target: &mut Target, last: Outcome, access: RegAccess) -> Outcome
+    ensures { record { outcome = result; next = target.new } ≡ then_acted (record { outcome = last; next = target.old }) (Makes access) }
+{
+    if has_faulted(last) {
+        last
+    } else {
+        attempt(target, access)
     }
 }
 

@@ -31,7 +31,9 @@ fn is_skipped(made: Made, forgive: bool, unit: Unit) -> bool
     met_fault(made) && (forgive && is_controlled(unit))
 }
 
-// An access. After a fault that it forgives, ABORT is written.
+// An access. After a fault that it forgives, ABORT is written. This function is inlined, as all are from `call_at_once` to a memory
+// access, so that no access is put together in memory and taken apart again.
+#[inline(always)]
 fn access_at_once(
     target: &mut Target,
     unit: Unit,
@@ -68,6 +70,7 @@ pub fn command_at_once(target: &mut Target, call: ProbeCall) -> u32
 /// forgiven.
 ///
 /// `OutOfMemory` comes only at a memory access over 0xFFFFFFFF through a port that is not in the list; then nothing was made.
+#[inline(always)]
 pub fn call_at_once(
     target: &mut Target,
     call: Call,

@@ -4,8 +4,10 @@
 mod accesses;
 mod at_once;
 mod commands;
+mod list;
 mod made;
 mod plain;
 
 pub use at_once::{call_at_once, command_at_once};
+pub use list::CallList;
 pub use made::Made;

@@ -5,7 +5,7 @@ ghost use Rattle.target_machine.specs.Sound.{IsSound, IsSoundMemory};
 ghost use Rattle.target_machine.specs.declared.unit.Call.TheVariants as calls;
 ghost use Rattle.calls_at_once.specs.Made.{IsDone, MadeAs, end_of, is_match, memory_end_by, takes_memory};
 
-use crate::accesses::{has_faulted, make_all, number_of};
+use crate::accesses::{has_faulted, make_all, make_next, number_of};
 use crate::made::{Made, made_of};
 use call_terms::accesses::{
     access_ap, access_dp, access_drw, from_lanes, high_of, low_of, plain_csw, select,
@@ -68,19 +68,18 @@ fn transfer(
     requires { read ≡ false → value * 2 ^ (8 * (address % 4)) < 2 ^ 32 }
     ensures { record { outcome = result; next = target.new } ≡ in_order target.old (memory_actions target.old is_large size read ap address value) }
 {
-    let csw = make_all(target, &[select(ap, 0), access_ap(true, CSW, 0)]);
+    let selected = attempt(target, select(ap, 0));
+    let csw = make_next(target, selected, access_ap(true, CSW, 0));
     if has_faulted(csw) {
         return csw;
     }
     let csw = access_ap(false, CSW, plain_csw(number_of(csw), size));
-    let high = access_ap(false, TAR_HIGH, high_of(address));
-    let tar = access_ap(false, TAR, low_of(address));
-    let drw = access_drw(read, address, value);
+    let mut last = attempt(target, csw);
     if is_large {
-        make_all(target, &[csw, high, tar, drw])
-    } else {
-        make_all(target, &[csw, tar, drw])
+        last = make_next(target, last, access_ap(false, TAR_HIGH, high_of(address)));
     }
+    last = make_next(target, last, access_ap(false, TAR, low_of(address)));
+    make_next(target, last, access_drw(read, address, value))
 }
 
 // How a memory access ends by what DRW answered.
@@ -150,6 +149,7 @@ fn wide_memory(
 }
 
 // A memory access that forgives nothing.
+#[inline(always)]
 fn plain_memory(
     target: &mut Target,
     large: &mut Vec<u8>,
@@ -195,6 +195,7 @@ fn plain_poll(target: &mut Target, mask: u32, value: u32, turns: u32) -> Made
 }
 
 // An access that forgives nothing.
+#[inline(always)]
 pub(crate) fn make_plain(
     target: &mut Target,
     unit: Unit,

@@ -2,6 +2,7 @@
 use Rattle.std.proofs.Common.{◌≡◌, ◌∙◌, sym, ap, ℕ, List, Box, Global}
 use Rattle.dap_base.specs.declared.text.Place.{Place}
 use Rattle.expr_grammar.specs.declared.code.Name.{Name}
+use Rattle.expr_grammar.specs.declared.code.CalledName.{CalledName}
 use Rattle.expr_grammar.specs.declared.code.TextArg as string
 use Rattle.expr_grammar.specs.declared.code.UnaryOp.{UnaryOp}
 use Rattle.expr_grammar.specs.declared.code.BinaryOp.{BinaryOp}
@@ -34,7 +35,7 @@ tree-Cond x y z = ap tree (sym (e.rolls-Cond x y z)) ∙ fold-roll-Expr ArgTree 
 pub tree-Assign : (n : Box Name Global) (x : Box Expr Global) → tree (e.Assign n x) ≡ Assign n.value (tree x.value)
 tree-Assign n x = ap tree (sym (e.rolls-Assign n x)) ∙ fold-roll-Expr ArgTree Tree arg_step expr_step (Expr-F.Assign n x)
 
-pub tree-Call : (n : Box Name Global) (args : List Arg) → tree (e.Call n args) ≡ Call n.value (arg_trees args)
+pub tree-Call : (n : Box CalledName Global) (args : List Arg) → tree (e.Call n args) ≡ Call n.value.name (arg_trees args)
 tree-Call n args = ap tree (sym (e.rolls-Call n args)) ∙ fold-roll-Expr ArgTree Tree arg_step expr_step (Expr-F.Call n args)
 
 pub arg_tree-Number : (at : Place) (x : Expr) → arg_tree (a.Number at x) ≡ ExprArg at (tree x)

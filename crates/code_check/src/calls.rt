@@ -12,8 +12,8 @@ use crate::fault::{CodeFault, FaultKind};
 use crate::order::note;
 use crate::scope::Scope;
 use dap_base::Place;
-use expr_grammar::{Arg, Name, TextArg};
-use function_table::{Function, ParameterKind, conversions, function_of};
+use expr_grammar::{Arg, CalledName, Name, TextArg};
+use function_table::{Function, ParameterKind, conversions};
 
 /// Notes the fault of this kind at this place, unless the one that was found comes first.
 pub fn note_at(place: Place, kind: FaultKind, found: &mut Option<CodeFault>)
@@ -163,21 +163,21 @@ fn note_known(
 }
 
 // Notes a name of no function, or the first fault of the call of the function of that name.
-fn note_function(scope: Scope<'_>, name: &Name, args: &[Arg], found: &mut Option<CodeFault>)
-    ensures { Notes (FunctionFault (scope_view scope.entry) name.now (arg_trees args.now)) found.old found.new }
+fn note_function(scope: Scope<'_>, called: &CalledName, args: &[Arg], found: &mut Option<CodeFault>)
+    ensures { Notes (FunctionFault (scope_view scope.entry) called.now.name (arg_trees args.now)) found.old found.new }
 {
-    match function_of(name.text.as_str()) {
-        Some(function) => note_known(scope, function, name, args, found),
-        None => note_at(name.at, FaultKind::UndefinedFunction, found),
+    match called.function {
+        Some(function) => note_known(scope, function, &called.name, args, found),
+        None => note_at(called.name.at, FaultKind::UndefinedFunction, found),
     }
 }
 
 /// Notes the first fault of a call, except those inside its arguments.
-pub fn note_call(scope: Scope<'_>, name: &Name, args: &[Arg], found: &mut Option<CodeFault>)
-    ensures { Notes (CallFault (scope_view scope.entry) name.now (arg_trees args.now)) found.old found.new }
+pub fn note_call(scope: Scope<'_>, called: &CalledName, args: &[Arg], found: &mut Option<CodeFault>)
+    ensures { Notes (CallFault (scope_view scope.entry) called.now.name (arg_trees args.now)) found.old found.new }
 {
     if scope.in_debugvars {
-        note_at(name.at, FaultKind::BadDebugvars, found);
+        note_at(called.name.at, FaultKind::BadDebugvars, found);
     }
-    note_function(scope, name, args, found);
+    note_function(scope, called, args, found);
 }

@@ -44,8 +44,8 @@ pub fn note_expr(scope: Scope<'_>, expr: &Expr, found: &mut Option<CodeFault>)
             note_name(scope, name, found);
             note_expr(scope, value, found);
         }
-        Expr::Call(name, args) => {
-            note_call(scope, name, args.as_slice(), found);
+        Expr::Call(called, args) => {
+            note_call(scope, called, args.as_slice(), found);
             note_args(scope, args.as_slice(), found);
         }
     }

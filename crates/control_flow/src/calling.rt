@@ -20,8 +20,8 @@ use crate::runner::Runner;
 use access_calls::{Access, Stop};
 use call_terms::Value;
 use dap_base::Sink;
-use expr_grammar::{Arg, Expr, Name};
-use function_table::{Function, function_of};
+use expr_grammar::{Arg, CalledName, Expr};
+use function_table::Function;
 use late_calls::{End, Held, numbers_of, performed};
 use sequence_code::CheckedStep;
 use sequence_terms::text_of;
@@ -132,7 +132,7 @@ impl Runner<'_> {
     #[tactic(auto, unfolding(sequence_terms::specs::Values::call_of, sequence_terms::specs::Values::numbers_of, sequence_terms::specs::Calls::guarded), using(crate::proofs::Exits::goes_on))]
     pub(crate) fn call<A: Access, K: Sink>(
         &self,
-        name: &Name,
+        called: &CalledName,
         args: &[Arg],
         depth: u32,
         held: &mut Held,
@@ -142,7 +142,7 @@ impl Runner<'_> {
         requires open { (A.reported access.old).end ≡ None }
         requires counted { held.old.units ≡ length (A.reported access.old).asks.calls }
         ensures gives { (m : BenchState) (answered : Option ℕ) (known : Bool) → A.begun access.old m → IsLeft (A.reported access.new) answered → Knows known (K.written sink.old)
-            → Gives (world_from m answered) (A.reported access.new).lines result (seen known held.new (A.reported access.new).asks (K.written sink.new)) (v.call_of (late A.cost (world_from m answered)) (calls_of A.cost (world_from m answered) self.now depth) name.now (arg_trees args.now) (v.arguments (late A.cost (world_from m answered)) (calls_of A.cost (world_from m answered) self.now depth) (arg_trees args.now) [] (seen known held.old (A.reported access.old).asks (K.written sink.old)))) }
+            → Gives (world_from m answered) (A.reported access.new).lines result (seen known held.new (A.reported access.new).asks (K.written sink.new)) (v.call_of (late A.cost (world_from m answered)) (calls_of A.cost (world_from m answered) self.now depth) called.now.name (arg_trees args.now) (v.arguments (late A.cost (world_from m answered)) (calls_of A.cost (world_from m answered) self.now depth) (arg_trees args.now) [] (seen known held.old (A.reported access.old).asks (K.written sink.old)))) }
         ensures knows { (known : Bool) → Knows known (K.written sink.old) → Knows known (K.written sink.new) }
         ensures counted { Counted result held.new.units (A.reported access.new).asks.calls }
         ensures end { EndIs result (A.reported access.new).end }
@@ -162,7 +162,7 @@ impl Runner<'_> {
             Err(end) => return Err(end),
         };
         self.called(
-            function_of(name.text.as_str()),
+            called.function,
             text_of(args),
             numbers.as_slice(),
             depth,

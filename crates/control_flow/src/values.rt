@@ -56,7 +56,14 @@ impl Runner<'_> {
                 test, first, second, depth, held, access, sink,
             ),
             Expr::Assign(name, right) => self.assign(name, right, depth, held, access, sink),
-            Expr::Call(name, args) => self.call(name, args.as_slice(), depth, held, access, sink),
+            Expr::Call(called, args) => self.call(
+                called,
+                args.as_slice(),
+                depth,
+                held,
+                access,
+                sink,
+            ),
         }
     }
 

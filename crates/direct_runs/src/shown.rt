@@ -1,6 +1,7 @@
 //! What a run made and left, as lines.
 use sequence_meaning::{Direct, Recorded};
 use std::io;
+use std::io::ErrorKind;
 use target_machine::{ImageAsk, ImagePart, Target, Variables};
 
 // The text that the run wrote, or how long it is.
@@ -23,7 +24,10 @@ fn show_variables(rt: &HostRuntime, variables: &Variables) -> io::Result<()> {
 
 // How many units there were, and how many of them were skipped.
 fn show_units(rt: &HostRuntime, run: &Recorded) -> io::Result<()> {
-    println!(rt; "units {}", run.calls.len())?;
+    let Ok(calls) = run.calls.asks() else {
+        return Err(io::Error::from(ErrorKind::OutOfMemory));
+    };
+    println!(rt; "units {}", calls.len())?;
     if run.skipped > 0 {
         println!(rt; "skipped {}", run.skipped)?;
     }

@@ -7,7 +7,7 @@ ghost use Rattle.expr_grammar.specs.Reading.{Gives};
 
 use crate::code::Name;
 use crate::fault::Fault;
-use crate::operators::{is_mark, name_of};
+use crate::operators::{boxed_name, is_mark, name_of};
 use crate::token::{Token, TokenKind};
 use std::alloc::Global;
 
@@ -59,7 +59,7 @@ pub fn expect_name<'t, 'a>(
         return Err(Fault::Unexpected(0));
     };
     match token.kind {
-        TokenKind::Name => Ok((name_of(alloc, &token)?, rest)),
+        TokenKind::Name => Ok((boxed_name(alloc, name_of(alloc, &token)?)?, rest)),
         _ => Err(Fault::Unexpected(tokens.len())),
     }
 }

@@ -18,7 +18,7 @@ mod token;
 mod token_list;
 mod values;
 
-pub use code::{Arg, Args, BinaryOp, Code, Expr, Name, Stmt, TextArg, UnaryOp};
+pub use code::{Arg, Args, BinaryOp, CalledName, Code, Expr, Name, Stmt, TextArg, UnaryOp};
 pub use lexer::tokens;
 pub use parse::{ParseError, parse_code, parse_expr};
 pub use token::{Token, TokenKind};

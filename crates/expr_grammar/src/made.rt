@@ -4,8 +4,9 @@ ghost use Rattle.std.specs.Prelude.{◌≡◌, IfOk, OnOk, OnErr, ◌++◌, ◌�
 ghost use Rattle.expr_grammar.specs.Tree as trees;
 ghost use Rattle.expr_grammar.specs.Tree.{tree, arg_tree, arg_trees, stmt_tree};
 
-use crate::code::{Arg, Args, BinaryOp, Expr, Name, Stmt, TextArg, UnaryOp};
+use crate::code::{Arg, Args, BinaryOp, CalledName, Expr, Name, Stmt, TextArg, UnaryOp};
 use dap_base::{OutOfMemory, Place};
+use function_table::function_of;
 use std::alloc::Global;
 
 fn boxed(alloc: Global, e: Expr) -> Result<Box<Expr>, OutOfMemory>
@@ -56,10 +57,14 @@ pub fn assignment(alloc: Global, name: Box<Name>, a: Expr) -> Result<Expr, OutOf
     Ok(Expr::Assign(name, boxed(alloc, a)?))
 }
 
-pub fn call(name: Box<Name>, args: Args) -> Expr
-    ensures { tree result ≡ trees.Call name.value (arg_trees args) }
+pub fn call(alloc: Global, name: Name, args: Args) -> Result<Expr, OutOfMemory>
+    ensures { IfOk result (λ e. tree e ≡ trees.Call name (arg_trees args)) }
 {
-    Expr::Call(name, args)
+    let function = function_of(name.text.as_str());
+    match Box::new(alloc, CalledName { function, name }) {
+        Ok(called) => Ok(Expr::Call(called, args)),
+        Err(_) => Err(OutOfMemory),
+    }
 }
 
 pub fn expr_arg(at: Place, e: Expr) -> Arg

@@ -104,13 +104,19 @@ pub fn level(op: BinaryOp) -> u8
 }
 
 /// The name that the token writes.
-pub fn name_of(alloc: Global, token: &Token<'_>) -> Result<Box<Name>, OutOfMemory>
-    ensures { IfOk result (λ n. n.value ≡ reading.name_of (lexeme token.now)) }
+pub fn name_of(alloc: Global, token: &Token<'_>) -> Result<Name, OutOfMemory>
+    ensures { IfOk result (λ n. n ≡ reading.name_of (lexeme token.now)) }
 {
-    let name = Name {
+    Ok(Name {
         text: NameText::new(alloc, token.text)?,
         at: token.at,
-    };
+    })
+}
+
+/// The name, where a tree has it.
+pub fn boxed_name(alloc: Global, name: Name) -> Result<Box<Name>, OutOfMemory>
+    ensures { IfOk result (λ n. n.value ≡ name) }
+{
     Box::new(alloc, name).map_err(|_| OutOfMemory)
 }
 

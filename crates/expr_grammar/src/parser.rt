@@ -10,7 +10,7 @@ use crate::code::{Arg, Args, Expr, Name, UnaryOp};
 use crate::cursor::{after_mark, expect, next};
 use crate::fault::Fault;
 use crate::made;
-use crate::operators::{binary_of, is_mark, level, name_of, string_of, unary_of};
+use crate::operators::{binary_of, boxed_name, is_mark, level, name_of, string_of, unary_of};
 use crate::token::{Token, TokenKind};
 use dap_base::number;
 use std::alloc::Global;
@@ -173,15 +173,15 @@ fn signed<'t, 'a>(
 #[tactic(auto, using(crate::proofs::Fix::fixes))]
 fn named<'t, 'a>(
     alloc: Global,
-    name: Box<Name>,
+    name: Name,
     tokens: &'t [Token<'a>],
 ) -> Result<(Expr, &'t [Token<'a>]), Fault>
-    ensures reads { Gives (λ x. (tree x.0, lexemes x.1.now)) result (reading.named reading.read name.value (lexemes tokens.now)) }
+    ensures reads { Gives (λ x. (tree x.0, lexemes x.1.now)) result (reading.named reading.read name (lexemes tokens.now)) }
     ensures shorter { IfOk result (λ x. length x.1.now ≤ length tokens.now) }
 {
     match next(tokens) {
         Some((mark, after)) if is_mark(&mark, b'(') => called(alloc, name, after),
-        _ => Ok((made::named(name), tokens)),
+        _ => Ok((made::named(boxed_name(alloc, name)?), tokens)),
     }
 }
 
@@ -190,20 +190,20 @@ fn named<'t, 'a>(
 #[tactic(auto, using(crate::proofs::Fix::fixes))]
 fn called<'t, 'a>(
     alloc: Global,
-    name: Box<Name>,
+    name: Name,
     tokens: &'t [Token<'a>],
 ) -> Result<(Expr, &'t [Token<'a>]), Fault>
-    ensures reads { Gives (λ x. (tree x.0, lexemes x.1.now)) result (reading.called reading.read name.value (lexemes tokens.now)) }
+    ensures reads { Gives (λ x. (tree x.0, lexemes x.1.now)) result (reading.called reading.read name (lexemes tokens.now)) }
     ensures shorter { IfOk result (λ x. length x.1.now < length tokens.now) }
 {
     let Some((mark, after)) = next(tokens) else {
         return Err(Fault::Unexpected(0));
     };
     if is_mark(&mark, b')') {
-        return Ok((made::call(name, Args::new(alloc)), after));
+        return Ok((made::call(alloc, name, Args::new(alloc))?, after));
     }
     let (args, rest) = arguments(alloc, tokens)?;
-    Ok((made::call(name, args), rest))
+    Ok((made::call(alloc, name, args)?, rest))
 }
 
 // An argument, and the tokens after it.

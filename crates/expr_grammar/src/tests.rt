@@ -187,8 +187,8 @@ const CODE: &str = "__var x = ~(1);\n Message(0, \"a\\\"b\");";
 // The statements of that code, as they are shown.
 const SHOWN: &str =
     "ItemList { items: [Declare(Name { text: NameText { text: Inside(\"x\") }, at: Place { line: 1, column: 7 } }, \
-Unary(Flip, Group(Number(1)))), Plain(Place { line: 2, column: 2 }, Call(Name { text: NameText { text: Inside(\"Message\") }, \
-at: Place { line: 2, column: 2 } }, ItemList { items: [Number(Place { line: 2, column: 10 }, Number(0)), \
+Unary(Flip, Group(Number(1)))), Plain(Place { line: 2, column: 2 }, Call(CalledName { function: Some(Message), \
+name: Name { text: NameText { text: Inside(\"Message\") }, at: Place { line: 2, column: 2 } } }, ItemList { items: [Number(Place { line: 2, column: 10 }, Number(0)), \
 Text(TextArg { text: NameText { text: Inside(\"a\\\\\\\"b\") }, at: Place { line: 2, column: 13 } })] }))] }";
 
 #[test]

@@ -9,11 +9,13 @@ use Rattle.expr_grammar.specs.declared.code.Expr.TheVariants as e
 use Rattle.expr_grammar.specs.declared.code.Arg.{Arg}
 use Rattle.expr_grammar.specs.declared.code.Arg.TheVariants as a
 use Rattle.expr_grammar.specs.declared.code.Name.{Name}
+use Rattle.expr_grammar.specs.declared.code.CalledName.{CalledName}
 use Rattle.expr_grammar.specs.declared.code.Stmt.{Stmt}
 use Rattle.expr_grammar.specs.declared.code.Stmt.TheVariants as s
 use Rattle.expr_grammar.specs.declared.code.TextArg as string
 use Rattle.expr_grammar.specs.Tree as t
 use Rattle.expr_grammar.specs.Tree.{Tree, ArgTree, ArgTrees, NoArgs, MoreArgs, StmtTree, tree, arg_tree, arg_trees, stmt_tree, code_trees}
+use Rattle.function_table.specs.Lookup.{function_named}
 use Rattle.sequence_resolve.specs.declared.entry.SeqEntry.{SeqEntry}
 use Rattle.sequence_resolve.specs.declared.entry.SeqSet.{SeqSet}
 use Rattle.sequence_code.specs.declared.steps.CheckedStep.{CheckedStep}
@@ -41,6 +43,9 @@ boxed x = record { ptr = null_ptr; alloc = the_global; value = x }
 boxed_name : Name → Box Name Global
 boxed_name n = record { ptr = null_ptr; alloc = the_global; value = n }
 
+boxed_called : Name → Box CalledName Global
+boxed_called n = record { ptr = null_ptr; alloc = the_global; value = record { function = function_named n.text; name = n; found = refl } }
+
 boxed_text : string.TextArg → Box string.TextArg Global
 boxed_text s = record { ptr = null_ptr; alloc = the_global; value = s }
 
@@ -51,7 +56,7 @@ same_cond : (c a b d f g : Tree) → c ≡ d → a ≡ f → b ≡ g → t.Cond 
 same_cond c a b d f g p q r = cc
 
 mutual
-  unfolding boxed boxed_name boxed_text
+  unfolding boxed boxed_name boxed_called boxed_text
 
   expr_of : (x : Tree) → (v : Expr) × (tree v ≡ x)
   expr_of (t.Number n) = (e.Number n, tree-Number n)
@@ -65,7 +70,7 @@ mutual
       let w = expr_of z in
       (e.Cond (boxed u.0) (boxed v.0) (boxed w.0), tree-Cond (boxed u.0) (boxed v.0) (boxed w.0) ∙ same_cond (tree u.0) (tree v.0) (tree w.0) x y z u.1 v.1 w.1)
   expr_of (t.Assign n x) = let v = expr_of x in (e.Assign (boxed_name n) (boxed v.0), tree-Assign (boxed_name n) (boxed v.0) ∙ ap (t.Assign n) v.1)
-  expr_of (t.Call n args) = let vs = args_of args in (e.Call (boxed_name n) vs.0, tree-Call (boxed_name n) vs.0 ∙ ap (t.Call n) vs.1)
+  expr_of (t.Call n args) = let vs = args_of args in (e.Call (boxed_called n) vs.0, tree-Call (boxed_called n) vs.0 ∙ ap (t.Call n) vs.1)
 
   arg_of : (x : ArgTree) → (v : Arg) × (arg_tree v ≡ x)
   arg_of (t.ExprArg at x) = let v = expr_of x in (a.Number at v.0, arg_tree-Number at v.0 ∙ ap (t.ExprArg at) v.1)

@@ -66,7 +66,7 @@ fn push_expr(names: &Names, expr: &Expr, calls: &mut ItemList<TextCall>) -> Resu
         }
         Expr::Assign(_, value) => push_expr(names, value, calls),
         Expr::Call(called, args) => {
-            push_own(names, called, args.as_slice(), calls)?;
+            push_own(names, &called.name, args.as_slice(), calls)?;
             push_args(names, args.as_slice(), calls)
         }
     }

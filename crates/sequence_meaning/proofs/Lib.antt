@@ -2,6 +2,7 @@ pub mod CallLemmas
 pub mod DebugLemmas
 pub mod DirectLemmas
 pub mod EndLemmas
+pub mod FewLemmas
 pub mod Fine
 pub mod FineCalls
 pub mod FineValues

@@ -95,15 +95,15 @@ adds_all e (Ok x) now out h = rw h (nothing_added now.rest)
 adds_all e (Err stopped) now out h = adds_end e now out h
 
 pub first_part : (ended : Result (Unit {0}) Stopped) (held : Held) (start target : TargetState) (written : Option (List ℕ)) (out : O) → Gives held.end ended (state_of held target written) out
-    → IsMadeIn (start_world start None) (outcome_of out) → IsMade (start_world start None) held target → IsFirstPart start (outcome_of out) held.calls.items target written
+    → IsMadeIn (start_world start None) (outcome_of out) → IsMade (start_world start None) held target → IsFirstPart start (outcome_of out) held.calls target written
 first_part ended held start target written out h law made =
     let adds = adds_all held.end ended (state_of held target written) out h in
-    let calls : (outcome_of out).calls ≡ held.calls.items ++ adds.more = calls_of_end out ∙ adds.calls in
-    let last : EndsLast (start_world start None) (held.calls.items ++ adds.more) = subst (λ c. EndsLast (start_world start None) c) calls (stop_ends (start_world start None) _ _ law.ending) in
+    let calls : (outcome_of out).calls ≡ held.calls ++ adds.more = calls_of_end out ∙ adds.calls in
+    let last : EndsLast (start_world start None) (held.calls ++ adds.more) = subst (λ c. EndsLast (start_world start None) c) calls (stop_ends (start_world start None) _ _ law.ending) in
     record {
       more = adds.more;
       calls = calls;
-      target = ap (λ (x : World). x.target) (sym made.world ∙ after_all (start_world start None) held.calls.items adds.more refl last);
+      target = ap (λ (x : World). x.target) (sym made.world ∙ after_all (start_world start None) held.calls adds.more refl last);
       lines = subst (λ o. Grows written o) (sym (written_at_end out)) adds.lines;
     }
 

@@ -24,7 +24,7 @@ other_value (b ∷ bs) name other v ne = by (bytes_eq name b.name) refl (other_v
 pub unlike : (b : ℕ) (rest name : List ℕ) → (slice_get name 0 ≡ Some b → ⊥) → b ∷ rest ≢ name
 unlike b rest name not same = not (ap (λ n. slice_get n 0) (sym same))
 
--- so a variable whose name begins with a low line keeps its value
+-- so a variable whose name begins with an underscore keeps its value
 pub stays : (old new : List (Binding ℕ)) (name rest : List ℕ) (v n : ℕ) → new ≡ set_in old name v → (slice_get name 0 ≡ Some 95 → ⊥)
     → n ≡ unwrap_or (value_in old (95 ∷ rest)) 0 → n ≡ unwrap_or (value_in new (95 ∷ rest)) 0
 stays old new name rest v n is not was =

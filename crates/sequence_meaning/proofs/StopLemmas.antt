@@ -303,7 +303,7 @@ pub line_broken : (known : Bool) (held : Held) (t : TargetState) (old new : Opti
 unfolding lined direct
 line_broken known held t old new text n few h knows =
     let test : nat_lt held.lines 100000 ≡ true = grind arith in
-    rw test (record { more = []; calls = sym (append-nil held.calls.items); lines = broken known old new text h knows })
+    rw test (record { more = []; calls = sym (append-nil held.calls); lines = broken known old new text h knows })
 
 -- ---- causes
 

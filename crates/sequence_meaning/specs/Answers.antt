@@ -29,7 +29,7 @@ Records o d.WriteFault calls skipped target written = Unit {0}
 
 -- What is answered, the target and what was written are those of the outcome. Where memory was refused, see `Leaves`.
 abbrev pub Answers : Outcome → Result Recorded OutOfMemory → TargetState → Option (List ℕ) → Type 0
-Answers o (Ok r) target written = Records o r.ending r.calls.items r.skipped target written
+Answers o (Ok r) target written = Records o r.ending r.calls r.skipped target written
 Answers o (Err e) target written = Unit {0}
 
 -- So much of a run on a target was done: these calls come first among those of the outcome, the target is the one that they leave, and
@@ -46,7 +46,7 @@ LeavesSome start o target written = (calls : List Ask) × IsFirstPart start o ca
 
 -- the same, with the calls of the answer where it has them
 abbrev pub Leaves : TargetState → Outcome → Result Recorded OutOfMemory → TargetState → Option (List ℕ) → Type 0
-Leaves start o (Ok r) target written = IsFirstPart start o r.calls.items target written
+Leaves start o (Ok r) target written = IsFirstPart start o r.calls target written
 Leaves start o (Err e) target written = LeavesSome start o target written
 
 -- by a count of the sink's faults: the sink failed only where it rose, or stands at its last value, and any other ending leaves it

@@ -29,7 +29,7 @@ state_of held target written = record {
   steps = held.steps;
   rest = record {
     world = record { target = target; large = held.large.items; answered = None };
-    calls = held.calls.items;
+    calls = held.calls;
     skipped = held.skipped;
     written = written;
   };
@@ -82,7 +82,7 @@ world_at target large = record { target = target; large = large; answered = None
 
 -- the target, and the access ports that are known to have large addresses, are as the calls so far leave them
 pub record IsMade (w : World) (held : Held) (target : TargetState) : Type 0 where
-  pub world : made_all w held.calls.items ≡ world_at target held.large.items
+  pub world : made_all w held.calls ≡ world_at target held.large.items
 
 -- the sequences of the runner's set, from which calls lead at most so deep
 abbrev pub calls_of : Runner → ℕ → List ℕ → State ℕ Now → Out ℕ Now (Unit {0})

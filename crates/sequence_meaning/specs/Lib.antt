@@ -1,3 +1,4 @@
+pub mod Few
 pub mod Held
 pub mod Starting
 pub mod Answers

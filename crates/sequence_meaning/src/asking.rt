@@ -41,7 +41,9 @@ pub(crate) fn debug_port(held: &Held) -> u64
     held.globals.dp()
 }
 
-// An access as a unit, made at once, unless it would be number 1,000,001.
+// An access as a unit, made at once, unless it would be number 1,000,001. It is inlined, so that no access is put together in memory
+// and taken apart again.
+#[inline(always)]
 #[tactic(auto, unfolding(sequence_terms::specs::Calls::ask, sequence_terms::specs::Calls::answered, sequence_terms::specs::Direct::direct, sequence_terms::specs::Direct::made))]
 pub(crate) fn ask(
     unit: Unit,
@@ -59,14 +61,9 @@ pub(crate) fn ask(
         held.end = End::Halted(HaltCause::AccessLimit);
         return Err(Stopped);
     }
-    let call = Ask {
-        call: Call::Access(unit),
-        forgive,
-        settled: false,
-    };
     // The call is listed first, so that it was not made where memory is refused.
     let before = held.calls.len();
-    let Ok(()) = held.calls.push(call) else {
+    let Ok(()) = held.calls.push_access(unit, forgive) else {
         held.end = End::OutOfMemory;
         return Err(Stopped);
     };
@@ -94,6 +91,7 @@ pub(crate) fn ask(
 }
 
 // A read has its value, and a write 0.
+#[inline(always)]
 #[tactic(auto, unfolding(sequence_terms::specs::Calls::if_read, sequence_terms::specs::Calls::zero_of, sequence_terms::specs::Direct::direct), using(crate::proofs::StopLemmas::ends_if_read))]
 pub(crate) fn asked(
     read: bool,

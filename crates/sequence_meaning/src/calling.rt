@@ -1,6 +1,7 @@
 //! Calls of functions and of sequences.
 ghost use Rattle.std.specs.Prelude.{◌≡◌, [], ◌∷◌, ◌++◌, Bool, false, unwrap_or, option_map, List, Option, ℕ, ◌<◌, ◌≤◌};
 ghost use Rattle.expr_grammar.specs.Tree.{tree, arg_tree, arg_trees, stmt_tree, code_trees};
+ghost use Rattle.dap_base.specs.declared.text.Place.{Place};
 ghost use Rattle.seq_check.specs.Answers.{checked_trees};
 ghost use Rattle.call_terms.specs.World.{World};
 ghost use Rattle.sequence_code.specs.Trees.{NoSteps, steps_named, steps_tree};
@@ -9,6 +10,7 @@ ghost use Rattle.sequence_terms.specs.Direct.{direct};
 ghost use Rattle.sequence_terms.specs.Steps as m;
 ghost use Rattle.sequence_terms.specs.Values as v;
 ghost use Rattle.sequence_terms.specs.Known.{Knows};
+ghost use Rattle.sequence_meaning.specs.Few.{one_number, two_numbers};
 ghost use Rattle.sequence_meaning.specs.Held.{IsCaused, IsMade, Gives, GivesAs, calls_of, seen, state_of};
 
 use crate::end::{End, Stopped};
@@ -16,8 +18,8 @@ use crate::functions::performed;
 use crate::held::Held;
 use crate::runner::Runner;
 use dap_base::Sink;
-use expr_grammar::{Arg, Expr, Name};
-use function_table::{Function, function_of};
+use expr_grammar::{Arg, CalledName, Expr};
+use function_table::Function;
 use sequence_code::CheckedStep;
 use sequence_terms::text_of;
 use target_machine::Target;
@@ -104,7 +106,7 @@ impl Runner<'_> {
     #[tactic(auto, unfolding(sequence_terms::specs::Values::call_of, sequence_terms::specs::Calls::guarded, sequence_terms::specs::Values::numbers_of, sequence_terms::specs::Direct::direct), using(crate::proofs::StopLemmas::ends_call, crate::proofs::DirectLemmas::numbers_used, crate::proofs::StopLemmas::cause_on))]
     fn call_with<K: Sink>(
         &self,
-        name: &Name,
+        called: &CalledName,
         args: &[Arg],
         numbers: &mut Vec<u64>,
         depth: u32,
@@ -113,14 +115,14 @@ impl Runner<'_> {
         sink: &mut K,
     ) -> Result<u64, Stopped>
         requires { numbers.old.items ≡ [] }
-        ensures gives { (known : Bool) → Knows known (K.written sink.old) → Gives held.new.end result (seen known held.new target.new (K.written sink.new)) (v.call_of (direct false) (calls_of self.now depth) name.now (arg_trees args.now) (v.arguments (direct false) (calls_of self.now depth) (arg_trees args.now) [] (seen known held.old target.old (K.written sink.old)))) }
+        ensures gives { (known : Bool) → Knows known (K.written sink.old) → Gives held.new.end result (seen known held.new target.new (K.written sink.new)) (v.call_of (direct false) (calls_of self.now depth) called.now.name (arg_trees args.now) (v.arguments (direct false) (calls_of self.now depth) (arg_trees args.now) [] (seen known held.old target.old (K.written sink.old)))) }
         ensures knows { (known : Bool) → Knows known (K.written sink.old) → Knows known (K.written sink.new) }
         ensures made { (w : World) → IsMade w held.old target.old → IsMade w held.new target.new }
         ensures cause { IsCaused held.new.end result (K.faults sink.old) (K.faults sink.new) }
     {
         self.arguments(args, numbers, depth, held, target, sink)?;
         self.called(
-            function_of(name.text.as_str()),
+            called.function,
             text_of(args),
             numbers.as_slice(),
             depth,
@@ -130,26 +132,104 @@ impl Runner<'_> {
         )
     }
 
-    // A call. The list for its numbers is the one of the call before, so that no memory is taken and given back for each call.
+    // A call with any arguments. The list for its numbers is the one of the call before, so that no memory is taken and given back for
+    // each call.
     #[cycle(eval)]
-    pub(crate) fn call<K: Sink>(
+    fn call_listed<K: Sink>(
         &self,
-        name: &Name,
+        called: &CalledName,
         args: &[Arg],
         depth: u32,
         held: &mut Held,
         target: &mut Target,
         sink: &mut K,
     ) -> Result<u64, Stopped>
-        ensures gives { (known : Bool) → Knows known (K.written sink.old) → Gives held.new.end result (seen known held.new target.new (K.written sink.new)) (v.call_of (direct false) (calls_of self.now depth) name.now (arg_trees args.now) (v.arguments (direct false) (calls_of self.now depth) (arg_trees args.now) [] (seen known held.old target.old (K.written sink.old)))) }
+        ensures gives { (known : Bool) → Knows known (K.written sink.old) → Gives held.new.end result (seen known held.new target.new (K.written sink.new)) (v.call_of (direct false) (calls_of self.now depth) called.now.name (arg_trees args.now) (v.arguments (direct false) (calls_of self.now depth) (arg_trees args.now) [] (seen known held.old target.old (K.written sink.old)))) }
         ensures knows { (known : Bool) → Knows known (K.written sink.old) → Knows known (K.written sink.new) }
         ensures made { (w : World) → IsMade w held.old target.old → IsMade w held.new target.new }
         ensures cause { IsCaused held.new.end result (K.faults sink.old) (K.faults sink.new) }
     {
         let mut numbers = held.take_numbers(self.alloc);
-        let answer = self.call_with(name, args, &mut numbers, depth, held, target, sink);
+        let answer = self.call_with(called, args, &mut numbers, depth, held, target, sink);
         held.numbers = numbers;
         answer
+    }
+
+    // A call whose argument is one number.
+    #[cycle(eval)]
+    #[tactic(auto, using(crate::proofs::FewLemmas::ends_one, crate::proofs::FewLemmas::one_is, crate::proofs::StopLemmas::cause_on))]
+    fn call_one<K: Sink>(
+        &self,
+        called: &CalledName,
+        only: &Expr,
+        depth: u32,
+        held: &mut Held,
+        target: &mut Target,
+        sink: &mut K,
+    ) -> Result<u64, Stopped>
+        ensures gives { (known : Bool) (at : Place) → Knows known (K.written sink.old) → Gives held.new.end result (seen known held.new target.new (K.written sink.new)) (v.call_of (direct false) (calls_of self.now depth) called.now.name (one_number at (tree only.now)) (v.arguments (direct false) (calls_of self.now depth) (one_number at (tree only.now)) [] (seen known held.old target.old (K.written sink.old)))) }
+        ensures knows { (known : Bool) → Knows known (K.written sink.old) → Knows known (K.written sink.new) }
+        ensures made { (w : World) → IsMade w held.old target.old → IsMade w held.new target.new }
+        ensures cause { IsCaused held.new.end result (K.faults sink.old) (K.faults sink.new) }
+    {
+        let number = self.operand(only, depth, held, target, sink)?;
+        self.called(called.function, "", &[number], depth, held, target, sink)
+    }
+
+    // A call whose arguments are two numbers.
+    #[cycle(eval)]
+    #[tactic(auto, using(crate::proofs::FewLemmas::ends_first, crate::proofs::FewLemmas::ends_second, crate::proofs::FewLemmas::two_is, crate::proofs::StopLemmas::cause_on))]
+    fn call_two<K: Sink>(
+        &self,
+        called: &CalledName,
+        first: &Expr,
+        second: &Expr,
+        depth: u32,
+        held: &mut Held,
+        target: &mut Target,
+        sink: &mut K,
+    ) -> Result<u64, Stopped>
+        ensures gives { (known : Bool) (at later : Place) → Knows known (K.written sink.old) → Gives held.new.end result (seen known held.new target.new (K.written sink.new)) (v.call_of (direct false) (calls_of self.now depth) called.now.name (two_numbers at (tree first.now) later (tree second.now)) (v.arguments (direct false) (calls_of self.now depth) (two_numbers at (tree first.now) later (tree second.now)) [] (seen known held.old target.old (K.written sink.old)))) }
+        ensures knows { (known : Bool) → Knows known (K.written sink.old) → Knows known (K.written sink.new) }
+        ensures made { (w : World) → IsMade w held.old target.old → IsMade w held.new target.new }
+        ensures cause { IsCaused held.new.end result (K.faults sink.old) (K.faults sink.new) }
+    {
+        let first = self.operand(first, depth, held, target, sink)?;
+        let second = self.operand(second, depth, held, target, sink)?;
+        self.called(
+            called.function,
+            "",
+            &[first, second],
+            depth,
+            held,
+            target,
+            sink,
+        )
+    }
+
+    // A call. Most have one number or two, for which no list is made.
+    #[cycle(eval)]
+    pub(crate) fn call<K: Sink>(
+        &self,
+        called: &CalledName,
+        args: &[Arg],
+        depth: u32,
+        held: &mut Held,
+        target: &mut Target,
+        sink: &mut K,
+    ) -> Result<u64, Stopped>
+        ensures gives { (known : Bool) → Knows known (K.written sink.old) → Gives held.new.end result (seen known held.new target.new (K.written sink.new)) (v.call_of (direct false) (calls_of self.now depth) called.now.name (arg_trees args.now) (v.arguments (direct false) (calls_of self.now depth) (arg_trees args.now) [] (seen known held.old target.old (K.written sink.old)))) }
+        ensures knows { (known : Bool) → Knows known (K.written sink.old) → Knows known (K.written sink.new) }
+        ensures made { (w : World) → IsMade w held.old target.old → IsMade w held.new target.new }
+        ensures cause { IsCaused held.new.end result (K.faults sink.old) (K.faults sink.new) }
+    {
+        match args {
+            [Arg::Number(_, only)] => self.call_one(called, only, depth, held, target, sink),
+            [Arg::Number(_, first), Arg::Number(_, second)] => {
+                self.call_two(called, first, second, depth, held, target, sink)
+            }
+            _ => self.call_listed(called, args, depth, held, target, sink),
+        }
     }
 
     // The function of a call.

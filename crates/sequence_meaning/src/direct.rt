@@ -27,7 +27,7 @@ fn ending_of(alloc: Global, ended: Result<(), Stopped>, held: &Held) -> Result<D
     ensures answer { (target : TargetState) (written : Option (List ℕ)) (out : Out ℕ Now (Unit {0})) → Gives held.now.end ended (state_of held.now target written) out
         → (end_state out).units ≡ units_of (outcome_of out) → AnswersDirect (outcome_of out) result target written }
     ensures records { (target : TargetState) (written : Option (List ℕ)) (out : Out ℕ Now (Unit {0})) → Gives held.now.end ended (state_of held.now target written) out
-        → (end_state out).units ≡ units_of (outcome_of out) → IfOk result (λ ending. Records (outcome_of out) ending held.now.calls.items held.now.skipped target written) }
+        → (end_state out).units ≡ units_of (outcome_of out) → IfOk result (λ ending. Records (outcome_of out) ending held.now.calls held.now.skipped target written) }
     ensures cause { (before now : ℕ) → IsCaused held.now.end ended before now → IsDirectCaused result before now }
 {
     let Err(Stopped) = ended else {

@@ -1,5 +1,5 @@
 //! How a direct run ends.
-use call_terms::Ask;
+use calls_at_once::CallList;
 use target_machine::{HaltCause, Unit, Variables};
 
 /// How a direct run ended.
@@ -27,7 +27,7 @@ pub struct Recorded {
     /// How it ended.
     pub ending: Direct,
     /// The calls that were made, one for each unit, in order.
-    pub calls: Vec<Ask>,
+    pub calls: CallList,
     /// How many of them met a fault that they forgive.
     pub skipped: u32,
 }

@@ -3,7 +3,7 @@ ghost use Rattle.std.specs.Prelude.{◌≡◌, ℕ, Bool, List, IfOk, drop, slic
 ghost use Rattle.target_machine.specs.State.{TargetState};
 ghost use Rattle.call_terms.specs.World.{World};
 ghost use Rattle.sequence_terms.specs.Calls as c;
-ghost use Rattle.sequence_terms.specs.Lines.{message_line};
+ghost use Rattle.sequence_terms.specs.Lines.{load_line, message_line, query_line, value_line};
 ghost use Rattle.sequence_terms.specs.Direct.{direct};
 ghost use Rattle.sequence_terms.specs.Known.{Knows};
 ghost use Rattle.sequence_meaning.specs.Held.{IsCaused, IsMade, Gives, seen};
@@ -20,7 +20,9 @@ use std::alloc::Global;
 use target_machine::{HaltCause, Target};
 use text_lines::{Line, TextError, put_text};
 
-// Writes a line, and then this is the value, unless it would be line 100,001.
+// Writes a line, and then this is the value, unless it would be line 100,001. It is not inlined, and no function is that writes
+// one: few calls write lines, and all would pay for the room of these.
+#[inline(never)]
 #[tactic(auto, unfolding(sequence_terms::specs::Calls::lined, sequence_terms::specs::Direct::direct), using(sequence_terms::proofs::KnownLemmas::known_more, sequence_terms::proofs::KnownLemmas::knows_more, sequence_terms::proofs::KnownLemmas::knows_part))]
 fn lined<K: Sink>(
     line: Result<Line, OutOfMemory>,
@@ -69,6 +71,7 @@ fn number_at(numbers: &[u64], index: usize) -> u64
 }
 
 // `Message`.
+#[inline(never)]
 fn message<K: Sink>(
     text: &str,
     numbers: &[u64],
@@ -93,6 +96,61 @@ fn message<K: Sink>(
         held,
         sink,
     )
+}
+
+// `Query`.
+#[inline(never)]
+fn query<K: Sink>(
+    text: &str,
+    numbers: &[u64],
+    alloc: Global,
+    held: &mut Held,
+    sink: &mut K,
+) -> Result<u64, Stopped>
+    ensures gives { (known : Bool) (target : TargetState) → Knows known (K.written sink.old)
+        → Gives held.new.end result (seen known held.new target (K.written sink.new)) (c.lined (direct false) (query_line (slice_index numbers.now 0) text.now (slice_index numbers.now 1)) (slice_index numbers.now 1) (seen known held.old target (K.written sink.old))) }
+    ensures knows { (known : Bool) → Knows known (K.written sink.old) → Knows known (K.written sink.new) }
+    ensures made { (w : World) (target : TargetState) → IsMade w held.old target → IsMade w held.new target }
+    ensures cause { IsCaused held.new.end result (K.faults sink.old) (K.faults sink.new) }
+{
+    let default = number_at(numbers, 1);
+    lined(
+        query_line(alloc, number_at(numbers, 0), text, default),
+        default,
+        held,
+        sink,
+    )
+}
+
+// `QueryValue`.
+#[inline(never)]
+fn query_value<K: Sink>(
+    text: &str,
+    numbers: &[u64],
+    alloc: Global,
+    held: &mut Held,
+    sink: &mut K,
+) -> Result<u64, Stopped>
+    ensures gives { (known : Bool) (target : TargetState) → Knows known (K.written sink.old)
+        → Gives held.new.end result (seen known held.new target (K.written sink.new)) (c.lined (direct false) (value_line text.now (slice_index numbers.now 0)) (slice_index numbers.now 0) (seen known held.old target (K.written sink.old))) }
+    ensures knows { (known : Bool) → Knows known (K.written sink.old) → Knows known (K.written sink.new) }
+    ensures made { (w : World) (target : TargetState) → IsMade w held.old target → IsMade w held.new target }
+    ensures cause { IsCaused held.new.end result (K.faults sink.old) (K.faults sink.new) }
+{
+    let default = number_at(numbers, 0);
+    lined(value_line(alloc, text, default), default, held, sink)
+}
+
+// `LoadDebugInfo`.
+#[inline(never)]
+fn load<K: Sink>(text: &str, alloc: Global, held: &mut Held, sink: &mut K) -> Result<u64, Stopped>
+    ensures gives { (known : Bool) (target : TargetState) → Knows known (K.written sink.old)
+        → Gives held.new.end result (seen known held.new target (K.written sink.new)) (c.lined (direct false) (load_line text.now) 0 (seen known held.old target (K.written sink.old))) }
+    ensures knows { (known : Bool) → Knows known (K.written sink.old) → Knows known (K.written sink.new) }
+    ensures made { (w : World) (target : TargetState) → IsMade w held.old target → IsMade w held.new target }
+    ensures cause { IsCaused held.new.end result (K.faults sink.old) (K.faults sink.new) }
+{
+    lined(load_line(alloc, text), 0, held, sink)
 }
 
 // A call of a function, but for `Sequence`, with its text and the numbers among its arguments.
@@ -187,18 +245,8 @@ pub(crate) fn performed<K: Sink>(
         }
         Function::Sequence => Ok(0),
         Function::Message => message(text, numbers, alloc, held, sink),
-        Function::Query => lined(
-            query_line(alloc, number_at(numbers, 0), text, number_at(numbers, 1)),
-            number_at(numbers, 1),
-            held,
-            sink,
-        ),
-        Function::QueryValue => lined(
-            value_line(alloc, text, number_at(numbers, 0)),
-            number_at(numbers, 0),
-            held,
-            sink,
-        ),
-        Function::LoadDebugInfo => lined(load_line(alloc, text), 0, held, sink),
+        Function::Query => query(text, numbers, alloc, held, sink),
+        Function::QueryValue => query_value(text, numbers, alloc, held, sink),
+        Function::LoadDebugInfo => load(text, alloc, held, sink),
     }
 }

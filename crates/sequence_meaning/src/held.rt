@@ -10,7 +10,7 @@ ghost use Rattle.sequence_meaning.specs.Held.{IsMade, state_of};
 
 use crate::end::End;
 use crate::shared::SharedVariables;
-use call_terms::Ask;
+use calls_at_once::CallList;
 use dap_base::{NameText, OutOfMemory};
 use sequence_terms::{Binding, Globals, has_in, newest_in, set_newest};
 use std::alloc::Global;
@@ -24,7 +24,7 @@ pub(crate) struct Held {
     pub units: u32,
     pub lines: u32,
     pub steps: u32,
-    pub calls: Vec<Ask>,
+    pub calls: CallList,
     pub large: Vec<u8>,
     pub skipped: u32,
     /// Where the numbers among the arguments of a call may stand: its content counts for nothing.
@@ -45,19 +45,12 @@ impl Held {
             units: 0,
             lines: 0,
             steps: 0,
-            calls: Vec::new(alloc),
+            calls: CallList::new(alloc),
             large: Vec::new(alloc),
             skipped: 0,
             numbers: Vec::new(alloc),
             end: End::OutOfMemory,
         }
-    }
-
-    /// The value of a variable that all sequences share, 0 where there is none.
-    pub fn global(&self, name: &str) -> u64
-        ensures { result ≡ unwrap_or (value_in (bindings_of self.now.globals.variables) name.now) 0 }
-    {
-        self.globals.get(name)
     }
 
     /// The value of a visible variable, 0 where there is none.
@@ -67,7 +60,7 @@ impl Held {
     {
         match newest_in(&self.locals, name) {
             Some(value) => value,
-            None => self.global(name),
+            None => self.globals.get(name),
         }
     }
 

@@ -28,7 +28,7 @@ fn value_of(variables: &Globals<u64>, name: &str) -> u64
     }
 }
 
-// Whether a name may be one of the three, which begin with a low line.
+// Whether a name may be one of the three, which begin with an underscore.
 fn may_lie_beside(name: &str) -> bool
     ensures { result ≡ false → slice_get name.now 0 ≡ Some 95 → ⊥ }
 {

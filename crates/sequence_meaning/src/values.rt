@@ -46,7 +46,14 @@ impl Runner<'_> {
                 test, first, second, depth, held, target, sink,
             ),
             Expr::Assign(name, right) => self.assign(name, right, depth, held, target, sink),
-            Expr::Call(name, args) => self.call(name, args.as_slice(), depth, held, target, sink),
+            Expr::Call(called, args) => self.call(
+                called,
+                args.as_slice(),
+                depth,
+                held,
+                target,
+                sink,
+            ),
         }
     }
 

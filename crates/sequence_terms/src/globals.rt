@@ -1,6 +1,7 @@
 //! The variables that all sequences share.
 
 ghost use Rattle.std.specs.Prelude.{◌≡◌, ◌<◌, true, false, [], IfSome, OnOk, OnErr, Some, length, option_map, slice_get};
+ghost use Rattle.std.specs.Str.{bytes_eq};
 ghost use Rattle.indexmap.specs.IndexMap.{index_map_len};
 ghost use Rattle.sequence_terms.specs.Shared.{bindings_of, pair_of};
 ghost use Rattle.sequence_terms.specs.Variables.{has_in, value_in, set_in, with_new};
@@ -8,6 +9,13 @@ ghost use Rattle.sequence_terms.specs.Variables.{has_in, value_in, set_in, with_
 use dap_base::OutOfMemory;
 use indexmap::IndexMap;
 use std::alloc::Global;
+
+// Whether two names are the same. Names are short: their bytes one after the other take less time than an equality of texts.
+fn is_same(known: &str, name: &str) -> bool
+    ensures { result ≡ bytes_eq known.now name.now }
+{
+    known.as_bytes() == name.as_bytes()
+}
 
 /// Variables with their values, in the order in which they were added. No two have one name, and each is found by its name without
 /// going through the others. Contracts see them by `bindings_of`, as the plain list of this crate's specs.
@@ -55,7 +63,7 @@ impl<V: Copy> Globals<V> {
         ensures { IfSome result (λ value. value_in (bindings_of self.now) name.now ≡ Some value) }
     {
         match self.values.get_index(index) {
-            Some((known, value)) if known.as_str() == name => Some(*value),
+            Some((known, value)) if is_same(known.as_str(), name) => Some(*value),
             _ => None,
         }
     }
@@ -111,7 +119,7 @@ impl<V: Copy> Globals<V> {
         ensures same { result ≡ false → bindings_of self.new ≡ bindings_of self.old }
     {
         let (known, stored) = self.values.pair_mut(index);
-        if known.as_str() == name {
+        if is_same(known.as_str(), name) {
             *stored = value;
             true
         } else {

@@ -64,7 +64,9 @@ fn reads_ctrl_stat(expr: &Expr) -> bool
     ensures { result ≡ spec.reads_ctrl_stat (tree expr.now) }
 {
     match expr {
-        Expr::Call(name, args) => name.text.as_str() == "ReadDP" && has_only_four(args.as_slice()),
+        Expr::Call(called, args) => {
+            called.name.text.as_str() == "ReadDP" && has_only_four(args.as_slice())
+        }
         _ => false,
     }
 }

@@ -8,7 +8,7 @@ use Rattle.code_check.proofs.calls.note_call.Goals.{then-scope, else-scope}
 
 pub returns : goal.returns
 returns c =
-    let called : Notes (FaultWhere (c.args.scope.in_debugvars ≡ true) c.args.name.now.at k.BadDebugvars) c.args.found.now c.if-scope.found = elim c.if-scope.branch [
+    let called : Notes (FaultWhere (c.args.scope.in_debugvars ≡ true) c.args.called.now.name.at k.BadDebugvars) c.args.found.now c.if-scope.found = elim c.if-scope.branch [
       | then-scope w ↦ notes_where _ _ _ _ _ w.if-scope.true (w.found-is ∙ w.note_at.ensures)
       | else-scope w ↦ rw w.found-is (notes_where_not _ _ _ _ (λ h. true≢false (sym h ∙ w.if-scope.false)))
     ] in

@@ -26,7 +26,7 @@ note_expr-returns-in-Assign t c =
 pub note_expr-returns-in-Call : goal.note_expr-returns-in-Call
 note_expr-returns-in-Call t c =
     let a = c.in-Call in
-    rw (a.is, tree-Call a.name a.args, ← c.deref-in-Call.ensures) (notes_two {mid = c.note_call.new.found} (rw (← c.as_slice.ensures) c.note_call.ensures) (rw (← c.as_slice-in-Call.ensures) c.note_args.ensures))
+    rw (a.is, tree-Call a.called a.args, ← c.deref-in-Call.ensures) (notes_two {mid = c.note_call.new.found} (rw (← c.as_slice.ensures) c.note_call.ensures) (rw (← c.as_slice-in-Call.ensures) c.note_args.ensures))
 
 pub note_arg-returns-in-Text : goal.note_arg-returns-in-Text
 note_arg-returns-in-Text t c = rw (c.in-Text.is, arg_tree-Text c.in-Text.field-0) (notes_nowhere c.args.found.now)

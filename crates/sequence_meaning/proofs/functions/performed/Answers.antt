@@ -4,10 +4,10 @@ pub returns-in-Message-clause-made : goal.returns-in-Message-clause-made
 returns-in-Message-clause-made g c = λ w made. c.message.ensures.made w _ made
 
 pub returns-in-Query-clause-made : goal.returns-in-Query-clause-made
-returns-in-Query-clause-made g c = λ w made. c.lined.ensures.made w _ made
+returns-in-Query-clause-made g c = λ w made. c.query.ensures.made w _ made
 
 pub returns-in-QueryValue-clause-made : goal.returns-in-QueryValue-clause-made
-returns-in-QueryValue-clause-made g c = λ w made. c.lined-in-QueryValue.ensures.made w _ made
+returns-in-QueryValue-clause-made g c = λ w made. c.query_value.ensures.made w _ made
 
 pub returns-in-LoadDebugInfo-clause-made : goal.returns-in-LoadDebugInfo-clause-made
-returns-in-LoadDebugInfo-clause-made g c = λ w made. c.lined-in-LoadDebugInfo.ensures.made w _ made
+returns-in-LoadDebugInfo-clause-made g c = λ w made. c.load.ensures.made w _ made

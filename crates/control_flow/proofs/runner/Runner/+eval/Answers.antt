@@ -1,4 +1,4 @@
-use Rattle.std.proofs.Common.{◌≡◌, ◌<◌, ◌≤◌, ◌+◌, ◌*◌, ◌∙◌, refl, sym, ap, unwrap_or, rules, arith}
+use Rattle.std.proofs.Common.{◌≡◌, ◌<◌, ◌≤◌, ◌+◌, ◌*◌, ◌∙◌, refl, ap, unwrap_or, rules, arith}
 use Rattle.expr_grammar.specs.Tree.{tree, arg_tree, arg_trees, stmt_tree, code_trees}
 use Rattle.access_calls.specs.Reported.{world_from}
 use Rattle.seq_check.specs.Answers.{checked_trees}
@@ -7,13 +7,13 @@ use Rattle.access_calls.proofs.KeepLemmas.{goes_trans}
 use Rattle.sequence_terms.specs.Late.{late}
 use Rattle.sequence_terms.specs.Steps as st
 use Rattle.sequence_terms.specs.Steps.{statement}
-use Rattle.function_table.specs.Lookup.{function_named}
 use Rattle.sequence_terms.specs.Shared.{bindings_of}
 use Rattle.sequence_terms.proofs.LoopLemmas as loop
 use Rattle.sequence_terms.specs.Values as v
+use Rattle.sequence_terms.specs.Values.{value}
 use Rattle.sequence_terms.specs.Known.{known_part}
 use Rattle.late_calls.specs.Held.{seen}
-use Rattle.code_check.proofs.TreeLemmas.{tree-Number, tree-Name}
+use Rattle.code_check.proofs.TreeLemmas.{tree-Number, tree-Name, tree-Call}
 use Rattle.control_flow.specs.Calls.{calls_of}
 use Rattle.control_flow.proofs.Exits.{later_sequence, later_value, later_inside, later_done, operands_first, call_first, turn_test}
 use Rattle.control_flow.proofs.Parts.{used_first, assigned_first, assigned_on, operands_second, strict_first, push_refused, controlled_first, called_none, choice_test, and_first, or_first, repeated_on, sequence_none, call_on, call_second, number_on, name_on}
@@ -163,7 +163,7 @@ operands-returns-in-Err-clause-gives g t c = λ m answered known b l knows.
 
 pub call-returns-in-Err-clause-gives : goal.call-returns-in-Err-clause-gives
 call-returns-in-Err-clause-gives g t c = λ m answered known b l knows.
-    call_first g.A.Access.cost (world_from m answered) _ c.in-Err.end _ _ c.args.name.now (arg_trees c.args.args.now) _ (later_sequence g.A.Access.cost (world_from m answered) c.args.self.now.turn_us (checked_trees c.args.self.now.set.now) c.args.depth) (rw c.new-values.ensures.items at (c.in-Err.ensures.gives m answered known b l knows))
+    call_first g.A.Access.cost (world_from m answered) _ c.in-Err.end _ _ c.args.called.now.name (arg_trees c.args.args.now) _ (later_sequence g.A.Access.cost (world_from m answered) c.args.self.now.turn_us (checked_trees c.args.self.now.set.now) c.args.depth) (rw c.new-values.ensures.items at (c.in-Err.ensures.gives m answered known b l knows))
 
 pub turn-returns-in-Err-used-clause-gives : goal.turn-returns-in-Err-used-clause-gives
 turn-returns-in-Err-used-clause-gives g t c = λ m answered known b l knows.
@@ -251,7 +251,7 @@ pub call-returns-in-Err-numbers_of-clause-gives : goal.call-returns-in-Err-numbe
 call-returns-in-Err-numbers_of-clause-gives g t c = λ m answered known b l knows.
     let h = c.arguments.new.held in
     let before = known_part known (g.K.Sink.written c.arguments.new.sink) in
-    call_second g.A.Access.cost (world_from m answered) (calls_of g.A.Access.cost (world_from m answered) c.args.self.now c.args.depth) _ c.in-Err-numbers_of.end c.args.name.now (arg_trees c.args.args.now) _ c.arguments.new.values.items _ _ (later_sequence g.A.Access.cost (world_from m answered) c.args.self.now.turn_us (checked_trees c.args.self.now.set.now) c.args.depth)
+    call_second g.A.Access.cost (world_from m answered) (calls_of g.A.Access.cost (world_from m answered) c.args.self.now c.args.depth) _ c.in-Err-numbers_of.end c.args.called.now.name (arg_trees c.args.args.now) _ c.arguments.new.values.items _ _ (later_sequence g.A.Access.cost (world_from m answered) c.args.self.now.turn_us (checked_trees c.args.self.now.set.now) c.args.depth)
     (rw c.new-values.ensures.items at (c.in-Ok.ensures.gives m answered known b (c.numbers_of.ensures.left answered l) knows))
     (rw c.as_slice.ensures.value at (c.in-Err-numbers_of.ensures.gives m answered (bindings_of h.globals) h.locals.items h.units h.lines h.steps before (c.in-Ok.ensures.on m b) l))
 
@@ -261,10 +261,10 @@ call-returns-clause-gives g t c = λ m answered known b l knows.
     let before = known_part known (g.K.Sink.written c.arguments.new.sink) in
     let mid = c.called.ensures.left answered l in
     let on = c.in-Ok.ensures.on m b in
-    call_on g.A.Access.cost (world_from m answered) (calls_of g.A.Access.cost (world_from m answered) c.args.self.now c.args.depth) _ c.args.name.now (arg_trees c.args.args.now) _ c.arguments.new.values.items c.in-Ok-numbers_of.numbers.items _ _ _ c.called.result c.function_of.result c.text_of.result.now
+    call_on g.A.Access.cost (world_from m answered) (calls_of g.A.Access.cost (world_from m answered) c.args.self.now c.args.depth) _ c.args.called.now.name (arg_trees c.args.args.now) _ c.arguments.new.values.items c.in-Ok-numbers_of.numbers.items _ _ _ c.called.result c.args.called.now.function c.text_of.result.now
     (rw c.new-values.ensures.items at (c.in-Ok.ensures.gives m answered known b (c.numbers_of.ensures.left answered mid) knows))
     (rw c.as_slice.ensures.value at (c.in-Ok-numbers_of.ensures.gives m answered (bindings_of h.globals) h.locals.items h.units h.lines h.steps before on mid))
-    (c.function_of.ensures.answer ∙ ap (λ n. function_named n) c.as_str.ensures) c.text_of.ensures
+    c.args.called.now.found c.text_of.ensures
     (rw c.as_slice-2.ensures.value at (c.called.ensures.gives m answered known (c.in-Ok-numbers_of.ensures.on m on) l (c.in-Ok.ensures.knows known knows)))
 
 pub value-returns-in-Number-clause-gives : goal.value-returns-in-Number-clause-gives
@@ -274,3 +274,8 @@ value-returns-in-Number-clause-gives g t c = λ m answered known b l knows.
 pub value-returns-in-Name-clause-gives : goal.value-returns-in-Name-clause-gives
 value-returns-in-Name-clause-gives g t c = λ m answered known b l knows.
     rw c.in-Name.is (rw (tree-Name c.in-Name.name) (name_on g.A.Access.cost (world_from m answered) (calls_of g.A.Access.cost (world_from m answered) c.args.self.now c.args.depth) c.in-Name.name.value c.visible.result (seen known c.args.held.now (g.A.Access.reported c.args.access.now).asks (g.K.Sink.written c.args.sink.now)) (rw (c.as_str.ensures, c.deref.ensures) at (c.visible.ensures (seen known c.args.held.now (g.A.Access.reported c.args.access.now).asks (g.K.Sink.written c.args.sink.now)) refl refl))))
+
+pub value-returns-in-Call-clause-gives : goal.value-returns-in-Call-clause-gives
+unfolding value
+value-returns-in-Call-clause-gives g t c = λ m answered known b l knows.
+    rw c.in-Call.is (rw (tree-Call c.in-Call.called c.in-Call.args) (rw (c.as_slice.ensures, c.deref-in-Call.ensures) at (c.call.ensures.gives m answered known b l knows)))

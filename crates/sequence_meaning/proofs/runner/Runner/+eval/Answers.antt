@@ -29,13 +29,13 @@ arguments-loop-arg-preserved g t c = record {
   faults = c.in-Ok.ensures.cause ∙ c.loop-arg.invariant.faults;
 }
 
-pub call-returns-clause-gives : goal.call-returns-clause-gives
-call-returns-clause-gives g t c = λ known knows.
-    between (λ s. v.call_of (direct false) (calls_of c.args.self.now c.args.depth) c.args.name.now (arg_trees c.args.args.now) (v.arguments (direct false) (calls_of c.args.self.now c.args.depth) (arg_trees c.args.args.now) [] s))
+pub call_listed-returns-clause-gives : goal.call_listed-returns-clause-gives
+call_listed-returns-clause-gives g t c = λ known knows.
+    between (λ s. v.call_of (direct false) (calls_of c.args.self.now c.args.depth) c.args.called.now.name (arg_trees c.args.args.now) (v.arguments (direct false) (calls_of c.args.self.now c.args.depth) (arg_trees c.args.args.now) [] s))
     c.call_with-answer.new.held.end c.call_with-answer.result _ _ _ _ (c.take_numbers-numbers.ensures.state c.args.target.now (known_part known (g.K.Sink.written c.args.sink.now))) refl (c.call_with-answer.ensures.gives known knows)
 
-pub call-returns-clause-made : goal.call-returns-clause-made
-call-returns-clause-made g t c = λ w made.
+pub call_listed-returns-clause-made : goal.call_listed-returns-clause-made
+call_listed-returns-clause-made g t c = λ w made.
     let so = c.call_with-answer.ensures.made w (c.take_numbers-numbers.ensures.made w _ made) in
     record { world = so.world }
 

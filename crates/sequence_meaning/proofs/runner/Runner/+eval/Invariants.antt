@@ -50,8 +50,17 @@ decreases-arguments g l = budget l.depth (10 * all_size (checked_trees l.self.no
 abbrev pub decreases-call_with : goal.decreases-call_with
 decreases-call_with g l = budget l.depth (10 * all_size (checked_trees l.self.now.set.now).sequences + 20) + 10 * args_size (arg_trees l.args.now) + 5
 
+abbrev pub decreases-call_listed : goal.decreases-call_listed
+decreases-call_listed g l = budget l.depth (10 * all_size (checked_trees l.self.now.set.now).sequences + 20) + 10 * args_size (arg_trees l.args.now) + 6
+
+abbrev pub decreases-call_one : goal.decreases-call_one
+decreases-call_one g l = budget l.depth (10 * all_size (checked_trees l.self.now.set.now).sequences + 20) + 10 * size (tree l.only.now) + 5
+
+abbrev pub decreases-call_two : goal.decreases-call_two
+decreases-call_two g l = budget l.depth (10 * all_size (checked_trees l.self.now.set.now).sequences + 20) + 10 * size (tree l.first.now) + 10 * size (tree l.second.now) + 5
+
 abbrev pub decreases-call : goal.decreases-call
-decreases-call g l = budget l.depth (10 * all_size (checked_trees l.self.now.set.now).sequences + 20) + 10 * args_size (arg_trees l.args.now) + 6
+decreases-call g l = budget l.depth (10 * all_size (checked_trees l.self.now.set.now).sequences + 20) + 10 * args_size (arg_trees l.args.now) + 7
 
 abbrev pub decreases-called : goal.decreases-called
 decreases-called g l = budget l.depth (10 * all_size (checked_trees l.self.now.set.now).sequences + 20) + 4
