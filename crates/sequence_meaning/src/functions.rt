@@ -10,7 +10,7 @@ ghost use Rattle.sequence_meaning.specs.Held.{IsCaused, IsMade, Gives, seen};
 
 use crate::end::{End, Stopped};
 use crate::held::Held;
-use crate::memory::memory;
+use crate::memory::{memory, word};
 use crate::probe::{abort, clock, delay, line_bits, pins};
 use crate::registers::{ap_register, dp_register};
 use dap_base::{OutOfMemory, Sink};
@@ -189,9 +189,8 @@ pub(crate) fn performed<K: Sink>(
             held,
             target,
         ),
-        Function::Read32 => memory(4, true, number_at(numbers, 0), 0, held, target),
-        Function::Write32 => memory(
-            4,
+        Function::Read32 => word(true, number_at(numbers, 0), 0, held, target),
+        Function::Write32 => word(
             false,
             number_at(numbers, 0),
             number_at(numbers, 1),

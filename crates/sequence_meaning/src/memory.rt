@@ -73,6 +73,7 @@ fn two_units(
 }
 
 // A memory call, once the port is known.
+#[inline(always)]
 #[tactic(auto, unfolding(sequence_terms::specs::Calls::memory_at, sequence_terms::specs::Calls::one_unit, sequence_terms::specs::Calls::or_halt))]
 fn memory_at(
     size: u8,
@@ -124,4 +125,20 @@ pub(crate) fn memory(
     ensures cause { (faults : ℕ) → IsCaused held.new.end result faults faults }
 {
     memory_at(size, read, address, value, port_of(held), held, target)
+}
+
+// A memory call of 4 bytes, which most are: as the size is known, its code is shorter.
+#[tactic(auto, unfolding(sequence_terms::specs::Calls::memory))]
+pub(crate) fn word(
+    read: bool,
+    address: u64,
+    value: u64,
+    held: &mut Held,
+    target: &mut Target,
+) -> Result<u64, Stopped>
+    ensures gives { (written : Option (List ℕ)) → Gives held.new.end result (state_of held.new target.new written) (c.memory (direct false) 4 read address value (state_of held.old target.old written)) }
+    ensures made { (w : World) → IsMade w held.old target.old → IsMade w held.new target.new }
+    ensures cause { (faults : ℕ) → IsCaused held.new.end result faults faults }
+{
+    memory_at(4, read, address, value, port_of(held), held, target)
 }
