@@ -1,9 +1,9 @@
 //! The register accesses of which calls are made, and what they are written with.
 ghost use Rattle.std.specs.Prelude.{◌≡◌, ◌<◌, ◌⊎◌, ◌*◌, ◌/◌, ◌%◌, ◌^◌, false, if◌then◌else◌};
-ghost use Rattle.target_machine.specs.Plain.{ap_access_of, csw_for, dp_read_of, dp_write_of, drw_of, from_lanes, select_of, to_lanes};
+ghost use Rattle.target_machine.specs.Plain.{ap_access_of, dp_read_of, dp_write_of, drw_of, from_lanes, select_of, to_lanes};
 
 use target_machine::RegAccess;
-use target_machine::registers::{CSW_OTHERS, DRW, SELECT};
+use target_machine::registers::{DRW, SELECT};
 
 /// An access of the register of the debug port at a byte address; a read writes 0.
 pub fn access_dp(read: bool, addr: u8, value: u32) -> RegAccess
@@ -83,18 +83,6 @@ pub fn from_lanes(size: u8, address: u64, word: u32) -> u32
         2 => shifted % 0x1_0000,
         _ => shifted,
     }
-}
-
-/// CSW with this size (1, 2 or 4 bytes) and no increment, its other bits as they were read.
-pub fn plain_csw(csw: u32, size: u8) -> u32
-    ensures { result ≡ csw_for csw size }
-{
-    let code = match size {
-        1 => 0,
-        2 => 1,
-        _ => 2,
-    };
-    (csw & CSW_OTHERS) + code
 }
 
 /// The low 32 bits of an address: TAR.

@@ -7,12 +7,10 @@ ghost use Rattle.calls_at_once.specs.Made.{IsDone, MadeAs, end_of, is_match, mem
 
 use crate::accesses::{has_faulted, make_all, make_next, number_of};
 use crate::made::{Made, made_of};
-use call_terms::accesses::{
-    access_ap, access_dp, access_drw, from_lanes, high_of, low_of, plain_csw, select,
-};
+use call_terms::accesses::{access_ap, access_dp, access_drw, from_lanes, high_of, low_of, select};
 use dap_base::OutOfMemory;
 use target_machine::registers::{CFG, CFG_LA, CSW, CTRL_STAT, TAR, TAR_HIGH};
-use target_machine::{Outcome, Target, Unit, attempt};
+use target_machine::{Outcome, Target, Unit, attempt, plain_csw};
 
 // The AP is in the list.
 fn is_among(large: &[u8], ap: u8) -> bool
@@ -55,8 +53,8 @@ fn poll(target: &mut Target, mask: u32, requested: u32, turns: u32) -> Outcome
     Outcome::Value(0)
 }
 
-// The accesses of a memory access, once it is known whether its AP has large addresses.
-fn transfer(
+// The accesses of a memory access, each by itself.
+fn transfer_by_each(
     target: &mut Target,
     is_large: bool,
     size: u8,
@@ -80,6 +78,27 @@ fn transfer(
     }
     last = make_next(target, last, access_ap(false, TAR, low_of(address)));
     make_next(target, last, access_drw(read, address, value))
+}
+
+// The accesses of a memory access, once it is known whether its AP has large addresses. Where the AP can be aimed, those before DRW are
+// one step.
+fn transfer(
+    target: &mut Target,
+    is_large: bool,
+    size: u8,
+    read: bool,
+    ap: u8,
+    address: u64,
+    value: u32,
+) -> Outcome
+    requires { read ≡ false → value * 2 ^ (8 * (address % 4)) < 2 ^ 32 }
+    ensures { record { outcome = result; next = target.new } ≡ in_order target.old (memory_actions target.old is_large size read ap address value) }
+{
+    if !is_large && target.aim(ap, size, low_of(address)) {
+        attempt(target, access_drw(read, address, value))
+    } else {
+        transfer_by_each(target, is_large, size, read, ap, address, value)
+    }
 }
 
 // How a memory access ends by what DRW answered.

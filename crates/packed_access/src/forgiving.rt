@@ -36,9 +36,9 @@ use crate::planned::port_of;
 use crate::sender::{Sender, counted};
 use access_calls::Stop;
 use bench_flights::Flights;
-use call_terms::accesses::{access_ap, access_drw, high_of, low_of, plain_csw};
+use call_terms::accesses::{access_ap, access_drw, high_of, low_of};
 use target_machine::registers::{CFG, CSW, TAR, TAR_HIGH};
-use target_machine::{RegAccess, Unit};
+use target_machine::{RegAccess, Unit, plain_csw};
 
 // How a unit went.
 #[derive(Drop)]
