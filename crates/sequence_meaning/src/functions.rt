@@ -20,8 +20,8 @@ use std::alloc::Global;
 use target_machine::{HaltCause, Target};
 use text_lines::{Line, TextError, put_text};
 
-// Writes a line, and then this is the value, unless it would be line 100,001. It is not inlined, and no function is that writes
-// one: few calls write lines, and all would pay for the room of these.
+// Writes a line, and then this is the value, unless it would be line 100,001. Functions that write lines are not inlined: few calls
+// write lines, and all would pay for the room of these.
 #[inline(never)]
 #[tactic(auto, unfolding(sequence_terms::specs::Calls::lined, sequence_terms::specs::Direct::direct), using(sequence_terms::proofs::KnownLemmas::known_more, sequence_terms::proofs::KnownLemmas::knows_more, sequence_terms::proofs::KnownLemmas::knows_part))]
 fn lined<K: Sink>(
