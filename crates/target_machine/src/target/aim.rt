@@ -3,8 +3,8 @@ ghost use Rattle.std.specs.Prelude.{◌≡◌, ◌<◌, Some, true, false};
 ghost use Rattle.std.specs.FinMap as map;
 
 use super::Target;
-use crate::ap::{self, ApState};
-use crate::registers::{CDBGPWRUPREQ, CSW};
+use crate::ap::{self, ApState, plain_csw};
+use crate::registers::{CDBGPWRUPREQ, CSW, TAR};
 
 impl Target {
     ghost use Rattle.target_machine.specs.Attempt.{done};
@@ -17,9 +17,11 @@ impl Target {
         requires there { map.get self.old.aps number ≡ Some port }
         ensures { self.new ≡ aimed_target self.old number port size address }
     {
-        ap::replace_ap(&mut self.aps, number, port.aimed(size, address));
+        let csw = port.register(CSW);
+        let sized = port.written(CSW, plain_csw(csw, size));
+        ap::replace_ap(&mut self.aps, number, sized.written(TAR, address));
         self.select = number * 0x100_0000;
-        self.rdbuff = port.register(CSW);
+        self.rdbuff = csw;
     }
 
     /// Makes, in one step, the four accesses that lead DRW of an access port to an address in the low 4 GiB: a write of SELECT with the
