@@ -116,27 +116,28 @@ module _ (w : World) where
   same_lines (Err e) (Err (machine.Unanswered, r)) p = p.written
   same_lines (Err e) (Err (machine.Lost, r)) p = absurd p
 
-  -- the second list comes first in the first one
-  record Front (calls theirs : List Ask) : Type 0 where
+  -- the outcome's calls come first in these, and are all of them where it is Done or Halted
+  record Front (calls : List Ask) (o : Outcome) : Type 0 where
     more : List Ask
-    same : calls ≡ theirs ++ more
+    same : calls ≡ o.calls ++ more
+    only : IsWhole o.ending → more ≡ []
 
-  front_same : (s t : List Ask) → t ≡ s → Front s t
-  front_same s t e = record { more = []; same = sym e ∙ sym (append-nil t) }
+  front_same : (s : List Ask) (o : Outcome) → o.calls ≡ s → Front s o
+  front_same s o e = record { more = []; same = sym e ∙ sym (append-nil o.calls); only = λ whole. refl }
 
-  front_of : (b : Bool) (t : Late) (k : ℕ) (u : Now) → StoppedAt w b t k u → Front t.asks.calls u.calls
-  front_of b t k u h = record { more = h.more; same = h.calls }
+  front_of : (b : Bool) (t : Late) (k : ℕ) (u : Now) (o : Outcome) → StoppedAt w b t k u → o.calls ≡ u.calls → (IsWhole o.ending → ⊥) → Front t.asks.calls o
+  front_of b t k u o h e stops = record { more = h.more; same = h.calls ∙ ap (λ (c : List Ask). c ++ h.more) (sym e); only = λ whole. absurd (stops whole) }
 
-  their_calls : (out : L) (q : Q) → Pair w out q → Front (end_state out).rest.asks.calls (outcome_of q).calls
+  their_calls : (out : L) (q : Q) → Pair w out q → Front (end_state out).rest.asks.calls (outcome_of q)
   their_calls (Ok x) (Ok y) p = front_same _ _ p.0.rest.calls
   their_calls (Err e) (Ok y) p = absurd p
   their_calls (Ok x) (Err (machine.Halted c, r)) p = absurd p
-  their_calls (Ok x) (Err (machine.Faulted c, r)) p = front_of _ _ _ _ p.stopped
-  their_calls (Ok x) (Err (machine.Unanswered, r)) p = front_of _ _ _ _ p
+  their_calls (Ok x) (Err (machine.Faulted c, r)) p = front_of _ _ _ _ _ p.stopped refl (λ none. none)
+  their_calls (Ok x) (Err (machine.Unanswered, r)) p = front_of _ _ _ _ _ p refl (λ none. none)
   their_calls (Ok x) (Err (machine.Lost, r)) p = absurd p
   their_calls (Err e) (Err (machine.Halted c, r)) p = front_same _ _ p.1.rest.calls
-  their_calls (Err e) (Err (machine.Faulted c, r)) p = front_of _ _ _ _ p.stopped
-  their_calls (Err e) (Err (machine.Unanswered, r)) p = front_of _ _ _ _ p
+  their_calls (Err e) (Err (machine.Faulted c, r)) p = front_of _ _ _ _ _ p.stopped refl (λ none. none)
+  their_calls (Err e) (Err (machine.Unanswered, r)) p = front_of _ _ _ _ _ p refl (λ none. none)
   their_calls (Err e) (Err (machine.Lost, r)) p = absurd p
 
   -- ---- the calls stop: so does the meaning, there, and by the same cause
@@ -252,11 +253,11 @@ module _ (w : World) where
   is_halted lines why r s (Err e) (Err (machine.Lost, y)) p is whole c = absurd p
 
   -- what was asked then, and the calls of the meaning
-  shares : (out : L) (q : Q) (calls more : List Ask) → Pair w out q → (end_state out).rest.asks.calls ≡ calls ++ more → SharesCalls calls (outcome_of q).calls
-  shares out q calls more p is = let t = their_calls out q p in record { all = (end_state out).rest.asks.calls; more = more; over = t.more; ours = inl is; theirs = t.same }
+  shares : (out : L) (q : Q) (calls more : List Ask) → Pair w out q → (end_state out).rest.asks.calls ≡ calls ++ more → SharesCalls calls (outcome_of q)
+  shares out q calls more p is = let t = their_calls out q p in record { all = (end_state out).rest.asks.calls; more = more; over = t.more; ours = inl is; theirs = t.same; only = t.only }
 
-  shares_settled : (out : L) (q : Q) (calls : List Ask) → Pair w out q → calls ≡ settled_last (end_state out).rest.asks.calls → SharesCalls calls (outcome_of q).calls
-  shares_settled out q calls p is = let t = their_calls out q p in record { all = (end_state out).rest.asks.calls; more = []; over = t.more; ours = inr is; theirs = t.same }
+  shares_settled : (out : L) (q : Q) (calls : List Ask) → Pair w out q → calls ≡ settled_last (end_state out).rest.asks.calls → SharesCalls calls (outcome_of q)
+  shares_settled out q calls p is = let t = their_calls out q p in record { all = (end_state out).rest.asks.calls; more = []; over = t.more; ours = inr is; theirs = t.same; only = t.only }
 
   -- the code left the meaning in its middle
   is_cut_off : (lines : ℕ) (report : Report) (r : Ran) (now : State Value Late) (out : L) (q : Q) → Pair w out q → w.answered ≡ answered_cut report.cause lines → Left w lines (Cut report) now out → r.asks.calls ≡ now.rest.asks.calls → r.written ≡ now.rest.written

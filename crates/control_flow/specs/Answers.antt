@@ -52,19 +52,6 @@ pub record IsAll (o : Outcome) (r : Ran) : Type 0 where
   pub calls : r.asks.calls ≡ settled_last o.calls
   pub written : r.written ≡ o.written
 
--- What was asked, except for a mark after the last call, and the calls of the outcome both come first in one list of calls.
-pub record SharesCalls (asked calls : List Ask) : Type 0 where
-  pub all : List Ask
-  pub more : List Ask
-  pub over : List Ask
-  pub ours : (all ≡ asked ++ more) ⊎ (asked ≡ settled_last all)
-  pub theirs : all ≡ calls ++ over
-
--- The run was left in its middle: what was written comes first in what the outcome writes, and its calls are among the first.
-pub record IsPart (o : Outcome) (r : Ran) : Type 0 where
-  pub written : Grows r.written o.written
-  pub calls : SharesCalls r.asks.calls o.calls
-
 -- the outcome ends at a fault
 abbrev pub IsFaulted : runs.Ending → Type 0
 IsFaulted runs.Done = ⊥
@@ -81,6 +68,21 @@ IsWhole (runs.Faulted call) = ⊥
 IsWhole runs.Unanswered = ⊥
 IsWhole runs.Lost = ⊥
 
+-- What was asked, except for a mark after the last call, and the calls of the outcome both come first in one list of calls. Where the
+-- outcome is Done or Halted, that list is its calls.
+pub record SharesCalls (asked : List Ask) (o : Outcome) : Type 0 where
+  pub all : List Ask
+  pub more : List Ask
+  pub over : List Ask
+  pub ours : (all ≡ asked ++ more) ⊎ (asked ≡ settled_last all)
+  pub theirs : all ≡ o.calls ++ over
+  pub only : IsWhole o.ending → over ≡ []
+
+-- The run was left in its middle: what was written comes first in what the outcome writes, and its calls are among the first.
+pub record IsPart (o : Outcome) (r : Ran) : Type 0 where
+  pub written : Grows r.written o.written
+  pub calls : SharesCalls r.asks.calls o
+
 -- Where the target or the probe stopped the calls, so many of which have their lines before it: the outcome ends at a fault of the
 -- next unit; or at the next unit, which is not answered; or it comes to its end with so many units, and a retry ended after them.
 abbrev pub StopsAfter : StopCause → ℕ → Outcome → Type 0
@@ -91,7 +93,7 @@ StopsAfter cause.NoAnswer lines o = ((o.ending ≡ runs.Unanswered) × (units_of
 pub record IsCut (cause : StopCause) (lines : ℕ) (o : Outcome) (r : Ran) : Type 0 where
   pub stops : StopsAfter cause lines o
   pub written : r.written ≡ o.written
-  pub calls : SharesCalls r.asks.calls o.calls
+  pub calls : SharesCalls r.asks.calls o
 
 -- how a run ended, by the outcome
 abbrev pub EndsAs : Ending → ℕ → Outcome → Ran → Type 0

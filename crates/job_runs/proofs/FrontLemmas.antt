@@ -22,7 +22,8 @@ use Rattle.access_calls.specs.Reported.{Beginning, start_of}
 use Rattle.access_calls.specs.Standing.{HasPerformed, grown_since}
 use Rattle.access_calls.specs.declared.stop.Report.{Report}
 use Rattle.access_calls.specs.declared.stop.StopCause.{StopCause}
-use Rattle.control_flow.specs.Answers.{SharesCalls}
+use Rattle.control_flow.specs.Answers.{IsWhole, SharesCalls}
+use Rattle.sequence_terms.specs.Runs.{Outcome}
 use Rattle.job_runs.specs.Runs.{HasMade}
 
 -- ---- lists
@@ -79,16 +80,31 @@ pub data Meets (asked calls : List Ask) : Type 0 where
   beyond : (rest : List Ask) → asked ≡ calls ++ rest → Meets asked calls
   marked : (over : List Ask) → asked ≡ settled_last (calls ++ over) → Meets asked calls
 
-pub meets : (asked calls : List Ask) → SharesCalls asked calls → Meets asked calls
-meets asked calls s = by_ours s.ours
+pub meets : (asked : List Ask) (o : Outcome) → SharesCalls asked o → Meets asked o.calls
+meets asked o s = by_ours s.ours
   where
-    by_overlap : ((rest : List Ask) × (calls ≡ asked ++ rest)) ⊎ ((rest : List Ask) × (asked ≡ calls ++ rest)) → Meets asked calls
+    by_overlap : ((rest : List Ask) × (o.calls ≡ asked ++ rest)) ⊎ ((rest : List Ask) × (asked ≡ o.calls ++ rest)) → Meets asked o.calls
     by_overlap (inl h) = within h.0 h.1
     by_overlap (inr h) = beyond h.0 h.1
 
-    by_ours : (s.all ≡ asked ++ s.more) ⊎ (asked ≡ settled_last s.all) → Meets asked calls
-    by_ours (inl e) = by_overlap (overlap asked s.more calls s.over (sym e ∙ s.theirs))
+    by_ours : (s.all ≡ asked ++ s.more) ⊎ (asked ≡ settled_last s.all) → Meets asked o.calls
+    by_ours (inl e) = by_overlap (overlap asked s.more o.calls s.over (sym e ∙ s.theirs))
     by_ours (inr e) = marked s.over (e ∙ ap settled_last s.theirs)
+
+-- where the outcome is Done or Halted, no more was asked than its calls
+few_asked : (asked : List Ask) (o : Outcome) → SharesCalls asked o → IsWhole o.ending → length asked ≤ length o.calls
+few_asked asked o s whole = by_ours s.ours
+  where
+    all : length s.all ≡ length o.calls
+    all = ap length (s.theirs ∙ ap (λ (l : List Ask). o.calls ++ l) (s.only whole) ∙ append-nil o.calls)
+
+    by_ours : (s.all ≡ asked ++ s.more) ⊎ (asked ≡ settled_last s.all) → length asked ≤ length o.calls
+    by_ours (inl e) = (let long = ap length e ∙ length-append asked s.more in omega (arith, all, long))
+    by_ours (inr e) = (let long = ap length e ∙ length_marked s.all in omega (arith, all, long))
+
+no_more : (more : List Ask) → (0 < length more → ⊥) → more ≡ []
+no_more [] none = refl
+no_more (x ∷ more) none = absurd (none (omega arith))
 
 -- the call at a place of what was asked stands there in the calls of the outcome too, where these reach so far
 pub own_call : (asked calls all later : List Ask) (i : ℕ) (c : Call) → Meets asked calls → all ≡ calls ++ later → i < length calls → option_map (λ (a : Ask). a.call) (slice_get asked i) ≡ Some c
@@ -302,6 +318,10 @@ module _ (journal : TargetState → List Ask → List Entry) (grows : JournalGro
     goes_on = record { rest = []; joined = ap (journal t) (sym is) ∙ sym (append-nil (journal t asked)); later = tt };
     same = λ i c at. ap (λ (l : List Ask). option_map (λ (a : Ask). a.call) (slice_get l i)) (sym is) ∙ at;
   }
+
+  -- no more calls than the outcome's, where it is Done or Halted
+  pub none_more : (asked : List Ask) (o : Outcome) → SharesCalls asked o → (c : Covers asked o.calls) → IsWhole o.ending → c.more ≡ []
+  none_more asked o shares c whole = no_more c.more (λ some. (let few = few_asked asked o shares whole in let many = c.beyond some in omega (arith, few, many)))
 
   -- so the journals meet where the stop names any entry
   pub covered : (r : Report) (asked calls : List Ask) (h : Covers asked calls) → r.confirmed < length (journal t asked) → r.unit ≤ length asked → Meeting r (journal t asked) (journal t (settled_last (calls ++ h.more)))

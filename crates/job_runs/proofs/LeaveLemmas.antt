@@ -41,8 +41,8 @@ use Rattle.control_flow.specs.Answers as answers
 use Rattle.control_flow.specs.Answers.{EndBy, EndsAs, HasNeeds, IsAll, IsCut, IsPart, Ran, SharesCalls, StopsAfter, ran}
 use Rattle.sequence_terms.specs.Known.{Knows, known_part}
 use Rattle.target_machine.specs.Counts.{one_if}
-use Rattle.job_runs.proofs.FrontLemmas.{Covers, Meeting, call_within, covered, covers, get_some, meeting, meets, own_call, same_fault, same_first, same_made, same_numbers}
-use Rattle.job_runs.specs.Runs.{AccessKind, ComesTo, EndsAfter, HasAsked, HasStopped, IsBroken, IsFaultStop, IsFew, IsFewIf, IsLeftOff, IsNotOpened, IsRetryStop, IsStop, IsUnopened, IsWhole, Left, LeavesAs, Run, calls_in, calls_with, entries_in, known_after, needs_in, not_opened, opened, outcome_with}
+use Rattle.job_runs.proofs.FrontLemmas.{Covers, Meeting, call_within, covered, covers, get_some, meeting, meets, none_more, own_call, same_fault, same_first, same_made, same_numbers}
+use Rattle.job_runs.specs.Runs.{AccessKind, ComesTo, HasAsked, HasStopped, IsBroken, IsFaultStop, IsFew, IsFewIf, IsLeftOff, IsNotOpened, IsRetryStop, IsStop, IsUnopened, IsWhole, Left, LeavesAs, Run, calls_in, entries_in, known_after, needs_in, not_opened, opened, outcome_with}
 use Rattle.job_runs.specs.Ends.{ending_of}
 use Rattle.bench_access.specs.Opening.{IsLoaded, IsNotBegun, IsOpened, RefusedBy}
 
@@ -145,8 +145,11 @@ module _ (access : AccessKind) (grows : JournalGrows access.journal) (settles : 
   abbrev Covered : Reported → Type 0
   Covered a = Covers access.journal grows settles (target_of first.probe) a.asks.calls whole.calls
 
-  covered_by : (a : Reported) → SharesCalls a.asks.calls whole.calls → Covered a
-  covered_by a shares = covers access.journal grows settles (target_of first.probe) a.asks.calls whole.calls (meets a.asks.calls whole.calls shares)
+  covered_by : (a : Reported) → SharesCalls a.asks.calls whole → Covered a
+  covered_by a shares = covers access.journal grows settles (target_of first.probe) a.asks.calls whole.calls (meets a.asks.calls whole shares)
+
+  only_own : (a : Reported) → SharesCalls a.asks.calls whole → (c : Covered a) → answers.IsWhole whole.ending → c.more ≡ []
+  only_own a shares c ends = none_more access.journal grows settles (target_of first.probe) a.asks.calls whole shares c ends
 
   is_left_off : (a : Reported) (l : Left) → IsPart whole (ran l.ended a.asks l.written) → IsOpen (entries a) a (began first None) l.bench → IsLeftOff run l
   is_left_off a l part at =
@@ -155,7 +158,7 @@ module _ (access : AccessKind) (grows : JournalGrows access.journal) (settles : 
         asked = a.asks.calls;
         more = c.more;
         sent = a.confirmed;
-        front = record { written = part.written; calls = part.calls; entries = c.goes_on; beyond = c.beyond };
+        front = record { written = part.written; calls = part.calls; entries = c.goes_on; only = only_own a part.calls c; beyond = c.beyond };
         performed = at.performed;
         target = subst (λ (es : List Entry). Agree (target_of l.bench.probe) (target_after (target_of first.probe) es))
             (sym (ap (take a.confirmed) c.goes_on.joined ∙ take-append-le a.confirmed (entries a) c.goes_on.rest at.performed.within)) at.performed.target;
@@ -169,7 +172,7 @@ module _ (access : AccessKind) (grows : JournalGrows access.journal) (settles : 
       record {
         asked = a.asks.calls;
         more = c.more;
-        front = record { written = part.written; calls = part.calls; entries = c.goes_on; beyond = c.beyond };
+        front = record { written = part.written; calls = part.calls; entries = c.goes_on; only = only_own a part.calls c; beyond = c.beyond };
         stands = fault;
       }
 
@@ -217,7 +220,7 @@ module _ (access : AccessKind) (grows : JournalGrows access.journal) (settles : 
       let n = names a r at.numbers in
       let units : length whole.calls ≡ a.lines + 1 = (subst (λ (c : StopCause). StopsAfter c a.lines whole) cause cut.stops).1 in
       let one : r.accesses ≤ r.confirmed + 1 = (let c = at.confirmed in omega (arith, c)) in
-      let m = meets a.asks.calls whole.calls cut.calls in
+      let m = meets a.asks.calls whole cut.calls in
       let meet : Meeting r (entries a) (entries_in run (calls_in run)) =
       meeting access.journal grows settles (target_of first.probe) r a.asks.calls whole.calls whole.calls [] n.entry m (sym (append-nil whole.calls)) n.at
       (let lines = n.lines in omega (arith, lines, units)) n.asked (let high = n.unit in omega (arith, units, high)) in
@@ -240,23 +243,21 @@ module _ (access : AccessKind) (grows : JournalGrows access.journal) (settles : 
   retry_one : (r : Report) (m : BenchState) → r.accesses ≡ r.confirmed + one_if (pending_of m) → r.accesses ≤ r.confirmed + 1
   retry_one r m is = (let few = one_at_most (pending_of m) in omega (arith, is, few))
 
-  -- a retry that ended, in the journal of these calls
-  retry_in : (a : Reported) (r : Report) (l : Left) (more : List Ask) → IsCut r.cause a.lines (short a.lines) (ran l.ended a.asks l.written) → l.ended.skipped ≡ a.skipped
-      → s.IsUnanswered (entries a) r a (began first (Some a.lines)) l.bench → (0 < length more → EndsAfter a.lines whole) → Meeting r (entries a) (entries_in run (calls_with run more))
-      → option_map (λ (x : Ask). x.call) (slice_get (calls_with run more) (r.unit - 1)) ≡ Some r.what → IsRetryStop run r l
-  retry_in a r l more cut skipped at after_all meet what =
+  -- a retry that ended, in the journal of the whole outcome's calls
+  retry_in : (a : Reported) (r : Report) (l : Left) → IsCut r.cause a.lines (short a.lines) (ran l.ended a.asks l.written) → l.ended.skipped ≡ a.skipped
+      → s.IsUnanswered (entries a) r a (began first (Some a.lines)) l.bench → Meeting r (entries a) (entries_in run (calls_in run))
+      → option_map (λ (x : Ask). x.call) (slice_get (calls_in run) (r.unit - 1)) ≡ Some r.what → IsRetryStop run r l
+  retry_in a r l cut skipped at meet what =
       let one = retry_one r l.bench at.confirmed in
       record {
         lines = a.lines;
         asked = a.asks.calls;
-        more = more;
-        after_all = after_all;
-        stopped = has_stopped (Some a.lines) (short a.lines) a r l (calls_with run more) cut skipped at.numbers at.performed one meet what;
+        stopped = has_stopped (Some a.lines) (short a.lines) a r l (calls_in run) cut skipped at.numbers at.performed one meet what;
         of_asked = has_asked (Some a.lines) (short a.lines) a r l cut skipped at.numbers at.performed;
         confirmed = at.confirmed;
         retries = at.retries;
         number = subst (λ (es : List Entry). number_of l.bench + 2 * commands_in es ≤ number_of first + 2 * grown_since (began first (Some a.lines)) l.bench + 1)
-            (same_first r (entries a) (entries_in run (calls_with run more)) meet one) at.number;
+            (same_first r (entries a) (entries_in run (calls_in run)) meet one) at.number;
         number_asked = at.number;
       }
 
@@ -265,22 +266,26 @@ module _ (access : AccessKind) (grows : JournalGrows access.journal) (settles : 
       → s.IsUnanswered (entries a) r a (began first (Some a.lines)) l.bench → units_of (short a.lines) ≡ a.lines + 1 → (later : List Ask) → whole.calls ≡ (short a.lines).calls ++ later → IsRetryStop run r l
   retry_short a r l cut skipped at units later are =
       let n = names a r at.numbers in
-      let m = meets a.asks.calls (short a.lines).calls cut.calls in
-      let all : whole.calls ++ [] ≡ (short a.lines).calls ++ later = append-nil whole.calls ∙ are in
-      retry_in a r l [] cut skipped at (λ some. absurd (omega (arith, some)))
-      (meeting access.journal grows settles (target_of first.probe) r a.asks.calls (short a.lines).calls (whole.calls ++ []) later n.entry m all n.at
+      let m = meets a.asks.calls (short a.lines) cut.calls in
+      retry_in a r l cut skipped at
+      (meeting access.journal grows settles (target_of first.probe) r a.asks.calls (short a.lines).calls whole.calls later n.entry m are n.at
       (let lines = n.lines in omega (arith, lines, units)) n.asked (let high = n.unit in omega (arith, units, high)))
-      (own_call a.asks.calls (short a.lines).calls (whole.calls ++ []) later (r.unit - 1) r.what m all (let high = n.unit in omega (arith, units, high)) at.numbers.what)
+      (own_call a.asks.calls (short a.lines).calls whole.calls later (r.unit - 1) r.what m are (let high = n.unit in omega (arith, units, high)) at.numbers.what)
 
-  -- where the outcome comes to its end with so many units
+  -- where the outcome comes to its end
   retry_whole : (a : Reported) (r : Report) (l : Left) → IsCut r.cause a.lines (short a.lines) (ran l.ended a.asks l.written) → l.ended.skipped ≡ a.skipped
-      → s.IsUnanswered (entries a) r a (began first (Some a.lines)) l.bench → EndsAfter a.lines (short a.lines) → short a.lines ≡ whole → IsRetryStop run r l
+      → s.IsUnanswered (entries a) r a (began first (Some a.lines)) l.bench → answers.IsWhole (short a.lines).ending → short a.lines ≡ whole → IsRetryStop run r l
   retry_whole a r l cut skipped at ends same =
       let n = names a r at.numbers in
-      let c = covered_by a (subst (λ (o : Outcome). SharesCalls a.asks.calls o.calls) same cut.calls) in
-      retry_in a r l c.more cut skipped at (λ some. subst (EndsAfter a.lines) same ends)
-      (covered access.journal grows settles (target_of first.probe) r a.asks.calls whole.calls c at.numbers.named n.asked)
-      (c.same (r.unit - 1) r.what at.numbers.what)
+      let shares : SharesCalls a.asks.calls whole = subst (λ (o : Outcome). SharesCalls a.asks.calls o) same cut.calls in
+      let c = covered_by a shares in
+      let own : whole.calls ++ c.more ≡ whole.calls =
+      ap (λ (l : List Ask). whole.calls ++ l) (only_own a shares c (subst (λ (o : Outcome). answers.IsWhole o.ending) same ends)) ∙ append-nil whole.calls in
+      retry_in a r l cut skipped at
+      (subst (λ (calls : List Ask). Meeting r (entries a) (entries_in run (settled_last calls))) own
+      (covered access.journal grows settles (target_of first.probe) r a.asks.calls whole.calls c at.numbers.named n.asked))
+      (subst (λ (calls : List Ask). option_map (λ (x : Ask). x.call) (slice_get (settled_last calls) (r.unit - 1)) ≡ Some r.what) own
+      (c.same (r.unit - 1) r.what at.numbers.what))
 
   is_retry_stop : (a : Reported) (r : Report) (l : Left) → r.cause ≡ NoAnswer → IsCut r.cause a.lines (short a.lines) (ran l.ended a.asks l.written) → l.ended.skipped ≡ a.skipped
       → s.IsUnanswered (entries a) r a (began first (Some a.lines)) l.bench → IsRetryStop run r l
@@ -289,7 +294,7 @@ module _ (access : AccessKind) (grows : JournalGrows access.journal) (settles : 
       by_limit : laws.IsWhole a.lines whole (short a.lines) ⊎ IsCutShort a.lines whole (short a.lines) → StopsAfter NoAnswer a.lines (short a.lines) → IsRetryStop run r l
       by_limit (inl h) (inl stops) =
           let units = ap units_of h.same in let few = h.units in let many = stops.1 in absurd (omega (arith, units, few, many))
-      by_limit (inl h) (inr stops) = retry_whole a r l cut skipped at stops h.same
+      by_limit (inl h) (inr stops) = retry_whole a r l cut skipped at stops.0 h.same
       by_limit (inr h) (inl stops) = retry_short a r l cut skipped at stops.1 h.more h.calls
       by_limit (inr h) (inr stops) = absurd (subst answers.IsWhole h.ending stops.0)
 

@@ -1,5 +1,5 @@
 -- What a run of a job leaves.
-use Rattle.std.specs.Prelude.{◌≡◌, ⊤, ℕ, ◌+◌, ◌-◌, ◌*◌, ◌/◌, ◌^◌, ◌<◌, ◌≤◌, Bool, true, false, List, ◌++◌, length, take, Option, Some, None}
+use Rattle.std.specs.Prelude.{◌≡◌, ⊤, ℕ, ◌+◌, ◌-◌, ◌*◌, ◌/◌, ◌^◌, ◌<◌, ◌≤◌, Bool, true, false, List, [], ◌++◌, length, take, Option, Some, None}
 use Rattle.target_machine.specs.Start.{start}
 use Rattle.target_machine.specs.State.{Agree, TargetState}
 use Rattle.probe_core.specs.Bench.{BenchState}
@@ -150,13 +150,9 @@ pub record HasStopped (run : Run) (answered : Option ℕ) (o : Outcome) (calls :
 -- So it is in the journal of the calls that were asked too: these and the outcome's calls come first in one list of calls, the numbers
 -- are those of a stop among them, and by the probe's work exactly the accesses of the report were performed.
 pub record HasAsked (run : Run) (answered : Option ℕ) (o : Outcome) (asked : List Ask) (lines : ℕ) (r : Report) (l : Left) : Type 0 where
-  pub calls : SharesCalls asked o.calls
+  pub calls : SharesCalls asked o
   pub numbers : HasNumbers (entries_in run asked) asked l.ended.skipped lines r
   pub performed : HasPerformed (entries_in run asked) r.accesses (began run.first answered) l.bench
-
--- the outcome is Done or Halted, with so many units
-abbrev pub EndsAfter : ℕ → Outcome → Type 0
-EndsAfter units o = answers.IsWhole o.ending × (units_of o ≡ units)
 
 -- At a fault: the outcome ends at a fault of the next unit, and the last performed access is the first that gives a fault which its unit
 -- does not forgive, in the journal of the outcome's calls and in that of the calls that were asked. No retry ended.
@@ -171,19 +167,17 @@ pub record IsFaultStop (run : Run) (r : Report) (l : Left) : Type 0 where
   pub retries : NoneEnded run l
 
 -- Where a retry ended: the outcome is the one with so many units answered, which comes first in the whole one; the journal is that
--- of the whole one's calls, and of more only where these have all their lines before the stop. The performed accesses are confirmed,
+-- of the whole one's calls, and that of the calls that were asked. The performed accesses are confirmed,
 -- except the last where a read was outstanding or a write unchecked. Just one retry ended, and the transfer that it ended is one of
 -- the run's.
 pub record IsRetryStop (run : Run) (r : Report) (l : Left) : Type 0 where
   pub lines : ℕ
   pub asked : List Ask
-  pub more : List Ask
-  pub after_all : 0 < length more → EndsAfter lines (outcome_in run)
-  pub stopped : HasStopped run (Some lines) (outcome_with run lines) (calls_with run more) lines r l
+  pub stopped : HasStopped run (Some lines) (outcome_with run lines) (calls_in run) lines r l
   pub of_asked : HasAsked run (Some lines) (outcome_with run lines) asked lines r l
   pub confirmed : r.accesses ≡ r.confirmed + one_if (pending_of l.bench)
   pub retries : ended_retries_of l.bench.probe ≡ ended_retries_of run.first.probe + 1
-  pub number : number_of l.bench + 2 * commands_in (take r.accesses (entries_in run (calls_with run more)))
+  pub number : number_of l.bench + 2 * commands_in (take r.accesses (entries_in run (calls_in run)))
       ≤ number_of run.first + 2 * grown_since (began run.first (Some lines)) l.bench + 1
   pub number_asked : number_of l.bench + 2 * commands_in (take r.accesses (entries_in run asked))
       ≤ number_of run.first + 2 * grown_since (began run.first (Some lines)) l.bench + 1
@@ -196,12 +190,13 @@ IsStop NoAnswer run r l = IsRetryStop run r l
 -- ---- left off
 
 -- What was written comes first in the lines of the outcome. The calls that were asked and the outcome's come first in one list of calls.
--- The entries of the calls that were asked come first in the journal of the outcome's calls, and of more only where more were asked than
--- these.
+-- The entries of the calls that were asked come first in the journal of the outcome's calls, and of more only where the outcome ends at
+-- a fault and more were asked than these.
 pub record IsFront (run : Run) (asked more : List Ask) (l : Left) : Type 0 where
   pub written : Grows l.written (outcome_in run).written
-  pub calls : SharesCalls asked (outcome_in run).calls
+  pub calls : SharesCalls asked (outcome_in run)
   pub entries : GoesOnWith (length asked) (entries_in run asked) (entries_in run (calls_with run more))
+  pub only : answers.IsWhole (outcome_in run).ending → more ≡ []
   pub beyond : 0 < length more → units_of (outcome_in run) < length asked
 
 -- Where the bench failed: at least the confirmed entries were performed and at most those that were issued, and perhaps a part of
