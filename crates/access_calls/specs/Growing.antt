@@ -1,5 +1,5 @@
 -- The journal of calls, and that of more calls after them.
-use Rattle.std.specs.Prelude.{◌≡◌, ◌≤◌, ◌++◌, ℕ, List, [], length, refl}
+use Rattle.std.specs.Prelude.{◌≡◌, ◌<◌, ◌≤◌, ◌++◌, ℕ, List, [], length, refl}
 use Rattle.std.specs.List.{AllByRecursion}
 use Rattle.call_terms.specs.Asks.{settled_last}
 use Rattle.call_terms.specs.Journal.{Entry, lines_before}
@@ -9,6 +9,10 @@ use Rattle.target_machine.specs.State.{TargetState}
 -- the entry is issued once so many calls were asked: for a later one, or to settle what they left
 abbrev pub IsAfter : ℕ → Entry → Type 0
 IsAfter calls e = calls ≤ lines_before e
+
+-- the entry is issued for one of the first so many calls, or to settle what was left before the last of them
+abbrev pub IsWithin : ℕ → Entry → Type 0
+IsWithin calls e = lines_before e < calls
 
 -- these entries begin with the first ones, and go on with those that are issued once so many calls were asked
 pub record GoesOnWith (calls : ℕ) (first entries : List Entry) : Type 0 where

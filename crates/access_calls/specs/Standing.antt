@@ -1,5 +1,6 @@
 -- How far the target has come with the journal, and what a report says of it.
 use Rattle.std.specs.Prelude.{◌≡◌, ◌⊎◌, ℕ, ◌+◌, ◌-◌, ◌*◌, ◌<◌, ◌≤◌, Bool, true, List, length, take, slice_get, Option, Some, None}
+use Rattle.std.specs.List.{AllByRecursion}
 use Rattle.target_machine.specs.Plain.{Action, Makes, Polls, Commands, commanded, polled}
 use Rattle.target_machine.specs.State.{TargetState, Agree}
 use Rattle.target_machine.specs.declared.unit.ProbeCall.TheVariants as probe
@@ -7,10 +8,11 @@ use Rattle.probe_core.specs.Bench.{BenchState}
 use Rattle.probe_core.specs.Probe.{ended_retries_of, target_of, work_of}
 use Rattle.call_terms.specs.Asks.{is_settled}
 use Rattle.target_machine.specs.Counts.{one_if}
-use Rattle.call_terms.specs.Journal.{Entry, first_fault, target_after}
+use Rattle.call_terms.specs.Journal.{Entry, Passes, first_fault, target_after}
 use Rattle.call_terms.specs.Weights.{commands_in, performed}
-use Rattle.call_terms.specs.World.{skips, world_after}
+use Rattle.call_terms.specs.World.{skips, start_world, stop, world_after}
 use Rattle.call_terms.specs.declared.calls.Ask.{Ask}
+use Rattle.access_calls.specs.Growing.{IsWithin}
 use Rattle.access_calls.specs.Numbers.{HasNumbers}
 use Rattle.access_calls.specs.Reported.{Beginning, Reported, start_of, world_of}
 use Rattle.access_calls.specs.declared.stop.Report.{Report}
@@ -52,13 +54,18 @@ abbrev pub IsPartOf : Option Entry → TargetState → TargetState → Type 0
 IsPartOf None t u = ⊥
 IsPartOf (Some e) t u = IsPart e.action t u
 
+-- Where the calls, all answered, stop at one, these entries are issued for the calls up to that one.
+pub record StayWithin (t : TargetState) (asks : List Ask) (entries : List Entry) : Type 0 where
+  pub so : (calls : ℕ) → stop (start_world t None) asks ≡ Some calls → AllByRecursion (IsWithin calls) entries
+
 -- Without an end: all entries were issued. Those that are confirmed were performed, and no others; none of them gives a fault
--- that its unit does not forgive. No retry ended. The skipped calls are counted. Once a `finish` was made after the last
--- call, the target agrees with the one after the calls.
+-- that its unit does not forgive, or is of a call after the first that ends at a fault. No retry ended. The skipped calls are
+-- counted. Once a `finish` was made after the last call, the target agrees with the one after the calls.
 pub record IsOpen (entries : List Entry) (a : Reported) (b : Beginning) (m : BenchState) : Type 0 where
   pub issued : a.issued ≡ length entries
   pub performed : HasPerformed entries a.confirmed b m
   pub good : first_fault (start_of b) (take a.confirmed entries) ≡ None
+  pub own : StayWithin (start_of b) a.asks.calls (take a.confirmed entries)
   pub retries : ended_retries_of m.probe ≡ ended_retries_of b.state.probe
   pub skipped : a.skipped ≡ skips (world_of b) a.asks.calls
   pub settled : is_settled a.asks.calls ≡ true → Agree (target_of m.probe) (world_after (world_of b) a.asks.calls).target
@@ -82,16 +89,29 @@ pub record IsUnanswered (entries : List Entry) (r : Report) (a : Reported) (b : 
   pub retries : ended_retries_of m.probe ≡ ended_retries_of b.state.probe + 1
   pub number : number_of m + 2 * commands_in (take r.accesses entries) ≤ number_of b.state + 2 * grown_since b m + 1
 
--- Where the bench failed: at least the confirmed entries were performed, and at most those that were issued. The target
--- agrees with the one after the performed entries, or a part of the next one was done too.
-pub record IsBenchFault (entries : List Entry) (issued confirmed : ℕ) (b : Beginning) (m : BenchState) : Type 0 where
+-- The target agrees with the one after the first `count` entries, and no more were begun; or the next one was begun too, and a part
+-- of it was done.
+abbrev pub IsAfterPart : List Entry → ℕ → ℕ → Beginning → BenchState → Type 0
+IsAfterPart entries count begun b m =
+    let t = target_after (start_of b) (take count entries) in
+    ((begun ≡ count) × Agree (target_of m.probe) t) ⊎ ((begun ≡ count + 1) × IsPartOf (slice_get entries count) t (target_of m.probe))
+
+-- Where the bench failed: at least the confirmed entries were performed, and at most those that were issued were begun. None of
+-- those that were begun gives a fault that its unit does not forgive, except perhaps the last.
+pub record HasBroken (entries : List Entry) (issued confirmed : ℕ) (b : Beginning) (m : BenchState) : Type 0 where
   pub count : ℕ
+  pub begun : ℕ
   pub count_is : count ≡ performed (start_of b) entries (grown_since b m)
   pub low : confirmed ≤ count
-  pub high : count ≤ issued
+  pub high : begun ≤ issued
   pub within : issued ≤ length entries
-  pub target : let t = target_after (start_of b) (take count entries) in
-      Agree (target_of m.probe) t ⊎ IsPartOf (slice_get entries count) t (target_of m.probe)
+  pub good : Passes (start_of b) (take (begun - 1) entries)
+  pub target : IsAfterPart entries count begun b m
+
+-- So it is with the entries of these calls, and none that was begun is of a call after the first that ends at a fault.
+pub record IsBenchFault (asks : List Ask) (entries : List Entry) (issued confirmed : ℕ) (b : Beginning) (m : BenchState) : Type 0 where
+  pub broken : HasBroken entries issued confirmed b m
+  pub own : StayWithin (start_of b) asks (take broken.begun entries)
 
 -- at a cut, by its cause
 abbrev pub IsCut : StopCause → List Entry → Report → Reported → Beginning → BenchState → Type 0
@@ -102,7 +122,7 @@ IsCut NoAnswer entries r a b m = IsUnanswered entries r a b m
 abbrev pub StandsAt : Option Stop → List Entry → Reported → Beginning → BenchState → Type 0
 StandsAt None entries a b m = IsOpen entries a b m
 StandsAt (Some (Cut r)) entries a b m = IsCut r.cause entries r a b m
-StandsAt (Some (BenchFault issued confirmed)) entries a b m = IsBenchFault entries issued confirmed b m
+StandsAt (Some (BenchFault issued confirmed)) entries a b m = IsBenchFault a.asks.calls entries issued confirmed b m
 StandsAt (Some ReplyBad) entries a b m = ⊥
 StandsAt (Some OutOfMemory) entries a b m = ⊥
 

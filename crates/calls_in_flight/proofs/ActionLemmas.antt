@@ -9,13 +9,13 @@ use Rattle.std.specs.Prelude.{slice_get}
 use Rattle.call_terms.proofs.EntryLemmas.{commands_append, performed_part, registers_append, weight_append}
 use Rattle.access_calls.specs.Numbers.{HasNumbers}
 use Rattle.access_calls.specs.Reported.{Reported, began}
-use Rattle.access_calls.specs.Standing.{IsBenchFault, IsPart, IsPartOf, IsUnanswered, number_of, pending_of}
+use Rattle.access_calls.specs.Standing.{HasBroken, IsPart, IsPartOf, IsUnanswered, number_of, pending_of}
 use Rattle.access_regs.proofs.Seams.{after_split, passes_both}
 use Rattle.access_regs.specs.Entries.{NoneFault}
 use Rattle.access_regs.specs.Journal.{making}
 use Rattle.call_terms.specs.Journal.{Entry, Passes, actions_in, target_after}
 use Rattle.call_terms.specs.Weights.{commands_in, commands_of, performed, registers_in, registers_of, weight, weight_in}
-use Rattle.calls_in_flight.proofs.CutLemmas.{Cutting, cut, faults, front_target, one_more, work_is}
+use Rattle.calls_in_flight.proofs.CutLemmas.{Cutting, cut, faults, front_target, one_more, passes_but_last, work_is}
 use Rattle.calls_in_flight.proofs.FlightLemmas.{commands_both, flight_length, head_makes, weight_both}
 use Rattle.calls_in_flight.specs.Actions.{ActionBench, ActionDone, ActionWait, AreForgiving, FaultForgiven}
 use Rattle.calls_in_flight.specs.Packets.{FewPackets, FullFlight}
@@ -85,20 +85,30 @@ module _ (entries made : List Entry) (e : Entry) (rest : List Entry) (n : Option
   next_is : slice_get entries (length made) ≡ Some e
   next_is = ap (λ (l : List Entry). slice_get l (length made)) on.are ∙ next_at made e rest
 
-  pub action_bench : Agree (target_of o.probe) (target_of m.probe) ⊎ IsPart e.action (target_of m.probe) (target_of o.probe) → IsBenchFault entries (length made + 1) (length made) (began m0 n) o
-  action_bench left = record {
+  pub action_bench : Agree (target_of o.probe) (target_of m.probe) ⊎ IsPart e.action (target_of m.probe) (target_of o.probe) → HasBroken entries (length made + 1) (length made) (began m0 n) o
+  action_bench (inl same) = record {
     count = length made;
+    begun = length made;
     count_is = count_at;
     low = omega arith;
     high = omega arith;
     within = (let l = long in omega (arith, l));
-    target = by_left left;
+    good = passes_but_last t0 (length made) entries made (e ∷ rest) on.are on.passes (omega arith);
+    target = inl (refl, subst (Agree (target_of o.probe)) at_front same);
   }
-    where
-      by_left : Agree (target_of o.probe) (target_of m.probe) ⊎ IsPart e.action (target_of m.probe) (target_of o.probe)
-          → Agree (target_of o.probe) (target_after t0 (take (length made) entries)) ⊎ IsPartOf (slice_get entries (length made)) (target_after t0 (take (length made) entries)) (target_of o.probe)
-      by_left (inl same) = inl (subst (Agree (target_of o.probe)) at_front same)
-      by_left (inr part) = inr (subst (λ (x : Option Entry). IsPartOf x (target_after t0 (take (length made) entries)) (target_of o.probe)) (sym next_is) (subst (λ (s : TargetState). IsPart e.action s (target_of o.probe)) at_front part))
+  action_bench (inr part) = record {
+    count = length made;
+    begun = length made + 1;
+    count_is = count_at;
+    low = omega arith;
+    high = omega arith;
+    within = (let l = long in omega (arith, l));
+    good = passes_but_last t0 (length made + 1) entries made (e ∷ rest) on.are on.passes (omega arith);
+    target = inr (
+      refl,
+      subst (λ (x : Option Entry). IsPartOf x (target_after t0 (take (length made) entries)) (target_of o.probe)) (sym next_is) (subst (λ (s : TargetState). IsPart e.action s (target_of o.probe)) at_front part),
+    );
+  }
 
   pub action_wait : (r : Report) (b : Reported) → Agree (target_of o.probe) (target_of m.probe) → ended_retries_of o.probe ≡ ended_retries_of m.probe + 1 → number_of o ≤ number_of m + 2 * work + 1 → pending_of o ≡ false → r.accesses ≡ length made → r.confirmed ≡ length made → HasNumbers entries b.asks.calls b.skipped b.lines r →
       IsUnanswered entries r b (began m0 n) o
@@ -124,7 +134,7 @@ action_wait_law entries made e rest n m0 m o work r b on grown less same retries
 
 -- ---- a fault that is forgiven
 
-forgiving_passes : (u : TargetState) (es : List Entry) → AreForgiving es → Passes u es
+pub forgiving_passes : (u : TargetState) (es : List Entry) → AreForgiving es → Passes u es
 forgiving_passes u [] h = tt
 forgiving_passes u (e ∷ es) h = (ap (λ (b : Bool). is_fault (acted u e.action).outcome && not b) h.0 ∙ and_false (is_fault (acted u e.action).outcome), forgiving_passes (acted u e.action).next es h.1)
   where

@@ -1,8 +1,8 @@
 -- Where a flight is cut.
 use Rattle.std.proofs.Common.{◌≡◌, inl, inr, ◌∙◌, ℕ, zero, suc, ◌+◌, ◌-◌, ◌^◌, ◌≤◌, ◌<◌, min, Bool, true, false, cond, not, ◌&&◌, List, [], ◌∷◌, ◌++◌, length, take, drop, Option, Some, refl, sym, ap, subst, arith, append_assoc, length-append}
-use Rattle.std.proofs.lemmas.List.{length-take, take-append-drop}
+use Rattle.std.proofs.lemmas.List.{length-take, take-append-drop, take-append-le}
 use Rattle.std.proofs.Math.Seq.{take-append_seam}
-use Rattle.call_terms.proofs.EntryLemmas.{fault_first}
+use Rattle.call_terms.proofs.EntryLemmas.{fault_first, pass_front}
 use Rattle.target_machine.proofs.FreshLemmas.{attempt_sets}
 use Rattle.access_calls.specs.Reported.{began}
 use Rattle.access_calls.specs.Standing.{HasPerformed, pending_of}
@@ -65,6 +65,16 @@ has_at entries front rest k n m0 o is weighty len work target =
     (subst (λ (l : List Entry). HasPerformed l (length front) (began m0 n) o) (sym is)
     (front_performed n m0 o front rest (subst AreWeighty is weighty) work target))
 
+doubt_most : (b : Bool) → one_if b ≤ 1
+doubt_most true = omega arith
+doubt_most false = omega arith
+
+-- all but the last of the entries that were begun, where more than these pass
+pub passes_but_last : (t : TargetState) (begun : ℕ) (entries front rest : List Entry) → entries ≡ front ++ rest → Passes t front → begun - 1 ≤ length front → Passes t (take (begun - 1) entries)
+passes_but_last t begun entries front rest is passes le =
+    let first : take (begun - 1) entries ≡ take (begun - 1) front = ap (take (begun - 1)) is ∙ take-append-le (begun - 1) front rest le in
+    subst (Passes t) (sym first) (pass_front t (take (begun - 1) front) (drop (begun - 1) front) (subst (Passes t) (sym (take-append-drop (begun - 1) front)) passes))
+
 module _ (entries made flying rest : List Entry) (accesses : List RegAccess) (n : Option ℕ) (m0 m o : BenchState) (part : Part) (on : IsUnderWay entries made flying rest accesses m0 m) where
   abbrev pub t0 : TargetState
   t0 = target_of m0.probe
@@ -124,6 +134,22 @@ module _ (entries made flying rest : List Entry) (accesses : List RegAccess) (n 
           at = length-append made c.front ∙ ap (λ (k : ℕ). length made + k) c.at;
           passes = passes_both t0 made c.front on.passes (subst (λ (s : TargetState). Passes s c.front) on.target (subst (Passes (target_of m.probe)) same clear));
         }
+
+    -- all but the last of those that were performed pass
+    begun_pass : Passes t0 (take (length made + part.performed - 1) entries)
+    begun_pass =
+        let clear : Passes (target_of m.probe) (take part.confirmed flying) = clear_passes (target_of m.probe) (take part.confirmed flying) (take part.confirmed accesses) (flight_take part.confirmed flying accesses on.flight) does.made.clear in
+        let all : entries ≡ (made ++ take part.confirmed flying) ++ (drop part.confirmed flying ++ rest) =
+        on.are
+        ∙ ap (λ (l : List Entry). made ++ (l ++ rest)) (sym (take-append-drop part.confirmed flying))
+        ∙ ap (λ (l : List Entry). made ++ l) (append_assoc (take part.confirmed flying) (drop part.confirmed flying) rest)
+        ∙ sym (append_assoc made (take part.confirmed flying) (drop part.confirmed flying ++ rest)) in
+        let few : part.performed ≤ part.confirmed + 1 = (let n = does.made.near in let o = doubt_most does.made.doubt in omega (arith, n, o)) in
+        let enough : part.confirmed ≤ part.performed = (let n = does.made.near in omega (arith, n)) in
+        let long : length made + part.performed - 1 ≤ length (made ++ take part.confirmed flying) =
+        (let a = length-append made (take part.confirmed flying) in let l = length-take part.confirmed flying in let h = most in grind (arith, a, l, h, few, enough)) in
+        passes_but_last t0 (length made + part.performed) entries (made ++ take part.confirmed flying) (drop part.confirmed flying ++ rest) all
+        (passes_both t0 made (take part.confirmed flying) on.passes (subst (λ (s : TargetState). Passes s (take part.confirmed flying)) on.target clear)) long
 
     -- ---- a fault
 
@@ -223,11 +249,13 @@ bench_flies entries made flying rest accesses n m0 m o part on (inl same) never 
     let is : entries ≡ made ++ (flying ++ rest) = on.are in
     record {
       count = length made;
+      begun = length made;
       count_is = has_none.count_is;
       low = omega arith;
       high = omega arith;
       within = entries_within;
-      target = inl has_none.target;
+      good = passes_but_last (target_of m0.probe) (length made) entries made (flying ++ rest) is on.passes (omega arith);
+      target = inl (refl, has_none.target);
     }
   where
     has_none : HasPerformed entries (length made) (began m0 n) o
@@ -238,11 +266,13 @@ bench_flies entries made flying rest accesses n m0 m o part on (inl same) never 
 bench_flies entries made flying rest accesses n m0 m o part on (inr does) never =
     record {
       count = length made + part.performed;
+      begun = length made + part.performed;
       count_is = has.count_is;
       low = omega arith;
       high = (let h = most entries made flying rest accesses n m0 m o part on does in omega (arith, h));
       within = entries_within;
-      target = inl has.target;
+      good = begun_pass entries made flying rest accesses n m0 m o part on does;
+      target = inl (refl, has.target);
     }
   where
     has : HasPerformed entries (length made + part.performed) (began m0 n) o

@@ -4,13 +4,16 @@ use Rattle.target_machine.specs.State.{TargetState}
 use Rattle.target_machine.specs.declared.access.RegAccess.{RegAccess}
 use Rattle.probe_core.specs.Bench.{BenchState}
 use Rattle.probe_core.specs.Probe.{target_of}
+use Rattle.call_terms.specs.Asks.{AreAskable}
 use Rattle.call_terms.specs.Journal.{Entry}
+use Rattle.call_terms.specs.declared.calls.Ask.{Ask}
+use Rattle.target_machine.specs.Fresh.{IsFresh}
 use Rattle.call_terms.specs.World.{AtLeast, results}
 use Rattle.access_regs.specs.Journal.{issued}
 use Rattle.access_regs.specs.Kept.{Kept}
 use Rattle.access_calls.specs.Left.{IsLeft, IsLeftAt, IsLeftCut}
 use Rattle.access_calls.specs.Reported.{Reported, began, world_from}
-use Rattle.access_calls.specs.Standing.{IsBenchFault, IsCut, StandsAt, WhereObservable}
+use Rattle.access_calls.specs.Standing.{HasBroken, IsBenchFault, IsCut, StandsAt, WhereObservable}
 use Rattle.access_calls.specs.declared.stop.Report.{Report}
 use Rattle.access_calls.specs.declared.stop.Stop.{Stop}
 use Rattle.access_calls.specs.declared.stop.Stop.TheVariants.{BenchFault}
@@ -22,6 +25,7 @@ use Rattle.calls_in_flight.specs.Sending.{IsSending}
 use Rattle.calls_in_flight.proofs.ActionLemmas.{action_bench_law, action_wait_law}
 use Rattle.calls_in_flight.proofs.CutLemmas.{bench_flies, fault_flies, wait_flies}
 use Rattle.calls_in_flight.proofs.OpenLemmas.{came_stands, open_stands}
+use Rattle.calls_in_flight.proofs.OwnLemmas.{begun_stay}
 use Rattle.calls_in_flight.proofs.StopLemmas.{lines_cut, stops_at_fault, stops_at_wait}
 use Rattle.access_regs.specs.declared.planner.Planner.{Planner}
 
@@ -151,14 +155,20 @@ poll_ends p confirmed count e rest came m0 m o work r b s grown less same retrie
 
 -- ---- a bench that failed
 
+-- what was begun is of the calls up to the first that ends at a fault
+pub bench_fault : (p : Planner) (asks : List Ask) (issued_count confirmed : ℕ) (n : Option ℕ) (m0 o : BenchState) → IsFresh (target_of m0.probe) → AreAskable asks
+    → HasBroken (issued p (target_of m0.probe) asks) issued_count confirmed (began m0 n) o → IsBenchFault asks (issued p (target_of m0.probe) asks) issued_count confirmed (began m0 n) o
+bench_fault p asks issued_count confirmed n m0 o fresh ok h = record { broken = h; own = begun_stay p (target_of m0.probe) asks h.begun fresh ok h.good }
+
 -- the calls that came stay answered
 came_left : (issued confirmed : ℕ) (b : Reported) (n : Option ℕ) → b.end ≡ Some (BenchFault issued confirmed) → IsLeft b n → AtLeast b.came n
 came_left issued confirmed b n end left = subst (λ (e : Option Stop). IsLeftAt e b.lines b.came n) end left.so
 
 pub flight_fails : FlightFails
 flight_fails p confirmed count flying rest accesses came m0 m o part b s either never ended = record {
-  stands = λ n left. subst (λ (k : ℕ). IsBenchFault (issued p (target_of m0.probe) b.asks.calls) (k + length flying) k (began m0 n) o) s.confirmed_is
-      (bench_flies (issued p (target_of m0.probe) b.asks.calls) s.made flying rest accesses n m0 m o part s.on either never);
+  stands = λ n left. bench_fault p b.asks.calls (confirmed + length flying) confirmed n m0 o s.fresh s.askable
+      (subst (λ (k : ℕ). HasBroken (issued p (target_of m0.probe) b.asks.calls) (k + length flying) k (began m0 n) o) s.confirmed_is
+      (bench_flies (issued p (target_of m0.probe) b.asks.calls) s.made flying rest accesses n m0 m o part s.on either never));
   results_are = λ n left.
       ap (λ (k : ℕ). take k (results (world_from m0 n) b.asks.calls)) s.length_is
       ∙ s.results_are n (subst (λ (k : ℕ). AtLeast k n) ended.came (came_left (confirmed + length flying) confirmed b n ended.end left));
@@ -166,8 +176,9 @@ flight_fails p confirmed count flying rest accesses came m0 m o part b s either 
 
 pub action_fails : ActionFails
 action_fails p confirmed count e rest came m0 m o work b s grown less either ended = record {
-  stands = λ n left. subst (λ (k : ℕ). IsBenchFault (issued p (target_of m0.probe) b.asks.calls) (k + 1) k (began m0 n) o) s.confirmed_is
-      (action_bench_law (issued p (target_of m0.probe) b.asks.calls) s.made e rest n m0 m o work s.on grown less either);
+  stands = λ n left. bench_fault p b.asks.calls (confirmed + 1) confirmed n m0 o s.fresh s.askable
+      (subst (λ (k : ℕ). HasBroken (issued p (target_of m0.probe) b.asks.calls) (k + 1) k (began m0 n) o) s.confirmed_is
+      (action_bench_law (issued p (target_of m0.probe) b.asks.calls) s.made e rest n m0 m o work s.on grown less either));
   results_are = λ n left.
       ap (λ (k : ℕ). take k (results (world_from m0 n) b.asks.calls)) s.length_is
       ∙ s.results_are n (subst (λ (k : ℕ). AtLeast k n) ended.came (came_left (confirmed + 1) confirmed b n ended.end left));

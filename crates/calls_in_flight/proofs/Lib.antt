@@ -1,6 +1,7 @@
 pub mod UnderWayLemmas
 pub mod FlightLemmas
 pub mod CutLemmas
+pub mod OwnLemmas
 pub mod OpenLemmas
 pub mod PushLemmas
 pub mod StopLemmas

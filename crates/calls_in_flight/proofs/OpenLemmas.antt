@@ -21,9 +21,10 @@ use Rattle.access_regs.specs.Stops.{NoneStops, world_at}
 use Rattle.access_regs.proofs.AllCalls.{journal_agrees}
 use Rattle.access_regs.proofs.StopLists.{good_end, live_more, passing_stops}
 use Rattle.access_calls.specs.Reported.{Reported, began}
-use Rattle.access_calls.specs.Standing.{HasPerformed, IsOpen}
+use Rattle.access_calls.specs.Standing.{HasPerformed, IsOpen, StayWithin}
 use Rattle.calls_in_flight.specs.Flying.{IsFlying}
 use Rattle.calls_in_flight.proofs.CutLemmas.{has_at}
+use Rattle.calls_in_flight.proofs.OwnLemmas.{stay_passing}
 use Rattle.access_regs.specs.declared.planner.Planner.{Planner}
 
 agree_sym : (t u : TargetState) → Agree t u → Agree u t
@@ -85,6 +86,11 @@ module _ (p : Planner) (a : Reported) (kept : Kept) (accesses : List RegAccess) 
       ∙ ap (first_fault t0) (take-append_seam f.made (f.flying ++ []))
       ∙ pass_none t0 f.made f.on.passes
 
+  is_own : StayWithin t0 a.asks.calls (take a.confirmed (issued p t0 a.asks.calls))
+  is_own =
+      let made : take a.confirmed (issued p t0 a.asks.calls) ≡ f.made = (λ j. take (sym f.confirmed j) (f.on.are j)) ∙ take-append_seam f.made (f.flying ++ []) in
+      subst (StayWithin t0 a.asks.calls) (sym made) (stay_passing p t0 a.asks.calls f.made (f.flying ++ []) f.fresh f.askable f.on.are f.on.passes)
+
   is_issued : a.issued ≡ length (issued p t0 a.asks.calls)
   is_issued =
       let all = ap length f.on.are in
@@ -114,7 +120,7 @@ module _ (p : Planner) (a : Reported) (kept : Kept) (accesses : List RegAccess) 
       agree_sym _ _ (subst (λ (t : TargetState). Agree t (target_of m.probe)) (sym alone_is) (subst (Agree (alone_after t0 [] a.asks.calls)) target here))
 
   pub open_stands : IsOpen (issued p t0 a.asks.calls) a (began m0 n) m
-  open_stands = record { issued = is_issued; performed = is_performed; good = is_good; retries = f.on.retries; skipped = is_skipped; settled = is_calm }
+  open_stands = record { issued = is_issued; performed = is_performed; good = is_good; own = is_own; retries = f.on.retries; skipped = is_skipped; settled = is_calm }
 
   came_length : length came ≡ a.came
   came_length = ap length f.came_are ∙ count_of (start_world t0 None) f.front (front_none.stops None tt) ∙ sym f.came_is

@@ -13,7 +13,7 @@ use Rattle.call_terms.specs.Weights.{commands_of, weight}
 use Rattle.access_regs.specs.Entries.{NoneFault}
 use Rattle.access_calls.specs.Numbers.{HasNumbers}
 use Rattle.access_calls.specs.Reported.{Reported, began}
-use Rattle.access_calls.specs.Standing.{IsBenchFault, IsPart, IsUnanswered, number_of, pending_of}
+use Rattle.access_calls.specs.Standing.{HasBroken, IsPart, IsUnanswered, number_of, pending_of}
 use Rattle.access_calls.specs.declared.stop.Report.{Report}
 use Rattle.calls_in_flight.specs.Flights.{Flies}
 use Rattle.calls_in_flight.specs.UnderWay.{IsUnderWay}
@@ -37,7 +37,7 @@ abbrev pub ActionBench : Type 0
 ActionBench = (entries made : List Entry) (e : Entry) (rest : List Entry) (n : Option ℕ) (m0 m o : BenchState) (work : ℕ) → IsUnderWay entries made [] (e ∷ rest) [] m0 m →
     work_of o.probe ≡ work_of m.probe + work → work < weight (target_of m.probe) e.action →
     Agree (target_of o.probe) (target_of m.probe) ⊎ IsPart e.action (target_of m.probe) (target_of o.probe) →
-    IsBenchFault entries (length made + 1) (length made) (began m0 n) o
+    HasBroken entries (length made + 1) (length made) (began m0 n) o
 
 -- Where a retry ended in a poll that is made read by read, and the reads changed nothing, the entry is the one that stops.
 abbrev pub ActionWait : Type 0

@@ -12,7 +12,7 @@ use Rattle.probe_core.specs.Probe.{target_of}
 use Rattle.call_terms.specs.Journal.{Entry, Passes, target_after}
 use Rattle.access_calls.specs.Numbers.{HasNumbers}
 use Rattle.access_calls.specs.Reported.{Reported, began}
-use Rattle.access_calls.specs.Standing.{IsBenchFault, IsFaulted, IsUnanswered}
+use Rattle.access_calls.specs.Standing.{HasBroken, IsFaulted, IsUnanswered}
 use Rattle.access_calls.specs.declared.stop.Report.{Report}
 use Rattle.calls_in_flight.specs.UnderWay.{IsUnderWay}
 
@@ -74,4 +74,4 @@ abbrev pub BenchFlies : Type 0
 BenchFlies = (entries made flying rest : List Entry) (accesses : List RegAccess) (n : Option ℕ) (m0 m o : BenchState) (part : Part) →
     IsUnderWay entries made flying rest accesses m0 m →
     (transfers_of o ≡ transfers_of m) ⊎ DoesPart (transfers_of m) (transfers_of o) accesses part → (part.response ≡ Mismatch → ⊥) →
-    IsBenchFault entries (length made + length flying) (length made) (began m0 n) o
+    HasBroken entries (length made + length flying) (length made) (began m0 n) o

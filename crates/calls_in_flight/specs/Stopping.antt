@@ -1,14 +1,15 @@
 -- Where the calls of an access stop whose flight was cut.
-use Rattle.std.specs.Prelude.{◌≡◌, ◌⊎◌, ℕ, ◌+◌, ◌≤◌, true, List, ◌++◌, length, take, Option, Some, None}
+use Rattle.std.specs.Prelude.{◌≡◌, ◌⊎◌, ℕ, ◌+◌, ◌-◌, ◌≤◌, true, List, ◌++◌, length, take, Option, Some, None}
 use Rattle.target_machine.specs.Fresh.{IsFresh}
 use Rattle.target_machine.specs.State.{TargetState}
 use Rattle.call_terms.specs.Asks.{AreAskable, is_settled}
-use Rattle.call_terms.specs.Journal.{lines_before}
+use Rattle.call_terms.specs.Journal.{Passes, lines_before}
 use Rattle.call_terms.specs.World.{AtLeast, results, start_world, stop}
 use Rattle.call_terms.specs.declared.calls.Ask.{Ask}
 use Rattle.access_regs.specs.Journal.{issued}
 use Rattle.access_regs.specs.declared.planner.Planner.{Planner}
 use Rattle.access_calls.specs.Numbers.{HasNumbers}
+use Rattle.access_calls.specs.Standing.{StayWithin}
 use Rattle.access_calls.specs.declared.stop.Report.{Report}
 use Rattle.calls_in_flight.specs.Flights.{IsCutAt, IsFaultAt}
 
@@ -29,6 +30,11 @@ StopsAtWait = (p : Planner) (t : TargetState) (asks : List Ask) (r : Report) (sk
 abbrev pub CameBefore : Type 0
 CameBefore = (p : Planner) (t : TargetState) (front back : List Ask) (c : ℕ) → length (issued p t front) ≤ c → (cut : IsCutAt (issued p t (front ++ back)) c t) →
     length front ≤ lines_before cut.entry
+
+-- Entries of which none but the last gives a fault that its unit does not forgive are of the calls up to the first that stops.
+abbrev pub BegunStay : Type 0
+BegunStay = (p : Planner) (t : TargetState) (asks : List Ask) (begun : ℕ) → IsFresh t → AreAskable asks → Passes t (take (begun - 1) (issued p t asks)) →
+    StayWithin t asks (take begun (issued p t asks))
 
 -- The results of the calls that have their lines before the cut stay.
 abbrev pub ResultsStay : Type 0

@@ -11,7 +11,7 @@ ghost use Rattle.calls_in_flight.specs.Pushing.{EntryPushed, JournalGrew, PlanGi
 ghost use Rattle.calls_in_flight.specs.Room.{ActionRoom, CallRoom, ForgivenRoom, PushRoom};
 ghost use Rattle.calls_in_flight.specs.Sending.{ActionSends, CallSends, FinishSends, FlyingSends, ForgivenSends, PushSends, WholeSends};
 ghost use Rattle.calls_in_flight.specs.Small.{NotSmall, SmallAlone, SmallByCfg};
-ghost use Rattle.calls_in_flight.specs.Stopping.{CameBefore, ResultsStay, StopsAtFault, StopsAtWait};
+ghost use Rattle.calls_in_flight.specs.Stopping.{BegunStay, CameBefore, ResultsStay, StopsAtFault, StopsAtWait};
 ghost use Rattle.calls_in_flight.specs.UnderWay.{FrontPerformed};
 
 /// Exactly the entries were performed that are made.
@@ -50,12 +50,14 @@ pub fn values_of_a_flight()
     ensures plan { PlanGives }
 {}
 
-/// Where the calls stop at a cut, by the numbers of its report; and what stays of those before it.
+/// Where the calls stop at a cut, by the numbers of its report; what stays of those before it; and of which calls the entries are that
+/// were begun.
 pub fn where_calls_stop()
     ensures fault { StopsAtFault }
     ensures wait { StopsAtWait }
     ensures lines { CameBefore }
     ensures results { ResultsStay }
+    ensures begun { BegunStay }
 {}
 
 /// Polls and commands of the probe, whole or in part; and a fault that is forgiven.

@@ -92,7 +92,7 @@ meets asked o s = by_ours s.ours
     by_ours (inr e) = marked s.over (e ∙ ap settled_last s.theirs)
 
 -- where the outcome is Done or Halted, no more was asked than its calls
-few_asked : (asked : List Ask) (o : Outcome) → SharesCalls asked o → IsWhole o.ending → length asked ≤ length o.calls
+pub few_asked : (asked : List Ask) (o : Outcome) → SharesCalls asked o → IsWhole o.ending → length asked ≤ length o.calls
 few_asked asked o s whole = by_ours s.ours
   where
     all : length s.all ≡ length o.calls
@@ -102,9 +102,10 @@ few_asked asked o s whole = by_ours s.ours
     by_ours (inl e) = (let long = ap length e ∙ length-append asked s.more in omega (arith, all, long))
     by_ours (inr e) = (let long = ap length e ∙ length_marked s.all in omega (arith, all, long))
 
-no_more : (more : List Ask) → (0 < length more → ⊥) → more ≡ []
-no_more [] none = refl
-no_more (x ∷ more) none = absurd (none (omega arith))
+-- no more were asked than the outcome has
+none_left : {A : Type 0} (few : ℕ) (rest : List A) → few + length rest ≤ few → rest ≡ []
+none_left few [] le = refl
+none_left few (x ∷ rest) le = absurd (omega (arith, le))
 
 -- the call at a place of what was asked stands there in the calls of the outcome too, where these reach so far
 pub own_call : (asked calls all later : List Ask) (i : ℕ) (c : Call) → Meets asked calls → all ≡ calls ++ later → i < length calls → option_map (λ (a : Ask). a.call) (slice_get asked i) ≡ Some c
@@ -290,41 +291,35 @@ module _ (journal : TargetState → List Ask → List Entry) (grows : JournalGro
       let ours : GoesOnWith (length calls) (journal t calls) (journal t asked) = subst (λ (c : List Ask). GoesOnWith (length calls) (journal t calls) (journal t c)) (sym is) (settled_more calls over (calls ++ over) refl) in
       common r calls (journal t calls) (journal t asked) (journal t (settled_last all)) e ours (settled_more calls later all are) at less high
 
-  -- What was asked comes first in the calls of the outcome and more of them, settled after the last.
+  -- What was asked comes first in the calls of the outcome, settled after the last.
   pub record Covers (asked calls : List Ask) : Type 0 where
-    pub more : List Ask
-    pub beyond : 0 < length more → length calls < length asked
-    pub goes_on : GoesOnWith (length asked) (journal t asked) (journal t (settled_last (calls ++ more)))
-    pub same : (i : ℕ) (c : Call) → option_map (λ (a : Ask). a.call) (slice_get asked i) ≡ Some c → option_map (λ (a : Ask). a.call) (slice_get (settled_last (calls ++ more)) i) ≡ Some c
+    pub goes_on : GoesOnWith (length asked) (journal t asked) (journal t (settled_last calls))
+    pub same : (i : ℕ) (c : Call) → option_map (λ (a : Ask). a.call) (slice_get asked i) ≡ Some c → option_map (λ (a : Ask). a.call) (slice_get (settled_last calls) i) ≡ Some c
 
-  pub covers : (asked calls : List Ask) → Meets asked calls → Covers asked calls
-  covers asked calls (within rest is) = record {
-    more = [];
-    beyond = λ some. absurd (omega (arith, some));
-    goes_on = settled_more asked rest (calls ++ []) (append-nil calls ∙ is);
+  -- so it is of the very calls
+  covers_own : (calls : List Ask) → Covers calls calls
+  covers_own calls = record { goes_on = settles t calls; same = λ i c at. call_marked calls i ∙ at }
+
+  covers_marked : (calls : List Ask) → Covers (settled_last calls) calls
+  covers_marked calls = record { goes_on = record { rest = []; joined = sym (append-nil (journal t (settled_last calls))); later = tt }; same = λ i c at. at }
+
+  -- where no more were asked
+  pub covers : (asked calls : List Ask) → Meets asked calls → length asked ≤ length calls → Covers asked calls
+  covers asked calls (within rest is) few = record {
+    goes_on = settled_more asked rest calls is;
     same = λ i c at.
-        call_marked (calls ++ []) i ∙ ap (λ (l : List Ask). option_map (λ (a : Ask). a.call) (slice_get l i)) (append-nil calls ∙ is)
+        call_marked calls i ∙ ap (λ (l : List Ask). option_map (λ (a : Ask). a.call) (slice_get l i)) is
         ∙ ap (option_map (λ (a : Ask). a.call)) (get_front i asked rest (call_within asked i c at)) ∙ at;
   }
-  covers asked calls (beyond rest is) = record {
-    more = rest;
-    beyond = λ some. (let long = ap length is ∙ length-append calls rest in omega (arith, long, some));
-    goes_on = subst (λ (c : List Ask). GoesOnWith (length asked) (journal t asked) (journal t (settled_last c))) is (settles t asked);
-    same = λ i c at. call_marked (calls ++ rest) i ∙ ap (λ (l : List Ask). option_map (λ (a : Ask). a.call) (slice_get l i)) (sym is) ∙ at;
-  }
-  covers asked calls (marked over is) = record {
-    more = over;
-    beyond = λ some. (let long = ap length is ∙ length_marked (calls ++ over) ∙ length-append calls over in omega (arith, long, some));
-    goes_on = record { rest = []; joined = ap (journal t) (sym is) ∙ sym (append-nil (journal t asked)); later = tt };
-    same = λ i c at. ap (λ (l : List Ask). option_map (λ (a : Ask). a.call) (slice_get l i)) (sym is) ∙ at;
-  }
-
-  -- no more calls than the outcome's, where it is Done or Halted
-  pub none_more : (asked : List Ask) (o : Outcome) → SharesCalls asked o → (c : Covers asked o.calls) → IsWhole o.ending → c.more ≡ []
-  none_more asked o shares c whole = no_more c.more (λ some. (let few = few_asked asked o shares whole in let many = c.beyond some in omega (arith, few, many)))
+  covers asked calls (beyond rest is) few =
+      let none : rest ≡ [] = none_left (length calls) rest (let long = ap length is ∙ length-append calls rest in omega (arith, long, few)) in
+      subst (λ (c : List Ask). Covers c calls) (sym (is ∙ ap (λ (l : List Ask). calls ++ l) none ∙ append-nil calls)) (covers_own calls)
+  covers asked calls (marked over is) few =
+      let none : over ≡ [] = none_left (length calls) over (let long = ap length is ∙ length_marked (calls ++ over) ∙ length-append calls over in omega (arith, long, few)) in
+      subst (λ (c : List Ask). Covers c calls) (sym (is ∙ ap (λ (l : List Ask). settled_last (calls ++ l)) none ∙ ap settled_last (append-nil calls))) (covers_marked calls)
 
   -- so the journals meet where the stop names any entry
-  pub covered : (r : Report) (asked calls : List Ask) (h : Covers asked calls) → r.confirmed < length (journal t asked) → r.unit ≤ length asked → Meeting r (journal t asked) (journal t (settled_last (calls ++ h.more)))
+  pub covered : (r : Report) (asked calls : List Ask) (h : Covers asked calls) → r.confirmed < length (journal t asked) → r.unit ≤ length asked → Meeting r (journal t asked) (journal t (settled_last calls))
   covered r asked calls h named low = record {
     front = journal t asked;
     our_rest = [];
@@ -334,3 +329,9 @@ module _ (journal : TargetState → List Ask → List Entry) (grows : JournalGro
     later = after_fewer r.unit (length asked) h.goes_on.rest low h.goes_on.later;
     next = named;
   }
+
+  -- where more were asked, both journals go on from that of the outcome's calls
+  pub goes_beyond : (asked calls : List Ask) → Meets asked calls → length calls < length asked → GoesOnWith (length calls) (journal t calls) (journal t asked)
+  goes_beyond asked calls (within rest is) more = absurd (let long = ap length is ∙ length-append asked rest in omega (arith, long, more))
+  goes_beyond asked calls (beyond rest is) more = subst (λ (c : List Ask). GoesOnWith (length calls) (journal t calls) (journal t c)) (sym is) (grows t calls rest)
+  goes_beyond asked calls (marked over is) more = subst (λ (c : List Ask). GoesOnWith (length calls) (journal t calls) (journal t c)) (sym is) (settled_more calls over (calls ++ over) refl)

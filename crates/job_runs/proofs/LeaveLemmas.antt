@@ -1,7 +1,7 @@
 -- What an access and a run over it report together is what a run leaves.
 use Rattle.std.proofs.Common.{◌≡◌, ◌∙◌, ◌⊎◌, inl, inr, ℕ, ◌+◌, ◌-◌, ◌*◌, ◌/◌, ◌<◌, ◌≤◌, if◌then◌else◌, List, [], ◌++◌, append-nil, length, take, Bool, true, false, Option, None, Some, refl, sym, ap, subst, arith}
+use Rattle.std.specs.List.{AllByRecursion}
 use Rattle.std.specs.Prelude.{option_map, slice_get}
-use Rattle.std.proofs.lemmas.List.{take-append-le}
 use Rattle.target_machine.specs.State.{Agree, TargetState}
 use Rattle.probe_core.specs.Bench.{BenchState, Seen, StepsTo, fresh}
 use Rattle.probe_core.specs.Probe.{target_of}
@@ -13,11 +13,12 @@ use Rattle.call_terms.specs.Journal.{settles as is_settling}
 use Rattle.call_terms.specs.NeedPoints.{Asks, finished, needed}
 use Rattle.call_terms.specs.Weights.{commands_in, registers_in}
 use Rattle.call_terms.specs.World.{start_world, world_after}
+use Rattle.call_terms.specs.World.{stop as call_stop}
 use Rattle.call_terms.specs.declared.calls.Ask.{Ask}
 use Rattle.call_terms.proofs.MarkLemmas.{after_marked, marked_settled}
 use Rattle.access_calls.specs.Bounds.{AreNextWrites, KeepsBounds, KeepsBoundsIf, block_words, capacity, starting_since}
 use Rattle.access_calls.specs.Left.{answered_at, answered_by, answered_cut}
-use Rattle.access_calls.specs.Growing.{JournalGrows, JournalSettles}
+use Rattle.access_calls.specs.Growing.{IsWithin, JournalGrows, JournalSettles}
 use Rattle.access_calls.specs.Numbers.{HasNumbers, StopNumbers, lines_at, unit_at}
 use Rattle.access_calls.specs.Reported.{Reported, began, world_from}
 use Rattle.access_calls.specs.Standing as s
@@ -41,8 +42,9 @@ use Rattle.control_flow.specs.Answers as answers
 use Rattle.control_flow.specs.Answers.{EndBy, EndsAs, HasNeeds, IsAll, IsCut, IsPart, Ran, SharesCalls, StopsAfter, ran}
 use Rattle.sequence_terms.specs.Known.{Knows, known_part}
 use Rattle.target_machine.specs.Counts.{one_if}
-use Rattle.job_runs.proofs.FrontLemmas.{Covers, Meeting, call_within, covered, covers, get_some, meeting, meets, none_more, own_call, same_fault, same_first, same_made, same_numbers}
-use Rattle.job_runs.specs.Runs.{AccessKind, ComesTo, HasAsked, HasStopped, IsBroken, IsFaultStop, IsFew, IsFewIf, IsLeftOff, IsNotOpened, IsRetryStop, IsStop, IsUnopened, IsWhole, Left, LeavesAs, Run, calls_in, entries_in, known_after, needs_in, not_opened, opened, outcome_with}
+use Rattle.job_runs.proofs.BegunLemmas.{Share, asked_stop, begun_share, ends_how, part_shared}
+use Rattle.job_runs.proofs.FrontLemmas.{Covers, Meeting, call_within, covered, covers, few_asked, get_some, meeting, meets, own_call, same_fault, same_first, same_made, same_numbers}
+use Rattle.job_runs.specs.Runs.{AccessKind, ComesTo, HasAsked, HasStopped, IsBroken, IsFaultStop, IsFew, IsFewIf, IsFront, IsLeftOff, IsNotOpened, IsRetryStop, IsStop, IsUnopened, IsWhole, Left, LeavesAs, Run, calls_in, entries_in, known_after, needs_in, not_opened, opened, outcome_with}
 use Rattle.job_runs.specs.Ends.{ending_of}
 use Rattle.bench_access.specs.Opening.{IsLoaded, IsNotBegun, IsOpened, RefusedBy}
 
@@ -141,39 +143,55 @@ module _ (access : AccessKind) (grows : JournalGrows access.journal) (settles : 
     packets = few;
   }
 
-  -- how what was asked meets the calls of an outcome
-  abbrev Covered : Reported → Type 0
-  Covered a = Covers access.journal grows settles (target_of first.probe) a.asks.calls whole.calls
+  -- all that was asked is the outcome's, where no more were asked
+  covered_by : (a : Reported) → SharesCalls a.asks.calls whole → length a.asks.calls ≤ length whole.calls → Covers access.journal grows settles (target_of first.probe) a.asks.calls whole.calls
+  covered_by a shares few = covers access.journal grows settles (target_of first.probe) a.asks.calls whole.calls (meets a.asks.calls whole shares) few
 
-  covered_by : (a : Reported) → SharesCalls a.asks.calls whole → Covered a
-  covered_by a shares = covers access.journal grows settles (target_of first.probe) a.asks.calls whole.calls (meets a.asks.calls whole shares)
+  -- where more were asked, the outcome ends at its last call, and what was begun is not after that
+  begun_own : (a : Reported) (begun : ℕ) → SharesCalls a.asks.calls whole → s.StayWithin (target_of first.probe) a.asks.calls (take begun (entries a))
+      → length whole.calls < length a.asks.calls → AllByRecursion (IsWithin (length whole.calls)) (take begun (entries a))
+  begun_own a begun shares own more = by_end (ends_how (start_world (target_of first.probe) None) whole.ending whole.calls (are_made (start_world (target_of first.probe) None) p before).made.ending)
+    where
+      by_end : answers.IsWhole whole.ending ⊎ (call_stop (start_world (target_of first.probe) None) whole.calls ≡ Some (length whole.calls)) → AllByRecursion (IsWithin (length whole.calls)) (take begun (entries a))
+      by_end (inl ends) = absurd (let few = few_asked a.asks.calls whole shares ends in omega (arith, few, more))
+      by_end (inr stops) = own.so (length whole.calls) (asked_stop (start_world (target_of first.probe) None) a.asks.calls whole.calls (meets a.asks.calls whole shares) more stops)
 
-  only_own : (a : Reported) → SharesCalls a.asks.calls whole → (c : Covered a) → answers.IsWhole whole.ending → c.more ≡ []
-  only_own a shares c ends = none_more access.journal grows settles (target_of first.probe) a.asks.calls whole shares c ends
+  shared_by : (a : Reported) (begun : ℕ) → SharesCalls a.asks.calls whole → s.StayWithin (target_of first.probe) a.asks.calls (take begun (entries a)) → begun ≤ length (entries a)
+      → Share begun (entries a) (entries_in run (calls_in run))
+  shared_by a begun shares own le =
+      begun_share access.journal grows settles (target_of first.probe) a.asks.calls whole.calls begun (meets a.asks.calls whole shares) le (begun_own a begun shares own)
+
+  is_front : (a : Reported) (begun : ℕ) (l : Left) → IsPart whole (ran l.ended a.asks l.written) → Share begun (entries a) (entries_in run (calls_in run)) → IsFront run a.asks.calls begun l
+  is_front a begun l part share = record {
+    written = part.written;
+    calls = part.calls;
+    entries = λ few. (covered_by a part.calls few).goes_on;
+    same = share.same;
+    within = share.within;
+  }
 
   is_left_off : (a : Reported) (l : Left) → IsPart whole (ran l.ended a.asks l.written) → IsOpen (entries a) a (began first None) l.bench → IsLeftOff run l
   is_left_off a l part at =
-      let c = covered_by a part.calls in
+      let share = shared_by a a.confirmed part.calls at.own at.performed.within in
       record {
         asked = a.asks.calls;
-        more = c.more;
         sent = a.confirmed;
-        front = record { written = part.written; calls = part.calls; entries = c.goes_on; only = only_own a part.calls c; beyond = c.beyond };
+        front = is_front a a.confirmed l part share;
         performed = at.performed;
-        target = subst (λ (es : List Entry). Agree (target_of l.bench.probe) (target_after (target_of first.probe) es))
-            (sym (ap (take a.confirmed) c.goes_on.joined ∙ take-append-le a.confirmed (entries a) c.goes_on.rest at.performed.within)) at.performed.target;
+        target = subst (λ (es : List Entry). Agree (target_of l.bench.probe) (target_after (target_of first.probe) es)) share.same at.performed.target;
         retries = at.retries;
       }
 
   is_broken : (issued confirmed : ℕ) (a : Reported) (l : Left) → IsPart whole (ran l.ended a.asks l.written)
-      → s.IsBenchFault (entries a) issued confirmed (began first None) l.bench → IsBroken run issued confirmed l
+      → s.IsBenchFault a.asks.calls (entries a) issued confirmed (began first None) l.bench → IsBroken run issued confirmed l
   is_broken issued confirmed a l part fault =
-      let c = covered_by a part.calls in
+      let broken = fault.broken in
+      let share = shared_by a broken.begun part.calls fault.own (let high = broken.high in let within = broken.within in omega (arith, high, within)) in
       record {
         asked = a.asks.calls;
-        more = c.more;
-        front = record { written = part.written; calls = part.calls; entries = c.goes_on; only = only_own a part.calls c; beyond = c.beyond };
         stands = fault;
+        front = is_front a broken.begun l part share;
+        target = part_shared (entries a) (entries_in run (calls_in run)) broken.count broken.begun (began first None) l.bench share.same broken.target;
       }
 
   -- the entry that a stop names, and that its unit was asked
@@ -278,14 +296,10 @@ module _ (access : AccessKind) (grows : JournalGrows access.journal) (settles : 
   retry_whole a r l cut skipped at ends same =
       let n = names a r at.numbers in
       let shares : SharesCalls a.asks.calls whole = subst (λ (o : Outcome). SharesCalls a.asks.calls o) same cut.calls in
-      let c = covered_by a shares in
-      let own : whole.calls ++ c.more ≡ whole.calls =
-      ap (λ (l : List Ask). whole.calls ++ l) (only_own a shares c (subst (λ (o : Outcome). answers.IsWhole o.ending) same ends)) ∙ append-nil whole.calls in
+      let c = covered_by a shares (few_asked a.asks.calls whole shares (subst (λ (o : Outcome). answers.IsWhole o.ending) same ends)) in
       retry_in a r l cut skipped at
-      (subst (λ (calls : List Ask). Meeting r (entries a) (entries_in run (settled_last calls))) own
-      (covered access.journal grows settles (target_of first.probe) r a.asks.calls whole.calls c at.numbers.named n.asked))
-      (subst (λ (calls : List Ask). option_map (λ (x : Ask). x.call) (slice_get (settled_last calls) (r.unit - 1)) ≡ Some r.what) own
-      (c.same (r.unit - 1) r.what at.numbers.what))
+      (covered access.journal grows settles (target_of first.probe) r a.asks.calls whole.calls c at.numbers.named n.asked)
+      (c.same (r.unit - 1) r.what at.numbers.what)
 
   is_retry_stop : (a : Reported) (r : Report) (l : Left) → r.cause ≡ NoAnswer → IsCut r.cause a.lines (short a.lines) (ran l.ended a.asks l.written) → l.ended.skipped ≡ a.skipped
       → s.IsUnanswered (entries a) r a (began first (Some a.lines)) l.bench → IsRetryStop run r l

@@ -1,5 +1,5 @@
 -- What a run of a job leaves.
-use Rattle.std.specs.Prelude.{◌≡◌, ⊤, ℕ, ◌+◌, ◌-◌, ◌*◌, ◌/◌, ◌^◌, ◌<◌, ◌≤◌, Bool, true, false, List, [], ◌++◌, length, take, Option, Some, None}
+use Rattle.std.specs.Prelude.{◌≡◌, ⊤, ℕ, ◌+◌, ◌-◌, ◌*◌, ◌/◌, ◌^◌, ◌<◌, ◌≤◌, Bool, true, false, List, length, take, Option, Some, None}
 use Rattle.target_machine.specs.Start.{start}
 use Rattle.target_machine.specs.State.{Agree, TargetState}
 use Rattle.probe_core.specs.Bench.{BenchState}
@@ -16,14 +16,13 @@ use Rattle.access_calls.specs.Bounds.{AreNextWrites, block_words, capacity}
 use Rattle.access_calls.specs.Growing.{GoesOnWith}
 use Rattle.access_calls.specs.Numbers.{HasNumbers}
 use Rattle.access_calls.specs.Reported.{Beginning, began, start_of}
-use Rattle.access_calls.specs.Standing.{HasPerformed, IsBenchFault, grown_since, number_of, pending_of}
+use Rattle.access_calls.specs.Standing.{HasPerformed, IsAfterPart, IsBenchFault, grown_since, number_of, pending_of}
 use Rattle.access_calls.specs.declared.ended.Ended.{Ended}
 use Rattle.access_calls.specs.declared.ended.Ending.{Ending}
 use Rattle.access_calls.specs.declared.ended.Ending.TheVariants as e
 use Rattle.access_calls.specs.declared.stop.Report.{Report}
 use Rattle.access_calls.specs.declared.stop.StopCause.{StopCause}
 use Rattle.access_calls.specs.declared.stop.StopCause.TheVariants.{Faulted, NoAnswer}
-use Rattle.control_flow.specs.Answers as answers
 use Rattle.control_flow.specs.Answers.{SharesCalls, StopsAfter, program_of, variables_of}
 use Rattle.job_check.specs.declared.running.ValidRun.{ValidRun}
 use Rattle.bench_access.specs.Opening.{IsOpened}
@@ -87,10 +86,6 @@ entries_in run calls = run.access.journal (target_in run) calls
 -- the calls of the whole outcome, which are settled after the last
 abbrev pub calls_in : Run → List Ask
 calls_in run = settled_last (outcome_in run).calls
-
--- the same with more calls, which were asked after them
-abbrev pub calls_with : Run → List Ask → List Ask
-calls_with run more = settled_last ((outcome_in run).calls ++ more)
 
 -- no retry ended
 abbrev pub NoneEnded : Run → Left → Type 0
@@ -189,32 +184,31 @@ IsStop NoAnswer run r l = IsRetryStop run r l
 
 -- ---- left off
 
--- What was written comes first in the lines of the outcome. The calls that were asked and the outcome's come first in one list of calls.
--- The entries of the calls that were asked come first in the journal of the outcome's calls, and of more only where the outcome ends at
--- a fault and more were asked than these.
-pub record IsFront (run : Run) (asked more : List Ask) (l : Left) : Type 0 where
+-- What was written comes first in the lines of the outcome. The calls that were asked and the outcome's come first in one list of
+-- calls; where no more were asked than the outcome has, their entries come first in the journal of the outcome's calls. The entries
+-- that were begun are the first of that journal: none is of a call after the one that the outcome ends at.
+pub record IsFront (run : Run) (asked : List Ask) (begun : ℕ) (l : Left) : Type 0 where
   pub written : Grows l.written (outcome_in run).written
   pub calls : SharesCalls asked (outcome_in run)
-  pub entries : GoesOnWith (length asked) (entries_in run asked) (entries_in run (calls_with run more))
-  pub only : answers.IsWhole (outcome_in run).ending → more ≡ []
-  pub beyond : 0 < length more → units_of (outcome_in run) < length asked
+  pub entries : length asked ≤ units_of (outcome_in run) → GoesOnWith (length asked) (entries_in run asked) (entries_in run (calls_in run))
+  pub same : take begun (entries_in run asked) ≡ take begun (entries_in run (calls_in run))
+  pub within : begun ≤ length (entries_in run (calls_in run))
 
--- Where the bench failed: at least the confirmed entries were performed and at most those that were issued, and perhaps a part of
--- the next.
+-- Where the bench failed: at least the confirmed entries were performed, and perhaps a part of the next; and at most those that were
+-- issued were begun. The target is the one after as many of the journal of the outcome's calls.
 pub record IsBroken (run : Run) (issued confirmed : ℕ) (l : Left) : Type 0 where
   pub asked : List Ask
-  pub more : List Ask
-  pub front : IsFront run asked more l
-  pub stands : IsBenchFault (entries_in run asked) issued confirmed (began run.first None) l.bench
+  pub stands : IsBenchFault asked (entries_in run asked) issued confirmed (began run.first None) l.bench
+  pub front : IsFront run asked stands.broken.begun l
+  pub target : IsAfterPart (entries_in run (calls_in run)) stands.broken.count stands.broken.begun (began run.first None) l.bench
 
 -- Where the sink failed or memory was refused: exactly the entries that were sent were performed.
 pub record IsLeftOff (run : Run) (l : Left) : Type 0 where
   pub asked : List Ask
-  pub more : List Ask
   pub sent : ℕ
-  pub front : IsFront run asked more l
+  pub front : IsFront run asked sent l
   pub performed : HasPerformed (entries_in run asked) sent (began run.first None) l.bench
-  pub target : Agree (target_of l.bench.probe) (target_after (target_in run) (take sent (entries_in run (calls_with run more))))
+  pub target : Agree (target_of l.bench.probe) (target_after (target_in run) (take sent (entries_in run (calls_in run))))
   pub retries : NoneEnded run l
 
 -- ---- together

@@ -13,7 +13,7 @@ use Rattle.access_calls.specs.Issued.{AreKeptOf, kept_of}
 use Rattle.access_calls.specs.Left.{IsLeft}
 use Rattle.access_calls.specs.Numbers.{HasNumbers}
 use Rattle.access_calls.specs.Reported.{Beginning, Reported, began}
-use Rattle.access_calls.specs.Standing.{IsBenchFault, WhereObservable}
+use Rattle.access_calls.specs.Standing.{HasBroken, IsBenchFault, WhereObservable}
 use Rattle.access_calls.specs.declared.issued.Issued.{Issued}
 use Rattle.access_calls.specs.declared.stop.Report.{Report}
 use Rattle.access_calls.specs.declared.stop.Stop.{Stop}
@@ -39,14 +39,27 @@ use Rattle.packed_access.proofs.PushLemmas.{take_more}
 use Rattle.access_regs.specs.declared.planner.Planner.{Planner}
 
 -- fewer may be confirmed at a fault of the bench
-fewer_stand : (entries : List Entry) (many confirmed fewer : ℕ) (b : Beginning) (m : BenchState) → fewer ≤ confirmed → IsBenchFault entries many confirmed b m → IsBenchFault entries many fewer b m
-fewer_stand entries many confirmed fewer b m le h = record { count = h.count; count_is = h.count_is; low = (let l = h.low in omega (arith, l, le)); high = h.high; within = h.within; target = h.target }
+fewer_broken : (entries : List Entry) (many confirmed fewer : ℕ) (b : Beginning) (m : BenchState) → fewer ≤ confirmed → HasBroken entries many confirmed b m → HasBroken entries many fewer b m
+fewer_broken entries many confirmed fewer b m le h = record {
+  count = h.count;
+  begun = h.begun;
+  count_is = h.count_is;
+  low = (let l = h.low in omega (arith, l, le));
+  high = h.high;
+  within = h.within;
+  good = h.good;
+  target = h.target;
+}
+
+fewer_stand : (asks : List Ask) (entries : List Entry) (many confirmed fewer : ℕ) (b : Beginning) (m : BenchState) → fewer ≤ confirmed → IsBenchFault asks entries many confirmed b m → IsBenchFault asks entries many fewer b m
+unfolding fewer_broken
+fewer_stand asks entries many confirmed fewer b m le h = record { broken = fewer_broken entries many confirmed fewer b m le h.broken; own = h.own }
 
 fewer_confirmed : (p : Planner) (bench : BenchReported) (state : Option BenchState) (sent got : List ℕ) (log : LogState) (many confirmed fewer : ℕ) (came : List ℕ) (m0 o : BenchState) → fewer ≤ confirmed →
     IsEnded p (stop.BenchFault many confirmed) (reported_by bench state (record log { end = Some (stop.BenchFault many confirmed) }) sent got) came m0 o →
     IsEnded p (stop.BenchFault many fewer) (reported_by bench state (record log { end = Some (stop.BenchFault many fewer) }) sent got) came m0 o
 fewer_confirmed p bench state sent got log many confirmed fewer came m0 o le h = record {
-  stands = λ n left. fewer_stand (issued p (target_of m0.probe) log.calls) many confirmed fewer (began m0 n) o le (h.stands n (record { so = left.so }));
+  stands = λ n left. fewer_stand log.calls (issued p (target_of m0.probe) log.calls) many confirmed fewer (began m0 n) o le (h.stands n (record { so = left.so }));
   results_are = λ n left. h.results_are n (record { so = left.so });
 }
 

@@ -1,5 +1,5 @@
 -- How a flight of a unit that forgives a fault ends the access.
-use Rattle.std.proofs.Common.{◌≡◌, ◌⊎◌, inl, inr, ◌∙◌, ℕ, ◌+◌, ◌-◌, ◌^◌, ◌<◌, ◌≤◌, Bool, true, false, eqb, List, [], ◌∷◌, ◌++◌, length, take, drop, Option, Some, refl, sym, ap, subst, arith, length-append}
+use Rattle.std.proofs.Common.{◌≡◌, ◌⊎◌, inl, inr, ◌∙◌, ℕ, ◌+◌, ◌-◌, ◌^◌, ◌<◌, ◌≤◌, Bool, true, false, eqb, List, [], ◌∷◌, ◌++◌, length, take, drop, Option, Some, refl, sym, ap, subst, arith, append_assoc, length-append}
 use Rattle.target_machine.specs.Plain.{Action, Commands, forgives}
 use Rattle.target_machine.specs.State.{Agree, TargetState}
 use Rattle.target_machine.specs.declared.access.RegAccess.{RegAccess}
@@ -9,10 +9,11 @@ use Rattle.flight_forms.specs.Flights.{Part}
 use Rattle.probe_core.specs.Bench.{BenchState}
 use Rattle.probe_core.specs.Bench.{Reported as BenchReported}
 use Rattle.probe_core.specs.Probe.{target_of, work_of}
-use Rattle.call_terms.specs.Journal.{Entry, target_after}
+use Rattle.call_terms.specs.Journal.{Entry, Passes, target_after}
 use Rattle.call_terms.specs.Weights.{performed}
 use Rattle.call_terms.specs.World.{results}
 use Rattle.access_regs.specs.Journal.{issued}
+use Rattle.access_regs.proofs.Seams.{passes_both}
 use Rattle.access_regs.specs.Kept.{Kept}
 use Rattle.access_calls.specs.Issued.{AreKeptOf}
 use Rattle.access_calls.specs.Numbers.{HasNumbers}
@@ -30,15 +31,16 @@ use Rattle.batch_packer.specs.declared.ends.FlightEnd.TheVariants as ends
 use Rattle.calls_in_flight.specs.Ending.{EndsCut, IsCutOff, IsEnded, IsStrictAt, response_of_cause}
 use Rattle.calls_in_flight.specs.Flights.{Flies}
 use Rattle.calls_in_flight.specs.Sending.{IsSending}
-use Rattle.calls_in_flight.proofs.CutLemmas.{front_length, front_target, has_at, has_part, split as cut_split, take_front}
-use Rattle.calls_in_flight.proofs.EndLemmas.{flight_ends, flight_fails}
+use Rattle.calls_in_flight.proofs.CutLemmas.{front_length, front_target, has_at, has_part, passes_but_last, split as cut_split, take_front}
+use Rattle.calls_in_flight.proofs.ActionLemmas.{forgiving_passes}
+use Rattle.calls_in_flight.proofs.EndLemmas.{bench_fault, flight_ends, flight_fails}
 use Rattle.calls_in_flight.proofs.FlightLemmas.{flight_length}
 use Rattle.bench_flights.specs.Clearing.{ClearedOff, is_fault_end}
 use Rattle.bench_flights.specs.Flown.{BrokeOff, DidLess, HasDone, IsCutResponse, MayHaveFlown, WasCut}
 use Rattle.packed_access.specs.Forgiving.{IsNext, IsTrying}
 use Rattle.packed_access.specs.Logs.{IsCause, IsStopped, LogState, reported_by}
 use Rattle.packed_access.proofs.EndLemmas.{IsBrokenOff, numbers_longer}
-use Rattle.packed_access.proofs.TryLemmas.{abort, abort_room, cleared, flying, flying_abort}
+use Rattle.packed_access.proofs.TryLemmas.{abort, abort_room, cleared, flying, flying_abort, forgiving_all}
 use Rattle.access_regs.specs.declared.planner.Planner.{Planner}
 use Rattle.calls_in_flight.specs.Flights.{AreStrict}
 
@@ -128,18 +130,29 @@ module _ (p : Planner) (forgive : Bool) (bench : BenchReported) (state : Option 
   same_length : length fly ≡ length (leads ++ last ∷ [])
   same_length = flight_length fly (leads ++ last ∷ []) s.on.flight
 
+  -- none of the entries before ABORT gives a fault that is not forgiven
+  all_good : (count : ℕ) → count ≤ log.confirmed + length fly + 1 → Passes (target_of m0.probe) (take (count - 1) journal)
+  all_good count high =
+      let forgiven : Passes (target_after (target_of m0.probe) s.made) fly = forgiving_passes (target_after (target_of m0.probe) s.made) fly
+      (forgiving_all p forgive log asked k t made leads last for_end rest more m0 m h n few bounded o part flies answer forgives_it) in
+      let are : journal ≡ (s.made ++ fly) ++ (ab ∷ []) = s.on.are ∙ sym (append_assoc s.made fly (ab ∷ [])) in
+      passes_but_last (target_of m0.probe) count journal (s.made ++ fly) (ab ∷ []) are (passes_both (target_of m0.probe) s.made fly s.on.passes forgiven)
+      (let l = length-append s.made fly in let c = s.confirmed_is in omega (arith, l, c, high))
+
   -- so far it was performed
   performed_ends : (many : ℕ) → many ≡ log.confirmed + length fly + 1 → (count : ℕ) → log.confirmed ≤ count → count ≤ log.confirmed + length fly + 1 → ((w : Option ℕ) → HasPerformed journal count (began m0 w) q) → (entries : List Issued) →
       IsEnded p (stop.BenchFault many log.confirmed) (reported_by bench state (record log { entries = entries; end = Some (stop.BenchFault many log.confirmed) }) sent got) (take log.known log.results) m0 q
   performed_ends many is count low high part_is entries = record {
-    stands = λ w left. record {
+    stands = λ w left. bench_fault p log.calls many log.confirmed w m0 q s.fresh s.askable (record {
       count = count;
+      begun = count;
       count_is = (part_is w).count_is;
       low = low;
       high = (omega (arith, high, is));
       within = (let l = long in omega (arith, l, is));
-      target = inl (part_is w).target;
-    };
+      good = all_good count high;
+      target = inl (refl, (part_is w).target);
+    });
     results_are = λ w left. ap (λ (k : ℕ). take k (results (world_from m0 w) log.calls)) s.length_is ∙ s.results_are w left.so;
   }
 

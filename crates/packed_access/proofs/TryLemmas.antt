@@ -281,7 +281,7 @@ module _ (p : Planner) (forgive : Bool) (log : LogState) (asked : AccessUnit) (k
     pub later_is : later ≡ abort ∷ []
     later_is = (λ j. numbered units (forgives_it j) (tail_is j))
 
-    forgiving_all : AreForgiving flying
+    pub forgiving_all : AreForgiving flying
     forgiving_all = subst (λ (b : Bool). AreForgiving (numbered units b (steps_of_unit asked xs))) (sym forgives_it) (unit_forgiving units asked xs)
 
     pub flying_abort : IsSending p log.calls log.confirmed log.came flying (abort ∷ []) xs (take log.known log.results) m0 m

@@ -1,4 +1,5 @@
 use Rattle.calls_in_flight.proofs.StopLemmas.{stops_at_fault, stops_at_wait, came_before, results_stay}
+use Rattle.calls_in_flight.proofs.OwnLemmas.{begun_stay}
 use Rattle.calls_in_flight.proofs.laws.where_calls_stop.Goals as goal
 
 pub returns-clause-fault : goal.returns-clause-fault
@@ -12,3 +13,6 @@ returns-clause-lines c = came_before
 
 pub returns-clause-results : goal.returns-clause-results
 returns-clause-results c = results_stay
+
+pub returns-clause-begun : goal.returns-clause-begun
+returns-clause-begun c = begun_stay

@@ -1,0 +1,122 @@
+-- The entries that were begun of a run that was left off are the first of the journal of the outcome's calls.
+use Rattle.std.proofs.Common.{◌≡◌, ◌∙◌, ◌⊎◌, inl, inr, ℕ, zero, suc, ◌<◌, ◌≤◌, List, [], ◌∷◌, ◌++◌, length, take, Option, Some, refl, sym, ap, subst, arith}
+use Rattle.std.specs.List.{AllByRecursion}
+use Rattle.std.specs.Prelude.{slice_get}
+use Rattle.std.proofs.lemmas.List.{length-append, take-append-le}
+use Rattle.target_machine.specs.State.{Agree, TargetState}
+use Rattle.probe_core.specs.Bench.{BenchState}
+use Rattle.probe_core.specs.Probe.{target_of}
+use Rattle.call_terms.specs.Asks.{settled_last}
+use Rattle.call_terms.specs.Journal.{Entry, target_after}
+use Rattle.call_terms.specs.World.{World, stop}
+use Rattle.call_terms.specs.declared.calls.Ask.{Ask}
+use Rattle.call_terms.proofs.CallLists.{stop_more}
+use Rattle.call_terms.proofs.MarkLemmas.{stop_marked}
+use Rattle.access_calls.specs.Growing.{GoesOnWith, IsAfter, IsWithin, JournalGrows, JournalSettles}
+use Rattle.access_calls.specs.Reported.{Beginning, start_of}
+use Rattle.access_calls.specs.Standing.{IsAfterPart, IsPartOf}
+use Rattle.control_flow.specs.Answers.{IsWhole}
+use Rattle.sequence_terms.specs.Laws.{StopBy}
+use Rattle.sequence_terms.specs.Runs as runs
+use Rattle.sequence_terms.specs.Runs.{Ending}
+use Rattle.job_runs.proofs.FrontLemmas.{Meets, beyond, covers, goes_beyond, marked, within}
+
+-- ---- numbers and lists
+
+split_le : (m n : ℕ) → (m ≤ n) ⊎ (n < m)
+split_le zero n = inl (omega arith)
+split_le (suc m) zero = inr (omega arith)
+split_le (suc m) (suc n) = one (split_le m n)
+  where
+    one : (m ≤ n) ⊎ (n < m) → (suc m ≤ suc n) ⊎ (suc n < suc m)
+    one (inl h) = inl (omega (arith, h))
+    one (inr h) = inr (omega (arith, h))
+
+-- what is the same of more is the same of fewer
+take_fewer : {A : Type 0} (k : ℕ) (xs : List A) → take k (take (suc k) xs) ≡ take k xs
+take_fewer zero xs = refl
+take_fewer (suc k) [] = refl
+take_fewer {A = A} (suc k) (x ∷ xs) = ap (λ (l : List A). x ∷ l) (take_fewer k xs)
+
+get_taken : {A : Type 0} (k : ℕ) (xs : List A) → slice_get (take (suc k) xs) k ≡ slice_get xs k
+get_taken zero [] = refl
+get_taken zero (x ∷ xs) = refl
+get_taken (suc k) [] = refl
+get_taken (suc k) (x ∷ xs) = get_taken k xs
+
+-- entries that are all issued for the first calls lie in front of those that are issued after them
+few_begun : (calls begun : ℕ) (front rest : List Entry) → AllByRecursion (IsAfter calls) rest → AllByRecursion (IsWithin calls) (take begun (front ++ rest)) → begun ≤ length (front ++ rest) → begun ≤ length front
+few_begun calls zero front rest later own le = omega arith
+few_begun calls (suc begun) [] [] later own le = absurd (omega (arith, le))
+few_begun calls (suc begun) [] (x ∷ rest) later own le = absurd (let low = later.0 in let high = own.0 in omega (arith, low, high))
+few_begun calls (suc begun) (x ∷ front) rest later own le = (let h = few_begun calls begun front rest later own.1 (omega (arith, le)) in omega (arith, h))
+
+-- ---- calls
+
+-- the calls of an outcome that is neither Done nor Halted stop at the last
+pub ends_how : (w : World) (ending : Ending) (calls : List Ask) → StopBy w ending calls → IsWhole ending ⊎ (stop w calls ≡ Some (length calls))
+ends_how w runs.Done calls h = inl tt
+ends_how w (runs.Halted cause) calls h = inl tt
+ends_how w (runs.Faulted call) calls h = inr h.stopped.first
+ends_how w runs.Unanswered calls h = inr h.first
+ends_how w runs.Lost calls h = absurd h
+
+-- where more were asked, these stop there too
+pub asked_stop : (w : World) (asked calls : List Ask) → Meets asked calls → length calls < length asked → stop w calls ≡ Some (length calls) → stop w asked ≡ Some (length calls)
+asked_stop w asked calls (within rest is) more stops = absurd (let long = ap length is ∙ length-append asked rest in omega (arith, long, more))
+asked_stop w asked calls (beyond rest is) more stops = ap (stop w) is ∙ stop_more w calls rest (length calls) stops ∙ stops
+asked_stop w asked calls (marked over is) more stops = ap (stop w) is ∙ stop_marked w (calls ++ over) ∙ stop_more w calls over (length calls) stops ∙ stops
+
+-- ---- journals
+
+-- The first entries are the same in both lists.
+pub record Share (begun : ℕ) (theirs ours : List Entry) : Type 0 where
+  pub same : take begun theirs ≡ take begun ours
+  pub within : begun ≤ length ours
+
+-- one list goes on from the other
+share_longer : (begun calls : ℕ) (theirs ours : List Entry) → GoesOnWith calls theirs ours → begun ≤ length theirs → Share begun theirs ours
+share_longer begun calls theirs ours g le = record {
+  same = sym (ap (take begun) g.joined ∙ take-append-le begun theirs g.rest le);
+  within = (let long = ap length g.joined ∙ length-append theirs g.rest in omega (arith, long, le));
+}
+
+-- both go on from one
+share_both : (begun calls : ℕ) (first theirs ours : List Entry) → GoesOnWith calls first theirs → GoesOnWith calls first ours → begun ≤ length first → Share begun theirs ours
+share_both begun calls first theirs ours g h le =
+    let a = share_longer begun calls first theirs g le in
+    let b = share_longer begun calls first ours h le in
+    record { same = sym a.same ∙ b.same; within = b.within }
+
+module _ (journal : TargetState → List Ask → List Entry) (grows : JournalGrows journal) (settles : JournalSettles journal) (t : TargetState) where
+  -- The entries that were begun are the same in the journal of the outcome's calls; where more were asked, since all of them are issued
+  -- for the outcome's calls.
+  pub begun_share : (asked calls : List Ask) (begun : ℕ) → Meets asked calls → begun ≤ length (journal t asked)
+      → (length calls < length asked → AllByRecursion (IsWithin (length calls)) (take begun (journal t asked))) → Share begun (journal t asked) (journal t (settled_last calls))
+  begun_share asked calls begun m le own = by_length (split_le (length asked) (length calls))
+    where
+      by_length : (length asked ≤ length calls) ⊎ (length calls < length asked) → Share begun (journal t asked) (journal t (settled_last calls))
+      by_length (inl few) = share_longer begun (length asked) (journal t asked) (journal t (settled_last calls)) (covers journal grows settles t asked calls m few).goes_on le
+      by_length (inr more) =
+          let g = goes_beyond journal grows settles t asked calls m more in
+          share_both begun (length calls) (journal t calls) (journal t asked) (journal t (settled_last calls)) g (settles t calls)
+          (few_begun (length calls) begun (journal t calls) g.rest g.later
+          (subst (λ (es : List Entry). AllByRecursion (IsWithin (length calls)) (take begun es)) g.joined (own more))
+          (subst (λ (es : List Entry). begun ≤ length es) g.joined le))
+
+-- a part of one more entry, in lists whose first entries are the same
+pub part_shared : (theirs ours : List Entry) (count begun : ℕ) (b : Beginning) (m : BenchState) → take begun theirs ≡ take begun ours → IsAfterPart theirs count begun b m → IsAfterPart ours count begun b m
+part_shared theirs ours count begun b m same (inl h) = inl (
+  h.0,
+  subst (λ (es : List Entry). Agree (target_of m.probe) (target_after (start_of b) es)) (subst (λ (k : ℕ). take k theirs ≡ take k ours) h.0 same) h.1,
+)
+part_shared theirs ours count begun b m same (inr h) =
+    let next_begun : begun ≡ suc count = (let is = h.0 in omega (arith, is)) in
+    let more : take (suc count) theirs ≡ take (suc count) ours = subst (λ (k : ℕ). take k theirs ≡ take k ours) next_begun same in
+    let first : take count theirs ≡ take count ours = sym (take_fewer count theirs) ∙ ap (take count) more ∙ take_fewer count ours in
+    let next : slice_get theirs count ≡ slice_get ours count = sym (get_taken count theirs) ∙ ap (λ (l : List Entry). slice_get l count) more ∙ get_taken count ours in
+    inr (
+      h.0,
+      subst (λ (x : Option Entry). IsPartOf x (target_after (start_of b) (take count ours)) (target_of m.probe)) next
+          (subst (λ (es : List Entry). IsPartOf (slice_get theirs count) (target_after (start_of b) es) (target_of m.probe)) first h.1),
+    )
