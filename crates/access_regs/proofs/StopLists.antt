@@ -64,7 +64,8 @@ call_after p base k u c = ap (after u) (actions_entries p base u k c)
 
 -- ---- worlds
 
-stop_goes : (t : TargetState) (large : List ℕ) (n : Option ℕ) (ask : Ask) (asks : List Ask) → is_over n ≡ false → is_faulted (alone t large ask).end ≡ false →
+-- calls of which the first does not end at a fault stop where those after it do
+pub stop_goes : (t : TargetState) (large : List ℕ) (n : Option ℕ) (ask : Ask) (asks : List Ask) → is_over n ≡ false → is_faulted (alone t large ask).end ≡ false →
     stop (world_at t large n) (ask ∷ asks) ≡ later_by 1 (stop (world_at (alone t large ask).next (alone t large ask).large (one_fewer n)) asks)
 stop_goes t large n ask asks live good = rw (live, good) refl
 

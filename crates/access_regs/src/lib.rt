@@ -12,6 +12,3 @@ pub use known::{Known, Unsettled};
 pub use managed::Managed;
 pub use plan::Plan;
 pub use planner::Planner;
-
-#[cfg(test)]
-mod tests;

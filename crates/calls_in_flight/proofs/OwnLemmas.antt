@@ -9,23 +9,19 @@ use Rattle.target_machine.specs.Plain.{CallDone}
 use Rattle.target_machine.specs.State.{TargetState}
 use Rattle.call_terms.specs.Asks.{AreAskable}
 use Rattle.call_terms.specs.Journal.{Entry, Passes, lines_before}
-use Rattle.call_terms.specs.World.{World, is_faulted, later_by, next_world, start_world, stop, stops_here}
+use Rattle.call_terms.specs.World.{World, later_by, next_world, start_world, stop, stops_here}
 use Rattle.call_terms.specs.declared.calls.Ask.{Ask}
 use Rattle.call_terms.proofs.EntryLemmas.{pass_front}
 use Rattle.access_regs.specs.Alone.{NoneFaults, alone}
 use Rattle.access_regs.specs.Journal.{issued}
 use Rattle.access_regs.specs.Stops.{StaysThere, world_at}
 use Rattle.access_regs.specs.declared.planner.Planner.{Planner}
-use Rattle.access_regs.proofs.StopLists.{good_end, wait_stops}
+use Rattle.access_regs.proofs.StopLists.{good_end, stop_goes, wait_stops}
 use Rattle.access_calls.specs.Growing.{IsWithin}
 use Rattle.access_calls.specs.Standing.{StayWithin}
 use Rattle.calls_in_flight.specs.Stopping.{BegunStay}
 
 -- ---- where calls stop
-
-stop_goes : (t : TargetState) (large : List ℕ) (ask : Ask) (asks : List Ask) → is_faulted (alone t large ask).end ≡ false
-    → stop (world_at t large None) (ask ∷ asks) ≡ later_by 1 (stop (world_at (alone t large ask).next (alone t large ask).large None) asks)
-stop_goes t large ask asks good = rw good refl
 
 stop_positive : (w : World) (ask : Ask) (asks : List Ask) (n : ℕ) → stop w (ask ∷ asks) ≡ Some n → 0 < n
 stop_positive w ask asks n is = one (stops_here w ask) (stop (next_world w ask) asks) is
@@ -41,7 +37,7 @@ stop_later t large [] at n none within is = absurd (cc)
 stop_later t large (ask ∷ asks) zero n none within is = stop_positive (world_at t large None) ask asks n is
 stop_later t large (ask ∷ asks) (suc at) n none within is =
     by_stop (stop (world_at d.next d.large None) asks) (λ m e. stop_later d.next d.large asks at m none.1 (omega (arith, within)) e)
-    (sym (stop_goes t large ask asks (good_end d.end none.0)) ∙ is)
+    (sym (stop_goes t large None ask asks refl (good_end d.end none.0)) ∙ is)
   where
     d : CallDone
     d = alone t large ask

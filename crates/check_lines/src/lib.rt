@@ -10,6 +10,3 @@ mod writing;
 
 pub use refusals::{write_no_sequence, write_refusal, write_too_long, write_usage};
 pub use writing::{write_check, write_check_fault};
-
-#[cfg(test)]
-mod tests;

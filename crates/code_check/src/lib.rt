@@ -17,6 +17,3 @@ pub use exprs::expr_fault;
 pub use fault::{CodeFault, FaultKind};
 pub use names::Names;
 pub use scope::Scope;
-
-#[cfg(test)]
-mod tests;

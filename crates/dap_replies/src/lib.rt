@@ -6,6 +6,3 @@ mod progress;
 mod replies;
 
 pub use replies::{ReplyView, reply_view};
-
-#[cfg(test)]
-mod tests;

@@ -24,6 +24,3 @@ pub use parse::{ParseError, parse_code, parse_expr};
 pub use token::{Token, TokenKind};
 pub use token_list::{TokenError, Tokens};
 pub use values::{binary_value, unary_value};
-
-#[cfg(test)]
-mod tests;

@@ -9,6 +9,3 @@ mod size;
 pub use form::Form;
 pub use packing::{put_guarded_requests, put_requests};
 pub use size::{FlightSize, first_part};
-
-#[cfg(test)]
-mod tests;

@@ -1,4 +1,4 @@
-//! Tests of flights: their packets, where they are cut, polls, commands, and replies that no packet may get.
+//! Tests of flights: their forms, their packets, where they are cut, polls, commands, and replies that no packet may get.
 #![tactic(auto)]
 
 #[cfg(test)]
@@ -7,6 +7,8 @@ mod actions;
 mod cuts;
 #[cfg(test)]
 mod flights;
+#[cfg(test)]
+mod forms;
 #[cfg(test)]
 mod packets;
 #[cfg(test)]

@@ -9,6 +9,3 @@ mod running;
 pub use answer::{CheckRefusal, Refusal, ValidSet};
 pub use checking::valid_set;
 pub use running::{RunRefusal, ValidRun, valid_run};
-
-#[cfg(test)]
-mod tests;

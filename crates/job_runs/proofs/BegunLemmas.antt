@@ -2,7 +2,8 @@
 use Rattle.std.proofs.Common.{◌≡◌, ◌∙◌, ◌⊎◌, inl, inr, ℕ, zero, suc, ◌<◌, ◌≤◌, List, [], ◌∷◌, ◌++◌, length, take, Option, Some, refl, sym, ap, subst, arith}
 use Rattle.std.specs.List.{AllByRecursion}
 use Rattle.std.specs.Prelude.{slice_get}
-use Rattle.std.proofs.lemmas.List.{length-append, take-append-le}
+use Rattle.std.proofs.lemmas.Bool.{cases_lt}
+use Rattle.std.proofs.lemmas.List.{length-append, take-append-le, take-take}
 use Rattle.target_machine.specs.State.{Agree, TargetState}
 use Rattle.probe_core.specs.Bench.{BenchState}
 use Rattle.probe_core.specs.Probe.{target_of}
@@ -21,22 +22,7 @@ use Rattle.sequence_terms.specs.Runs as runs
 use Rattle.sequence_terms.specs.Runs.{Ending}
 use Rattle.job_runs.proofs.FrontLemmas.{Meets, beyond, covers, goes_beyond, marked, within}
 
--- ---- numbers and lists
-
-split_le : (m n : ℕ) → (m ≤ n) ⊎ (n < m)
-split_le zero n = inl (omega arith)
-split_le (suc m) zero = inr (omega arith)
-split_le (suc m) (suc n) = one (split_le m n)
-  where
-    one : (m ≤ n) ⊎ (n < m) → (suc m ≤ suc n) ⊎ (suc n < suc m)
-    one (inl h) = inl (omega (arith, h))
-    one (inr h) = inr (omega (arith, h))
-
--- what is the same of more is the same of fewer
-take_fewer : {A : Type 0} (k : ℕ) (xs : List A) → take k (take (suc k) xs) ≡ take k xs
-take_fewer zero xs = refl
-take_fewer (suc k) [] = refl
-take_fewer {A = A} (suc k) (x ∷ xs) = ap (λ (l : List A). x ∷ l) (take_fewer k xs)
+-- ---- lists
 
 get_taken : {A : Type 0} (k : ℕ) (xs : List A) → slice_get (take (suc k) xs) k ≡ slice_get xs k
 get_taken zero [] = refl
@@ -93,16 +79,16 @@ module _ (journal : TargetState → List Ask → List Entry) (grows : JournalGro
   -- for the outcome's calls.
   pub begun_share : (asked calls : List Ask) (begun : ℕ) → Meets asked calls → begun ≤ length (journal t asked)
       → (length calls < length asked → AllByRecursion (IsWithin (length calls)) (take begun (journal t asked))) → Share begun (journal t asked) (journal t (settled_last calls))
-  begun_share asked calls begun m le own = by_length (split_le (length asked) (length calls))
+  begun_share asked calls begun m le own = by_length (cases_lt (length calls) (length asked))
     where
-      by_length : (length asked ≤ length calls) ⊎ (length calls < length asked) → Share begun (journal t asked) (journal t (settled_last calls))
-      by_length (inl few) = share_longer begun (length asked) (journal t asked) (journal t (settled_last calls)) (covers journal grows settles t asked calls m few).goes_on le
-      by_length (inr more) =
+      by_length : (length calls < length asked) ⊎ (length asked ≤ length calls) → Share begun (journal t asked) (journal t (settled_last calls))
+      by_length (inl more) =
           let g = goes_beyond journal grows settles t asked calls m more in
           share_both begun (length calls) (journal t calls) (journal t asked) (journal t (settled_last calls)) g (settles t calls)
           (few_begun (length calls) begun (journal t calls) g.rest g.later
           (subst (λ (es : List Entry). AllByRecursion (IsWithin (length calls)) (take begun es)) g.joined (own more))
           (subst (λ (es : List Entry). begun ≤ length es) g.joined le))
+      by_length (inr few) = share_longer begun (length asked) (journal t asked) (journal t (settled_last calls)) (covers journal grows settles t asked calls m few).goes_on le
 
 -- a part of one more entry, in lists whose first entries are the same
 pub part_shared : (theirs ours : List Entry) (count begun : ℕ) (b : Beginning) (m : BenchState) → take begun theirs ≡ take begun ours → IsAfterPart theirs count begun b m → IsAfterPart ours count begun b m
@@ -113,7 +99,7 @@ part_shared theirs ours count begun b m same (inl h) = inl (
 part_shared theirs ours count begun b m same (inr h) =
     let next_begun : begun ≡ suc count = (let is = h.0 in omega (arith, is)) in
     let more : take (suc count) theirs ≡ take (suc count) ours = subst (λ (k : ℕ). take k theirs ≡ take k ours) next_begun same in
-    let first : take count theirs ≡ take count ours = sym (take_fewer count theirs) ∙ ap (take count) more ∙ take_fewer count ours in
+    let first : take count theirs ≡ take count ours = sym (take-take count (suc count) theirs (omega arith)) ∙ ap (take count) more ∙ take-take count (suc count) ours (omega arith) in
     let next : slice_get theirs count ≡ slice_get ours count = sym (get_taken count theirs) ∙ ap (λ (l : List Entry). slice_get l count) more ∙ get_taken count ours in
     inr (
       h.0,

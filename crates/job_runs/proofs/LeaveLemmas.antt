@@ -43,7 +43,7 @@ use Rattle.control_flow.specs.Answers.{EndBy, EndsAs, HasNeeds, IsAll, IsCut, Is
 use Rattle.sequence_terms.specs.Known.{Knows, known_part}
 use Rattle.target_machine.specs.Counts.{one_if}
 use Rattle.job_runs.proofs.BegunLemmas.{Share, asked_stop, begun_share, ends_how, part_shared}
-use Rattle.job_runs.proofs.FrontLemmas.{Covers, Meeting, call_within, covered, covers, few_asked, get_some, meeting, meets, own_call, same_fault, same_first, same_made, same_numbers}
+use Rattle.job_runs.proofs.FrontLemmas.{Covers, Meeting, call_within, covered, covers, few_asked, get_some, goes_beyond, meeting, meets, own_call, same_fault, same_first, same_made, same_numbers}
 use Rattle.job_runs.specs.Runs.{AccessKind, ComesTo, HasAsked, HasStopped, IsBroken, IsFaultStop, IsFew, IsFewIf, IsFront, IsLeftOff, IsNotOpened, IsRetryStop, IsStop, IsUnopened, IsWhole, Left, LeavesAs, Run, calls_in, entries_in, known_after, needs_in, not_opened, opened, outcome_with}
 use Rattle.job_runs.specs.Ends.{ending_of}
 use Rattle.bench_access.specs.Opening.{IsLoaded, IsNotBegun, IsOpened, RefusedBy}
@@ -166,6 +166,7 @@ module _ (access : AccessKind) (grows : JournalGrows access.journal) (settles : 
     written = part.written;
     calls = part.calls;
     entries = λ few. (covered_by a part.calls few).goes_on;
+    beyond = goes_beyond access.journal grows settles (target_of first.probe) a.asks.calls whole.calls (meets a.asks.calls whole part.calls);
     same = share.same;
     within = share.within;
   }

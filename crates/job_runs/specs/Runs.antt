@@ -185,12 +185,14 @@ IsStop NoAnswer run r l = IsRetryStop run r l
 -- ---- left off
 
 -- What was written comes first in the lines of the outcome. The calls that were asked and the outcome's come first in one list of
--- calls; where no more were asked than the outcome has, their entries come first in the journal of the outcome's calls. The entries
--- that were begun are the first of that journal: none is of a call after the one that the outcome ends at.
+-- calls. Where no more were asked than the outcome has, their entries come first in the journal of the outcome's calls; where more were
+-- asked, their entries begin with those of the outcome's calls, and go on with what is issued after these. The entries that were begun
+-- are the first of the journal of the outcome's calls: none is of a call after the one that the outcome ends at.
 pub record IsFront (run : Run) (asked : List Ask) (begun : ℕ) (l : Left) : Type 0 where
   pub written : Grows l.written (outcome_in run).written
   pub calls : SharesCalls asked (outcome_in run)
   pub entries : length asked ≤ units_of (outcome_in run) → GoesOnWith (length asked) (entries_in run asked) (entries_in run (calls_in run))
+  pub beyond : units_of (outcome_in run) < length asked → GoesOnWith (units_of (outcome_in run)) (entries_in run (outcome_in run).calls) (entries_in run asked)
   pub same : take begun (entries_in run asked) ≡ take begun (entries_in run (calls_in run))
   pub within : begun ≤ length (entries_in run (calls_in run))
 

@@ -11,6 +11,3 @@ mod watch;
 
 pub use job::{Job, JobRefusal, Watch, WatchItem};
 pub use reading::job_of;
-
-#[cfg(test)]
-mod tests;

@@ -14,6 +14,3 @@ mod words;
 pub use put::TextEnd;
 pub use report::report_text;
 pub use trace::trace_text;
-
-#[cfg(test)]
-mod tests;

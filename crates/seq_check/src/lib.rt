@@ -15,6 +15,3 @@ mod steps;
 pub use checked::{CheckFault, Checked};
 pub use code_check::FaultKind;
 pub use set_check::check;
-
-#[cfg(test)]
-mod tests;

@@ -15,6 +15,3 @@ pub use set_reader::{SetFault, read_set};
 pub use spot::{OutwardPath, Part, Spot, StepPath};
 pub use steps::{CheckedStep, CheckedSteps};
 pub use text::{TextFault, read_code, read_condition};
-
-#[cfg(test)]
-mod tests;

@@ -15,6 +15,3 @@ pub use effective_set::effective;
 pub use entry::{LevelKind, SeqEntries, SeqEntry, SeqSet};
 pub use fault::ResolveFault;
 pub use selection::Selection;
-
-#[cfg(test)]
-mod tests;

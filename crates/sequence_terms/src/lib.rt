@@ -19,6 +19,3 @@ pub use loops::turn_count;
 pub use polls::poll_of;
 pub use sequences::steps_of;
 pub use units::{ap_unit, dp_unit, low_bits, memory_port, memory_unit, pins_command};
-
-#[cfg(test)]
-mod tests;

@@ -1,5 +1,5 @@
 //! The lines of sets and faults that are made by hand, and those that no job has.
-use crate::{write_check, write_check_fault, write_no_sequence, write_too_long, write_usage};
+use check_lines::{write_check, write_check_fault, write_no_sequence, write_too_long, write_usage};
 use code_check::FaultKind;
 use dap_base::{ItemList, MemorySink, NameText, OutOfMemory, Place};
 use device_tree::{SharedSteps, Step, Steps};

@@ -1,8 +1,7 @@
 use Rattle.std.proofs.Common.{rules, ◌≡◌, map, [], ◌∷◌, codes, refl}
 use Rattle.std.specs.List.{IsDistinct}
-use Rattle.seq_check.proofs.tests.set.Goals as goal
+use Rattle.language_tests.proofs.sets.set.Goals as goal
 
--- src/tests.rt:34:1
 pub returns : goal.returns
 unfolding IsDistinct
 returns c =

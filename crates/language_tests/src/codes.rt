@@ -2,9 +2,11 @@ ghost use Rattle.std.specs.Prelude.{IfOk, map};
 ghost use Rattle.std.specs.List.{IsDistinct};
 ghost use Rattle.std.specs.Str.{bytes_eq};
 
-use crate::{CheckedStep, Part, ReadSet, SetFault, TextFault, read_code, read_condition, read_set};
 use dap_base::Place;
 use device_tree::pack_of;
+use sequence_code::{
+    CheckedStep, Part, ReadSet, SetFault, TextFault, read_code, read_condition, read_set,
+};
 use sequence_resolve::{SeqSet, effective};
 use serde_json::Value;
 use std::alloc::Global;

@@ -3,8 +3,8 @@ mod bench_tests;
 mod pack_tests;
 mod run_tests;
 
-use crate::{Job, JobRefusal, job_of};
 use device_tree::{JobFault, Path, PathStep};
+use job_text::{Job, JobRefusal, job_of};
 use std::alloc::{AllocError, Global};
 use std::process::Abort;
 use std::test::Fail;

@@ -1,7 +1,7 @@
 //! Sinks and benches of which a call fails.
 use super::jobs::{BASE, ended, fresh};
-use crate::TextEnd;
 use access_calls::Ending;
+use report_lines::TextEnd;
 use std::alloc::Global;
 use std::process::Abort;
 use std::test::Fail;

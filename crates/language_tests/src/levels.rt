@@ -1,5 +1,5 @@
-use crate::{LevelKind, ResolveFault, SeqSet, effective};
 use device_tree::{Pack, Step, pack_of};
+use sequence_resolve::{LevelKind, ResolveFault, SeqSet, effective};
 use serde_json::Value;
 use std::alloc::Global;
 use std::test::Fail;

@@ -69,6 +69,9 @@ fn runs_that_are_not_stopped(rt: HostRuntime) -> Result<(), Fail> {
     Ok(())
 }
 
+// What follows the line of a halt.
+const HALTED: &str = "units 3\nvar __dp 0x0\nvar key 0xc0ffee\n";
+
 #[test]
 fn each_halt_has_its_word(rt: HostRuntime) -> Result<(), Fail> {
     for (cause, word) in [
@@ -80,9 +83,11 @@ fn each_halt_has_its_word(rt: HostRuntime) -> Result<(), Fail> {
         (HaltCause::MessageLimit, "MessageLimit"),
         (HaltCause::StepLimit, "StepLimit"),
     ] {
-        let line = crate::endings::halted_text(rt.alloc(), cause)?;
-        let text = format!(in rt.alloc(); "end halted {word}\n")?;
-        assert_eq!(rt; line.as_bytes(), text.as_bytes());
+        let ended = ended(rt.alloc(), Ending::Halted(cause), 0)?;
+        let (end, sink) = fresh(rt.alloc(), BASE, &ended, 99, 99)?;
+        assert_eq!(rt; end, Ok(()));
+        let text = format!(in rt.alloc(); "end halted {word}\n{HALTED}{TARGET}{TRACE}")?;
+        assert_eq!(rt; sink.bytes(), text.as_bytes());
     }
     Ok(())
 }

@@ -1,6 +1,6 @@
 //! Texts and the first fault of each, worked out by hand from the rules of the language.
-use crate::{FaultKind, Names, block_fault};
 use FaultKind::*;
+use code_check::{FaultKind, Names, block_fault};
 use expr_grammar::{parse_code, tokens};
 use std::alloc::Global;
 use std::test::Fail;

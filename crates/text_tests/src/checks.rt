@@ -11,7 +11,7 @@ mod order_tests;
 mod syntax_tests;
 mod valid_tests;
 
-use crate::{write_check, write_refusal};
+use check_lines::{write_check, write_refusal};
 use dap_base::{MemorySink, NameText};
 use job_check::{CheckRefusal, valid_set};
 use sequence_resolve::Selection;

@@ -1,8 +1,8 @@
-use crate::{
+use dap_base::Place;
+use expr_grammar::{
     BinaryOp, Expr, ParseError, Token, TokenError, TokenKind, UnaryOp, binary_value, parse_code,
     parse_expr, tokens, unary_value,
 };
-use dap_base::Place;
 use std::alloc::{AllocError, Global};
 use std::test::*;
 

@@ -1,8 +1,8 @@
 //! The requests and the forms of lists of accesses, with values worked out by hand.
 ghost use Rattle.std.specs.Prelude.{◌≤◌, length};
 
-use crate::*;
 use dap_messages::Request;
+use flight_forms::{FlightSize, Form, first_part, put_guarded_requests, put_requests};
 use std::process::Abort;
 use target_machine::RegAccess;
 

@@ -3,11 +3,11 @@ ghost use Rattle.std.specs.Prelude.{IfOk};
 ghost use Rattle.job_text.specs.Ranges.{AreWatched};
 ghost use Rattle.probe_core.specs.Ranges.{IsBenchJob};
 
-use crate::{TextEnd, report_text, trace_text};
 use access_calls::{Ended, Ending};
 use dap_base::{MemorySink, NameText, OutOfMemory};
 use job_text::{Job, job_of};
 use probe_core::{Bench, FaultyBench};
+use report_lines::{TextEnd, report_text, trace_text};
 use std::alloc::{AllocError, Global};
 use target_machine::{Variable, Variables};
 

@@ -2,7 +2,7 @@
 ghost use Rattle.std.specs.Prelude.{◌≡◌, ◌%◌};
 ghost use Rattle.target_machine.specs.Sound.{IsSound, IsSoundMemory};
 
-use crate::*;
+use access_regs::{Managed, Plan};
 use std::process::Abort;
 use std::test::Fail;
 use target_machine::{RegAccess, Unit};

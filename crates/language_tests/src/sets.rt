@@ -2,9 +2,9 @@ ghost use Rattle.std.specs.Prelude.{◌≡◌, IfOk, map};
 ghost use Rattle.std.specs.List.{IsDistinct};
 ghost use Rattle.std.specs.Str.{bytes_eq};
 
-use crate::{CheckFault, Checked, FaultKind, check};
 use dap_base::{ItemList, NameText};
 use device_tree::{SharedSteps, Step, Steps};
+use seq_check::{CheckFault, Checked, FaultKind, check};
 use sequence_code::Part;
 use sequence_resolve::{LevelKind, SeqEntry, SeqSet};
 use std::alloc::Global;

@@ -1,6 +1,6 @@
 //! Refusals of whole jobs, and which of two goes first.
 use super::{DEVICE, FAMILIES, check, says_of, selection_of, written};
-use crate::write_refusal;
+use check_lines::write_refusal;
 use dap_base::MemorySink;
 use job_check::{CheckRefusal, valid_set};
 use std::test::Fail;

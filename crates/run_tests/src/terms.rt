@@ -1,11 +1,11 @@
 //! Operators at the ends of 64 bits, lines, polls, turns and variables, worked out by hand from the rules of the language.
-use crate::{
-    Binding, Globals, has_in, load_line, message_line, newest_in, poll_of, query_line, set_newest,
-    text_of, turn_count, value_line,
-};
 use dap_base::{ItemList, NameText};
 use expr_grammar::{BinaryOp, Expr, binary_value, parse_code, parse_expr, tokens};
 use sequence_code::CheckedStep;
+use sequence_terms::{
+    Binding, Globals, has_in, load_line, message_line, newest_in, poll_of, query_line, set_newest,
+    text_of, turn_count, value_line,
+};
 use std::alloc::Global;
 use std::test::Fail;
 

@@ -1,7 +1,7 @@
-//! Each answer once. The texts of many more jobs are tested where they are written, in `check_lines`.
-use crate::{CheckRefusal, Refusal, RunRefusal, valid_run, valid_set};
+//! Each answer once. The texts of many more jobs are tested where they are written, in `checks`.
 use dap_base::NameText;
 use device_tree::JobFault;
+use job_check::{CheckRefusal, Refusal, RunRefusal, valid_run, valid_set};
 use seq_check::FaultKind;
 use sequence_resolve::Selection;
 use std::alloc::{AllocError, Global};

@@ -1,7 +1,7 @@
 //! Replies worked out by hand from CMSIS-DAP.
-use crate::*;
 use dap_messages::MessageError::{self, BadCount, BadId, BadRequest, Short, TrailingBytes};
 use dap_messages::packet_view;
+use dap_replies::reply_view;
 
 // What the view of a reply shows, or its first fault.
 fn shown_of(packet: &[u8], reply: &[u8]) -> Option<Result<(u16, u8, usize), MessageError>> {
