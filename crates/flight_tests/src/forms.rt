@@ -41,7 +41,7 @@ fn request(byte: u8, word: u32) -> Request {
 }
 
 // The accesses have these requests.
-#[tactic(auto, using(crate::proofs::RequestSizes::requests_most))]
+#[tactic(auto, using(flight_forms::proofs::RequestSizes::requests_most))]
 fn plain(rt: &impl Abort, accesses: &[RegAccess], expected: &[Request])
     requires few { length accesses.now ≤ 30 }
 {
@@ -51,7 +51,7 @@ fn plain(rt: &impl Abort, accesses: &[RegAccess], expected: &[Request])
 }
 
 // And these in a guarded command.
-#[tactic(auto, using(crate::proofs::RequestSizes::requests_most, crate::proofs::Fits::guarded_most))]
+#[tactic(auto, using(flight_forms::proofs::RequestSizes::requests_most, flight_forms::proofs::Fits::guarded_most))]
 fn guarded(rt: &impl Abort, accesses: &[RegAccess], expected: &[Request])
     requires few { length accesses.now ≤ 30 }
 {
