@@ -6,14 +6,14 @@ use Rattle.target_machine.specs.State.{TargetState, Agree}
 use Rattle.target_machine.specs.declared.unit.Unit.{Unit as AccessUnit}
 use Rattle.probe_core.specs.Bench.{BenchState}
 use Rattle.probe_core.specs.Probe.{target_of}
-use Rattle.call_terms.specs.Asks.{unit_ask, is_settled, settled_last}
-use Rattle.call_terms.specs.Journal.{Entry}
-use Rattle.call_terms.specs.NeedPoints.{Asks, nothing_asked}
-use Rattle.call_terms.specs.World.{World, stop, results, stops_here, next_world, done_now, end_result, later_by, world_after, left_at}
-use Rattle.call_terms.specs.declared.calls.Ask.{Ask}
+use Rattle.target_calls.specs.Asks.{unit_ask, is_settled, settled_last}
+use Rattle.target_calls.specs.Journal.{Entry}
+use Rattle.target_calls.specs.NeedPoints.{Asks, nothing_asked}
+use Rattle.target_calls.specs.World.{World, stop, results, stops_here, next_world, done_now, end_result, later_by, world_after, left_at}
+use Rattle.target_calls.specs.declared.calls.Ask.{Ask}
 use Rattle.access_calls.specs.Answers.{StopsCalls, StopsOrSettles, StopsSettling}
 use Rattle.access_calls.specs.Copy.{Copied, IsCopyEnd, IsDone, IsStopped, copied, copied_by, line, read_word, write_word}
-use Rattle.access_calls.specs.Reported.{Beginning, Reported, began, start_of, world_of, world_from}
+use Rattle.access_calls.specs.Reported.{Beginning, AccessView, began, start_of, world_of, world_from}
 use Rattle.access_calls.specs.Standing.{Stands, StandsAt, WhereObservable}
 use Rattle.access_calls.specs.declared.stop.Stop.{Stop}
 use Rattle.access_calls.specs.declared.stop.Stop.TheVariants.{Cut, BenchFault, ReplyBad, OutOfMemory}
@@ -32,7 +32,7 @@ abbrev pub both : ℕ → ℕ → ℕ → List Ask
 both from to value = read_ask from ∷ write_ask to value ∷ []
 
 -- the first call stops
-at_read : (w : World) (from to : ℕ) (a : Reported) (old : Option (List ℕ)) → stop w (read_ask from ∷ []) ≡ Some (a.lines + 1) → IsStopped a (copied w from to) old old
+at_read : (w : World) (from to : ℕ) (a : AccessView) (old : Option (List ℕ)) → stop w (read_ask from ∷ []) ≡ Some (a.lines + 1) → IsStopped a (copied w from to) old old
 at_read w from to a old e = by_test (stops_here w (read_ask from)) refl e
   where
     by_test : (b : Bool) → stops_here w (read_ask from) ≡ b → cond b (Some 1) (later_by 1 None) ≡ Some (a.lines + 1)
@@ -41,7 +41,7 @@ at_read w from to a old e = by_test (stops_here w (read_ask from)) refl e
     by_test false is e = absurd (cc)
 
 -- the second call stops, where `value` is the result of the first
-at_write : (w : World) (from to : ℕ) (a : Reported) (old : Option (List ℕ)) (value : ℕ) → value ≡ slice_index (results w (read_ask from ∷ [])) 0
+at_write : (w : World) (from to : ℕ) (a : AccessView) (old : Option (List ℕ)) (value : ℕ) → value ≡ slice_index (results w (read_ask from ∷ [])) 0
     → stop w (both from to value) ≡ Some (a.lines + 1) → IsStopped a (copied w from to) old old
 at_write w from to a old value is e = by_test (stops_here w (read_ask from)) refl is e
   where
@@ -84,13 +84,13 @@ at_end w from to value is e = by_test (stops_here w (read_ask from)) refl is e
 
 -- ---- the exits, by how the access stopped
 
-stopped_read : (w : World) (from to : ℕ) (a : Reported) (s : Stop) (old : Option (List ℕ)) → StopsCalls w (read_ask from ∷ []) a.lines s → IsCopyEnd (Stopped s) a (copied w from to) old old
+stopped_read : (w : World) (from to : ℕ) (a : AccessView) (s : Stop) (old : Option (List ℕ)) → StopsCalls w (read_ask from ∷ []) a.lines s → IsCopyEnd (Stopped s) a (copied w from to) old old
 stopped_read w from to a (Cut r) old stops = at_read w from to a old stops.so
 stopped_read w from to a (BenchFault issued confirmed) old stops = tt
 stopped_read w from to a ReplyBad old stops = tt
 stopped_read w from to a OutOfMemory old stops = tt
 
-stopped_write : (w : World) (from to : ℕ) (a : Reported) (s : Stop) (old : Option (List ℕ)) (value : ℕ) → value ≡ slice_index (results w (read_ask from ∷ [])) 0
+stopped_write : (w : World) (from to : ℕ) (a : AccessView) (s : Stop) (old : Option (List ℕ)) (value : ℕ) → value ≡ slice_index (results w (read_ask from ∷ [])) 0
     → StopsCalls w (both from to value) a.lines s → IsCopyEnd (Stopped s) a (copied w from to) old old
 stopped_write w from to a (Cut r) old value is stops = at_write w from to a old value is stops.so
 stopped_write w from to a (BenchFault issued confirmed) old value is stops = tt
@@ -99,7 +99,7 @@ stopped_write w from to a OutOfMemory old value is stops = tt
 
 -- ---- the same, with the facts as the calls give them
 
-pub first_stops : (w : World) (from to : ℕ) (a : Reported) (s : Stop) (old : Option (List ℕ)) (asks : Asks) (u : AccessUnit) → asks ≡ nothing_asked → u ≡ read_word from
+pub first_stops : (w : World) (from to : ℕ) (a : AccessView) (s : Stop) (old : Option (List ℕ)) (asks : Asks) (u : AccessUnit) → asks ≡ nothing_asked → u ≡ read_word from
     → StopsCalls w (asks.calls ++ unit_ask u false ∷ []) a.lines s → IsCopyEnd (Stopped s) a (copied w from to) old old
 first_stops w from to a s old asks u fresh is stops =
     stopped_read w from to a s old (subst (λ (x : Asks × AccessUnit). StopsCalls w (x.0.calls ++ unit_ask x.1 false ∷ []) a.lines s) (λ j. (fresh j, is j)) stops)
@@ -116,12 +116,12 @@ was_read w from asks u one two index value fresh is first slot same result =
     let zero_is : index ≡ 0 = slot ∙ ap (λ (x : Asks). length x.calls) fresh in
     record { calls_are = same ∙ calls; value_is = result ∙ (λ j. slice_index (results w (calls j)) (zero_is j)) }
 
-pub second_stops : (w : World) (from to : ℕ) (a : Reported) (s : Stop) (old : Option (List ℕ)) (calls : List Ask) (value : ℕ) (u : AccessUnit) → IsRead w from calls value
+pub second_stops : (w : World) (from to : ℕ) (a : AccessView) (s : Stop) (old : Option (List ℕ)) (calls : List Ask) (value : ℕ) (u : AccessUnit) → IsRead w from calls value
     → u ≡ write_word to value → StopsCalls w (calls ++ unit_ask u false ∷ []) a.lines s → IsCopyEnd (Stopped s) a (copied w from to) old old
 second_stops w from to a s old calls value u read is stops = stopped_write w from to a s old value read.value_is
     (subst (λ (x : List Ask × AccessUnit). StopsCalls w (x.0 ++ unit_ask x.1 false ∷ []) a.lines s) (λ j. (read.calls_are j, is j)) stops)
 
-pub flush_stops : (w : World) (from to : ℕ) (a : Reported) (s : Stop) (old : Option (List ℕ)) (calls next : List Ask) (value : ℕ) (u : AccessUnit) → IsRead w from calls value
+pub flush_stops : (w : World) (from to : ℕ) (a : AccessView) (s : Stop) (old : Option (List ℕ)) (calls next : List Ask) (value : ℕ) (u : AccessUnit) → IsRead w from calls value
     → u ≡ write_word to value → next ≡ calls ++ unit_ask u false ∷ [] → StopsCalls w next a.lines s → IsCopyEnd (Stopped s) a (copied w from to) old old
 flush_stops w from to a s old calls next value u read is more stops =
     second_stops w from to a s old calls value u read is (subst (λ x. StopsCalls w x a.lines s) more stops)
@@ -144,18 +144,18 @@ was_written w from to calls next value u read is more whole =
       after = ap (λ x. world_after w (settled_last x)) all;
     }
 
-settled_open : (e : Option Stop) (entries : List Entry) (a : Reported) (b : Beginning) (m : BenchState) → StandsAt e entries a b m → e ≡ None → is_settled a.asks.calls ≡ true
+settled_open : (e : Option Stop) (entries : List Entry) (a : AccessView) (b : Beginning) (m : BenchState) → StandsAt e entries a b m → e ≡ None → is_settled a.asks.calls ≡ true
     → Agree (target_of m.probe) (world_after (world_of b) a.asks.calls).target
 settled_open None entries a b m stands same settled = stands.settled settled
 settled_open (Some s) entries a b m stands same settled = absurd (cc)
 
-settled_target : (j : TargetState → List Ask → List Entry) (x : Option BenchState) (a : Reported) (b : Beginning) (t : TargetState)
+settled_target : (j : TargetState → List Ask → List Entry) (x : Option BenchState) (a : AccessView) (b : Beginning) (t : TargetState)
     → WhereObservable x (λ m. StandsAt a.end (j (start_of b) a.asks.calls) a b m) → a.end ≡ None → is_settled a.asks.calls ≡ true → (world_after (world_of b) a.asks.calls).target ≡ t
     → WhereObservable x (λ m. Agree (target_of m.probe) t)
 settled_target j None a b t stands none settled is = stands
 settled_target j (Some m) a b t stands none settled is = subst (λ u. Agree (target_of m.probe) u) is (settled_open a.end (j (start_of b) a.asks.calls) a b m stands none settled)
 
-pub finished_done : (j : TargetState → List Ask → List Entry) (m : BenchState) (n : Option ℕ) (from to : ℕ) (a : Reported) (calls : List Ask) (old new : Option (List ℕ)) (last : World)
+pub finished_done : (j : TargetState → List Ask → List Entry) (m : BenchState) (n : Option ℕ) (from to : ℕ) (a : AccessView) (calls : List Ask) (old new : Option (List ℕ)) (last : World)
     → IsWritten (world_from m n) from to calls last → Appends old new line → Stands j a (began m n) → a.end ≡ None → a.asks.calls ≡ settled_last calls → IsDone a (copied (world_from m n) from to) old new
 finished_done j m n from to a calls old new last wrote put stands none is = record {
   whole = wrote.whole.whole;
@@ -164,7 +164,7 @@ finished_done j m n from to a calls old new last wrote put stands none is = reco
       (ap (λ x. (world_after (world_from m n) x).target) is ∙ ap (λ (w : World). w.target) (wrote.after ∙ sym wrote.whole.world));
 }
 
-pub finish_stops : (w : World) (from to : ℕ) (a : Reported) (s : Stop) (old new : Option (List ℕ)) (calls : List Ask) (last : World) → IsWritten w from to calls last → Appends old new line
+pub finish_stops : (w : World) (from to : ℕ) (a : AccessView) (s : Stop) (old new : Option (List ℕ)) (calls : List Ask) (last : World) → IsWritten w from to calls last → Appends old new line
     → stop w calls ≡ None → StopsSettling w calls a.lines s → IsCopyEnd (Stopped s) a (copied w from to) old new
 finish_stops w from to a (Cut r) old new calls last wrote put whole stops =
     record { place = placed r.cause stops.so; written = subst (λ bytes. Appends old new bytes) (sym wrote.whole.written) put }

@@ -4,9 +4,9 @@ use Rattle.std.proofs.lemmas.List.Sums.{sum_by-cons}
 use Rattle.std.proofs.lemmas.List.{take-map}
 use Rattle.std.proofs.lemmas.Option.{slice_get-get_or, slice_get-map, slice_get_within}
 use Rattle.target_machine.specs.Counts.{one_if}
-use Rattle.call_terms.specs.Journal.{Entry, completes, is_skip}
-use Rattle.call_terms.specs.declared.calls.Ask.{Ask}
-use Rattle.call_terms.specs.declared.journal.Part.{Part}
+use Rattle.target_calls.specs.Journal.{Entry, completes, is_skip}
+use Rattle.target_calls.specs.declared.calls.Ask.{Ask}
+use Rattle.target_calls.specs.declared.journal.Part.{Part}
 use Rattle.access_calls.specs.Issued.{AreKeptOf, attempted_by_kept, kept_of, lines_before_kept, skipped_by_kept}
 use Rattle.access_calls.specs.Numbers.{HasNumbers, attempted_by, lines_at, unit_at}
 use Rattle.access_calls.specs.declared.issued.Issued.{Issued}

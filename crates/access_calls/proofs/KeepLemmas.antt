@@ -3,12 +3,12 @@ use Rattle.std.proofs.Common.{◌≡◌, ◌∙◌, ℕ, ◌≤◌, Option, Some
 use Rattle.dap_base.specs.Causes.{Rose}
 use Rattle.probe_core.proofs.RunLemmas.{keeps_own_runs, keeps_runs_on}
 use Rattle.probe_core.specs.Runs.{KeepsRuns}
-use Rattle.call_terms.specs.NeedPoints.{Asks}
-use Rattle.call_terms.specs.World.{AtLeast}
+use Rattle.target_calls.specs.NeedPoints.{Asks}
+use Rattle.target_calls.specs.World.{AtLeast}
 use Rattle.access_calls.specs.Causes.{EndedBy}
 use Rattle.access_calls.specs.GoesOn.{GoesOn, IsSameButAsks, StaysEnded}
 use Rattle.access_calls.specs.Left.{IsLeft, IsLeftAt, IsLeftCut, answered_at, answered_by, answered_cut}
-use Rattle.access_calls.specs.Reported.{Reported}
+use Rattle.access_calls.specs.Reported.{AccessView}
 use Rattle.access_calls.specs.declared.stop.Stop.{Stop}
 use Rattle.access_calls.specs.declared.stop.Stop.TheVariants.{Cut, BenchFault, ReplyBad, OutOfMemory}
 use Rattle.access_calls.specs.declared.stop.StopCause.{StopCause}
@@ -17,12 +17,12 @@ use Rattle.access_calls.specs.declared.stop.StopCause.TheVariants.{Faulted, NoAn
 rose_later : (a b c : ℕ) → a ≤ b → Rose b c → Rose a c
 rose_later a b c le rose = omega (arith, le, rose)
 
-stays_same : (e : Option Stop) (a : Reported) → a.end ≡ e → StaysEnded a a e
+stays_same : (e : Option Stop) (a : AccessView) → a.end ≡ e → StaysEnded a a e
 stays_same None a none = subst (EndedBy a a) (sym none) refl
 stays_same (Some s) a is = record { same = refl }
 
 -- no call keeps all
-pub goes_same : (a : Reported) → GoesOn a a
+pub goes_same : (a : AccessView) → GoesOn a a
 goes_same a = record {
   limits = refl;
   faults = omega arith;
@@ -34,7 +34,7 @@ goes_same a = record {
 }
 
 -- the end came in the second of two rows of calls
-ended_later : (e : Option Stop) (a b c : Reported) → b.bench.faults ≡ a.bench.faults → a.bench.exchanges ≤ b.bench.exchanges → EndedBy b c e → EndedBy a c e
+ended_later : (e : Option Stop) (a b c : AccessView) → b.bench.faults ≡ a.bench.faults → a.bench.exchanges ≤ b.bench.exchanges → EndedBy b c e → EndedBy a c e
 ended_later None a b c faults exchanges by = by ∙ faults
 ended_later (Some (Cut r)) a b c faults exchanges by =
     (by.0 ∙ faults, record { begun = rose_later _ _ _ exchanges by.1.begun; place = by.1.place; sent = by.1.sent; got = by.1.got; so = by.1.so })
@@ -44,14 +44,14 @@ ended_later (Some ReplyBad) a b c faults exchanges by =
 ended_later (Some OutOfMemory) a b c faults exchanges by = by
 
 -- it came in the first, and stays
-ended_before : (e : Option Stop) (a b : Reported) (x : Asks) → EndedBy a b e → EndedBy a (record b { asks = x }) e
+ended_before : (e : Option Stop) (a b : AccessView) (x : Asks) → EndedBy a b e → EndedBy a (record b { asks = x }) e
 ended_before None a b x by = by
 ended_before (Some (Cut r)) a b x by = (by.0, record { begun = by.1.begun; place = by.1.place; sent = by.1.sent; got = by.1.got; so = by.1.so })
 ended_before (Some (BenchFault issued confirmed)) a b x by = by
 ended_before (Some ReplyBad) a b x by = (by.0, record { begun = by.1.begun; place = by.1.place; sent = by.1.sent; got = by.1.got; so = by.1.so })
 ended_before (Some OutOfMemory) a b x by = by
 
-stays_then : (x y : Option Stop) (a b c : Reported) → a.end ≡ x → b.end ≡ y → a.bench.exchanges ≤ b.bench.exchanges → StaysEnded a b x → StaysEnded b c y → StaysEnded a c x
+stays_then : (x y : Option Stop) (a b c : AccessView) → a.end ≡ x → b.end ≡ y → a.bench.exchanges ≤ b.bench.exchanges → StaysEnded a b x → StaysEnded b c y → StaysEnded a c x
 stays_then None None a b c is then_is exchanges first second =
     let faults : b.bench.faults ≡ a.bench.faults = subst (EndedBy a b) then_is first in
     ended_later c.end a b c faults exchanges second
@@ -61,7 +61,7 @@ stays_then None (Some s) a b c is then_is exchanges first second =
 stays_then (Some s) y a b c is then_is exchanges first second = by_end y then_is second
   where
     still : IsSameButAsks b c → IsSameButAsks a c
-    still second = record { same = second.same ∙ ap (λ (t : Reported). record t { asks = c.asks }) first.same }
+    still second = record { same = second.same ∙ ap (λ (t : AccessView). record t { asks = c.asks }) first.same }
 
     same_end : b.end ≡ Some s
     same_end = ap (λ t. t.end) first.same ∙ is
@@ -71,7 +71,7 @@ stays_then (Some s) y a b c is then_is exchanges first second = by_end y then_is
     by_end (Some z) e second = still second
 
 -- two rows of calls keep what each of them keeps
-pub goes_trans : (a b c : Reported) → GoesOn a b → GoesOn b c → GoesOn a c
+pub goes_trans : (a b c : AccessView) → GoesOn a b → GoesOn b c → GoesOn a c
 goes_trans a b c first second = record {
   limits = second.limits ∙ first.limits;
   faults = let f = first.faults in let g = second.faults in omega (arith, f, g);
@@ -83,7 +83,7 @@ goes_trans a b c first second = record {
 }
 
 -- so many calls may be answered as a caller takes it at its end
-pub left_by : (a : Reported) → IsLeft a (answered_by a)
+pub left_by : (a : AccessView) → IsLeft a (answered_by a)
 left_by a = record { so = left_at_end a.end a.lines a.came }
   where
     left_cut : (why : StopCause) (lines came : ℕ) → IsLeftCut why lines came (answered_cut why lines)
@@ -98,15 +98,15 @@ left_by a = record { so = left_at_end a.end a.lines a.came }
     left_at_end (Some OutOfMemory) lines came = tt
 
 -- after an end nothing but what was asked changes
-pub end_is_silent : (a b : Reported) (s : Stop) → GoesOn a b → a.end ≡ Some s → b ≡ record a { asks = b.asks }
+pub end_is_silent : (a b : AccessView) (s : Stop) → GoesOn a b → a.end ≡ Some s → b ≡ record a { asks = b.asks }
 end_is_silent a b s goes is = (subst (StaysEnded a b) is goes.ended).same
 
 -- an end stays
-pub end_stays : (a b : Reported) (s : Stop) → GoesOn a b → a.end ≡ Some s → b.end ≡ Some s
+pub end_stays : (a b : AccessView) (s : Stop) → GoesOn a b → a.end ≡ Some s → b.end ≡ Some s
 end_stays a b s goes is = ap (λ t. t.end) (end_is_silent a b s goes is) ∙ is
 
 -- the bench failed, which is the end
-pub goes_by_fault : (a b : Reported) (issued confirmed : ℕ) → a.end ≡ None → b.end ≡ Some (BenchFault issued confirmed) → b.bench.limits ≡ a.bench.limits
+pub goes_by_fault : (a b : AccessView) (issued confirmed : ℕ) → a.end ≡ None → b.end ≡ Some (BenchFault issued confirmed) → b.bench.limits ≡ a.bench.limits
     → a.bench.faults ≤ b.bench.faults → Rose a.bench.faults b.bench.faults → a.bench.exchanges ≤ b.bench.exchanges → KeepsRuns a.state b.state → a.known ≤ b.known → a.came ≤ b.came → GoesOn a b
 goes_by_fault a b issued confirmed none end limits faults rose exchanges runs known came = record {
   limits = limits;

@@ -1,7 +1,7 @@
 -- A mark of the last call.
 use Rattle.std.proofs.Common.{◌≡◌, ℕ, zero, suc, true, List, [], ◌∷◌, length, set, get_or, ap, arith}
-use Rattle.call_terms.specs.Asks.{settled_last}
-use Rattle.call_terms.specs.declared.calls.Ask.{Ask}
+use Rattle.target_calls.specs.Asks.{settled_last}
+use Rattle.target_calls.specs.declared.calls.Ask.{Ask}
 
 -- the last call is the one that is set
 pub marked_here : (calls : List Ask) (x d : Ask) (i : ℕ) → suc i ≡ length calls → x ≡ record (get_or calls i d) { settled = true } → set calls i x ≡ settled_last calls

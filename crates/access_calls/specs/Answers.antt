@@ -1,11 +1,11 @@
 -- What the calls of an access answer.
 use Rattle.std.specs.Prelude.{◌≡◌, ◌⊎◌, ⊤, ℕ, ◌+◌, Bool, true, false, if◌then◌else◌, List, [], ◌∷◌, ◌++◌, length, Option, Some, None, is_some, Result, Ok, Err}
-use Rattle.call_terms.specs.Asks.{settled_last}
-use Rattle.call_terms.specs.World.{World, stop}
-use Rattle.call_terms.specs.declared.calls.Ask.{Ask}
-use Rattle.call_terms.specs.declared.calls.Asked.{Asked}
-use Rattle.call_terms.specs.declared.calls.Asked.TheVariants as answer
-use Rattle.access_calls.specs.Reported.{Reported}
+use Rattle.target_calls.specs.Asks.{settled_last}
+use Rattle.target_calls.specs.World.{World, stop}
+use Rattle.target_calls.specs.declared.calls.Ask.{Ask}
+use Rattle.target_calls.specs.declared.calls.Asked.{Asked}
+use Rattle.target_calls.specs.declared.calls.Asked.TheVariants as answer
+use Rattle.access_calls.specs.Reported.{AccessView}
 use Rattle.access_calls.specs.declared.stop.Report.{Report}
 use Rattle.access_calls.specs.declared.stop.Stop.{Stop}
 use Rattle.access_calls.specs.declared.stop.Stop.TheVariants.{Cut, BenchFault, ReplyBad, OutOfMemory}
@@ -31,13 +31,13 @@ IsSmallOnly wide answer.Small = wide ≡ true
 
 -- What was asked, after a call was asked: an access that had ended asks nothing, and where memory is refused nothing is
 -- asked. A call counts as asked also where the access ends in it.
-abbrev pub calls_after : {T : Type 0} → Reported → Ask → Result T Stop → List Ask
+abbrev pub calls_after : {T : Type 0} → AccessView → Ask → Result T Stop → List Ask
 calls_after a ask (Ok x) = a.asks.calls ++ ask ∷ []
 calls_after a ask (Err OutOfMemory) = a.asks.calls
 calls_after a ask (Err other) = if is_some a.end then a.asks.calls else a.asks.calls ++ ask ∷ []
 
 -- what was asked, after a `finish`: the last call is marked, except where the access had ended
-abbrev pub calls_finished : Reported → List Ask
+abbrev pub calls_finished : AccessView → List Ask
 calls_finished a = if is_some a.end then a.asks.calls else settled_last a.asks.calls
 
 -- ---- an end
@@ -77,7 +77,7 @@ NoMemory ReplyBad = ⊤
 NoMemory OutOfMemory = ⊥
 
 -- where memory was refused nothing changed
-abbrev pub UnchangedByMemory : Reported → Reported → Stop → Type 0
+abbrev pub UnchangedByMemory : AccessView → AccessView → Stop → Type 0
 UnchangedByMemory old new (Cut r) = ⊤
 UnchangedByMemory old new (BenchFault issued confirmed) = ⊤
 UnchangedByMemory old new ReplyBad = ⊤

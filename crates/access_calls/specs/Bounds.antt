@@ -4,11 +4,11 @@ use Rattle.target_machine.specs.declared.unit.Call.TheVariants.{Access}
 use Rattle.target_machine.specs.declared.unit.Unit.TheVariants as unit
 use Rattle.probe_core.specs.Bench.{BenchState}
 use Rattle.probe_core.specs.declared.job.Limits.{Limits}
-use Rattle.call_terms.specs.Asks.{is_forgiving}
-use Rattle.call_terms.specs.Journal.{Entry}
-use Rattle.call_terms.specs.Weights.{registers_in}
-use Rattle.call_terms.specs.declared.calls.Ask.{Ask}
-use Rattle.access_calls.specs.Reported.{Beginning, Reported}
+use Rattle.target_calls.specs.Asks.{is_forgiving}
+use Rattle.target_calls.specs.Journal.{Entry}
+use Rattle.target_calls.specs.Weights.{registers_in}
+use Rattle.target_calls.specs.declared.calls.Ask.{Ask}
+use Rattle.access_calls.specs.Reported.{AccessView, Beginning}
 use Rattle.access_calls.specs.Standing.{WhereObservable}
 
 -- how many register accesses a flight has at least that is sent because there is no room for one more
@@ -38,13 +38,13 @@ starting_since b m = m.starting - b.state.starting
 -- The starting packets are few: at most three for the opening, one for each need point, and one for each full flight of
 -- register accesses; and for at least one write, all at neighbouring addresses of one block of 1,024 bytes below 2^32, with at
 -- most two need points, at most six more than the blocks of writes that hold them.
-pub record KeepsBounds (entries : List Entry) (a : Reported) (b : Beginning) (m : BenchState) : Type 0 where
+pub record KeepsBounds (entries : List Entry) (a : AccessView) (b : Beginning) (m : BenchState) : Type 0 where
   pub few : starting_since b m ≤ 3 + a.asks.needs + registers_in entries / capacity a.bench.limits
   pub blocks : (size ap address : ℕ) → 0 < length a.asks.calls → AreNextWrites (address / 1024) size ap address a.asks.calls
       → address < 2 ^ 32 → a.asks.needs ≤ 2
       → starting_since b m ≤ 6 + (length a.asks.calls + block_words a.bench.limits - 1) / block_words a.bench.limits
 
 -- An access that says so keeps these bounds while it has no end.
-abbrev pub KeepsBoundsIf : Bool → List Entry → Reported → Beginning → Type 0
+abbrev pub KeepsBoundsIf : Bool → List Entry → AccessView → Beginning → Type 0
 KeepsBoundsIf false entries a b = ⊤
 KeepsBoundsIf true entries a b = a.end ≡ None → WhereObservable a.state (λ m. KeepsBounds entries a b m)

@@ -10,7 +10,7 @@ use Rattle.dap_messages.specs.declared.command.PacketKind.{PacketKind}
 use Rattle.dap_messages.specs.declared.command.PacketKind.TheVariants.{Plain, Execute, Queue}
 use Rattle.dap_messages.specs.declared.command_value.CommandValue.{CommandValue}
 use Rattle.probe_core.specs.Bench.{Exchange}
-use Rattle.access_calls.specs.Reported.{Reported}
+use Rattle.access_calls.specs.Reported.{AccessView}
 use Rattle.access_calls.specs.declared.stop.Stop.{Stop}
 use Rattle.access_calls.specs.declared.stop.Stop.TheVariants.{Cut, BenchFault, ReplyBad, OutOfMemory}
 use Rattle.access_calls.specs.declared.stop.StopCause.{StopCause}
@@ -99,7 +99,7 @@ pub record IsBadReply (exchange : Exchange) (place : ℕ) : Type 0 where
 -- ---- the causes of an end
 
 -- The last exchange began since, and at one of its places stand the packet and the reply that are kept, of which this is so.
-pub record EndedByReply (P : Exchange → ℕ → Type 0) (old new : Reported) : Type 0 where
+pub record EndedByReply (P : Exchange → ℕ → Type 0) (old new : AccessView) : Type 0 where
   pub begun : Rose old.bench.exchanges new.bench.exchanges
   pub place : ℕ
   pub sent : slice_get new.bench.last.packets place ≡ Some new.sent
@@ -107,7 +107,7 @@ pub record EndedByReply (P : Exchange → ℕ → Type 0) (old new : Reported) :
   pub so : P new.bench.last place
 
 -- no packet and no reply are kept
-pub record KeepsNoReply (a : Reported) : Type 0 where
+pub record KeepsNoReply (a : AccessView) : Type 0 where
   pub sent : a.sent ≡ []
   pub got : a.got ≡ []
 
@@ -118,7 +118,7 @@ code_of_cause NoAnswer = 0x02
 
 -- How an access came to its end, or to none: the bench failed only at BenchFault; a cut comes with its response, and
 -- ReplyBad with a bad reply, in an exchange of these calls.
-abbrev pub EndedBy : Reported → Reported → Option Stop → Type 0
+abbrev pub EndedBy : AccessView → AccessView → Option Stop → Type 0
 EndedBy old new None = new.bench.faults ≡ old.bench.faults
 EndedBy old new (Some (Cut r)) = (new.bench.faults ≡ old.bench.faults) × EndedByReply (HasResponse (code_of_cause r.cause)) old new
 EndedBy old new (Some (BenchFault issued confirmed)) = Rose old.bench.faults new.bench.faults
@@ -126,7 +126,7 @@ EndedBy old new (Some ReplyBad) = (new.bench.faults ≡ old.bench.faults) × End
 EndedBy old new (Some OutOfMemory) = ⊥
 
 -- A packet and a reply are kept only where a reply was the end.
-abbrev pub KeepsReplyAt : Option Stop → Reported → Type 0
+abbrev pub KeepsReplyAt : Option Stop → AccessView → Type 0
 KeepsReplyAt None a = KeepsNoReply a
 KeepsReplyAt (Some (Cut r)) a = ⊤
 KeepsReplyAt (Some (BenchFault issued confirmed)) a = KeepsNoReply a
@@ -134,7 +134,7 @@ KeepsReplyAt (Some ReplyBad) a = ⊤
 KeepsReplyAt (Some OutOfMemory) a = KeepsNoReply a
 
 -- where none are kept
-keeps_nothing_at : (end : Option Stop) (a : Reported) → KeepsNoReply a → KeepsReplyAt end a
+keeps_nothing_at : (end : Option Stop) (a : AccessView) → KeepsNoReply a → KeepsReplyAt end a
 keeps_nothing_at None a none = none
 keeps_nothing_at (Some (Cut r)) a none = tt
 keeps_nothing_at (Some (BenchFault issued confirmed)) a none = none
@@ -142,5 +142,5 @@ keeps_nothing_at (Some ReplyBad) a none = tt
 keeps_nothing_at (Some OutOfMemory) a none = none
 
 -- an access that never keeps a packet and a reply
-pub keeps_nothing : (end : Option Stop) (a : Reported) → a.sent ≡ [] → a.got ≡ [] → KeepsReplyAt end a
+pub keeps_nothing : (end : Option Stop) (a : AccessView) → a.sent ≡ [] → a.got ≡ [] → KeepsReplyAt end a
 keeps_nothing end a sent got = keeps_nothing_at end a (record { sent = sent; got = got })

@@ -6,11 +6,11 @@ use Rattle.target_machine.specs.State.{Agree}
 use Rattle.target_machine.specs.declared.unit.Unit.{Unit as AccessUnit}
 use Rattle.target_machine.specs.declared.unit.Unit.TheVariants as unit
 use Rattle.probe_core.specs.Probe.{target_of}
-use Rattle.call_terms.specs.Asks.{unit_ask}
-use Rattle.call_terms.specs.World.{World, done_now, end_result, next_world, stops_here}
-use Rattle.call_terms.specs.declared.calls.Ask.{Ask}
+use Rattle.target_calls.specs.Asks.{unit_ask}
+use Rattle.target_calls.specs.World.{World, done_now, end_result, next_world, stops_here}
+use Rattle.target_calls.specs.declared.calls.Ask.{Ask}
 use Rattle.access_calls.specs.Answers.{IsEnd}
-use Rattle.access_calls.specs.Reported.{Reported}
+use Rattle.access_calls.specs.Reported.{AccessView}
 use Rattle.access_calls.specs.Standing.{WhereObservable}
 use Rattle.access_calls.specs.declared.stop.Stop.{Stop}
 use Rattle.access_calls.specs.declared.stop.Stop.TheVariants.{Cut, BenchFault, ReplyBad, OutOfMemory}
@@ -49,19 +49,19 @@ copied w from to =
     else copied_by (next_world w read) (unit_ask (write_word to (end_result (done_now w read).end)) false)
 
 -- it came to its end, and left the target as it is meant
-pub record IsDone (a : Reported) (c : Copied) (old new : Option (List ℕ)) : Type 0 where
+pub record IsDone (a : AccessView) (c : Copied) (old new : Option (List ℕ)) : Type 0 where
   pub whole : c.stopped ≡ None
   pub written : Appends old new c.written
   pub target : WhereObservable a.state (λ m. Agree (target_of m.probe) c.world.target)
 
 -- It stopped at the call after those that have their lines, or, with both calls made, where a retry ended in the settling; and
 -- wrote what comes before that.
-pub record IsStopped (a : Reported) (c : Copied) (old new : Option (List ℕ)) : Type 0 where
+pub record IsStopped (a : AccessView) (c : Copied) (old new : Option (List ℕ)) : Type 0 where
   pub place : (c.stopped ≡ Some (a.lines + 1)) ⊎ ((c.stopped ≡ None) × (a.lines ≡ 2))
   pub written : Appends old new c.written
 
 -- the end of a copy
-abbrev pub IsCopyEnd : CopyEnd → Reported → Copied → Option (List ℕ) → Option (List ℕ) → Type 0
+abbrev pub IsCopyEnd : CopyEnd → AccessView → Copied → Option (List ℕ) → Option (List ℕ) → Type 0
 IsCopyEnd Done a c old new = IsDone a c old new
 IsCopyEnd (Stopped (Cut r)) a c old new = IsStopped a c old new
 IsCopyEnd (Stopped (BenchFault issued confirmed)) a c old new = ⊤

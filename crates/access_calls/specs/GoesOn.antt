@@ -3,22 +3,22 @@ use Rattle.std.specs.Prelude.{◌≡◌, ℕ, ◌≤◌, Option, Some, None}
 use Rattle.probe_core.specs.Runs.{KeepsRuns}
 use Rattle.access_calls.specs.Causes.{EndedBy}
 use Rattle.access_calls.specs.Left.{IsLeft}
-use Rattle.access_calls.specs.Reported.{Reported}
+use Rattle.access_calls.specs.Reported.{AccessView}
 use Rattle.access_calls.specs.declared.stop.Stop.{Stop}
 
 -- nothing changed but what was asked
-pub record IsSameButAsks (old new : Reported) : Type 0 where
+pub record IsSameButAsks (old new : AccessView) : Type 0 where
   pub same : new ≡ record old { asks = new.asks }
 
 -- an access that had ended stays as it is, and else its end has its cause
-abbrev pub StaysEnded : Reported → Reported → Option Stop → Type 0
+abbrev pub StaysEnded : AccessView → AccessView → Option Stop → Type 0
 StaysEnded old new None = EndedBy old new new.end
 StaysEnded old new (Some s) = IsSameButAsks old new
 
 -- What each call keeps, and so each row of calls: the limits of the bench; counts that never fall; whether the bench is
 -- observable, and the runs that its log is; results that are known stay so; how many calls may be answered only becomes fewer;
 -- and an end stays, and has its cause.
-pub record GoesOn (old new : Reported) : Type 0 where
+pub record GoesOn (old new : AccessView) : Type 0 where
   pub limits : new.bench.limits ≡ old.bench.limits
   pub faults : old.bench.faults ≤ new.bench.faults
   pub exchanges : old.bench.exchanges ≤ new.bench.exchanges

@@ -1,9 +1,9 @@
 -- The journal of calls, and that of more calls after them.
 use Rattle.std.specs.Prelude.{◌≡◌, ◌<◌, ◌≤◌, ◌++◌, ℕ, List, [], length, refl}
 use Rattle.std.specs.List.{AllByRecursion}
-use Rattle.call_terms.specs.Asks.{settled_last}
-use Rattle.call_terms.specs.Journal.{Entry, lines_before}
-use Rattle.call_terms.specs.declared.calls.Ask.{Ask}
+use Rattle.target_calls.specs.Asks.{settled_last}
+use Rattle.target_calls.specs.Journal.{Entry, lines_before}
+use Rattle.target_calls.specs.declared.calls.Ask.{Ask}
 use Rattle.target_machine.specs.State.{TargetState}
 
 -- the entry is issued once so many calls were asked: for a later one, or to settle what they left

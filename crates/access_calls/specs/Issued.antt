@@ -1,7 +1,7 @@
 -- What is kept of the entries of a journal.
 use Rattle.std.specs.Prelude.{◌≡◌, ℕ, ◌-◌, if◌then◌else◌, List, map, sum_by}
 use Rattle.target_machine.specs.Counts.{one_if}
-use Rattle.call_terms.specs.Journal.{Entry, completes, is_skip, settles}
+use Rattle.target_calls.specs.Journal.{Entry, completes, is_skip, settles}
 use Rattle.access_calls.specs.declared.issued.Issued.{Issued}
 
 -- what is kept of an entry

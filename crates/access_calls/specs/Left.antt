@@ -1,7 +1,7 @@
 -- How many calls are answered, as far as an access shows it.
 use Rattle.std.specs.Prelude.{◌≡◌, ℕ, Option, Some, None}
-use Rattle.call_terms.specs.World.{AtLeast}
-use Rattle.access_calls.specs.Reported.{Reported}
+use Rattle.target_calls.specs.World.{AtLeast}
+use Rattle.access_calls.specs.Reported.{AccessView}
 use Rattle.access_calls.specs.declared.stop.Stop.{Stop}
 use Rattle.access_calls.specs.declared.stop.Stop.TheVariants.{Cut, BenchFault, ReplyBad, OutOfMemory}
 use Rattle.access_calls.specs.declared.stop.StopCause.{StopCause}
@@ -22,7 +22,7 @@ IsLeftAt (Some OutOfMemory) lines came answered = AtLeast came answered
 
 -- By what the access reports, so many calls may be answered: at least those that came, and after an ended retry exactly those
 -- whose lines come before it.
-pub record IsLeft (a : Reported) (answered : Option ℕ) : Type 0 where
+pub record IsLeft (a : AccessView) (answered : Option ℕ) : Type 0 where
   pub so : IsLeftAt a.end a.lines a.came answered
 
 -- after an ended retry so many calls are answered, and after a fault all may be
@@ -39,5 +39,5 @@ answered_at (Some ReplyBad) lines = None
 answered_at (Some OutOfMemory) lines = None
 
 -- How many calls are answered, as a caller takes it at its end: all, or after an ended retry those whose lines come before it.
-abbrev pub answered_by : Reported → Option ℕ
+abbrev pub answered_by : AccessView → Option ℕ
 answered_by a = answered_at a.end a.lines

@@ -4,15 +4,15 @@ use Rattle.target_machine.specs.State.{TargetState}
 use Rattle.probe_core.specs.Bench.{BenchState}
 use Rattle.probe_core.specs.Bench.{Reported as BenchReported}
 use Rattle.probe_core.specs.Probe.{target_of}
-use Rattle.call_terms.specs.NeedPoints.{Asks}
-use Rattle.call_terms.specs.World.{World, start_world}
+use Rattle.target_calls.specs.NeedPoints.{Asks}
+use Rattle.target_calls.specs.World.{World, start_world}
 use Rattle.access_calls.specs.declared.stop.Stop.{Stop}
 
 -- What an access reports at a moment: what its bench reports, and the state of the bench where that is observable; what was
 -- asked; how many of the calls are known to have been answered; how many of the first results `value` answers from now on,
 -- whatever comes; its end, where it has ended; at a cut, how many units have their lines before it; how many calls were skipped;
 -- how many entries of the journal were issued, and how many of them are confirmed; and the packet and the reply that ended it.
-pub record Reported : Type 0 where
+pub record AccessView : Type 0 where
   pub bench : BenchReported
   pub state : Option BenchState
   pub asks : Asks

@@ -1,20 +1,22 @@
 -- How far the target has come with the journal, and what a report says of it.
-use Rattle.std.specs.Prelude.{◌≡◌, ◌⊎◌, ℕ, ◌+◌, ◌-◌, ◌*◌, ◌<◌, ◌≤◌, Bool, true, List, length, take, slice_get, Option, Some, None}
+use Rattle.std.specs.Prelude.{◌≡◌, ◌⊎◌, ⊤, ℕ, ◌+◌, ◌-◌, ◌*◌, ◌<◌, ◌≤◌, Bool, true, List, length, take, drop, slice_get, slice_index, Option, Some, None}
 use Rattle.std.specs.List.{AllByRecursion}
 use Rattle.target_machine.specs.Plain.{Action, Makes, Polls, Commands, commanded, polled}
 use Rattle.target_machine.specs.State.{TargetState, Agree}
 use Rattle.target_machine.specs.declared.unit.ProbeCall.TheVariants as probe
+use Rattle.dap_transfer.specs.State.{Setting}
+use Rattle.dap_transfer.specs.WireTransfer.{next_number}
 use Rattle.probe_core.specs.Bench.{BenchState}
 use Rattle.probe_core.specs.Probe.{ended_retries_of, target_of, work_of}
-use Rattle.call_terms.specs.Asks.{is_settled}
+use Rattle.target_calls.specs.Asks.{is_settled}
 use Rattle.target_machine.specs.Counts.{one_if}
-use Rattle.call_terms.specs.Journal.{Entry, Passes, first_fault, target_after}
-use Rattle.call_terms.specs.Weights.{commands_in, performed}
-use Rattle.call_terms.specs.World.{skips, start_world, stop, world_after}
-use Rattle.call_terms.specs.declared.calls.Ask.{Ask}
+use Rattle.target_calls.specs.Journal.{Entry, Passes, first_fault, target_after}
+use Rattle.target_calls.specs.Weights.{commands_in, performed, weight_in}
+use Rattle.target_calls.specs.World.{skips, start_world, stop, world_after}
+use Rattle.target_calls.specs.declared.calls.Ask.{Ask}
 use Rattle.access_calls.specs.Growing.{IsWithin}
 use Rattle.access_calls.specs.Numbers.{HasNumbers}
-use Rattle.access_calls.specs.Reported.{Beginning, Reported, start_of, world_of}
+use Rattle.access_calls.specs.Reported.{AccessView, Beginning, start_of, world_of}
 use Rattle.access_calls.specs.declared.stop.Report.{Report}
 use Rattle.access_calls.specs.declared.stop.Stop.{Stop}
 use Rattle.access_calls.specs.declared.stop.Stop.TheVariants.{Cut, BenchFault, ReplyBad, OutOfMemory}
@@ -29,13 +31,23 @@ number_of m = m.probe.executor.transfers.line.number
 abbrev pub pending_of : BenchState → Bool
 pending_of m = m.probe.executor.transfers.pending
 
+-- what the transfers of the probe are set to: the retry number, match retry, and how many WAITs each transfer meets
+abbrev pub setting_of : BenchState → Setting
+setting_of m = m.probe.executor.transfers.setting
+
+-- The last transfer that may wait met more WAITs than the retry number allows: this is the number of the next one.
+abbrev pub IsOver : Setting → ℕ → Type 0
+IsOver s number = (place : ℕ) × (number ≡ next_number place) × (s.retry < slice_index s.stalls place)
+
 -- by how much the probe's work has grown since the beginning
 abbrev pub grown_since : Beginning → BenchState → ℕ
 grown_since b m = work_of m.probe - work_of b.state.probe
 
--- Exactly the first so many entries were performed, by the probe's work, and the target agrees with the one after them.
+-- Exactly the first so many entries were performed, by the probe's work, which is at most that of all of them; and the target agrees
+-- with the one after them.
 pub record HasPerformed (entries : List Entry) (count : ℕ) (b : Beginning) (m : BenchState) : Type 0 where
   pub count_is : count ≡ performed (start_of b) entries (grown_since b m)
+  pub no_more : grown_since b m ≤ weight_in (start_of b) entries
   pub within : count ≤ length entries
   pub target : Agree (target_of m.probe) (target_after (start_of b) (take count entries))
 
@@ -61,7 +73,7 @@ pub record StayWithin (t : TargetState) (asks : List Ask) (entries : List Entry)
 -- Without an end: all entries were issued. Those that are confirmed were performed, and no others; none of them gives a fault
 -- that its unit does not forgive, or is of a call after the first that ends at a fault. No retry ended. The skipped calls are
 -- counted. Once a `finish` was made after the last call, the target agrees with the one after the calls.
-pub record IsOpen (entries : List Entry) (a : Reported) (b : Beginning) (m : BenchState) : Type 0 where
+pub record IsOpen (entries : List Entry) (a : AccessView) (b : Beginning) (m : BenchState) : Type 0 where
   pub issued : a.issued ≡ length entries
   pub performed : HasPerformed entries a.confirmed b m
   pub good : first_fault (start_of b) (take a.confirmed entries) ≡ None
@@ -71,22 +83,25 @@ pub record IsOpen (entries : List Entry) (a : Reported) (b : Beginning) (m : Ben
   pub settled : is_settled a.asks.calls ≡ true → Agree (target_of m.probe) (world_after (world_of b) a.asks.calls).target
 
 -- At a fault: the entries were performed up to the first that gives a fault which its unit does not forgive; those before it
--- are confirmed. No retry ended.
-pub record IsFaulted (entries : List Entry) (r : Report) (a : Reported) (b : Beginning) (m : BenchState) : Type 0 where
+-- are confirmed, and no more work was done. No retry ended.
+pub record IsFaulted (entries : List Entry) (r : Report) (a : AccessView) (b : Beginning) (m : BenchState) : Type 0 where
   pub performed : HasPerformed entries r.accesses b m
   pub first : first_fault (start_of b) entries ≡ Some r.accesses
   pub confirmed : r.accesses ≡ r.confirmed + 1
+  pub up_to : grown_since b m ≤ weight_in (start_of b) (take (r.confirmed + 1) entries)
   pub numbers : HasNumbers entries a.asks.calls a.skipped a.lines r
   pub retries : ended_retries_of m.probe ≡ ended_retries_of b.state.probe
 
 -- Where a retry ended: the performed entries are confirmed, except the last where a read was outstanding or a write
--- unchecked. Just one retry ended. The transfer that it ended has at most the number of two for each register access and each
--- read of a poll that was made: commands are no such transfers.
-pub record IsUnanswered (entries : List Entry) (r : Report) (a : Reported) (b : Beginning) (m : BenchState) : Type 0 where
+-- unchecked; and no more work was done than up to the named entry. Just one retry ended. The transfer that it ended met more WAITs than the retry number of the beginning allows, and has
+-- at most the number of two for each register access and each read of a poll that was made: commands are no such transfers.
+pub record IsUnanswered (entries : List Entry) (r : Report) (a : AccessView) (b : Beginning) (m : BenchState) : Type 0 where
   pub performed : HasPerformed entries r.accesses b m
   pub confirmed : r.accesses ≡ r.confirmed + one_if (pending_of m)
+  pub up_to : grown_since b m ≤ weight_in (start_of b) (take (r.confirmed + 1) entries)
   pub numbers : HasNumbers entries a.asks.calls a.skipped a.lines r
   pub retries : ended_retries_of m.probe ≡ ended_retries_of b.state.probe + 1
+  pub over : IsOver (setting_of b.state) (number_of m)
   pub number : number_of m + 2 * commands_in (take r.accesses entries) ≤ number_of b.state + 2 * grown_since b m + 1
 
 -- The target agrees with the one after the first `count` entries, and no more were begun; or the next one was begun too, and a part
@@ -96,15 +111,27 @@ IsAfterPart entries count begun b m =
     let t = target_after (start_of b) (take count entries) in
     ((begun ≡ count) × Agree (target_of m.probe) t) ⊎ ((begun ≡ count + 1) × IsPartOf (slice_get entries count) t (target_of m.probe))
 
--- Where the bench failed: at least the confirmed entries were performed, and at most those that were issued were begun. None of
--- those that were begun gives a fault that its unit does not forgive, except perhaps the last.
+-- the action is a register access
+abbrev pub IsMade : Action → Type 0
+IsMade (Makes a) = ⊤
+IsMade (Polls mask requested turns) = ⊥
+IsMade (Commands c) = ⊥
+
+-- the entries can be handed over together: register accesses, which fit into one flight, or one poll or command of the probe
+abbrev pub AreTogether : List Entry → Type 0
+AreTogether entries = AllByRecursion (λ e. IsMade e.action) entries ⊎ (length entries ≡ 1)
+
+-- Where the bench failed: at least the confirmed entries were performed, and at most those that were issued were begun. Those between
+-- were handed over together. None of those that were begun gives a fault that its unit does not forgive, except perhaps the last.
 pub record HasBroken (entries : List Entry) (issued confirmed : ℕ) (b : Beginning) (m : BenchState) : Type 0 where
   pub count : ℕ
   pub begun : ℕ
   pub count_is : count ≡ performed (start_of b) entries (grown_since b m)
+  pub no_more : grown_since b m ≤ weight_in (start_of b) entries
   pub low : confirmed ≤ count
   pub high : begun ≤ issued
   pub within : issued ≤ length entries
+  pub together : AreTogether (drop confirmed (take issued entries))
   pub good : Passes (start_of b) (take (begun - 1) entries)
   pub target : IsAfterPart entries count begun b m
 
@@ -114,14 +141,14 @@ pub record IsBenchFault (asks : List Ask) (entries : List Entry) (issued confirm
   pub own : StayWithin (start_of b) asks (take broken.begun entries)
 
 -- at a cut, by its cause
-abbrev pub IsCut : StopCause → List Entry → Report → Reported → Beginning → BenchState → Type 0
-IsCut Faulted entries r a b m = IsFaulted entries r a b m
-IsCut NoAnswer entries r a b m = IsUnanswered entries r a b m
+abbrev pub IsCutBy : StopCause → List Entry → Report → AccessView → Beginning → BenchState → Type 0
+IsCutBy Faulted entries r a b m = IsFaulted entries r a b m
+IsCutBy NoAnswer entries r a b m = IsUnanswered entries r a b m
 
 -- By the end. An observable bench gives no bad reply, and refused memory is no end.
-abbrev pub StandsAt : Option Stop → List Entry → Reported → Beginning → BenchState → Type 0
+abbrev pub StandsAt : Option Stop → List Entry → AccessView → Beginning → BenchState → Type 0
 StandsAt None entries a b m = IsOpen entries a b m
-StandsAt (Some (Cut r)) entries a b m = IsCut r.cause entries r a b m
+StandsAt (Some (Cut r)) entries a b m = IsCutBy r.cause entries r a b m
 StandsAt (Some (BenchFault issued confirmed)) entries a b m = IsBenchFault a.asks.calls entries issued confirmed b m
 StandsAt (Some ReplyBad) entries a b m = ⊥
 StandsAt (Some OutOfMemory) entries a b m = ⊥
@@ -132,5 +159,5 @@ WhereObservable None P = ⊥
 WhereObservable (Some m) P = P m
 
 -- How far the target of an access has come that began so, by the journal of the calls that were asked.
-abbrev pub Stands : (TargetState → List Ask → List Entry) → Reported → Beginning → Type 0
+abbrev pub Stands : (TargetState → List Ask → List Entry) → AccessView → Beginning → Type 0
 Stands journal a b = WhereObservable a.state (λ m. StandsAt a.end (journal (start_of b) a.asks.calls) a b m)

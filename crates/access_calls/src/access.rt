@@ -4,22 +4,22 @@ ghost use Rattle.target_machine.specs.Sound.{IsSound, IsSoundProbe};
 ghost use Rattle.target_machine.specs.State.{TargetState};
 ghost use Rattle.probe_core.specs.Bench.{BenchState};
 ghost use Rattle.probe_core.specs.Probe.{target_of};
-ghost use Rattle.call_terms.specs.Asks.{is_wide, probe_ask, unit_ask};
-ghost use Rattle.call_terms.specs.Journal.{Entry};
-ghost use Rattle.call_terms.specs.NeedPoints.{Costs, asked, finished, needed, used};
-ghost use Rattle.call_terms.specs.World.{results, small_now, stop};
-ghost use Rattle.call_terms.specs.declared.calls.Ask.{Ask};
+ghost use Rattle.target_calls.specs.Asks.{is_wide, probe_ask, unit_ask};
+ghost use Rattle.target_calls.specs.Journal.{Entry};
+ghost use Rattle.target_calls.specs.NeedPoints.{Costs, asked, finished, needed, used};
+ghost use Rattle.target_calls.specs.World.{results, small_now, stop};
+ghost use Rattle.target_calls.specs.declared.calls.Ask.{Ask};
 ghost use Rattle.access_calls.specs.Answers.{HasSlot, IsEnd, IsSmallOnly, IsSmallWhere, NoMemory, StopsCalls, StopsSettling, UnchangedByMemory, calls_after, calls_finished};
 ghost use Rattle.access_calls.specs.Bounds.{KeepsBoundsIf};
 ghost use Rattle.access_calls.specs.Causes.{KeepsReplyAt};
 ghost use Rattle.access_calls.specs.GoesOn.{GoesOn};
 ghost use Rattle.access_calls.specs.Growing.{JournalGrows, JournalSettles};
 ghost use Rattle.access_calls.specs.Left.{IsLeft};
-ghost use Rattle.access_calls.specs.Reported.{Reported, began, world_from};
+ghost use Rattle.access_calls.specs.Reported.{AccessView, began, world_from};
 ghost use Rattle.access_calls.specs.Standing.{Stands};
 
 use crate::Stop;
-use call_terms::{Asked, Slot};
+use target_calls::{Asked, Slot};
 use target_machine::{ProbeCall, Unit};
 
 /// An access to a target: calls are asked one after the other, and their results may come late.
@@ -37,7 +37,7 @@ use target_machine::{ProbeCall, Unit};
 /// refused nothing is asked and nothing sent, and the access goes on.
 pub trait Access {
     /// What it reports at a moment.
-    ghost reported: { Self → Reported };
+    ghost reported: { Self → AccessView };
 
     /// Which loan its bench is, for a bench that is lent. No call changes it.
     ghost identity: { Self → ℕ };

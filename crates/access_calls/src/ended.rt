@@ -1,5 +1,7 @@
 //! How a run of calls ends.
-use crate::Report;
+ghost use Rattle.std.specs.Prelude.{◌≡◌};
+
+use crate::{Report, Stop};
 use target_machine::{HaltCause, Variables};
 
 /// How a run ended.
@@ -24,6 +26,22 @@ pub enum Ending {
     WriteFault,
     /// Memory was requested and refused.
     OutOfMemory,
+}
+
+/// How a run ends that its access stopped, or whose access did not begin.
+impl From<Stop> for Ending {
+    ghost use Rattle.access_calls.specs.Endings.{ending_of};
+
+    ghost from_gives = { λ stop ending. ending ≡ ending_of stop };
+
+    fn from(stop: Stop) -> Ending {
+        match stop {
+            Stop::Cut(report) => Ending::Cut(report),
+            Stop::BenchFault { issued, confirmed } => Ending::BenchFault { issued, confirmed },
+            Stop::ReplyBad => Ending::ReplyBad,
+            Stop::OutOfMemory => Ending::OutOfMemory,
+        }
+    }
 }
 
 /// A run that has ended.

@@ -1,12 +1,12 @@
 //! What an access keeps of its journal, and the numbers of a stop that follow from it.
 ghost use Rattle.std.specs.Prelude.{◌≡◌, ◌<◌, ◌≤◌, ◌^◌, ℕ, List, IfSome, length, slice_get};
-ghost use Rattle.call_terms.specs.Journal.{Entry, completes, is_skip};
+ghost use Rattle.target_calls.specs.Journal.{Entry, completes, is_skip};
 ghost use Rattle.access_calls.specs.Issued.{AreKeptOf, attempted_by_kept, lines_before_kept, skipped_by_kept};
 ghost use Rattle.access_calls.specs.Numbers.{HasNumbers, attempted_by};
 
 use crate::{Report, StopCause};
-use call_terms::{Ask, Part};
 use std::mem::size_of;
+use target_calls::{Ask, Part};
 
 /// What is kept of an entry of the journal, in at most 32 bytes.
 #[derive(Clone, Copy, Debug, PartialEq, Eq)]
@@ -67,7 +67,7 @@ fn is_skip(part: Part) -> bool
 }
 
 // How many units these entries complete.
-fn attempted(entries: &[Issued]) -> u32
+fn count_attempted(entries: &[Issued]) -> u32
     requires { length entries.now < 2 ^ 32 }
     ensures { result ≡ attempted_by_kept entries.now }
 {
@@ -75,7 +75,7 @@ fn attempted(entries: &[Issued]) -> u32
 }
 
 // How many units these entries skip.
-fn skipped(entries: &[Issued]) -> u32
+fn count_skipped(entries: &[Issued]) -> u32
     requires { length entries.now < 2 ^ 32 }
     ensures { result ≡ skipped_by_kept entries.now }
 {
@@ -109,11 +109,11 @@ pub fn stop_report(
             cause,
             unit: next.unit,
             what: calls[next.unit as usize - 1].call,
-            attempted: attempted_by(cause, next.unit, attempted(performed)),
+            attempted: attempted_by(cause, next.unit, count_attempted(performed)),
             accesses,
             confirmed,
         },
-        skipped: skipped(performed),
+        skipped: count_skipped(performed),
         lines: lines_before(next),
     }
 }

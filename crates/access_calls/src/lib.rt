@@ -7,6 +7,7 @@ mod issued;
 pub mod laws;
 mod marks;
 mod not_begun;
+mod over_bench;
 mod scripted;
 mod stop;
 pub mod users;
@@ -16,8 +17,6 @@ pub use ended::{Ended, Ending};
 pub use issued::{Issued, StopReport, stop_report};
 pub use marks::mark_last;
 pub use not_begun::NotBegun;
+pub use over_bench::OverBench;
 pub use scripted::Scripted;
 pub use stop::{Report, Stop, StopCause};
-
-#[cfg(test)]
-mod tests;

@@ -1,8 +1,8 @@
 //! The mark that a `finish` leaves.
 ghost use Rattle.std.specs.Prelude.{◌≡◌, vec_len};
-ghost use Rattle.call_terms.specs.Asks.{settled_last};
+ghost use Rattle.target_calls.specs.Asks.{settled_last};
 
-use call_terms::Ask;
+use target_calls::Ask;
 
 /// Marks the last call, where there is one: a `finish` was made after it. Takes no memory.
 #[tactic(auto, using(crate::proofs::MarkLemmas::marked_here))]

@@ -3,8 +3,8 @@ ghost use Rattle.std.specs.Prelude.{◌≡◌, ◌+◌, ◌-◌, ◌<◌, ◌≤
 ghost use Rattle.access_calls.specs.declared.stop.Stop.TheVariants.{BenchFault};
 
 use crate::{Access, Stop, mark_last};
-use call_terms::{Ask, Asked, Slot};
 use std::alloc::Global;
+use target_calls::{Ask, Asked, Slot};
 use target_machine::{Call, ProbeCall, Unit};
 
 // The end of an access whose bench failed before anything was issued.

@@ -3,4 +3,4 @@ mod copy;
 mod held;
 
 pub use copy::{CopyEnd, copy_word};
-pub use held::{Held, flush_lent};
+pub use held::{AccessOwner, flush_lent};

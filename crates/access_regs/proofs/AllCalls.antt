@@ -25,9 +25,9 @@ use Rattle.target_machine.specs.Lists.{after}
 use Rattle.access_regs.specs.declared.planner.Planner.{Planner}
 use Rattle.access_regs.specs.declared.planner.Planner.TheVariants.{Managed, Plain}
 use Rattle.access_regs.proofs.Singles.{probe_course}
-use Rattle.call_terms.specs.Asks.{IsUnitInRange, IsCallInRange, IsAskable, AreAskable, is_settled}
-use Rattle.call_terms.specs.Journal.{actions_in}
-use Rattle.call_terms.specs.declared.calls.Ask.{Ask}
+use Rattle.target_calls.specs.Asks.{IsUnitInRange, IsCallInRange, IsAskable, AreAskable, is_settled}
+use Rattle.target_calls.specs.Journal.{actions_in}
+use Rattle.target_calls.specs.declared.calls.Ask.{Ask}
 use Rattle.access_regs.proofs.Lists.{AllOk, step_follows, list_follows, list_passes, list_stops, list_answers}
 
 alone_course : (k : Kept) (large : List ℕ) (t u : TargetState) → Follows k large t u → (forgive : Bool) (asked : AccessUnit) → IsUnitInRange asked → may_forgive (Access asked) ≡ true →

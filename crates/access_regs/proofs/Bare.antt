@@ -8,9 +8,9 @@ use Rattle.access_regs.specs.Kept.{Kept, known}
 use Rattle.access_regs.specs.Neighbours.{AreNeighbours, NeighboursAreBare, drws_in}
 use Rattle.access_regs.specs.Plan.{made}
 use Rattle.access_regs.specs.declared.planner.Planner.TheVariants.{Managed}
-use Rattle.call_terms.specs.Journal.{actions_in}
-use Rattle.call_terms.specs.declared.calls.Ask.{Ask}
-use Rattle.call_terms.specs.declared.journal.Part.TheVariants.{Ends, Leads}
+use Rattle.target_calls.specs.Journal.{actions_in}
+use Rattle.target_calls.specs.declared.calls.Ask.{Ask}
+use Rattle.target_calls.specs.declared.journal.Part.TheVariants.{Ends, Leads}
 use Rattle.target_machine.specs.Lists.{after}
 use Rattle.target_machine.specs.Plain.{Action, Makes, drw_of}
 use Rattle.target_machine.specs.State.{TargetState}

@@ -22,8 +22,8 @@ use Rattle.access_regs.proofs.Wide.{wide_course}
 use Rattle.access_regs.proofs.PortUnit.{port_course}
 use Rattle.target_machine.proofs.ActionLists.{pass_after}
 use Rattle.target_machine.specs.Lists.{after, PassTo}
-use Rattle.call_terms.specs.Asks.{IsUnitInRange}
-use Rattle.call_terms.specs.declared.journal.Part.TheVariants.{Settles, Leads}
+use Rattle.target_calls.specs.Asks.{IsUnitInRange}
+use Rattle.target_calls.specs.declared.journal.Part.TheVariants.{Settles, Leads}
 use Rattle.access_regs.proofs.Singles.{dp_course, poll_course}
 
 module _ (k : Kept) (large : List ℕ) (t u : TargetState) (f : Follows k large t u) where

@@ -13,7 +13,7 @@ use Rattle.access_regs.specs.Kept.{Kept, csw_of, is_known, known}
 use Rattle.access_regs.specs.Plan.{cfg_plan, csw_needed, first_plan, high_needed, leads, learned, learned_cfg, needs_cfg, needs_csw, needs_settle, planned_csw, port_writes, select_needed, select_value, settle, settled, tar_needed, unless}
 use Rattle.access_regs.specs.declared.known.Known.{Known}
 use Rattle.target_machine.specs.Counts.{one_if}
-use Rattle.call_terms.specs.declared.journal.Part.TheVariants.{Ends, Leads, Settles}
+use Rattle.target_calls.specs.declared.journal.Part.TheVariants.{Ends, Leads, Settles}
 use Rattle.dap_base.specs.Bits.{has_bit}
 use Rattle.target_machine.specs.Lists.{after}
 use Rattle.target_machine.proofs.OneAp.{one_ap_changed}

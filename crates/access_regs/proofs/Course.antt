@@ -8,9 +8,9 @@ use Rattle.access_regs.specs.Journal.{Issue, Step, actions_of, steps_of, making,
 use Rattle.access_regs.specs.Course.{Course, IsPassing, answered, stopped, small, skipped}
 use Rattle.access_regs.specs.Follows.{Follows}
 use Rattle.target_machine.proofs.ActionLists.{after_append, pass_append, pass_after}
-use Rattle.call_terms.specs.Journal.{settles}
-use Rattle.call_terms.specs.declared.journal.Part.TheVariants.{Ends, Skips}
-use Rattle.call_terms.specs.declared.journal.Part.{Part}
+use Rattle.target_calls.specs.Journal.{settles}
+use Rattle.target_calls.specs.declared.journal.Part.TheVariants.{Ends, Skips}
+use Rattle.target_calls.specs.declared.journal.Part.{Part}
 use Rattle.target_machine.specs.Lists.{after, PassTo}
 
 pub pass_passing : (u v : TargetState) (steps more : List Step) → PassTo u (actions_of steps) v → IsPassing v more → IsPassing u (steps ++ more)

@@ -11,11 +11,11 @@ use Rattle.access_regs.specs.Entries.{CallAnswers, JournalGrows, JournalMarks, k
 use Rattle.access_regs.specs.Journal.{Issue, Step, actions_of, entries_at, finish, finish_of, issue_of, issued, issued_from, kept_from, numbered, steps_at, steps_of}
 use Rattle.access_regs.specs.Kept.{Kept, nothing_kept}
 use Rattle.access_regs.specs.Plan.{settle, settled, settled_at, settling}
-use Rattle.call_terms.specs.Asks.{AreAskable, IsAskable, is_forgiving, settled_last}
-use Rattle.call_terms.specs.Journal.{Entry, actions_in}
-use Rattle.call_terms.specs.Weights.{AreWeighty}
-use Rattle.call_terms.specs.declared.calls.Ask.{Ask}
-use Rattle.call_terms.specs.declared.journal.Part.TheVariants.{Ends, Settles}
+use Rattle.target_calls.specs.Asks.{AreAskable, IsAskable, is_forgiving, settled_last}
+use Rattle.target_calls.specs.Journal.{Entry, actions_in}
+use Rattle.target_calls.specs.Weights.{AreWeighty}
+use Rattle.target_calls.specs.declared.calls.Ask.{Ask}
+use Rattle.target_calls.specs.declared.journal.Part.TheVariants.{Ends, Settles}
 use Rattle.target_machine.proofs.ActionLists.{pass_after}
 use Rattle.target_machine.specs.Lists.{after}
 use Rattle.target_machine.specs.State.{TargetState}

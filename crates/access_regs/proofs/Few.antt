@@ -18,9 +18,9 @@ use Rattle.access_regs.specs.declared.known.Known.{Known}
 use Rattle.access_regs.specs.declared.known.Unsettled.{Unsettled}
 use Rattle.access_regs.proofs.Csw.{planned_again}
 use Rattle.target_machine.specs.Lists.{after}
-use Rattle.call_terms.specs.declared.journal.Part.TheVariants.{Settles, Leads, Ends}
-use Rattle.call_terms.specs.Journal.{Entry}
-use Rattle.call_terms.specs.declared.calls.Ask.{Ask}
+use Rattle.target_calls.specs.declared.journal.Part.TheVariants.{Settles, Leads, Ends}
+use Rattle.target_calls.specs.Journal.{Entry}
+use Rattle.target_calls.specs.declared.calls.Ask.{Ask}
 use Rattle.access_regs.proofs.PortFacts.{known_same, table_kept}
 use Rattle.access_regs.specs.declared.planner.Planner.TheVariants.{Managed}
 

@@ -10,8 +10,8 @@ use Rattle.target_machine.specs.State.{TargetState}
 use Rattle.target_machine.specs.declared.unit.Unit.{Unit as AccessUnit}
 use Rattle.target_machine.specs.declared.unit.Unit.TheVariants as unit
 use Rattle.target_machine.specs.Lists.{after}
-use Rattle.call_terms.specs.declared.journal.Part.TheVariants.{Settles, Leads}
-use Rattle.call_terms.specs.declared.calls.Ask.{Ask}
+use Rattle.target_calls.specs.declared.journal.Part.TheVariants.{Settles, Leads}
+use Rattle.target_calls.specs.declared.calls.Ask.{Ask}
 use Rattle.access_regs.specs.Kept.{Kept, known, is_known}
 use Rattle.access_regs.specs.Plan.{select_value, unless, select_needed, cfg_plan, learned_cfg, made, settle, settled, settled_at, needs_settle}
 use Rattle.access_regs.specs.Plan as plans

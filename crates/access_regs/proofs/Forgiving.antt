@@ -26,8 +26,8 @@ use Rattle.access_regs.proofs.Wide.{contains_last, contains_other}
 use Rattle.target_machine.proofs.ActionAgreement.{in_order_alike}
 use Rattle.target_machine.proofs.ActionLists.{order_fault, order_from, pass_last, after_append, after_issued, issued_pass}
 use Rattle.target_machine.specs.Lists.{after, PassTo, SpareRdbuff}
-use Rattle.call_terms.specs.Journal.{settles}
-use Rattle.call_terms.specs.declared.journal.Part.TheVariants.{Settles, Leads, Ends, Skips}
+use Rattle.target_calls.specs.Journal.{settles}
+use Rattle.target_calls.specs.declared.journal.Part.TheVariants.{Settles, Leads, Ends, Skips}
 use Rattle.access_regs.proofs.Runs.{Left, Step', order_step, run_left}
 use Rattle.access_regs.proofs.MemoryShape.{csw_at, left_shape, memory_shape, quiet_shape, shape, shape_front, shape_last, shape_same}
 

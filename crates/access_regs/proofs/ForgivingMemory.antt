@@ -7,9 +7,9 @@ use Rattle.target_machine.specs.declared.access.RegAccess.{RegAccess}
 use Rattle.target_machine.specs.declared.unit.Call.TheVariants.{Access}
 use Rattle.target_machine.specs.declared.unit.Unit.{Unit as AccessUnit}
 use Rattle.target_machine.specs.declared.unit.Unit.TheVariants as unit
-use Rattle.call_terms.specs.declared.journal.Part.{Part}
-use Rattle.call_terms.specs.declared.journal.Part.TheVariants.{Settles, Leads, Ends, Skips}
-use Rattle.call_terms.specs.Asks.{IsUnitInRange}
+use Rattle.target_calls.specs.declared.journal.Part.{Part}
+use Rattle.target_calls.specs.declared.journal.Part.TheVariants.{Settles, Leads, Ends, Skips}
+use Rattle.target_calls.specs.Asks.{IsUnitInRange}
 use Rattle.access_regs.specs.Alone.{KeepsMemory}
 use Rattle.access_regs.specs.Closed.{closes}
 use Rattle.access_regs.specs.Kept.{Kept}

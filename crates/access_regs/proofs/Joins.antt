@@ -5,9 +5,9 @@ use Rattle.target_machine.proofs.ActionLists.{after_append}
 use Rattle.target_machine.specs.Lists.{after}
 use Rattle.target_machine.specs.Plain.{Action}
 use Rattle.target_machine.specs.State.{TargetState}
-use Rattle.call_terms.specs.Asks.{is_forgiving}
-use Rattle.call_terms.specs.Journal.{Entry, actions_in, lines_before, settles, target_after}
-use Rattle.call_terms.specs.declared.calls.Ask.{Ask}
+use Rattle.target_calls.specs.Asks.{is_forgiving}
+use Rattle.target_calls.specs.Journal.{Entry, actions_in, lines_before, settles, target_after}
+use Rattle.target_calls.specs.declared.calls.Ask.{Ask}
 use Rattle.access_regs.specs.Kept.{Kept}
 use Rattle.access_regs.specs.Journal.{Step, entries_at, finish_of, issue_of, kept_at, numbered, target_at, issued_from, kept_from}
 use Rattle.access_regs.specs.Laws.{JournalJoins, KeptJoins, LaterEntries, SettlingEnds}

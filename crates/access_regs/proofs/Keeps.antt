@@ -19,8 +19,8 @@ use Rattle.access_regs.proofs.Wide.{cfg_bits}
 use Rattle.access_regs.proofs.FollowsFacts.{planned_clear}
 use Rattle.target_machine.specs.Lists.{after}
 use Rattle.dap_base.specs.Bits.{has_bit}
-use Rattle.call_terms.specs.Asks.{IsUnitInRange}
-use Rattle.call_terms.specs.declared.journal.Part.TheVariants.{Settles, Leads, Ends}
+use Rattle.target_calls.specs.Asks.{IsUnitInRange}
+use Rattle.target_calls.specs.declared.journal.Part.TheVariants.{Settles, Leads, Ends}
 use Rattle.access_regs.proofs.Still.{IsPlainBank, AreLeads, IsLead, leads_keep, start_keep, select_words}
 
 leads_append : (xs ys : List RegAccess) → AreLeads xs → AreLeads ys → AreLeads (xs ++ ys)

@@ -6,14 +6,14 @@ use Rattle.access_regs.specs.Light.{JournalIsLight}
 use Rattle.access_regs.specs.Plan.{cfg_plan, csw_needed, first_plan, high_needed, planned_csw, tar_needed, leads, learned, learned_cfg, needs_cfg, needs_csw, needs_settle, port_writes, select_needed, settle, settled, settling, unless}
 use Rattle.access_regs.specs.declared.known.Unsettled.{Unsettled}
 use Rattle.access_regs.specs.declared.planner.Planner.{Planner}
-use Rattle.call_terms.specs.Asks.{AreAskable}
-use Rattle.call_terms.specs.Journal.{Entry, target_after}
-use Rattle.call_terms.specs.Weights.{commands_for, weight, weight_in}
-use Rattle.call_terms.specs.declared.calls.Ask.{Ask}
-use Rattle.call_terms.specs.declared.journal.Part.{Part}
-use Rattle.call_terms.specs.declared.journal.Part.TheVariants.{Ends, Leads, Settles}
+use Rattle.target_calls.specs.Asks.{AreAskable}
+use Rattle.target_calls.specs.Journal.{Entry, target_after}
+use Rattle.target_calls.specs.Weights.{commands_for, weight, weight_in}
+use Rattle.target_calls.specs.declared.calls.Ask.{Ask}
+use Rattle.target_calls.specs.declared.journal.Part.{Part}
+use Rattle.target_calls.specs.declared.journal.Part.TheVariants.{Ends, Leads, Settles}
 use Rattle.access_regs.proofs.Lists.{actions_entries}
-use Rattle.call_terms.proofs.EntryLemmas.{delay_few, weight_append}
+use Rattle.target_calls.proofs.EntryLemmas.{delay_few, weight_append}
 use Rattle.dap_base.specs.Bits.{has_bit}
 use Rattle.target_machine.specs.Attempt.{attempt}
 use Rattle.target_machine.specs.Lists.{after}

@@ -13,11 +13,11 @@ use Rattle.access_regs.specs.Course.{Course, IsAnswered, IsStopped, answered, st
 use Rattle.access_regs.proofs.Settle as settling
 use Rattle.target_machine.proofs.ActionLists.{pass_append, pass_after, after_append}
 use Rattle.target_machine.specs.Lists.{after, PassTo}
-use Rattle.call_terms.specs.Asks.{is_forgiving}
-use Rattle.call_terms.specs.declared.journal.Part.TheVariants.{Settles, Leads, Ends, Skips}
-use Rattle.call_terms.specs.declared.journal.Part.{Part}
-use Rattle.call_terms.specs.declared.calls.Ask.{Ask}
-use Rattle.call_terms.specs.Journal.{Entry, settles, actions_in, Passes}
+use Rattle.target_calls.specs.Asks.{is_forgiving}
+use Rattle.target_calls.specs.declared.journal.Part.TheVariants.{Settles, Leads, Ends, Skips}
+use Rattle.target_calls.specs.declared.journal.Part.{Part}
+use Rattle.target_calls.specs.declared.calls.Ask.{Ask}
+use Rattle.target_calls.specs.Journal.{Entry, settles, actions_in, Passes}
 use Rattle.access_regs.proofs.Settle.{settled_calm, follows_agree}
 use Rattle.access_regs.specs.declared.planner.Planner.{Planner}
 

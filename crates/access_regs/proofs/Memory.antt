@@ -29,7 +29,7 @@ use Rattle.access_regs.proofs.Course.{course_before, actions_steps, steps_append
 use Rattle.access_regs.specs.Course.{Course, answered, stopped}
 use Rattle.target_machine.proofs.ActionLists.{pass_append, pass_last, pass_then_fault}
 use Rattle.target_machine.specs.Lists.{PassTo}
-use Rattle.call_terms.specs.declared.journal.Part.TheVariants.{Settles, Leads, Ends}
+use Rattle.target_calls.specs.declared.journal.Part.TheVariants.{Settles, Leads, Ends}
 use Rattle.access_regs.proofs.FollowsFacts.{at_select, follows_select, follows_rdbuff, follows_known, plain_select, planned_select, planned_clear, same_power, same_words, learned_port}
 
 -- ---- without power

@@ -6,12 +6,12 @@ use Rattle.target_machine.specs.State.{TargetState}
 use Rattle.target_machine.specs.declared.unit.Call.{Call}
 use Rattle.target_machine.specs.declared.unit.Call.TheVariants.{Access, Probe}
 use Rattle.target_machine.specs.declared.unit.Unit.{Unit as AccessUnit}
-use Rattle.call_terms.specs.Asks.{AreAskable, IsAskable, IsCallInRange, is_forgiving}
-use Rattle.call_terms.specs.Journal.{Entry, Passes, settles, target_after}
-use Rattle.call_terms.specs.World.{is_faulted}
-use Rattle.call_terms.specs.declared.calls.Ask.{Ask}
-use Rattle.call_terms.specs.declared.journal.Part.{Part}
-use Rattle.call_terms.specs.declared.journal.Part.TheVariants.{Settles, Leads, Ends, Skips}
+use Rattle.target_calls.specs.Asks.{AreAskable, IsAskable, IsCallInRange, is_forgiving}
+use Rattle.target_calls.specs.Journal.{Entry, Passes, settles, target_after}
+use Rattle.target_calls.specs.World.{is_faulted}
+use Rattle.target_calls.specs.declared.calls.Ask.{Ask}
+use Rattle.target_calls.specs.declared.journal.Part.{Part}
+use Rattle.target_calls.specs.declared.journal.Part.TheVariants.{Settles, Leads, Ends, Skips}
 use Rattle.access_regs.specs.Alone.{KeepsMemory, alone, alone_after}
 use Rattle.access_regs.specs.Closed.{MemoryFollowsCalls, closed_after, closed_by, closes}
 use Rattle.access_regs.specs.Follows.{Follows}

@@ -6,8 +6,8 @@ use Rattle.target_machine.specs.declared.access.RegAccess.{RegAccess}
 use Rattle.target_machine.specs.declared.unit.Unit.{Unit as AccessUnit}
 use Rattle.dap_base.specs.Bits.{has_bit}
 use Rattle.target_machine.specs.Registers.{cfg_la}
-use Rattle.call_terms.specs.declared.journal.Part.{Part}
-use Rattle.call_terms.specs.declared.journal.Part.TheVariants.{Settles, Leads, Ends}
+use Rattle.target_calls.specs.declared.journal.Part.{Part}
+use Rattle.target_calls.specs.declared.journal.Part.TheVariants.{Settles, Leads, Ends}
 use Rattle.access_regs.specs.Closed.{closes}
 use Rattle.access_regs.specs.Kept.{Kept}
 use Rattle.access_regs.specs.Plan.{first_plan, learned, learned_cfg, cfg_plan, settle, settled, needs_csw, needs_cfg, needs_settle, leads}

@@ -16,10 +16,10 @@ use Rattle.access_regs.specs.Plan.{made, must_follow_settling, settled_at, settl
 use Rattle.access_regs.specs.declared.known.Known.{Known}
 use Rattle.access_regs.specs.declared.known.Unsettled.{Unsettled}
 use Rattle.access_regs.specs.declared.planner.Planner.TheVariants.{Plain}
-use Rattle.call_terms.specs.Asks.{AreAskable, IsAskable, IsCallInRange}
-use Rattle.call_terms.specs.Journal.{actions_in}
-use Rattle.call_terms.specs.declared.calls.Ask.{Ask}
-use Rattle.call_terms.specs.declared.journal.Part.TheVariants.{Ends, Settles}
+use Rattle.target_calls.specs.Asks.{AreAskable, IsAskable, IsCallInRange}
+use Rattle.target_calls.specs.Journal.{actions_in}
+use Rattle.target_calls.specs.declared.calls.Ask.{Ask}
+use Rattle.target_calls.specs.declared.journal.Part.TheVariants.{Ends, Settles}
 use Rattle.target_machine.proofs.ActionLists.{after_append, after_issued}
 use Rattle.target_machine.specs.Lists.{after}
 use Rattle.target_machine.specs.Plain.{Action, CallDone, Commands, acted, call_actions, call_done, commanded, contains, ended, forgives, given, has_large, in_order, is_fault, issued, large_after, may_forgive, result_of, unit_actions}

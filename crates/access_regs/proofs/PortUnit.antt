@@ -27,7 +27,7 @@ use Rattle.target_machine.proofs.OneAp.{one_ap_changed, csw_stays_stored}
 use Rattle.target_machine.specs.Laws.{ChangesOneAp}
 use Rattle.target_machine.proofs.ActionLists.{pass_last}
 use Rattle.target_machine.specs.Lists.{PassTo}
-use Rattle.call_terms.specs.declared.journal.Part.TheVariants.{Leads, Ends}
+use Rattle.target_calls.specs.declared.journal.Part.TheVariants.{Leads, Ends}
 use Rattle.access_regs.proofs.Agreeing.{Facts, follows_facts, forgotten_true, forgotten_large, whole_from, keeps_few}
 
 module _ (k : Kept) (large : List ℕ) (t u : TargetState) (f : Follows k large t u) (calm : k.unsettled ≡ None)

@@ -1,6 +1,6 @@
 -- Lists that are joined in two ways, and the first entry that faults.
 use Rattle.std.proofs.Common.{◌≡◌, ◌⊎◌, inl, inr, Bool, true, false, not, ◌&&◌, List, [], ◌∷◌, ◌++◌, refl, sym, ap, subst}
-use Rattle.call_terms.specs.Journal.{Entry, Passes, actions_in}
+use Rattle.target_calls.specs.Journal.{Entry, Passes, actions_in}
 use Rattle.target_machine.specs.Lists.{after}
 use Rattle.target_machine.specs.State.{TargetState}
 use Rattle.target_machine.specs.Plain.{acted, is_fault}

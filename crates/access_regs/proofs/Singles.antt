@@ -20,7 +20,7 @@ use Rattle.access_regs.specs.declared.known.Unsettled.{Unsettled}
 use Rattle.access_regs.proofs.Drw.{Ports, other}
 use Rattle.access_regs.specs.Course.{Course, answered}
 use Rattle.access_regs.proofs.FollowsFacts.{planned_clear}
-use Rattle.call_terms.specs.declared.journal.Part.TheVariants.{Ends}
+use Rattle.target_calls.specs.declared.journal.Part.TheVariants.{Ends}
 use Rattle.access_regs.proofs.Lines.{follows_beside, follows_selected, stat_value, stat_read, stat_reads, stat_beside, stat_power, stat_select, id_reads, abort_write, abort_writes, abort_beside, abort_select, abort_power, ctrl_write, ctrl_writes, ctrl_beside, ctrl_select, select_stored, select_writes, select_beside, polls_are, commands, commands_beside, commands_select, commands_power, command_outcome, commanded_is}
 
 -- what a call of one action comes to

@@ -11,9 +11,9 @@ use Rattle.access_regs.specs.Follows.{Follows}
 use Rattle.access_regs.specs.Journal.{Issue, Step, actions_of, issue_of}
 use Rattle.access_regs.specs.Kept.{Kept}
 use Rattle.access_regs.specs.Skips.{FaultSkips, PassingIsMade}
-use Rattle.call_terms.specs.Asks.{is_forgiving}
-use Rattle.call_terms.specs.declared.calls.Ask.{Ask}
-use Rattle.call_terms.specs.declared.journal.Part.TheVariants.{Ends}
+use Rattle.target_calls.specs.Asks.{is_forgiving}
+use Rattle.target_calls.specs.declared.calls.Ask.{Ask}
+use Rattle.target_calls.specs.declared.journal.Part.TheVariants.{Ends}
 use Rattle.target_machine.proofs.ActionLists.{pass_append}
 use Rattle.target_machine.specs.Lists.{PassTo}
 use Rattle.target_machine.specs.Plain.{Action, CallDone, CallEnd, Faulted, Skipped, Answered, Small, acted, is_fault}

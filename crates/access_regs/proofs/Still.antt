@@ -11,7 +11,7 @@ use Rattle.access_regs.specs.Plan.{select_value, unless}
 use Rattle.access_regs.specs.Journal.{Step, steps_of}
 use Rattle.access_regs.specs.Alone.{KeepsMemory}
 use Rattle.access_regs.proofs.Select.{select_write, bank_zero_bits}
-use Rattle.call_terms.specs.declared.journal.Part.{Part}
+use Rattle.target_calls.specs.declared.journal.Part.{Part}
 use Rattle.access_regs.proofs.Wide.{cfg_bits}
 
 -- what an access leaves of the memory and of SELECT

@@ -9,12 +9,12 @@ use Rattle.access_regs.specs.Journal.{Step, actions_of, entries_at, finish, fini
 use Rattle.access_regs.specs.Kept.{Kept, nothing_kept}
 use Rattle.access_regs.specs.Plan.{settle}
 use Rattle.access_regs.specs.Stops.{FaultStops, NoneStops, PassingStops, StaysThere, StopsThere, WaitStops, world_at}
-use Rattle.call_terms.specs.Asks.{AreAskable, IsAskable, is_forgiving, is_settled}
-use Rattle.call_terms.specs.Journal.{Entry, Passes, actions_in, lines_before, settles}
-use Rattle.call_terms.specs.World.{AtLeast, World, is_faulted, is_over, later_by, next_world, one_fewer, stop, stops_here}
-use Rattle.call_terms.specs.declared.calls.Ask.{Ask}
-use Rattle.call_terms.specs.declared.journal.Part.{Part}
-use Rattle.call_terms.specs.declared.journal.Part.TheVariants.{Ends, Leads, Settles, Skips}
+use Rattle.target_calls.specs.Asks.{AreAskable, IsAskable, is_forgiving, is_settled}
+use Rattle.target_calls.specs.Journal.{Entry, Passes, actions_in, lines_before, settles}
+use Rattle.target_calls.specs.World.{AtLeast, World, is_faulted, is_over, later_by, next_world, one_fewer, stop, stops_here}
+use Rattle.target_calls.specs.declared.calls.Ask.{Ask}
+use Rattle.target_calls.specs.declared.journal.Part.{Part}
+use Rattle.target_calls.specs.declared.journal.Part.TheVariants.{Ends, Leads, Settles, Skips}
 use Rattle.target_machine.specs.Lists.{after}
 use Rattle.target_machine.specs.State.{TargetState}
 use Rattle.target_machine.specs.Plain.{Makes, CallDone, CallEnd, Answered, Skipped, Faulted, Small}

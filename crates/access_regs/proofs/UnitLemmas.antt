@@ -6,10 +6,10 @@ use Rattle.access_regs.specs.Entries.{UnitsInRange}
 use Rattle.access_regs.specs.Journal.{Issue, Step, actions_of, after_settling, before, by_cfg, by_cfg_read, by_csw, by_plan, entries_at, finish_of, alone_at, done_alone, gives, is_alone, is_early, is_last, issue, issue_of, issued_from, last_action, making, numbered, part_of, parts_of, planned, port_of, steps_at, steps_of}
 use Rattle.access_regs.specs.Kept.{Kept, nothing_kept}
 use Rattle.access_regs.specs.Plan.{cfg_plan, first_plan, leads, learned, learned_cfg, needs_cfg, needs_csw}
-use Rattle.call_terms.specs.Asks.{is_forgiving}
-use Rattle.call_terms.specs.Journal.{Entry, settles}
-use Rattle.call_terms.specs.declared.calls.Ask.{Ask}
-use Rattle.call_terms.specs.declared.journal.Part.TheVariants.{Ends, Leads}
+use Rattle.target_calls.specs.Asks.{is_forgiving}
+use Rattle.target_calls.specs.Journal.{Entry, settles}
+use Rattle.target_calls.specs.declared.calls.Ask.{Ask}
+use Rattle.target_calls.specs.declared.journal.Part.TheVariants.{Ends, Leads}
 use Rattle.dap_base.specs.Bits.{has_bit}
 use Rattle.target_machine.specs.Lists.{after}
 use Rattle.target_machine.specs.State.{TargetState}

@@ -4,11 +4,11 @@ use Rattle.access_regs.specs.Entries.{JournalWeighs}
 use Rattle.access_regs.specs.Journal.{Issue, Step, actions_of, after_settling, before, by_cfg, by_cfg_read, by_csw, by_plan, entries_at, finish, finish_of, alone_at, done_alone, gives, is_alone, is_early, issue, issue_of, issued_from, large_of, last_action, making, numbered, parts_of, planned, port_of, steps_at, steps_of}
 use Rattle.access_regs.specs.Kept.{Kept, nothing_kept}
 use Rattle.access_regs.specs.Plan.{cfg_plan, first_plan, leads, learned, learned_cfg, needs_cfg, needs_csw, needs_settle, settle, settled}
-use Rattle.call_terms.specs.Asks.{AreAskable}
-use Rattle.call_terms.specs.Weights.{AreWeighty, IsWeighty}
-use Rattle.call_terms.specs.declared.calls.Ask.{Ask}
-use Rattle.call_terms.specs.declared.journal.Part.{Part}
-use Rattle.call_terms.specs.declared.journal.Part.TheVariants.{Ends, Leads, Settles}
+use Rattle.target_calls.specs.Asks.{AreAskable}
+use Rattle.target_calls.specs.Weights.{AreWeighty, IsWeighty}
+use Rattle.target_calls.specs.declared.calls.Ask.{Ask}
+use Rattle.target_calls.specs.declared.journal.Part.{Part}
+use Rattle.target_calls.specs.declared.journal.Part.TheVariants.{Ends, Leads, Settles}
 use Rattle.dap_base.specs.Bits.{has_bit}
 use Rattle.target_machine.specs.Lists.{after}
 use Rattle.target_machine.specs.State.{TargetState}

@@ -34,7 +34,7 @@ use Rattle.access_regs.proofs.FollowsFacts.{at_select, follows_select, follows_r
 use Rattle.target_machine.proofs.ActionLists.{pass_append, pass_last, pass_after}
 use Rattle.target_machine.specs.Lists.{after, PassTo}
 use Rattle.dap_base.specs.Bits.{has_bit}
-use Rattle.call_terms.specs.declared.journal.Part.TheVariants.{Leads}
+use Rattle.target_calls.specs.declared.journal.Part.TheVariants.{Leads}
 use Rattle.access_regs.proofs.Memory.{no_power, narrow_course, done_memory}
 
 -- ---- the list of APs

@@ -3,9 +3,9 @@ use Rattle.std.specs.Prelude.{◌≡◌, ◌≢◌, ℕ, true, false, List, [], 
 use Rattle.target_machine.specs.Plain.{Action, acted, call_done, given, is_fault, result_of, CallDone, Faulted}
 use Rattle.target_machine.specs.State.{TargetState}
 use Rattle.target_machine.specs.declared.unit.Call.{Call}
-use Rattle.call_terms.specs.Journal.{Entry, Passes, target_after}
-use Rattle.call_terms.specs.declared.calls.Ask.{Ask}
-use Rattle.call_terms.specs.declared.journal.Part.TheVariants.{Settles, Ends}
+use Rattle.target_calls.specs.Journal.{Entry, Passes, target_after}
+use Rattle.target_calls.specs.declared.calls.Ask.{Ask}
+use Rattle.target_calls.specs.declared.journal.Part.TheVariants.{Settles, Ends}
 use Rattle.access_regs.specs.Journal.{Step}
 
 -- one call, with whether it is forgiving

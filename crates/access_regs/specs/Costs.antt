@@ -11,13 +11,13 @@ use Rattle.target_machine.specs.declared.unit.ProbeCall.{ProbeCall}
 use Rattle.target_machine.specs.declared.unit.ProbeCall.TheVariants as probe
 use Rattle.target_machine.specs.declared.unit.Unit.{Unit as AccessUnit}
 use Rattle.target_machine.specs.declared.unit.Unit.TheVariants as unit
-use Rattle.call_terms.specs.Asks.{is_forgiving}
+use Rattle.target_calls.specs.Asks.{is_forgiving}
 use Rattle.target_machine.specs.Counts.{one_if}
-use Rattle.call_terms.specs.NeedPoints.{Cost}
-use Rattle.call_terms.specs.Weights.{weight}
-use Rattle.call_terms.specs.declared.calls.Ask.{Ask}
-use Rattle.call_terms.specs.declared.journal.Part.{Part}
-use Rattle.call_terms.specs.declared.journal.Part.TheVariants.{Settles, Leads, Ends, Skips}
+use Rattle.target_calls.specs.NeedPoints.{Cost}
+use Rattle.target_calls.specs.Weights.{weight}
+use Rattle.target_calls.specs.declared.calls.Ask.{Ask}
+use Rattle.target_calls.specs.declared.journal.Part.{Part}
+use Rattle.target_calls.specs.declared.journal.Part.TheVariants.{Settles, Leads, Ends, Skips}
 use Rattle.access_regs.specs.Entries.{kept_by, target_by}
 use Rattle.access_regs.specs.Journal.{Step, alone_at, gives, issue_of, making, planned, port_of}
 use Rattle.access_regs.specs.Kept.{Kept}

@@ -4,8 +4,8 @@ use Rattle.target_machine.specs.Lists.{after, PassTo}
 use Rattle.target_machine.specs.Plain.{Action, Commands, acted, forgives, given, is_fault, result_of, CallDone, Answered, Skipped, Faulted, Small}
 use Rattle.target_machine.specs.State.{TargetState}
 use Rattle.target_machine.specs.declared.unit.Call.{Call}
-use Rattle.call_terms.specs.Journal.{settles}
-use Rattle.call_terms.specs.declared.journal.Part.TheVariants.{Settles, Ends, Skips}
+use Rattle.target_calls.specs.Journal.{settles}
+use Rattle.target_calls.specs.declared.journal.Part.TheVariants.{Settles, Ends, Skips}
 use Rattle.access_regs.specs.Follows.{Follows}
 use Rattle.access_regs.specs.Journal.{Issue, Step, actions_of}
 

@@ -6,11 +6,11 @@ use Rattle.target_machine.specs.Plain.{Makes, acted, given, is_fault, result_of,
 use Rattle.target_machine.specs.Registers.{csw_register, tar_register, tar_high_register}
 use Rattle.target_machine.specs.State.{TargetState}
 use Rattle.target_machine.specs.declared.access.RegAccess.{RegAccess}
-use Rattle.call_terms.specs.Asks.{AreAskable, is_forgiving, settled_last}
-use Rattle.call_terms.specs.Journal.{Entry, target_after}
-use Rattle.call_terms.specs.Weights.{AreWeighty}
-use Rattle.call_terms.specs.declared.calls.Ask.{Ask}
-use Rattle.call_terms.specs.declared.journal.Part.TheVariants.{Settles}
+use Rattle.target_calls.specs.Asks.{AreAskable, is_forgiving, settled_last}
+use Rattle.target_calls.specs.Journal.{Entry, target_after}
+use Rattle.target_calls.specs.Weights.{AreWeighty}
+use Rattle.target_calls.specs.declared.calls.Ask.{Ask}
+use Rattle.target_calls.specs.declared.journal.Part.TheVariants.{Settles}
 use Rattle.access_regs.specs.Alone.{NoneFaults, alone, alone_after, large_of_all}
 use Rattle.access_regs.specs.Journal.{issue_of, issued, kept_from, numbered, steps_of}
 use Rattle.access_regs.specs.Kept.{Kept, nothing_kept}

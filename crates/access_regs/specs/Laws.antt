@@ -10,11 +10,11 @@ use Rattle.target_machine.specs.State.{TargetState, Agree}
 use Rattle.access_regs.specs.Journal.{alone_at, issue_of, kept_alone, issued, issued_from, kept_at, kept_from, target_at, planned}
 use Rattle.access_regs.specs.Alone.{actions_alone, alone, alone_after, large_of_all, NoneFaults, StopsInLast, AnswersWith, KeepsMemory}
 use Rattle.target_machine.specs.Fresh.{IsFresh}
-use Rattle.call_terms.specs.Journal.{Passes, actions_in, lines_before, target_after}
-use Rattle.call_terms.specs.Asks.{AreAskable, IsAskable, is_settled, IsUnitInRange}
+use Rattle.target_calls.specs.Journal.{Passes, actions_in, lines_before, target_after}
+use Rattle.target_calls.specs.Asks.{AreAskable, IsAskable, is_settled, IsUnitInRange}
 use Rattle.access_regs.specs.Kept.{Kept, forget, known, nothing_kept, selected}
 use Rattle.access_regs.specs.Plan.{learned_cfg, needs_cfg, select_value, settled}
-use Rattle.call_terms.specs.declared.calls.Ask.{Ask}
+use Rattle.target_calls.specs.declared.calls.Ask.{Ask}
 use Rattle.access_regs.specs.Course.{Course}
 use Rattle.access_regs.specs.Follows.{Follows}
 use Rattle.access_regs.specs.declared.planner.Planner.{Planner}

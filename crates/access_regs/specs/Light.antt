@@ -1,9 +1,9 @@
 -- How much calls weigh at most.
 use Rattle.std.specs.Prelude.{◌*◌, ◌≤◌, List, length}
 use Rattle.target_machine.specs.State.{TargetState}
-use Rattle.call_terms.specs.Asks.{AreAskable}
-use Rattle.call_terms.specs.Weights.{weight_in}
-use Rattle.call_terms.specs.declared.calls.Ask.{Ask}
+use Rattle.target_calls.specs.Asks.{AreAskable}
+use Rattle.target_calls.specs.Weights.{weight_in}
+use Rattle.target_calls.specs.declared.calls.Ask.{Ask}
 use Rattle.access_regs.specs.Journal.{issued}
 use Rattle.access_regs.specs.declared.planner.Planner.{Planner}
 

@@ -6,8 +6,8 @@ use Rattle.target_machine.specs.declared.unit.Call.{Call}
 use Rattle.target_machine.specs.declared.unit.Call.TheVariants.{Access, Probe}
 use Rattle.target_machine.specs.declared.unit.Unit.TheVariants as unit
 use Rattle.access_regs.specs.Journal.{entries_at, issued_from}
-use Rattle.call_terms.specs.Journal.{Entry, actions_in, settles}
-use Rattle.call_terms.specs.declared.calls.Ask.{Ask}
+use Rattle.target_calls.specs.Journal.{Entry, actions_in, settles}
+use Rattle.target_calls.specs.declared.calls.Ask.{Ask}
 use Rattle.access_regs.specs.Kept.{Kept, known}
 use Rattle.access_regs.specs.declared.planner.Planner.TheVariants.{Managed}
 

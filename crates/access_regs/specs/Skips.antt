@@ -4,8 +4,8 @@ use Rattle.target_machine.specs.Fresh.{IsFresh}
 use Rattle.target_machine.specs.Lists.{PassTo}
 use Rattle.target_machine.specs.Plain.{Faulted, Skipped, acted, is_fault}
 use Rattle.target_machine.specs.State.{TargetState}
-use Rattle.call_terms.specs.Asks.{AreAskable, is_forgiving}
-use Rattle.call_terms.specs.declared.calls.Ask.{Ask}
+use Rattle.target_calls.specs.Asks.{AreAskable, is_forgiving}
+use Rattle.target_calls.specs.declared.calls.Ask.{Ask}
 use Rattle.access_regs.specs.Alone.{NoneFaults, alone, alone_after, large_of_all}
 use Rattle.access_regs.specs.Entries.{kept_by, target_by}
 use Rattle.access_regs.specs.Journal.{Step, actions_of, issue_of}

@@ -3,11 +3,11 @@ use Rattle.std.specs.Prelude.{◌≡◌, ◌≢◌, ◌⊎◌, ℕ, suc, ◌+◌
 use Rattle.target_machine.specs.Fresh.{IsFresh}
 use Rattle.target_machine.specs.Plain.{acted, is_fault}
 use Rattle.target_machine.specs.State.{TargetState}
-use Rattle.call_terms.specs.Asks.{AreAskable, is_settled}
-use Rattle.call_terms.specs.Journal.{Entry, Passes, lines_before, target_after}
-use Rattle.call_terms.specs.World.{AtLeast, World, stop}
-use Rattle.call_terms.specs.declared.calls.Ask.{Ask}
-use Rattle.call_terms.specs.declared.journal.Part.TheVariants.{Settles}
+use Rattle.target_calls.specs.Asks.{AreAskable, is_settled}
+use Rattle.target_calls.specs.Journal.{Entry, Passes, lines_before, target_after}
+use Rattle.target_calls.specs.World.{AtLeast, World, stop}
+use Rattle.target_calls.specs.declared.calls.Ask.{Ask}
+use Rattle.target_calls.specs.declared.journal.Part.TheVariants.{Settles}
 use Rattle.access_regs.specs.Alone.{NoneFaults}
 use Rattle.access_regs.specs.Journal.{issued}
 use Rattle.access_regs.specs.declared.planner.Planner.{Planner}

@@ -14,7 +14,7 @@ use Rattle.target_machine.specs.State.{TargetState}
 use Rattle.target_machine.specs.declared.unit.ProbeCall.{ProbeCall}
 use Rattle.target_machine.specs.declared.unit.ProbeCall.TheVariants as probe
 use Rattle.dap_messages.specs.Commands.{IsCommand}
-use Rattle.call_terms.specs.Weights.{delay_commands}
+use Rattle.target_calls.specs.Weights.{delay_commands}
 use Rattle.dap_transfer.specs.Lines as transfers
 use Rattle.dap_transfer.specs.State.{TransferState, grown}
 use Rattle.probe_core.specs.Bench.{BenchState}
@@ -66,6 +66,7 @@ call_acts e (probe.Delay micros) one command = record {
   pending = refl;
   mask = refl;
   matches = refl;
+  stalls = refl;
   dpidr = refl;
   clear = λ h. h;
   in_range = λ h. (let r = acted_in_range e.transfers.line.target (Commands (probe.Delay micros)) h tt in r.next);
@@ -83,6 +84,7 @@ call_acts e (probe.Abort value) one command =
       pending = refl;
       mask = refl;
       matches = refl;
+      stalls = refl;
       dpidr = kept.dpidr;
       clear = λ h. ap (λ (x : Attempt). x.next.sticky) is ∙ either_clear (has_bit value stkerrclr) t h;
       in_range = λ h. (let r = acted_in_range t (Commands (probe.Abort value)) h command in r.next);
@@ -96,6 +98,7 @@ call_acts e (probe.Pins output select wait) one command = record {
   pending = refl;
   mask = refl;
   matches = refl;
+  stalls = refl;
   dpidr = refl;
   clear = λ h. h;
   in_range = λ h. (let r = acted_in_range e.transfers.line.target (Commands (probe.Pins output select wait)) h tt in r.next);
@@ -109,6 +112,7 @@ call_acts e (probe.Clock hertz) one command = record {
   pending = refl;
   mask = refl;
   matches = refl;
+  stalls = refl;
   dpidr = refl;
   clear = λ h. h;
   in_range = λ h. (let r = acted_in_range e.transfers.line.target (Commands (probe.Clock hertz)) h command.1 in r.next);
@@ -122,10 +126,19 @@ call_acts e (probe.Line count bits) one command = record {
   pending = refl;
   mask = refl;
   matches = refl;
+  stalls = refl;
   dpidr = refl;
   clear = λ h. h;
   in_range = λ h. (let r = acted_in_range e.transfers.line.target (Commands (probe.Line count bits)) h command.1 in r.next);
 }
+
+-- it leaves the settings
+pub call_sets_nothing : (e : ExecutorState) (c : ProbeCall) → (bench.done e (command_of c)).next.transfers.setting ≡ e.transfers.setting
+call_sets_nothing e (probe.Delay micros) = refl
+call_sets_nothing e (probe.Abort value) = refl
+call_sets_nothing e (probe.Pins output select wait) = refl
+call_sets_nothing e (probe.Clock hertz) = refl
+call_sets_nothing e (probe.Line count bits) = refl
 
 pub call_gives : (e : ExecutorState) (c : ProbeCall) → number_given e (command_of c) ≡ given (acted e.transfers.line.target (Commands c)).outcome
 call_gives e (probe.Delay micros) = refl
@@ -207,6 +220,7 @@ last_delayed p count rest few some =
       pending = refl;
       mask = refl;
       matches = refl;
+      stalls = refl;
       dpidr = refl;
       clear = λ h. h;
       in_range = λ h. subst (λ (t : TargetState). IsInRange t) (sym (ap (λ (q : TransferState). q.line.target) is))

@@ -162,6 +162,7 @@ acts_poll p q config ask is e guard next =
       pending = ap (λ (x : TransferState). x.pending) all;
       mask = ap (λ (x : TransferState). x.mask) all ∙ sym guard.mask;
       matches = ap (λ (x : TransferState). x.setting.matches) all ∙ sym guard.matches;
+      stalls = ap (λ (x : TransferState). x.setting.stalls) all;
       dpidr = ap (λ (t : TargetState). t.dpidr) target ∙ kept.dpidr;
       clear = λ _. ap (λ (t : TargetState). t.sticky) target ∙ kept.clear;
       in_range = λ h. subst (λ (t : TargetState). IsInRange t) (sym target) (let r = acted_in_range p.line.target (reads_of ask) h tt in r.next);
@@ -203,11 +204,12 @@ polled_one given config ask packet reply result m n is read ready bank_is answer
     })
 
 may_have_one : (given : Limits) (config : Config) (ask : PollAsk) (packet : List ℕ) (m n : BenchState) → IsPollSent given config ask packet → IsReady given m → bank (transfers_of m).line.target ≡ 0 →
-    MayHaveRun packet m n → MayHavePolled ask m n
+    MayHaveRun packet m n → MayHavePolled config ask m n
 may_have_one given config ask packet m n is ready bank_is (inl same) = inl (ap (λ (x : ExecutorState). x.transfers) same)
 may_have_one given config ask packet m n is ready bank_is (inr next) =
     let flies = ready.flies in
-    inr (acts_poll (transfers_of m) (transfers_of n) config ask is.poll bank_is flies.guard (ap (λ (x : ExecutorState). x.transfers) (next ∙ ap (λ (x : Answered). x.next) (ran given config ask packet m is ready))))
+    let after : n.probe.executor ≡ poll_next m.probe.executor config ask = next ∙ ap (λ (x : Answered). x.next) (ran given config ask packet m is ready) in
+    inr (acts_poll (transfers_of m) (transfers_of n) config ask is.poll bank_is flies.guard (ap (λ (x : ExecutorState). x.transfers) after), ap (λ (x : ExecutorState). x.transfers.setting.retry) after)
 
 pub has_polled : (given : Limits) (config : Config) (ask : PollAsk) (packet reply : List ℕ) (result : Result Bool FlightEnd) (a b : Option BenchState) → IsPollSent given config ask packet →
     result ≡ matched_in config ask reply → StepsTo (λ m o. IsIdle m → HasAnswered packet reply m o) a b →

@@ -22,6 +22,10 @@ use Rattle.batch_packer.specs.declared.part.Progress.{Progress}
 abbrev pub transfers_of : BenchState → TransferState
 transfers_of m = m.probe.executor.transfers
 
+-- A flight of these accesses did this part of them, from one state of the bench to another.
+abbrev pub Flies : List RegAccess → Part → BenchState → BenchState → Type 0
+Flies accesses part m o = DoesPart (transfers_of m) (transfers_of o) accesses part
+
 -- A bench over which a flight does what is said of it: match mask and match retry are 0, bit 0 of DPIDR is set, STICKYERR is clear,
 -- and the numbers of the target fit their registers and words.
 pub record CanFly (m : BenchState) : Type 0 where

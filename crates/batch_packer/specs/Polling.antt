@@ -80,13 +80,13 @@ pub record HasPolled (config : Config) (ask : PollAsk) (matched : Bool) (m n : B
   pub retry : (transfers_of n).setting.retry ≡ config.retry
   pub idle_cycles : n.probe.executor.idle ≡ config.idle
 
--- the poll was made or not
-abbrev pub MayHavePolled : PollAsk → BenchState → BenchState → Type 0
-MayHavePolled ask m n = (transfers_of n ≡ transfers_of m) ⊎ Acts (reads_of ask) (transfers_of m) (transfers_of n)
+-- the poll was made or not; where it was, the retry number is the one that it was given
+abbrev pub MayHavePolled : Config → PollAsk → BenchState → BenchState → Type 0
+MayHavePolled config ask m n = (transfers_of n ≡ transfers_of m) ⊎ (Acts (reads_of ask) (transfers_of m) (transfers_of n) × ((transfers_of n).setting.retry ≡ config.retry))
 
 -- What was done where a poll is answered so. A reply is never bad, and no read waits or faults.
 abbrev pub PolledBy : Config → PollAsk → Result Bool FlightEnd → BenchState → BenchState → Type 0
 PolledBy config ask (Ok matched) m n = HasPolled config ask matched m n
-PolledBy config ask (Err ends.BenchFault) m n = MayHavePolled ask m n
+PolledBy config ask (Err ends.BenchFault) m n = MayHavePolled config ask m n
 PolledBy config ask (Err ends.ReplyBad) m n = ⊥
 PolledBy config ask (Err (ends.Cut cut)) m n = ⊥

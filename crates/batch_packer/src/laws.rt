@@ -25,11 +25,12 @@ pub fn another_flight_may_follow()
     ensures { (form : Form) (accesses : List RegAccess) (values : List (Option ℕ)) (m n : BenchState) → CanFly m → HasFlown form accesses (whole_part accesses values) m n → CanFly n }
 {}
 
-/// A command of the probe in one packet is its call: what it does is the action (`acts`), and the number
-/// that it answers is what the action gives (`number`). One is enough for all but a delay of more than
+/// A command of the probe in one packet is its call: what it does is the action (`acts`), it leaves the settings of
+/// the transfers (`setting`), and the number that it answers is what the action gives (`number`). One is enough for all but a delay of more than
 /// 65,535 microseconds.
 pub fn a_command_is_its_call()
     ensures acts { (e : ExecutorState) (c : ProbeCall) → is_one c ≡ true → IsCommand (command_of c) → Acts (Commands c) e.transfers (done e (command_of c)).next.transfers }
+    ensures setting { (e : ExecutorState) (c : ProbeCall) → (done e (command_of c)).next.transfers.setting ≡ e.transfers.setting }
     ensures number { (e : ExecutorState) (c : ProbeCall) → number_given e (command_of c) ≡ given (acted e.transfers.line.target (Commands c)).outcome }
 {}
 

@@ -7,8 +7,8 @@ use Rattle.target_machine.specs.Plain.{Action, Commands, Makes, Polls}
 use Rattle.target_machine.specs.State.{TargetState}
 use Rattle.target_machine.specs.declared.unit.ProbeCall.{ProbeCall}
 use Rattle.target_machine.specs.declared.unit.ProbeCall.TheVariants as probe
-use Rattle.call_terms.specs.Weights.{commands_for, commands_of, delay_commands, weight}
-use Rattle.dap_transfer.specs.State.{TransferState}
+use Rattle.target_calls.specs.Weights.{commands_for, commands_of, delay_commands, weight}
+use Rattle.dap_transfer.specs.State.{Setting, TransferState}
 use Rattle.probe_core.specs.Bench.{BenchState, StepsTo}
 use Rattle.probe_core.specs.Bench.{Reported as BenchReported}
 use Rattle.probe_core.specs.Probe.{target_of}
@@ -19,7 +19,7 @@ use Rattle.batch_packer.specs.declared.ends.FlightEnd.TheVariants as ends
 use Rattle.batch_packer.proofs.CallLemmas.{abort_clears, flies_after, last_delayed, next_delayed, none_delayed}
 use Rattle.probe_core.proofs.StateSteps.{runs_self, runs_then}
 use Rattle.bench_flights.specs.Flown.{BenchGoesOn, CanCommand, DidLess, HasDone, IsCutResponse, LeftOff, MayClear, NamesNone}
-use Rattle.bench_flights.specs.Wires.{HasDelayed, HasMade, IsNoCut, MadeOrNot}
+use Rattle.bench_flights.specs.Wires.{HasDelayed, HasMade, IsNoCut, MadeOrNot, WasMade}
 use Rattle.bench_flights.proofs.WireLemmas.{steps_join, steps_map}
 
 -- ---- one after the other
@@ -49,6 +49,7 @@ made_done x word m o flies h = record {
     clear = h.acts.clear flies.guard.clear;
     work = (let w = h.acts.work in omega (arith, w, counts));
     retries = h.acts.retries;
+    setting = h.setting;
     number = numbers_made x (target_of m.probe) _ _ h.acts.number;
   };
   good = h.acts.passes;
@@ -73,7 +74,7 @@ delay_begins (Some m) = λ in_range. record {
   retries = refl;
   pending = refl;
   mask = refl;
-  matches = refl;
+  setting = refl;
   in_range = in_range;
 }
 
@@ -81,7 +82,8 @@ one_more : (count word : ℕ) (m k o : BenchState) → (IsInRange (target_of m.p
     IsInRange (target_of m.probe) → HasDelayed (count + 1) (transfers_of m) (transfers_of o)
 one_more count word m k o h d in_range =
     let a = h in_range in
-    let b = (d a.in_range).acts in
+    let made = d a.in_range in
+    let b = made.acts in
     record {
       target = b.target ∙ ap (λ (t : TargetState). delayed t 65535) a.target ∙ delays_next (transfers_of m) count;
       work = (let w = a.work in let v = b.work in omega (arith, w, v));
@@ -89,7 +91,7 @@ one_more count word m k o h d in_range =
       retries = b.retries ∙ a.retries;
       pending = b.pending ∙ a.pending;
       mask = b.mask ∙ a.mask;
-      matches = b.matches ∙ a.matches;
+      setting = made.setting ∙ a.setting;
       in_range = b.in_range a.in_range;
     }
 
@@ -114,7 +116,8 @@ whole_acts count rest m k o few some a b in_range = record {
   retries = b.retries ∙ a.retries;
   pending = b.pending ∙ a.pending;
   mask = b.mask ∙ a.mask;
-  matches = b.matches ∙ a.matches;
+  matches = b.matches ∙ ap (λ (s : Setting). s.matches) a.setting;
+  stalls = b.stalls ∙ ap (λ (s : Setting). s.stalls) a.setting;
   dpidr = ap (λ (t : TargetState). t.dpidr) (b.target ∙ ap (λ (t : TargetState). delayed t rest) a.target);
   clear = λ clear. ap (λ (t : TargetState). t.sticky) (b.target ∙ ap (λ (t : TargetState). delayed t rest) a.target) ∙ clear;
   in_range = λ in_range. b.in_range a.in_range;
@@ -125,7 +128,7 @@ delay_whole : (count rest word : ℕ) → rest ≤ 65535 → (0 < count → 0 < 
 delay_whole count rest word few some m k o h d in_range =
     let a = h in_range in
     let b = d a.in_range in
-    record { acts = whole_acts count rest m k o few some a b.acts in_range; word_is = b.word_is }
+    record { acts = whole_acts count rest m k o few some a b.acts in_range; setting = b.setting ∙ a.setting; word_is = b.word_is }
 
 pub delay_made : (x y z : Option BenchState) (count rest word : ℕ) → rest ≤ 65535 → (0 < count → 0 < rest) → StepsTo (λ m o. IsInRange (target_of m.probe) → HasDelayed count (transfers_of m) (transfers_of o)) x y →
     StepsTo (λ m o. IsInRange (target_of m.probe) → HasMade (Commands (probe.Delay rest)) word m o) y z → StepsTo (λ m o. IsInRange (target_of m.probe) → HasMade (Commands (probe.Delay (65535 * count + rest))) word m o) x z
@@ -164,12 +167,12 @@ part_left count part micros ends.BenchFault few some which m k o h d flies = by_
         by_count zero none = none_delayed_yet micros m k o (subst (λ (c : ℕ). HasDelayed c (transfers_of m) (transfers_of k)) none a) same flies.in_range
         by_count (suc n) is = less_delayed count micros m k o (less (omega (arith, is))) a same
 
-    by_what : Acts (Commands (probe.Delay part)) (transfers_of k) (transfers_of o) ⊎ (transfers_of o ≡ transfers_of k) → (65535 * count + part ≡ micros) ⊎ ((part ≡ 65535) × (65535 * (count + 1) < micros)) → LeftOff (Commands (probe.Delay micros)) ends.BenchFault m o
-    by_what (inl acts) (inl last) =
-        inl (made_done (Commands (probe.Delay micros)) 0 m o flies (record { acts = subst (λ (n : ℕ). Acts (Commands (probe.Delay n)) (transfers_of m) (transfers_of o)) last (whole_acts count part m k o few some a acts flies.in_range); word_is = refl }))
-    by_what (inl acts) (inr (full, less)) =
+    by_what : WasMade (Commands (probe.Delay part)) k o ⊎ (transfers_of o ≡ transfers_of k) → (65535 * count + part ≡ micros) ⊎ ((part ≡ 65535) × (65535 * (count + 1) < micros)) → LeftOff (Commands (probe.Delay micros)) ends.BenchFault m o
+    by_what (inl made) (inl last) =
+        inl (made_done (Commands (probe.Delay micros)) 0 m o flies (record { acts = subst (λ (n : ℕ). Acts (Commands (probe.Delay n)) (transfers_of m) (transfers_of o)) last (whole_acts count part m k o few some a made.acts flies.in_range); setting = made.setting ∙ a.setting; word_is = refl }))
+    by_what (inl made) (inr (full, less)) =
         inr (less_delayed (count + 1) micros m o o less
-        (one_more count 0 m k o h (λ in_range. record { acts = subst (λ (n : ℕ). Acts (Commands (probe.Delay n)) (transfers_of k) (transfers_of o)) full acts; word_is = refl }) flies.in_range) refl)
+        (one_more count 0 m k o h (λ in_range. record { acts = subst (λ (n : ℕ). Acts (Commands (probe.Delay n)) (transfers_of k) (transfers_of o)) full made.acts; setting = made.setting; word_is = refl }) flies.in_range) refl)
     by_what (inr same) (inl last) = inr (untouched same (λ some_made. omega (arith, last, some some_made)))
     by_what (inr same) (inr (full, less)) = inr (untouched same (λ some_made. omega (arith, less)))
 part_left count part micros ends.ReplyBad few some which m k o h d flies = d (h flies.in_range).in_range
@@ -210,6 +213,7 @@ cleared_done call word m o h d =
         clear = clear;
         work = (let w = d.acts.work in omega (arith, w, counts));
         retries = d.acts.retries;
+        setting = d.setting;
         number = numbers_made (Commands call) (target_of m.probe) _ _ d.acts.number;
       };
       good = d.acts.passes;
@@ -256,7 +260,7 @@ untouched_less call m o one same = record {
 }
 
 call_left : (call : ProbeCall) (end : FlightEnd) (m o : BenchState) → is_one call ≡ true → CanCommand call m → MadeOrNot (Commands call) end m o → LeftOff (Commands call) end m o
-call_left call ends.BenchFault m o one can (inl acts) = inl (call_done call _ m o can (record { acts = acts; word_is = refl }))
+call_left call ends.BenchFault m o one can (inl made) = inl (call_done call _ m o can (record { acts = made.acts; setting = made.setting; word_is = refl }))
 call_left call ends.BenchFault m o one can (inr same) = inr (untouched_less call m o one same)
 call_left call ends.ReplyBad m o one can h = h
 call_left call (ends.Cut cut) m o one can h = absurd h

@@ -2,14 +2,15 @@
 use Rattle.std.proofs.Common.{◌≡◌, ◌⊎◌, inl, inr, ◌∙◌, ℕ, zero, suc, ◌+◌, ◌-◌, ◌^◌, ◌<◌, ◌≤◌, min, Bool, true, false, cond, Option, Some, None, Ok, Err, Result, IfOk, IfErr, refl, sym, ap, subst, arith}
 use Rattle.std.specs.Prelude.{◌==◌, ◌&&◌, bit_and, not}
 use Rattle.target_machine.specs.Attempt.{Attempt, answers, attempt, bank, ctrl_stat, dp_read, is_free}
-use Rattle.target_machine.specs.Plain.{Polled, Polls, dp_read_of, given, is_fault, looked, polled}
+use Rattle.target_machine.specs.Plain.{Action, Polled, Polls, dp_read_of, given, is_fault, looked, polled}
 use Rattle.target_machine.specs.State.{TargetState}
 use Rattle.target_machine.specs.declared.access.Outcome.{Outcome}
 use Rattle.target_machine.specs.declared.access.Outcome.TheVariants.{Value, Done, Fault}
-use Rattle.call_terms.proofs.EntryLemmas.{weight_some}
-use Rattle.dap_transfer.specs.State.{TransferState}
+use Rattle.target_calls.proofs.EntryLemmas.{weight_some}
+use Rattle.dap_transfer.specs.State.{Setting, TransferState}
 use Rattle.probe_core.specs.Bench.{BenchState, StepsTo}
 use Rattle.probe_core.specs.Probe.{target_of}
+use Rattle.access_calls.specs.Standing.{setting_of}
 use Rattle.batch_packer.specs.Actions.{Acts}
 use Rattle.batch_packer.specs.Flying.{CanFly, transfers_of}
 use Rattle.batch_packer.specs.Polling.{PolledBy}
@@ -18,8 +19,8 @@ use Rattle.batch_packer.specs.declared.ends.FlightEnd.TheVariants as ends
 use Rattle.batch_packer.specs.declared.poll.Config.{Config}
 use Rattle.batch_packer.specs.declared.poll.PollAsk.{PollAsk}
 use Rattle.batch_packer.proofs.CallLemmas.{flies_after}
-use Rattle.bench_flights.specs.Flown.{DidLess, HasDone, LeftOff, matched_word}
-use Rattle.bench_flights.specs.Wires.{HasLooked, HasMade, MadeOrNot}
+use Rattle.bench_flights.specs.Flown.{CanMatch, DidLess, HasDone, LeftOff, matched_word}
+use Rattle.bench_flights.specs.Wires.{HasLooked, HasMade, MadeOrNot, WasMade}
 use Rattle.bench_flights.proofs.WireLemmas.{steps_join, steps_map}
 
 -- ---- one turn
@@ -167,6 +168,7 @@ looked_none mask requested m flies = record {
   work = omega arith;
   retries = refl;
   number = omega arith;
+  setting = refl;
   flies = flies;
 }
 
@@ -178,6 +180,7 @@ looked_made mask requested n word m o flies h = record {
   work = h.acts.work;
   retries = h.acts.retries;
   number = (let a = h.acts.number in omega (arith, a));
+  setting = h.setting;
   flies = flies_after (Polls mask requested n) m o flies h.acts;
 }
 
@@ -195,6 +198,7 @@ looked_more mask requested a b word m k o h l =
       work = (let w = h.work in let v = l.work in omega (arith, w, v, count, made));
       retries = l.retries ∙ h.retries;
       number = (let w = h.number in let v = l.number in omega (arith, w, v, count, made));
+      setting = l.setting ∙ h.setting;
       flies = l.flies;
     }
 
@@ -208,6 +212,7 @@ looked_stops mask requested a b m o h =
       work = (let w = h.work in let count = ap (λ (p : Polled). p.reads) same in omega (arith, w, count));
       retries = h.retries;
       number = (let w = h.number in let count = ap (λ (p : Polled). p.reads) same in omega (arith, w, count));
+      setting = h.setting;
       flies = h.flies;
     }
 
@@ -218,6 +223,7 @@ looked_done mask requested turns word m o h = record {
     clear = h.flies.guard.clear;
     work = (let w = h.work in omega (arith, w, counts));
     retries = h.retries;
+    setting = h.setting;
     number = (let n = h.number in omega (arith, n));
   };
   good = h.good;
@@ -246,52 +252,54 @@ looked_less mask requested turns made m k o less h same =
 
 -- ---- portions of a poll
 
-pub bank_kept : (mask requested n word : ℕ) (m o : BenchState) → HasLooked mask requested n word m o → bank (target_of m.probe) ≡ 0 → bank (target_of o.probe) ≡ 0
-bank_kept mask requested n word m o h zero_bank =
-    ap (λ (t : TargetState). bank t) h.target ∙ ap (λ (s : ℕ). bit_and s 0xF) (polled_select n mask requested (target_of m.probe)) ∙ zero_bank
+pub bank_kept : (retry mask requested n word : ℕ) (m o : BenchState) → HasLooked mask requested n word m o → CanMatch retry m → CanMatch retry o
+bank_kept retry mask requested n word m o h can = record {
+  bank_zero = ap (λ (t : TargetState). bank t) h.target ∙ ap (λ (s : ℕ). bit_and s 0xF) (polled_select n mask requested (target_of m.probe)) ∙ can.bank_zero;
+  retry_is = ap (λ (s : Setting). s.retry) h.setting ∙ can.retry_is;
+}
 
-pub poll_begins : (x : Option BenchState) (mask requested : ℕ) → StepsTo (λ m o. CanFly m → bank (target_of m.probe) ≡ 0 → HasLooked mask requested 0 0 m o) x x
-poll_begins None mask requested = tt
-poll_begins (Some m) mask requested = λ flies zero_bank. looked_none mask requested m flies
+pub poll_begins : (x : Option BenchState) (retry mask requested : ℕ) → StepsTo (λ m o. CanFly m → CanMatch retry m → HasLooked mask requested 0 0 m o) x x
+poll_begins None retry mask requested = tt
+poll_begins (Some m) retry mask requested = λ flies can. looked_none mask requested m flies
 
-joined_portion : (mask requested a b word : ℕ) (m k o : BenchState) → (CanFly m → bank (target_of m.probe) ≡ 0 → HasLooked mask requested a 0 m k) → (CanFly k → bank (target_of k.probe) ≡ 0 → HasMade (Polls mask requested b) word k o) →
-    CanFly m → bank (target_of m.probe) ≡ 0 → HasLooked mask requested (a + b) word m o
-joined_portion mask requested a b word m k o h d flies zero_bank =
-    let l = h flies zero_bank in
-    looked_more mask requested a b word m k o l (looked_made mask requested b word k o l.flies (d l.flies (bank_kept mask requested a 0 m k l zero_bank)))
+joined_portion : (retry mask requested a b word : ℕ) (m k o : BenchState) → (CanFly m → CanMatch retry m → HasLooked mask requested a 0 m k) → (CanFly k → CanMatch retry k → HasMade (Polls mask requested b) word k o) →
+    CanFly m → CanMatch retry m → HasLooked mask requested (a + b) word m o
+joined_portion retry mask requested a b word m k o h d flies can =
+    let l = h flies can in
+    looked_more mask requested a b word m k o l (looked_made mask requested b word k o l.flies (d l.flies (bank_kept retry mask requested a 0 m k l can)))
 
-pub poll_next : (x y z : Option BenchState) (mask requested a b word : ℕ) → StepsTo (λ m o. CanFly m → bank (target_of m.probe) ≡ 0 → HasLooked mask requested a 0 m o) x y →
-    StepsTo (λ m o. CanFly m → bank (target_of m.probe) ≡ 0 → HasMade (Polls mask requested b) word m o) y z → StepsTo (λ m o. CanFly m → bank (target_of m.probe) ≡ 0 → HasLooked mask requested (a + b) word m o) x z
-poll_next x y z mask requested a b word h d = steps_join _ _ _ (joined_portion mask requested a b word) x y z h d
+pub poll_next : (x y z : Option BenchState) (retry mask requested a b word : ℕ) → StepsTo (λ m o. CanFly m → CanMatch retry m → HasLooked mask requested a 0 m o) x y →
+    StepsTo (λ m o. CanFly m → CanMatch retry m → HasMade (Polls mask requested b) word m o) y z → StepsTo (λ m o. CanFly m → CanMatch retry m → HasLooked mask requested (a + b) word m o) x z
+poll_next x y z retry mask requested a b word h d = steps_join _ _ _ (joined_portion retry mask requested a b word) x y z h d
 
 -- the register matched
-pub poll_matches : (x z : Option BenchState) (mask requested a b turns : ℕ) → a + b ≡ turns → StepsTo (λ m o. CanFly m → bank (target_of m.probe) ≡ 0 → HasLooked mask requested a 1 m o) x z →
-    StepsTo (λ m o. CanFly m → bank (target_of m.probe) ≡ 0 → HasDone (Polls mask requested turns) (matched_word true) m o) x z
-poll_matches x z mask requested a b turns sum h =
-    steps_map _ _ (λ m o f flies zero_bank. looked_done mask requested turns 1 m o (subst (λ (n : ℕ). HasLooked mask requested n 1 m o) sum (looked_stops mask requested a b m o (f flies zero_bank)))) x z h
+pub poll_matches : (x z : Option BenchState) (retry mask requested a b turns : ℕ) → a + b ≡ turns → StepsTo (λ m o. CanFly m → CanMatch retry m → HasLooked mask requested a 1 m o) x z →
+    StepsTo (λ m o. CanFly m → CanMatch retry m → HasDone (Polls mask requested turns) (matched_word true) m o) x z
+poll_matches x z retry mask requested a b turns sum h =
+    steps_map _ _ (λ m o f flies can. looked_done mask requested turns 1 m o (subst (λ (n : ℕ). HasLooked mask requested n 1 m o) sum (looked_stops mask requested a b m o (f flies can)))) x z h
 
 -- the turns are used up
-pub poll_used : (x z : Option BenchState) (mask requested made turns : ℕ) → made ≡ turns → StepsTo (λ m o. CanFly m → bank (target_of m.probe) ≡ 0 → HasLooked mask requested made 0 m o) x z →
-    StepsTo (λ m o. CanFly m → bank (target_of m.probe) ≡ 0 → HasDone (Polls mask requested turns) (matched_word false) m o) x z
-poll_used x z mask requested made turns all h =
-    steps_map _ _ (λ m o f flies zero_bank. looked_done mask requested turns 0 m o (subst (λ (n : ℕ). HasLooked mask requested n 0 m o) all (f flies zero_bank))) x z h
+pub poll_used : (x z : Option BenchState) (retry mask requested made turns : ℕ) → made ≡ turns → StepsTo (λ m o. CanFly m → CanMatch retry m → HasLooked mask requested made 0 m o) x z →
+    StepsTo (λ m o. CanFly m → CanMatch retry m → HasDone (Polls mask requested turns) (matched_word false) m o) x z
+poll_used x z retry mask requested made turns all h =
+    steps_map _ _ (λ m o f flies can. looked_done mask requested turns 0 m o (subst (λ (n : ℕ). HasLooked mask requested n 0 m o) all (f flies can))) x z h
 
 -- a bench call failed in a portion
-portion_left : (mask requested a b turns : ℕ) (end : FlightEnd) → 1 ≤ b → a + b ≤ turns → (m k o : BenchState) → (CanFly m → bank (target_of m.probe) ≡ 0 → HasLooked mask requested a 0 m k) →
-    (CanFly k → bank (target_of k.probe) ≡ 0 → MadeOrNot (Polls mask requested b) end k o) → CanFly m → bank (target_of m.probe) ≡ 0 → LeftOff (Polls mask requested turns) end m o
-portion_left mask requested a b turns ends.BenchFault some within m k o h d flies zero_bank = by_what (d l.flies (bank_kept mask requested a 0 m k l zero_bank))
+portion_left : (retry mask requested a b turns : ℕ) (end : FlightEnd) → 1 ≤ b → a + b ≤ turns → (m k o : BenchState) → (CanFly m → CanMatch retry m → HasLooked mask requested a 0 m k) →
+    (CanFly k → CanMatch retry k → MadeOrNot (Polls mask requested b) end k o) → CanFly m → CanMatch retry m → LeftOff (Polls mask requested turns) end m o
+portion_left retry mask requested a b turns ends.BenchFault some within m k o h d flies can = by_what (d l.flies (bank_kept retry mask requested a 0 m k l can))
   where
     l : HasLooked mask requested a 0 m k
-    l = h flies zero_bank
+    l = h flies can
 
-    by_word : Acts (Polls mask requested b) (transfers_of k) (transfers_of o) → (given (polled b mask requested (target_of k.probe)).outcome ≡ 0) ⊎ (given (polled b mask requested (target_of k.probe)).outcome ≡ 1) → LeftOff (Polls mask requested turns) ends.BenchFault m o
-    by_word acts (inr one) =
-        let n : HasLooked mask requested (a + b) 1 m o = looked_more mask requested a b 1 m k o l (looked_made mask requested b 1 k o l.flies (record { acts = acts; word_is = sym one })) in
+    by_word : WasMade (Polls mask requested b) k o → (given (polled b mask requested (target_of k.probe)).outcome ≡ 0) ⊎ (given (polled b mask requested (target_of k.probe)).outcome ≡ 1) → LeftOff (Polls mask requested turns) ends.BenchFault m o
+    by_word made (inr one) =
+        let n : HasLooked mask requested (a + b) 1 m o = looked_more mask requested a b 1 m k o l (looked_made mask requested b 1 k o l.flies (record { acts = made.acts; setting = made.setting; word_is = sym one })) in
         let sum : (a + b) + (turns - (a + b)) ≡ turns = omega (arith, within) in
         let w : HasLooked mask requested turns 1 m o = subst (λ (c : ℕ). HasLooked mask requested c 1 m o) sum (looked_stops mask requested (a + b) (turns - (a + b)) m o n) in
         inl (looked_done mask requested turns (given (polled turns mask requested (target_of m.probe)).outcome) m o (subst (λ (c : ℕ). HasLooked mask requested turns c m o) w.word_is w))
-    by_word acts (inl none) =
-        let n : HasLooked mask requested (a + b) 0 m o = looked_more mask requested a b 0 m k o l (looked_made mask requested b 0 k o l.flies (record { acts = acts; word_is = sym none })) in
+    by_word made (inl none) =
+        let n : HasLooked mask requested (a + b) 0 m o = looked_more mask requested a b 0 m k o l (looked_made mask requested b 0 k o l.flies (record { acts = made.acts; setting = made.setting; word_is = sym none })) in
         by_rest n (turns - (a + b)) refl
       where
         by_rest : HasLooked mask requested (a + b) 0 m o → (rest : ℕ) → turns - (a + b) ≡ rest → LeftOff (Polls mask requested turns) ends.BenchFault m o
@@ -301,15 +309,15 @@ portion_left mask requested a b turns ends.BenchFault some within m k o h d flie
             inl (looked_done mask requested turns (given (polled turns mask requested (target_of m.probe)).outcome) m o (subst (λ (c : ℕ). HasLooked mask requested turns c m o) w.word_is w))
         by_rest n (suc rest) is = inr (looked_less mask requested turns (a + b) m o o (omega (arith, is)) n refl)
 
-    by_what : Acts (Polls mask requested b) (transfers_of k) (transfers_of o) ⊎ (transfers_of o ≡ transfers_of k) → LeftOff (Polls mask requested turns) ends.BenchFault m o
-    by_what (inl acts) = by_word acts (polled_word b mask requested (target_of k.probe))
+    by_what : WasMade (Polls mask requested b) k o ⊎ (transfers_of o ≡ transfers_of k) → LeftOff (Polls mask requested turns) ends.BenchFault m o
+    by_what (inl made) = by_word made (polled_word b mask requested (target_of k.probe))
     by_what (inr same) = inr (looked_less mask requested turns a m k o (omega (arith, some, within)) l same)
-portion_left mask requested a b turns ends.ReplyBad some within m k o h d flies zero_bank = let l = h flies zero_bank in d l.flies (bank_kept mask requested a 0 m k l zero_bank)
-portion_left mask requested a b turns (ends.Cut cut) some within m k o h d flies zero_bank = absurd (let l = h flies zero_bank in d l.flies (bank_kept mask requested a 0 m k l zero_bank))
+portion_left retry mask requested a b turns ends.ReplyBad some within m k o h d flies can = let l = h flies can in d l.flies (bank_kept retry mask requested a 0 m k l can)
+portion_left retry mask requested a b turns (ends.Cut cut) some within m k o h d flies can = absurd (let l = h flies can in d l.flies (bank_kept retry mask requested a 0 m k l can))
 
-pub poll_left : (x y z : Option BenchState) (mask requested a b turns : ℕ) (end : FlightEnd) → 1 ≤ b → a + b ≤ turns → StepsTo (λ m o. CanFly m → bank (target_of m.probe) ≡ 0 → HasLooked mask requested a 0 m o) x y →
-    StepsTo (λ m o. CanFly m → bank (target_of m.probe) ≡ 0 → MadeOrNot (Polls mask requested b) end m o) y z → StepsTo (λ m o. CanFly m → bank (target_of m.probe) ≡ 0 → LeftOff (Polls mask requested turns) end m o) x z
-poll_left x y z mask requested a b turns end some within h d = steps_join _ _ _ (portion_left mask requested a b turns end some within) x y z h d
+pub poll_left : (x y z : Option BenchState) (retry mask requested a b turns : ℕ) (end : FlightEnd) → 1 ≤ b → a + b ≤ turns → StepsTo (λ m o. CanFly m → CanMatch retry m → HasLooked mask requested a 0 m o) x y →
+    StepsTo (λ m o. CanFly m → CanMatch retry m → MadeOrNot (Polls mask requested b) end m o) y z → StepsTo (λ m o. CanFly m → CanMatch retry m → LeftOff (Polls mask requested turns) end m o) x z
+poll_left x y z retry mask requested a b turns end some within h d = steps_join _ _ _ (portion_left retry mask requested a b turns end some within) x y z h d
 
 -- ---- one portion, as the layer below says it
 
@@ -317,29 +325,36 @@ word_matched : (n : ℕ) (matched : Bool) → (n ≡ 0) ⊎ (n ≡ 1) → matche
 word_matched n matched (inl none) is = ap matched_word (is ∙ ap (λ (k : ℕ). k == 1) none) ∙ sym none
 word_matched n matched (inr one) is = ap matched_word (is ∙ ap (λ (k : ℕ). k == 1) one) ∙ sym one
 
+setting_same : (a b : Setting) → a.stalls ≡ b.stalls → a.retry ≡ b.retry → a.matches ≡ b.matches → a ≡ b
+setting_same a b stalls retry matches = λ i. record { stalls = stalls i; retry = retry i; matches = matches i }
+
+-- the retry number is the one that the probe had
+was_polled : (retry : ℕ) (x : Action) (m o : BenchState) → CanMatch retry m → Acts x (transfers_of m) (transfers_of o) → (setting_of o).retry ≡ retry → WasMade x m o
+was_polled retry x m o can acts set = record { acts = acts; setting = setting_same (setting_of o) (setting_of m) acts.stalls (set ∙ sym can.retry_is) acts.matches }
+
 pub portion_made : (x y : Option BenchState) (config : Config) (ask : PollAsk) (result : Result Bool FlightEnd) →
     StepsTo (λ m o. CanFly m → bank (target_of m.probe) ≡ 0 → PolledBy config ask result m o) x y →
-    IfOk result (λ matched. StepsTo (λ m o. CanFly m → bank (target_of m.probe) ≡ 0 → HasMade (Polls ask.mask ask.value ask.turns) (matched_word matched) m o) x y)
+    IfOk result (λ matched. StepsTo (λ m o. CanFly m → CanMatch config.retry m → HasMade (Polls ask.mask ask.value ask.turns) (matched_word matched) m o) x y)
 portion_made x y config ask (Err end) h = tt
 portion_made x y config ask (Ok matched) h =
-    steps_map _ _ (λ m o f flies zero_bank. let p = f flies zero_bank in
-    record { acts = p.acted.acts; word_is = word_matched (given (polled ask.turns ask.mask ask.value (target_of m.probe)).outcome) matched (polled_word ask.turns ask.mask ask.value (target_of m.probe)) p.matched_is }) x y h
+    steps_map _ _ (λ m o f flies can. let p = f flies can.bank_zero in let made = was_polled config.retry _ m o can p.acted.acts p.retry in
+    record { acts = made.acts; setting = made.setting; word_is = word_matched (given (polled ask.turns ask.mask ask.value (target_of m.probe)).outcome) matched (polled_word ask.turns ask.mask ask.value (target_of m.probe)) p.matched_is }) x y h
 
-left_portion : (config : Config) (ask : PollAsk) (end : FlightEnd) (m o : BenchState) → PolledBy config ask (Err end) m o → MadeOrNot (Polls ask.mask ask.value ask.turns) end m o
-left_portion config ask ends.BenchFault m o (inl same) = inr same
-left_portion config ask ends.BenchFault m o (inr acts) = inl acts
-left_portion config ask ends.ReplyBad m o h = h
-left_portion config ask (ends.Cut cut) m o h = absurd h
+left_portion : (config : Config) (ask : PollAsk) (end : FlightEnd) (m o : BenchState) → CanMatch config.retry m → PolledBy config ask (Err end) m o → MadeOrNot (Polls ask.mask ask.value ask.turns) end m o
+left_portion config ask ends.BenchFault m o can (inl same) = inr same
+left_portion config ask ends.BenchFault m o can (inr polled) = inl (was_polled config.retry _ m o can polled.0 polled.1)
+left_portion config ask ends.ReplyBad m o can h = h
+left_portion config ask (ends.Cut cut) m o can h = absurd h
 
 pub portion_lefts : (x y : Option BenchState) (config : Config) (ask : PollAsk) (result : Result Bool FlightEnd) →
     StepsTo (λ m o. CanFly m → bank (target_of m.probe) ≡ 0 → PolledBy config ask result m o) x y →
-    IfErr result (λ end. StepsTo (λ m o. CanFly m → bank (target_of m.probe) ≡ 0 → MadeOrNot (Polls ask.mask ask.value ask.turns) end m o) x y)
+    IfErr result (λ end. StepsTo (λ m o. CanFly m → CanMatch config.retry m → MadeOrNot (Polls ask.mask ask.value ask.turns) end m o) x y)
 portion_lefts x y config ask (Ok matched) h = tt
-portion_lefts x y config ask (Err end) h = steps_map _ _ (λ m o f flies zero_bank. left_portion config ask end m o (f flies zero_bank)) x y h
+portion_lefts x y config ask (Err end) h = steps_map _ _ (λ m o f flies can. left_portion config ask end m o can (f flies can.bank_zero)) x y h
 
 -- what a portion answers, by its case
-pub word_for : (x y : Option BenchState) (mask requested turns : ℕ) (matched is : Bool) → matched ≡ is →
-    StepsTo (λ m o. CanFly m → bank (target_of m.probe) ≡ 0 → HasMade (Polls mask requested turns) (matched_word matched) m o) x y →
-    StepsTo (λ m o. CanFly m → bank (target_of m.probe) ≡ 0 → HasMade (Polls mask requested turns) (matched_word is) m o) x y
-word_for x y mask requested turns matched is same h =
-    subst (λ (b : Bool). StepsTo (λ m o. CanFly m → bank (target_of m.probe) ≡ 0 → HasMade (Polls mask requested turns) (matched_word b) m o) x y) same h
+pub word_for : (x y : Option BenchState) (retry mask requested turns : ℕ) (matched is : Bool) → matched ≡ is →
+    StepsTo (λ m o. CanFly m → CanMatch retry m → HasMade (Polls mask requested turns) (matched_word matched) m o) x y →
+    StepsTo (λ m o. CanFly m → CanMatch retry m → HasMade (Polls mask requested turns) (matched_word is) m o) x y
+word_for x y retry mask requested turns matched is same h =
+    subst (λ (b : Bool). StepsTo (λ m o. CanFly m → CanMatch retry m → HasMade (Polls mask requested turns) (matched_word b) m o) x y) same h

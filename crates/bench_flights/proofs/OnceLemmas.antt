@@ -72,6 +72,7 @@ module _ (m o : BenchState) (part : Part) (flies : CanFly m) (does : DoesPart (t
         work = does.work ∙ ap (grown (work_of m.probe)) (all_made good).1;
         retries = does.retries ∙ ap (λ (r : Response). cond (is_wait r) (min ((transfers_of m).ended_retries + 1) (2 ^ 32 - 1)) (transfers_of m).ended_retries) good;
         number = (let n = does.number in let w : one_if (is_wait part.response) ≡ 0 = ap (λ (r : Response). one_if (is_wait r)) good in let p = (all_made good).1 in omega (arith, n, w, p));
+        setting = does.setting;
         flies = record {
           guard = record {
             mask = once.mask ∙ flies.guard.mask;
@@ -103,6 +104,7 @@ module _ (m o : BenchState) (part : Part) (flies : CanFly m) (does : DoesPart (t
         unread = unread bad;
         other = λ zero_bank. bad (once.free zero_bank);
         retries = λ few. does.retries ∙ ap (λ (r : Response). cond (is_wait r) (min ((transfers_of m).ended_retries + 1) (2 ^ 32 - 1)) (transfers_of m).ended_retries) wait ∙ (omega (arith, few));
+        over = does.over wait;
         number = (let n = does.number in let w : one_if (is_wait part.response) ≡ 1 = ap (λ (r : Response). one_if (is_wait r)) wait in omega (arith, n, w, none));
         pending = pending_none (transfers_of o).pending (let p = does.pending wait in omega (arith, p, none));
       }

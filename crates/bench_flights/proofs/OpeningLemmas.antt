@@ -1,19 +1,12 @@
 -- How an access begins over a bench.
-use Rattle.std.proofs.Common.{◌≡◌, ◌∙◌, ℕ, ◌%◌, ◌≤◌, true, false, List, [], ◌∷◌, Option, Some, None, Ok, Err, Result, IfOk, MatchResult, refl, sym, ap, subst, arith}
+use Rattle.std.proofs.Common.{◌≡◌, ◌∙◌, ℕ, ◌≤◌, true, false, List, [], ◌∷◌, Option, Some, None, Ok, Err, Result, IfOk, MatchResult, refl, sym, ap, subst, arith}
 use Rattle.std.specs.Prelude.{bit_and, ◌==◌}
-use Rattle.std.proofs.lemmas.Grind.{common_steps}
-use Rattle.target_machine.specs.InRange.{IsJobInRange}
-use Rattle.target_machine.specs.Start.{start}
-use Rattle.target_machine.proofs.FreshLemmas.{start_is_fresh}
-use Rattle.target_machine.proofs.StartRanges.{start_in_range}
 use Rattle.target_machine.specs.InRange.{IsInRange}
 use Rattle.dap_messages.specs.declared.command_value.CommandValue.{CommandValue}
 use Rattle.dap_messages.specs.declared.command_value.CommandValue.TheVariants as command
 use Rattle.dap_replies.specs.ReplyViews.{Shown}
 use Rattle.dap_replies.specs.ReplyReading.{reply_read}
-use Rattle.probe_core.specs.Bench.{BenchState, fresh}
-use Rattle.probe_core.specs.Ranges.{IsBenchJob}
-use Rattle.probe_core.specs.declared.job.BenchJob.{BenchJob}
+use Rattle.probe_core.specs.Bench.{BenchState}
 use Rattle.probe_core.specs.Probe.{ExecutorState, target_of}
 use Rattle.probe_core.specs.declared.job.Config.{Config}
 use Rattle.batch_packer.specs.Commands.{number_by, number_in, number_read}
@@ -21,7 +14,8 @@ use Rattle.batch_packer.specs.FlightEnds.{got_replies}
 use Rattle.batch_packer.specs.Flying.{CanFly}
 use Rattle.batch_packer.specs.Readings.{shown_in}
 use Rattle.batch_packer.specs.declared.ends.FlightEnd.{FlightEnd}
-use Rattle.bench_flights.specs.Opening.{HasOpened, MayBegin, least_of}
+use Rattle.access_calls.specs.Opening.{HasOpened, MayBegin}
+use Rattle.bench_flights.specs.Opening.{least_of}
 use Rattle.bench_flights.proofs.ReplyReads.{info_read}
 
 -- ---- the least number of a reply
@@ -61,20 +55,4 @@ opened_flies config m o b h = record {
     clear = ap (λ (e : ExecutorState). e.transfers.line.target.sticky) h.executor ∙ b.fresh.clear;
   };
   in_range = subst IsInRange (sym (opened_target config m o h)) b.in_range;
-}
-
--- ---- after a load
-
-odd_bit : (n : ℕ) → n % 2 ≡ 1 → (bit_and n 1 == 0) ≡ false
-odd_bit n odd = (let low : bit_and n 1 ≡ n % 2 = grind (arith, common_steps) in ap (λ (k : ℕ). k == 0) (low ∙ odd))
-
-pub loaded_may_begin : (job : BenchJob) → IsBenchJob job → IsJobInRange job.target → MayBegin (fresh job)
-unfolding start
-loaded_may_begin job sound ranges = record {
-  mask = refl;
-  dpidr = odd_bit job.target.dpidr sound.target.dpidr;
-  fresh = start_is_fresh job.target sound.target;
-  in_range = start_in_range job.target sound.target ranges;
-  work = omega arith;
-  retries = omega arith;
 }

@@ -18,7 +18,7 @@ use Rattle.batch_packer.specs.Polling.{PolledBy}
 use Rattle.batch_packer.specs.declared.ends.FlightEnd.{FlightEnd}
 use Rattle.batch_packer.specs.declared.poll.Config.{Config}
 use Rattle.batch_packer.specs.declared.poll.PollAsk.{PollAsk}
-use Rattle.bench_flights.specs.Flown.{SendsFew}
+use Rattle.bench_flights.specs.Flown.{CanMatch, SendsFew}
 use Rattle.bench_flights.specs.Wires.{HasDelayed, HasLooked}
 use Rattle.bench_flights.proofs.LookLemmas.{bank_kept}
 use Rattle.bench_flights.proofs.SendLemmas.{counted_few}
@@ -99,27 +99,27 @@ polled_one : (config : Config) (ask : PollAsk) (matched : Bool) (m o : BenchStat
 polled_one config ask matched m o h = let s = h.acted.starting in record { few = omega (arith, s); counts = λ few. omega (arith, s) }
 
 pub portion_few : (x y : Option BenchState) (config : Config) (ask : PollAsk) (result : Result Bool FlightEnd) → StepsTo (λ m o. CanFly m → bank (target_of m.probe) ≡ 0 → PolledBy config ask result m o) x y →
-    OnOk result (StepsTo (λ m o. CanFly m → bank (target_of m.probe) ≡ 0 → SendsFew 1 m o) x y)
+    OnOk result (StepsTo (λ m o. CanFly m → CanMatch config.retry m → SendsFew 1 m o) x y)
 portion_few x y config ask (Err end) h = tt
-portion_few x y config ask (Ok matched) h = steps_map _ _ (λ m o f flies zero_bank. polled_one config ask matched m o (f flies zero_bank)) x y h
+portion_few x y config ask (Ok matched) h = steps_map _ _ (λ m o f flies can. polled_one config ask matched m o (f flies can.bank_zero)) x y h
 
-abbrev CanPoll : BenchState → Type 0
-CanPoll m = CanFly m × (bank (target_of m.probe) ≡ 0)
+abbrev CanPoll : ℕ → BenchState → Type 0
+CanPoll retry m = CanFly m × CanMatch retry m
 
-pub portions_next : (x y z : Option BenchState) (mask requested made count : ℕ) → StepsTo (λ m o. CanFly m → bank (target_of m.probe) ≡ 0 → HasLooked mask requested made 0 m o) x y →
-    StepsTo (λ m o. CanFly m → bank (target_of m.probe) ≡ 0 → SendsFew count m o) x y → StepsTo (λ m o. CanFly m → bank (target_of m.probe) ≡ 0 → SendsFew 1 m o) y z → StepsTo (λ m o. CanFly m → bank (target_of m.probe) ≡ 0 → SendsFew (count + 1) m o) x z
-portions_next x y z mask requested made count h s d =
-    steps_map _ _ (λ m o f flies zero_bank. f (flies, zero_bank)) x z
-    (few_then (λ m. CanPoll m) (λ m o. CanFly m → bank (target_of m.probe) ≡ 0 → HasLooked mask requested made 0 m o)
-    (λ m k f p. let l = f p.0 p.1 in (l.flies, bank_kept mask requested made 0 m k l p.1)) x y z count 1 h
+pub portions_next : (x y z : Option BenchState) (retry mask requested made count : ℕ) → StepsTo (λ m o. CanFly m → CanMatch retry m → HasLooked mask requested made 0 m o) x y →
+    StepsTo (λ m o. CanFly m → CanMatch retry m → SendsFew count m o) x y → StepsTo (λ m o. CanFly m → CanMatch retry m → SendsFew 1 m o) y z → StepsTo (λ m o. CanFly m → CanMatch retry m → SendsFew (count + 1) m o) x z
+portions_next x y z retry mask requested made count h s d =
+    steps_map _ _ (λ m o f flies can. f (flies, can)) x z
+    (few_then (λ m. CanPoll retry m) (λ m o. CanFly m → CanMatch retry m → HasLooked mask requested made 0 m o)
+    (λ m k f p. let l = f p.0 p.1 in (l.flies, bank_kept retry mask requested made 0 m k l p.1)) x y z count 1 h
     (steps_map _ _ (λ m o f p. f p.0 p.1) x y s) (steps_map _ _ (λ m o f p. f p.0 p.1) y z d))
 
-pub portions_begin : (x : Option BenchState) → StepsTo (λ m o. CanFly m → bank (target_of m.probe) ≡ 0 → SendsFew 0 m o) x x
-portions_begin None = tt
-portions_begin (Some m) = λ flies zero_bank. none_sent m
+pub portions_begin : (retry : ℕ) (x : Option BenchState) → StepsTo (λ m o. CanFly m → CanMatch retry m → SendsFew 0 m o) x x
+portions_begin retry None = tt
+portions_begin retry (Some m) = λ flies can. none_sent m
 
-pub portions_most : (x y : Option BenchState) (a b : ℕ) → a ≤ b → StepsTo (λ m o. CanFly m → bank (target_of m.probe) ≡ 0 → SendsFew a m o) x y → StepsTo (λ m o. CanFly m → bank (target_of m.probe) ≡ 0 → SendsFew b m o) x y
-portions_most x y a b le h = steps_map _ _ (λ m o f flies zero_bank. few_most a b m o le (f flies zero_bank)) x y h
+pub portions_most : (retry : ℕ) (x y : Option BenchState) (a b : ℕ) → a ≤ b → StepsTo (λ m o. CanFly m → CanMatch retry m → SendsFew a m o) x y → StepsTo (λ m o. CanFly m → CanMatch retry m → SendsFew b m o) x y
+portions_most retry x y a b le h = steps_map _ _ (λ m o f flies can. few_most a b m o le (f flies can)) x y h
 
 -- ---- reads
 

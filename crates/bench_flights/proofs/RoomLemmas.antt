@@ -2,11 +2,12 @@
 use Rattle.std.proofs.Common.{◌≡◌, ◌⊎◌, inl, inr, ◌∙◌, ℕ, ◌<◌, ◌≤◌, true, false, List, [], ◌∷◌, ◌++◌, length, Option, Some, None, Result, Ok, Err, IfErr, MatchResult, refl, sym, subst, arith, length-append}
 use Rattle.std.proofs.lemmas.Bool.{cases_lt}
 use Rattle.std.specs.Prelude.{is_some}
+use Rattle.access_calls.specs.Bounds as bounds
 use Rattle.target_machine.specs.declared.access.RegAccess.{RegAccess}
 use Rattle.dap_messages.specs.Responses.{response_of}
 use Rattle.dap_messages.specs.declared.request.Response.{Response}
-use Rattle.flight_forms.proofs.Capacity.{few_fit_transfer, none_fits}
-use Rattle.flight_forms.specs.Forms.{fits_transfer, form_of}
+use Rattle.flight_forms.proofs.Capacity.{few_fit_transfer, none_fits, refused_is_full, refused_writes}
+use Rattle.flight_forms.specs.Forms.{all_write_drw, fits_transfer, form_of}
 use Rattle.flight_forms.specs.declared.form.Form.{Form}
 use Rattle.probe_core.specs.Bench.{BenchState, StepsTo}
 use Rattle.probe_core.specs.Ranges.{AreLimits}
@@ -16,7 +17,6 @@ use Rattle.batch_packer.specs.FlightStates.{SentBy, has_room, sent_form}
 use Rattle.batch_packer.specs.Flying.{CanFly}
 use Rattle.batch_packer.specs.declared.ends.FlightEnd.{FlightEnd}
 use Rattle.batch_packer.specs.declared.ends.FlightEnd.TheVariants as ends
-use Rattle.calls_in_flight.proofs.BlockLemmas.{full_by_form}
 use Rattle.bench_flights.specs.Clearing.{is_fault_end}
 use Rattle.bench_flights.specs.Flown.{SendsFew}
 use Rattle.bench_flights.specs.Full.{IsFull, transfer_accesses}
@@ -36,6 +36,17 @@ transfer_full limits accesses next fits none = by_size (cases_lt (length accesse
         let held : fits_transfer limits.packet_size (accesses ++ next ∷ []) ≡ true = few_fit_transfer limits.packet_size (accesses ++ next ∷ []) fits.size_high (let low = fits.size_low in omega (arith, more, less, low)) in
         absurd (let e : true ≡ false = sym held ∙ refused in cc)
     by_size (inr le) = le
+
+-- A flight for which there is no room for one access more has the capacity of accesses; and where it and that one are writes of DRW, a
+-- block of them.
+full_by_form : (limits : Limits) (accesses : List RegAccess) (next : RegAccess) → AreLimits limits → form_of limits.packet_size limits.packet_count (accesses ++ next ∷ []) ≡ None →
+    (bounds.capacity limits ≤ length accesses) × (all_write_drw (accesses ++ next ∷ []) ≡ true → bounds.block_words limits ≤ length accesses)
+full_by_form limits accesses next range none =
+    let more = length-append accesses (next ∷ []) in
+    let least = range.size_low in
+    let most = range.size_high in
+    let full = refused_is_full limits.packet_size limits.packet_count (accesses ++ next ∷ []) (omega (arith, least)) most none in
+    ((omega (arith, full, more)), (λ write. (let w = refused_writes limits.packet_size limits.packet_count (accesses ++ next ∷ []) least most (omega (arith, more)) write none in omega (arith, w, more))))
 
 -- a flight for which there is no room for one more has the capacity
 pub room_full : (limits : Limits) (accesses : List RegAccess) (next : RegAccess) → AreLimits limits → has_room limits accesses next ≡ false → IsFull limits accesses next

@@ -48,6 +48,7 @@ nothing_flies p clear = record {
   retries = refl;
   pending = λ wait. absurd (cc);
   number = omega arith;
+  over = λ e. absurd (cc);
 }
 
 pub counted_few : (m o : BenchState) → o.starting ≡ counted m.starting → SendsFew 1 m o

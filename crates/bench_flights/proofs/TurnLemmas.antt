@@ -7,10 +7,11 @@ use Rattle.target_machine.specs.Plain.{Polled, Polls, dp_read_of, given, is_faul
 use Rattle.target_machine.specs.State.{TargetState}
 use Rattle.target_machine.specs.declared.access.Outcome.{Outcome}
 use Rattle.target_machine.specs.declared.access.Outcome.TheVariants.{Value, Done, Fault}
-use Rattle.call_terms.proofs.EntryLemmas.{weight_some}
-use Rattle.dap_transfer.specs.State.{grown}
+use Rattle.target_calls.proofs.EntryLemmas.{weight_some}
+use Rattle.dap_transfer.specs.State.{Setting, grown}
 use Rattle.probe_core.specs.Bench.{BenchState, StepsTo}
 use Rattle.probe_core.specs.Probe.{target_of, work_of}
+use Rattle.access_calls.specs.Standing.{IsOver, number_of}
 use Rattle.batch_packer.specs.Flying.{CanFly}
 use Rattle.batch_packer.specs.declared.ends.FlightEnd.{FlightEnd}
 use Rattle.batch_packer.specs.declared.ends.FlightEnd.TheVariants as ends
@@ -38,6 +39,7 @@ read_looked mask requested value m o true h is =
       work = h.work ∙ ap (λ (p : Polled). grown (work_of m.probe) p.reads) (sym all);
       retries = h.retries;
       number = (let n = h.number in let r = ap (λ (p : Polled). p.reads) all in omega (arith, n, r));
+      setting = h.setting;
       flies = h.flies;
     }
 read_looked mask requested value m o false h is =
@@ -49,6 +51,7 @@ read_looked mask requested value m o false h is =
       work = h.work ∙ ap (λ (p : Polled). grown (work_of m.probe) p.reads) (sym all);
       retries = h.retries;
       number = (let n = h.number in let r = ap (λ (p : Polled). p.reads) all in omega (arith, n, r));
+      setting = h.setting;
       flies = h.flies;
     }
 
@@ -179,6 +182,7 @@ waited_there mask requested a turns m k o less h w =
       less = fewer;
       target = record { same = ap (λ (t : TargetState). record t { rdbuff = 0 }) same };
       retries = λ few. (let r = h.retries in let s = w.retries (omega (arith, r, few)) in omega (arith, r, s));
+      over = subst (λ (s : Setting). IsOver s (number_of o)) h.setting w.over;
       number = (let n = h.number in let l = w.number in omega (arith, n, l, reads));
       pending = w.pending;
     }

@@ -14,8 +14,9 @@ use Rattle.batch_packer.specs.Commands.{DoneBy, HasDone, is_single}
 use Rattle.batch_packer.specs.Flying.{transfers_of}
 use Rattle.batch_packer.specs.declared.ends.FlightEnd.{FlightEnd}
 use Rattle.batch_packer.specs.declared.ends.FlightEnd.TheVariants as ends
-use Rattle.batch_packer.proofs.CallLemmas.{call_acts, call_gives}
-use Rattle.bench_flights.specs.Wires.{HasMade, MadeOrNot}
+use Rattle.access_calls.specs.Standing.{setting_of}
+use Rattle.batch_packer.proofs.CallLemmas.{call_acts, call_gives, call_sets_nothing}
+use Rattle.bench_flights.specs.Wires.{HasMade, MadeOrNot, WasMade}
 
 -- what is so of each step is so where the bench is observable
 pub steps_map : (P Q : BenchState → BenchState → Type 0) → ((m o : BenchState) → P m o → Q m o) → (x y : Option BenchState) → StepsTo P x y → StepsTo Q x y
@@ -39,12 +40,18 @@ acts_by : (call : ProbeCall) (m o : BenchState) → is_one call ≡ true → IsC
 acts_by call m o one command same =
     subst (λ (e : ExecutorState). Acts (Commands call) (transfers_of m) e.transfers) (sym same) (call_acts m.probe.executor call one command)
 
+was_made : (call : ProbeCall) (m o : BenchState) → is_one call ≡ true → IsCommand (command_of call) → o.probe.executor ≡ (done m.probe.executor (command_of call)).next → WasMade (Commands call) m o
+was_made call m o one command same = record {
+  acts = acts_by call m o one command same;
+  setting = ap (λ (e : ExecutorState). e.transfers.setting) same ∙ call_sets_nothing m.probe.executor call;
+}
+
 made_by : (call : ProbeCall) (word : ℕ) (m o : BenchState) → is_one call ≡ true → IsCommand (command_of call) → HasDone (command_of call) word m o → HasMade (Commands call) word m o
-made_by call word m o one command h = record { acts = acts_by call m o one command h.executor; word_is = h.number_is ∙ call_gives m.probe.executor call }
+made_by call word m o one command h = (let made = was_made call m o one command h.executor in record { acts = made.acts; setting = made.setting; word_is = h.number_is ∙ call_gives m.probe.executor call })
 
 left_by : (call : ProbeCall) (end : FlightEnd) (m o : BenchState) → is_one call ≡ true → IsCommand (command_of call) → DoneBy (command_of call) (Err end) m o → MadeOrNot (Commands call) end m o
 left_by call ends.BenchFault m o one command (inl same) = inr (ap (λ (e : ExecutorState). e.transfers) same)
-left_by call ends.BenchFault m o one command (inr made) = inl (acts_by call m o one command made)
+left_by call ends.BenchFault m o one command (inr made) = inl (was_made call m o one command made)
 left_by call ends.ReplyBad m o one command h = absurd h
 left_by call (ends.Cut cut) m o one command h = absurd h
 

@@ -2,6 +2,7 @@
 use Rattle.std.specs.Prelude.{◌≡◌, ◌⊎◌, ⊤, ℕ, ◌+◌, ◌*◌, ◌^◌, ◌<◌, ◌≤◌, ◌==◌, bit_and, Bool, true, false, if◌then◌else◌, List, slice_get, Option, Some}
 use Rattle.dap_base.specs.Bits.{has_bit}
 use Rattle.dap_base.specs.Causes.{Rose}
+use Rattle.target_machine.specs.Attempt.{bank}
 use Rattle.target_machine.specs.Plain.{Action, acted, given, is_fault}
 use Rattle.target_machine.specs.Registers.{stkerrclr}
 use Rattle.target_machine.specs.State.{Agree}
@@ -15,15 +16,15 @@ use Rattle.probe_core.specs.Bench.{BenchState, Exchange}
 use Rattle.probe_core.specs.Bench.{Reported as BenchReported}
 use Rattle.probe_core.specs.Probe.{ended_retries_of, target_of, work_of}
 use Rattle.probe_core.specs.Runs.{KeepsRuns}
-use Rattle.call_terms.specs.Weights.{weight}
+use Rattle.target_calls.specs.Weights.{weight}
 use Rattle.access_calls.specs.Causes.{HasResponse, IsBadReply}
-use Rattle.access_calls.specs.Standing.{IsPart, number_of, pending_of}
+use Rattle.access_calls.specs.Standing.{IsOver, IsPart, number_of, pending_of, setting_of}
 use Rattle.batch_packer.specs.Flying.{CanFly}
 use Rattle.batch_packer.specs.declared.ends.Cut.{Cut}
 use Rattle.batch_packer.specs.declared.ends.FlightEnd.{FlightEnd}
 use Rattle.batch_packer.specs.declared.ends.FlightEnd.TheVariants as ends
-use Rattle.calls_in_flight.specs.Actions.{DoesAction}
-use Rattle.calls_in_flight.specs.Flights.{Flies, transfers_of}
+use Rattle.batch_packer.specs.Actions.{DoesAction}
+use Rattle.batch_packer.specs.Flying.{Flies, transfers_of}
 
 -- at most so many starting packets came, and their count stops before 2^64
 pub record SendsFew (packets : ℕ) (m o : BenchState) : Type 0 where
@@ -64,6 +65,12 @@ BrokeOff ends.ReplyBad accesses m o = ⊥
 
 -- ---- polls and commands
 
+-- A bench over which a poll by value matches does what is said of it: SELECT has DPBANKSEL 0, and the probe has the retry number that
+-- the poll sets again.
+pub record CanMatch (retry : ℕ) (m : BenchState) : Type 0 where
+  pub bank_zero : bank (target_of m.probe) ≡ 0
+  pub retry_is : (setting_of m).retry ≡ retry
+
 -- the command clears STICKYERR
 abbrev pub clears : ProbeCall → Bool
 clears (probe.Abort value) = has_bit value stkerrclr
@@ -99,13 +106,15 @@ pub record DidLess (x : Action) (m o : BenchState) : Type 0 where
   pub less : work < weight (target_of m.probe) x
   pub target : Agree (target_of o.probe) (target_of m.probe) ⊎ IsPart x (target_of m.probe) (target_of o.probe)
 
--- a retry ended in a poll that is made read by read, whose reads changed nothing
+-- A retry ended in a poll that is made read by read, whose reads changed nothing: at a transfer that met more WAITs than the retry number
+-- allows.
 pub record WasUnanswered (x : Action) (m o : BenchState) : Type 0 where
   pub work : ℕ
   pub work_is : CanCount x m → work_of o.probe ≡ work_of m.probe + work
   pub less : work < weight (target_of m.probe) x
   pub target : Agree (target_of o.probe) (target_of m.probe)
   pub retries : ended_retries_of m.probe + 1 < 2 ^ 32 → ended_retries_of o.probe ≡ ended_retries_of m.probe + 1
+  pub over : IsOver (setting_of m) (number_of o)
   pub number : number_of o ≤ number_of m + 2 * work + 1
   pub pending : pending_of o ≡ false
 

@@ -1,20 +1,16 @@
 -- How an access over a bench begins: three exchanges with the probe, and where they leave it.
-use Rattle.std.specs.Prelude.{◌≡◌, ◌⊎◌, ℕ, ◌+◌, ◌^◌, ◌<◌, ◌≤◌, ◌==◌, bit_and, false, List, []}
+use Rattle.std.specs.Prelude.{◌≡◌, ℕ, List, []}
 use Rattle.dap_base.specs.Causes.{Rose}
-use Rattle.target_machine.specs.Fresh.{IsFresh}
-use Rattle.target_machine.specs.InRange.{IsInRange}
 use Rattle.dap_messages.specs.Replies.{info_least}
 use Rattle.dap_messages.specs.declared.command_value.CommandValue.{CommandValue}
 use Rattle.dap_messages.specs.declared.command_value.CommandValue.TheVariants as command
-use Rattle.dap_transfer.specs.Lines.{configured}
 use Rattle.probe_core.specs.Bench.{BenchState}
 use Rattle.probe_core.specs.Bench.{Reported as BenchReported}
-use Rattle.probe_core.specs.Probe.{ExecutorState, ended_retries_of, target_of, work_of}
 use Rattle.probe_core.specs.declared.job.Config.{Config}
-use Rattle.batch_packer.specs.Flying.{transfers_of}
 use Rattle.batch_packer.specs.declared.ends.FlightEnd.{FlightEnd}
 use Rattle.batch_packer.specs.declared.ends.FlightEnd.TheVariants as ends
 use Rattle.access_calls.specs.Causes.{IsBadReply}
+use Rattle.access_calls.specs.Opening.{HasTried}
 use Rattle.access_calls.specs.declared.stop.Stop.{Stop}
 use Rattle.access_calls.specs.declared.stop.Stop.TheVariants as stop
 use Rattle.bench_flights.specs.Flown.{WasReplied}
@@ -23,31 +19,6 @@ use Rattle.bench_flights.specs.Flown.{WasReplied}
 abbrev pub least_of : CommandValue → ℕ
 least_of (command.Info id) = info_least id
 least_of c = 0
-
--- A bench over which an access may begin, as a load leaves it: the match mask is 0, bit 0 of DPIDR is set, STICKYERR is clear, the numbers of the
--- target are in their ranges, and the counts of work and of ended retries have room.
-pub record MayBegin (m : BenchState) : Type 0 where
-  pub mask : (transfers_of m).mask ≡ 0
-  pub dpidr : (bit_and (target_of m.probe).dpidr 1 == 0) ≡ false
-  pub fresh : IsFresh (target_of m.probe)
-  pub in_range : IsInRange (target_of m.probe)
-  pub work : work_of m.probe ≤ 2 ^ 63
-  pub retries : ended_retries_of m.probe + 1 < 2 ^ 32
-
--- what executes packets after the settings of the transfers: idle cycles, retries after WAIT, and match retry 0
-abbrev pub opened : Config → ExecutorState → ExecutorState
-opened config e = record e { idle = config.idle; transfers = configured e.transfers config.retry 0 }
-
--- After the opening only the settings have changed, and three starting packets were received, whose count stops before 2^64. The target is the
--- one before it.
-pub record HasOpened (config : Config) (m o : BenchState) : Type 0 where
-  pub executor : o.probe.executor ≡ opened config m.probe.executor
-  pub starting : o.starting ≤ m.starting + 3
-  pub counts : o.starting < 2 ^ 64
-
--- Where the opening did not come to its end, the settings were made or not.
-abbrev pub HasTried : Config → BenchState → BenchState → Type 0
-HasTried config m o = (o.probe.executor ≡ m.probe.executor) ⊎ (o.probe.executor ≡ opened config m.probe.executor)
 
 -- What an exchange leaves that did not come to its end: a call of the bench failed, as a reply of an observable bench is never bad.
 abbrev pub LeftOpen : Config → FlightEnd → BenchState → BenchState → Type 0

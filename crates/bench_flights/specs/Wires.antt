@@ -10,7 +10,7 @@ use Rattle.dap_transfer.specs.State.{TransferState, grown}
 use Rattle.probe_core.specs.Bench.{BenchState}
 use Rattle.probe_core.specs.Probe.{ended_retries_of, target_of, work_of}
 use Rattle.probe_core.specs.declared.job.Limits.{Limits}
-use Rattle.access_calls.specs.Standing.{number_of, pending_of}
+use Rattle.access_calls.specs.Standing.{IsOver, number_of, pending_of, setting_of}
 use Rattle.flight_forms.specs.Forms.{form_of}
 use Rattle.batch_packer.specs.Actions.{Acts}
 use Rattle.batch_packer.specs.Flying.{CanFly, transfers_of}
@@ -25,15 +25,21 @@ AreHeld limits accesses = 0 < length accesses → is_some (form_of limits.packet
 abbrev pub AreSmall : List RegAccess → Type 0
 AreSmall accesses = (k : ℕ) (a : RegAccess) → slice_get accesses k ≡ Some a → a.value < 2 ^ 32
 
+-- The action was made whole, and left the settings.
+pub record WasMade (x : Action) (m o : BenchState) : Type 0 where
+  pub acts : Acts x (transfers_of m) (transfers_of o)
+  pub setting : setting_of o ≡ setting_of m
+
 -- The action was made whole, and gave this.
 pub record HasMade (x : Action) (word : ℕ) (m o : BenchState) : Type 0 where
   pub acts : Acts x (transfers_of m) (transfers_of o)
+  pub setting : setting_of o ≡ setting_of m
   pub word_is : word ≡ given (acted (target_of m.probe) x).outcome
 
 -- Of an action in one packet that ended so: where the bench failed it was made whole, or nothing was done. No reply is bad, and nothing
 -- is cut.
 abbrev pub MadeOrNot : Action → FlightEnd → BenchState → BenchState → Type 0
-MadeOrNot x ends.BenchFault m o = Acts x (transfers_of m) (transfers_of o) ⊎ (transfers_of o ≡ transfers_of m)
+MadeOrNot x ends.BenchFault m o = WasMade x m o ⊎ (transfers_of o ≡ transfers_of m)
 MadeOrNot x ends.ReplyBad m o = ⊥
 MadeOrNot x (ends.Cut cut) m o = ⊥
 
@@ -51,7 +57,7 @@ pub record HasDelayed (count : ℕ) (p q : TransferState) : Type 0 where
   pub retries : q.ended_retries ≡ p.ended_retries
   pub pending : q.pending ≡ p.pending
   pub mask : q.mask ≡ p.mask
-  pub matches : q.setting.matches ≡ p.setting.matches
+  pub setting : q.setting ≡ p.setting
   pub in_range : IsInRange q.line.target
 
 -- CTRL/STAT was read up to so many times, as by a poll of so many turns, which gave this.
@@ -62,6 +68,7 @@ pub record HasLooked (mask requested turns word : ℕ) (m o : BenchState) : Type
   pub work : work_of o.probe ≡ grown (work_of m.probe) (polled turns mask requested (target_of m.probe)).reads
   pub retries : ended_retries_of o.probe ≡ ended_retries_of m.probe
   pub number : number_of o ≤ number_of m + 2 * (polled turns mask requested (target_of m.probe)).reads
+  pub setting : setting_of o ≡ setting_of m
   pub flies : CanFly o
 
 -- CTRL/STAT was read once, and gave this.
@@ -71,6 +78,7 @@ pub record HasRead (value : ℕ) (m o : BenchState) : Type 0 where
   pub work : work_of o.probe ≡ grown (work_of m.probe) 1
   pub retries : ended_retries_of o.probe ≡ ended_retries_of m.probe
   pub number : number_of o ≤ number_of m + 2
+  pub setting : setting_of o ≡ setting_of m
   pub flies : CanFly o
 
 -- a read that was not made left the target and the work
@@ -83,6 +91,7 @@ pub record HasWaited (m o : BenchState) : Type 0 where
   pub unread : IsUnread m o
   pub other : bank (target_of m.probe) ≡ 0 → ⊥
   pub retries : ended_retries_of m.probe + 1 < 2 ^ 32 → ended_retries_of o.probe ≡ ended_retries_of m.probe + 1
+  pub over : IsOver (setting_of m) (number_of o)
   pub number : number_of o ≤ number_of m + 1
   pub pending : pending_of o ≡ false
 

@@ -72,8 +72,14 @@ impl<B: Bench> Flights for Alone<B> {
         self.wire.resume();
     }
 
-    fn poll(&mut self, mask: u32, requested: u32, turns: u32) -> Result<bool, FlightEnd> {
-        self.wire.poll(mask, requested, turns)
+    fn poll(
+        &mut self,
+        config: Config,
+        mask: u32,
+        requested: u32,
+        turns: u32,
+    ) -> Result<bool, FlightEnd> {
+        self.wire.poll(config, mask, requested, turns)
     }
 
     fn poll_by_reads(

@@ -1,7 +1,6 @@
 //! What makes flights, polls and commands of the probe, as an access uses it.
 ghost use Rattle.std.specs.Prelude.{◌≡◌, ◌≤◌, ◌+◌, ◌-◌, ◌++◌, ◌∷◌, ◌^◌, ◌<◌, true, false, [], ℕ, Bool, List, Option, None, Some, length, IfOk, IfErr, OnOk};
 ghost use Rattle.std.specs.Option.{unwrap_or};
-ghost use Rattle.target_machine.specs.Attempt.{bank};
 ghost use Rattle.target_machine.specs.Plain.{Commands, Polls, forgives, polled};
 ghost use Rattle.target_machine.specs.Sound.{IsSoundProbe};
 ghost use Rattle.target_machine.specs.declared.access.RegAccess.{RegAccess};
@@ -21,9 +20,10 @@ ghost use Rattle.batch_packer.specs.declared.ends.FlightEnd.{FlightEnd};
 ghost use Rattle.bench_flights.specs.Full.{IsFull};
 ghost use Rattle.bench_flights.specs.Clearing.{CanClear, ClearedOff, IsOneTransfer, is_fault_end};
 ghost use Rattle.bench_flights.specs.Flown.{SendsFew};
-ghost use Rattle.bench_flights.specs.Flown.{BenchGoesOn, BrokeOff, CanCommand, HasCome, HasDone, HasEndCause, IsCutResponse, LeftOff, NamesNone, matched_word};
+ghost use Rattle.bench_flights.specs.Flown.{BenchGoesOn, BrokeOff, CanCommand, CanMatch, HasCome, HasDone, HasEndCause, IsCutResponse, LeftOff, NamesNone, matched_word};
 
 use batch_packer::FlightEnd;
+use probe_core::Config;
 use target_machine::{ProbeCall, RegAccess};
 
 /// What a poll that is made read by read came to.
@@ -139,14 +139,21 @@ pub trait Flights {
         ensures identity { identity self.new ≡ identity self.old };
 
     /// Reads CTRL/STAT until the value under the mask is the requested one, at most so many times, by value
-    /// matches of the probe. Answers whether it was. SELECT has DPBANKSEL 0.
-    fn poll(&mut self, mask: u32, requested: u32, turns: u32) -> Result<bool, FlightEnd>
+    /// matches of the probe. Answers whether it was. SELECT has DPBANKSEL 0, and `config` is what the probe is set to: the
+    /// packets of a poll set it again.
+    fn poll(
+        &mut self,
+        config: Config,
+        mask: u32,
+        requested: u32,
+        turns: u32,
+    ) -> Result<bool, FlightEnd>
         requires usable { ended self.old ≡ None }
         requires empty { accesses self.old ≡ [] }
         requires turns { 1 ≤ turns }
-        ensures done { IfOk result (λ matched. StepsTo (λ m o. CanFly m → bank (target_of m.probe) ≡ 0 → HasDone (Polls mask requested turns) (matched_word matched) m o) (state self.old) (state self.new)) }
-        ensures packets { OnOk result (StepsTo (λ m o. CanFly m → bank (target_of m.probe) ≡ 0 → SendsFew (portions turns) m o) (state self.old) (state self.new)) }
-        ensures left { IfErr result (λ end. StepsTo (λ m o. CanFly m → bank (target_of m.probe) ≡ 0 → LeftOff (Polls mask requested turns) end m o) (state self.old) (state self.new)) }
+        ensures done { IfOk result (λ matched. StepsTo (λ m o. CanFly m → CanMatch config.retry m → HasDone (Polls mask requested turns) (matched_word matched) m o) (state self.old) (state self.new)) }
+        ensures packets { OnOk result (StepsTo (λ m o. CanFly m → CanMatch config.retry m → SendsFew (portions turns) m o) (state self.old) (state self.new)) }
+        ensures left { IfErr result (λ end. StepsTo (λ m o. CanFly m → CanMatch config.retry m → LeftOff (Polls mask requested turns) end m o) (state self.old) (state self.new)) }
         ensures none { IfErr result NamesNone }
         ensures response { IfErr result IsCutResponse }
         ensures empty { accesses self.new ≡ [] }

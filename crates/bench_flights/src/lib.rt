@@ -3,11 +3,10 @@
 
 mod alone;
 mod flights;
-pub mod laws;
 mod opening;
 mod wire;
 
 pub use alone::Alone;
 pub use flights::{Flights, Polled};
-pub use opening::{FlightsOver, refused};
+pub use opening::{FlightsOver, refuse_begin};
 pub use wire::Wire;

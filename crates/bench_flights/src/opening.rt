@@ -9,13 +9,14 @@ ghost use Rattle.batch_packer.specs.Exchanges.{IsOpen};
 ghost use Rattle.batch_packer.specs.FlightStates.{item_at};
 ghost use Rattle.batch_packer.specs.Flying.{IsWithin};
 ghost use Rattle.bench_flights.specs.Flown.{BenchGoesOn, HasEndCause};
-ghost use Rattle.bench_flights.specs.Opening.{HasOpened, HasTried, IsRefusal, IsStopFor, LeftOpen, MayBegin};
+ghost use Rattle.access_calls.specs.Opening.{HasOpened, HasTried, MayBegin};
+ghost use Rattle.bench_flights.specs.Opening.{IsRefusal, IsStopFor, LeftOpen};
 ghost use Rattle.bench_flights.specs.Wires.{IsNoCut};
 
 use crate::flights::Flights;
 use crate::wire::Wire;
 use access_calls::{NotBegun, Stop};
-use batch_packer::{Config as PollConfig, FlightEnd};
+use batch_packer::FlightEnd;
 use dap_messages::Command;
 use probe_core::{Bench, Config, Limits};
 use std::alloc::Global;
@@ -67,7 +68,7 @@ const PACKET_SIZE: u8 = 0xFF;
 const PACKET_COUNT: u8 = 0xFE;
 
 // These limits, and no more than the probe answers.
-fn smaller(limits: Limits, size: u32, count: u32) -> Limits
+fn reduce_limits(limits: Limits, size: u32, count: u32) -> Limits
     requires limits { AreLimits limits }
     requires size { 64 ≤ size }
     requires count { 1 ≤ count }
@@ -93,7 +94,7 @@ fn put(bytes: &[u8], out: &mut [u8]) -> u16
 }
 
 /// Memory was refused before anything was sent.
-pub fn refused<B: Bench>(bench: B) -> NotBegun<B>
+pub fn refuse_begin<B: Bench>(bench: B) -> NotBegun<B>
     ensures bench { result.bench ≡ bench }
     ensures stop { result.stop ≡ Stop.OutOfMemory }
     ensures sent { take result.sent_length result.sent ≡ [] }
@@ -111,7 +112,7 @@ pub fn refused<B: Bench>(bench: B) -> NotBegun<B>
 }
 
 // One of the opening exchanges ended so.
-fn not_begun<B: Bench>(flights: Wire<B>, end: FlightEnd) -> NotBegun<B>
+fn end_begin<B: Bench>(flights: Wire<B>, end: FlightEnd) -> NotBegun<B>
     requires { IsNoCut end }
     ensures bench { result.bench ≡ flights.bench }
     ensures stop { IsStopFor end result.stop (item_at flights.flight.packets flights.flight.at) (item_at flights.flight.replies flights.flight.at)
@@ -182,7 +183,7 @@ impl<B: Bench> Wire<B> {
         };
         match self.exchange(&settings) {
             Ok(_) => {
-                self.flight.limit_to(smaller(limits, size, count));
+                self.flight.limit_to(reduce_limits(limits, size, count));
                 Ok(())
             }
             Err(end) => Err(end),
@@ -197,13 +198,12 @@ impl<B: Bench> FlightsOver<B> for Wire<B> {
         config: Config,
         limits: Limits,
     ) -> Result<Wire<B>, NotBegun<B>> {
-        let Config { idle, retry } = config;
-        let mut flights = match Wire::new(alloc, bench, PollConfig { idle, retry }, limits) {
-            Err(bench) => return Err(refused(bench)),
+        let mut flights = match Wire::new(alloc, bench, limits) {
+            Err(bench) => return Err(refuse_begin(bench)),
             Ok(flights) => flights,
         };
         match flights.open(config, limits) {
-            Err(end) => Err(not_begun(flights, end)),
+            Err(end) => Err(end_begin(flights, end)),
             Ok(()) => Ok(flights),
         }
     }

@@ -1,6 +1,5 @@
 //! Flights, polls and commands over a bench.
 ghost use Rattle.std.specs.Prelude.{◌≡◌, ◌≤◌, ◌+◌, ◌/◌, [], true, None, IfErr, IfOk, OnOk};
-ghost use Rattle.target_machine.specs.Attempt.{bank};
 ghost use Rattle.target_machine.specs.InRange.{IsInRange};
 ghost use Rattle.target_machine.specs.Plain.{Commands, Polls};
 ghost use Rattle.target_machine.specs.Sound.{IsSoundProbe};
@@ -15,15 +14,15 @@ ghost use Rattle.batch_packer.specs.Exchanges.{IsOpen};
 ghost use Rattle.batch_packer.specs.FlightStates.{item_at, new_flight};
 ghost use Rattle.batch_packer.specs.Flying.{CanFly, IsWithin};
 ghost use Rattle.batch_packer.specs.SlotList.{slot_room};
-ghost use Rattle.bench_flights.specs.Flown.{BenchGoesOn, HasEndCause, IsCutResponse, LeftOff, NamesNone, matched_word};
+ghost use Rattle.bench_flights.specs.Flown.{BenchGoesOn, CanMatch, HasEndCause, IsCutResponse, LeftOff, NamesNone, matched_word};
 ghost use Rattle.bench_flights.specs.Opening.{least_of};
 ghost use Rattle.bench_flights.specs.Flown.{SendsFew};
 ghost use Rattle.bench_flights.specs.Wires.{AreHeld, AreSmall, HasMade, HasRead, IsNoCut, MadeOrNot, ReadOrNot, unnamed};
 
 use crate::flights::{Flights, Polled};
-use batch_packer::{Config, Cut, Flight, FlightEnd, PollAsk, Slots};
+use batch_packer::{Config as PollConfig, Cut, Flight, FlightEnd, PollAsk, Slots};
 use dap_messages::Command;
-use probe_core::{Bench, Limits};
+use probe_core::{Bench, Config, Limits};
 use std::alloc::Global;
 use target_machine::registers::CTRL_STAT;
 use target_machine::{ProbeCall, RegAccess};
@@ -34,7 +33,6 @@ pub struct Wire<B: Bench> {
     pub(crate) flight: Flight,
     pub(crate) slots: Slots,
     pub(crate) bench: B,
-    config: Config,
     // The bench has room for the packets of the flight, and the slots for its values. While the flight can be used, or
     // used again, the bench holds no packet, and no reply waits.
     ghost limits: { AreLimits flight.limits },
@@ -71,7 +69,7 @@ fn command_of(call: ProbeCall) -> Command<'static>
 }
 
 // The same end, naming no access.
-fn unnamed(end: FlightEnd) -> FlightEnd
+fn name_no_access(end: FlightEnd) -> FlightEnd
     ensures { result ≡ unnamed end }
 {
     match end {
@@ -85,7 +83,7 @@ fn unnamed(end: FlightEnd) -> FlightEnd
 }
 
 impl<B: Bench> Wire<B> {
-    pub(crate) fn new(alloc: Global, bench: B, config: Config, limits: Limits) -> Result<Wire<B>, B>
+    pub(crate) fn new(alloc: Global, bench: B, limits: Limits) -> Result<Wire<B>, B>
         requires limits { AreLimits limits }
         requires within { IsWithin limits (B.reported bench).limits }
         requires open { IsOpen (B.reported bench) }
@@ -103,7 +101,6 @@ impl<B: Bench> Wire<B> {
             flight,
             slots,
             bench,
-            config,
         })
     }
 
@@ -114,7 +111,6 @@ impl<B: Bench> Wire<B> {
             flight: _,
             slots: _,
             bench,
-            config: _,
         } = self;
         bench
     }
@@ -140,7 +136,7 @@ impl<B: Bench> Wire<B> {
     }
 
     // Makes a command that needs only one packet.
-    fn single(&mut self, call: ProbeCall) -> Result<u32, FlightEnd>
+    fn command_once(&mut self, call: ProbeCall) -> Result<u32, FlightEnd>
         requires usable { self.old.flight.end ≡ None }
         requires empty { self.old.flight.accesses ≡ [] }
         requires sound { IsSoundProbe call }
@@ -179,24 +175,24 @@ impl<B: Bench> Wire<B> {
     {
         let mut left = micros;
         while left > 0xFFFF {
-            match self.single(ProbeCall::Delay(0xFFFF)) {
+            match self.command_once(ProbeCall::Delay(0xFFFF)) {
                 Ok(_) => {}
                 Err(end) => return Err(end),
             }
             left -= 0xFFFF;
         }
-        self.single(ProbeCall::Delay(left))
+        self.command_once(ProbeCall::Delay(left))
     }
 
     // One portion of a poll: at most 65,536 turns, in one packet.
-    fn portion(&mut self, config: Config, ask: PollAsk) -> Result<bool, FlightEnd>
+    fn poll_portion(&mut self, config: PollConfig, ask: PollAsk) -> Result<bool, FlightEnd>
         requires usable { self.old.flight.end ≡ None }
         requires empty { self.old.flight.accesses ≡ [] }
         requires low { 1 ≤ ask.turns }
         requires high { ask.turns ≤ 65536 }
-        ensures done { IfOk result (λ matched. StepsTo (λ m o. CanFly m → bank (target_of m.probe) ≡ 0 → HasMade (Polls ask.mask ask.value ask.turns) (matched_word matched) m o) (B.state self.old.bench) (B.state self.new.bench)) }
-        ensures packets { OnOk result (StepsTo (λ m o. CanFly m → bank (target_of m.probe) ≡ 0 → SendsFew 1 m o) (B.state self.old.bench) (B.state self.new.bench)) }
-        ensures left { IfErr result (λ end. StepsTo (λ m o. CanFly m → bank (target_of m.probe) ≡ 0 → MadeOrNot (Polls ask.mask ask.value ask.turns) end m o) (B.state self.old.bench) (B.state self.new.bench)) }
+        ensures done { IfOk result (λ matched. StepsTo (λ m o. CanFly m → CanMatch config.retry m → HasMade (Polls ask.mask ask.value ask.turns) (matched_word matched) m o) (B.state self.old.bench) (B.state self.new.bench)) }
+        ensures packets { OnOk result (StepsTo (λ m o. CanFly m → CanMatch config.retry m → SendsFew 1 m o) (B.state self.old.bench) (B.state self.new.bench)) }
+        ensures left { IfErr result (λ end. StepsTo (λ m o. CanFly m → CanMatch config.retry m → MadeOrNot (Polls ask.mask ask.value ask.turns) end m o) (B.state self.old.bench) (B.state self.new.bench)) }
         ensures none { IfErr result NamesNone }
         ensures response { IfErr result IsCutResponse }
         ensures limits { self.new.flight.limits ≡ self.old.flight.limits }
@@ -211,7 +207,7 @@ impl<B: Bench> Wire<B> {
     }
 
     // Reads CTRL/STAT, in a flight of its own. At a cut it names no access.
-    fn look(&mut self) -> Result<u32, FlightEnd>
+    fn read_once(&mut self) -> Result<u32, FlightEnd>
         requires usable { self.old.flight.end ≡ None }
         requires empty { self.old.flight.accesses ≡ [] }
         ensures done { IfOk result (λ value. StepsTo (λ m o. CanFly m → HasRead value m o) (B.state self.old.bench) (B.state self.new.bench)) }
@@ -235,7 +231,7 @@ impl<B: Bench> Wire<B> {
         });
         match self.flight.send(&mut self.bench, &mut self.slots) {
             Ok(()) => Ok(self.slots.get(0).unwrap_or(0)),
-            Err(end) => Err(unnamed(end)),
+            Err(end) => Err(name_no_access(end)),
         }
     }
 }
@@ -296,7 +292,13 @@ impl<B: Bench> Flights for Wire<B> {
         self.flight.resume();
     }
 
-    fn poll(&mut self, mask: u32, requested: u32, turns: u32) -> Result<bool, FlightEnd> {
+    fn poll(
+        &mut self,
+        config: Config,
+        mask: u32,
+        requested: u32,
+        turns: u32,
+    ) -> Result<bool, FlightEnd> {
         let mut left = turns;
         while left > 0 {
             let now = left.min(0x1_0000);
@@ -305,7 +307,11 @@ impl<B: Bench> Flights for Wire<B> {
                 value: requested,
                 turns: now,
             };
-            match self.portion(self.config, ask) {
+            let again = PollConfig {
+                idle: config.idle,
+                retry: config.retry,
+            };
+            match self.poll_portion(again, ask) {
                 Ok(true) => return Ok(true),
                 Ok(false) => {}
                 Err(end) => return Err(end),
@@ -322,7 +328,7 @@ impl<B: Bench> Flights for Wire<B> {
         turns: u32,
     ) -> Result<Polled, FlightEnd> {
         for turn in 0..turns {
-            match self.look() {
+            match self.read_once() {
                 Err(end) => return Err(end),
                 Ok(value) => {
                     if value & mask == requested {
@@ -343,7 +349,7 @@ impl<B: Bench> Flights for Wire<B> {
     fn command(&mut self, call: ProbeCall) -> Result<u32, FlightEnd> {
         match call {
             ProbeCall::Delay(micros) => self.delay(micros),
-            _ => self.single(call),
+            _ => self.command_once(call),
         }
     }
 

@@ -12,6 +12,4 @@ mod walk;
 pub use cycle::first_cycle;
 pub use depth::{TOO_DEEP, first_deep};
 pub use graph::{CallGraph, CallSpot};
-
-#[cfg(test)]
-mod tests;
+pub use ranks::{fall, ranks_of};

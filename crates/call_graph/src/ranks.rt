@@ -12,7 +12,7 @@ use std::alloc::Global;
 
 /// A number for each node. It is meant to be that of the node's component of calls, in an order in
 /// which components are numbered before those that lead to them. Then a call is of a node of the
-/// same rank where it is in a cycle, and else of one of a lower rank. Only `fall` tells whether no
+/// same rank where it is in a cycle, and else of one of a lower rank. Only `fall` says whether no
 /// call is of a node of a greater one. `OutOfMemory` where memory is refused.
 pub fn ranks_of(alloc: Global, graph: &CallGraph) -> Result<Vec<usize>, OutOfMemory>
     ensures { IfOk result (λ ranks. length ranks.items ≡ length graph.now) }

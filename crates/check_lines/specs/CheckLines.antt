@@ -4,8 +4,8 @@ use Rattle.std.specs.List.{flat_map}
 use Rattle.dap_base.specs.declared.text.Place.{Place}
 use Rattle.device_tree.specs.StepTree.{StepTree}
 use Rattle.code_check.specs.declared.fault.FaultKind.{FaultKind}
-use Rattle.sequence_code.specs.declared.spot.Part.{Part}
-use Rattle.sequence_code.specs.declared.spot.Spot.{Spot}
+use Rattle.sequence_trees.specs.declared.spot.Part.{Part}
+use Rattle.sequence_trees.specs.declared.spot.Spot.{Spot}
 use Rattle.sequence_resolve.specs.declared.entry.SeqEntry.{SeqEntry}
 use Rattle.sequence_resolve.specs.declared.entry.SeqSet.{SeqSet}
 use Rattle.text_lines.specs.Shown.{shown, dotted}

@@ -25,7 +25,7 @@ fn sum(a: u64, b: u64) -> Result<u64, OutOfMemory>
     }
 }
 
-fn both(a: StepCounts, b: StepCounts) -> Result<StepCounts, OutOfMemory>
+fn add_counts(a: StepCounts, b: StepCounts) -> Result<StepCounts, OutOfMemory>
     ensures { IfOk result (λ c. IsSum a b c) }
 {
     let blocks = sum(a.blocks, b.blocks)?;
@@ -68,7 +68,7 @@ fn with_control(inner: StepCounts) -> Result<StepCounts, OutOfMemory>
         controls: 1,
         atomic: 0,
     };
-    both(control, inner)
+    add_counts(control, inner)
 }
 
 #[cycle(counts)]
@@ -85,7 +85,7 @@ fn counts_in(items: &[Step]) -> Result<StepCounts, OutOfMemory>
     let mut counts = no_counts();
     for item in items {
         let more = step_counts(item)?;
-        counts = both(counts, more)?;
+        counts = add_counts(counts, more)?;
     }
     Ok(counts)
 }

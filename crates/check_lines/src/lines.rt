@@ -9,8 +9,8 @@ use crate::words::{disabled_text, kind_text, level_text, part_text};
 use code_check::FaultKind;
 use dap_base::{OutOfMemory, Place};
 use device_tree::Steps;
-use sequence_code::Spot;
 use sequence_resolve::SeqEntry;
+use sequence_trees::Spot;
 use std::alloc::Global;
 use text_lines::Line;
 

@@ -3,8 +3,8 @@ ghost use Rattle.std.specs.Prelude.{◌≡◌};
 ghost use Rattle.check_lines.specs.Words.{level_word, part_word, kind_word, disabled_word};
 
 use code_check::FaultKind;
-use sequence_code::Part;
 use sequence_resolve::LevelKind;
+use sequence_trees::Part;
 
 pub fn level_text(level: LevelKind) -> &'static str
     ensures { result.now ≡ level_word level }

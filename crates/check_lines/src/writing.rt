@@ -7,8 +7,8 @@ ghost use Rattle.check_lines.specs.CheckLines.{sequence_line, check_text, fault_
 use crate::lines::{fault_text, head_text, sequence_text};
 use code_check::FaultKind;
 use dap_base::Sink;
-use sequence_code::Spot;
 use sequence_resolve::{SeqEntry, SeqSet};
+use sequence_trees::Spot;
 use std::alloc::Global;
 use text_lines::{TextError, put_line};
 

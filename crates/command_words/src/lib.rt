@@ -12,6 +12,3 @@ mod top;
 
 pub use answer::{Command, WordsError};
 pub use top::command_of;
-
-#[cfg(test)]
-mod tests;

@@ -6,20 +6,20 @@ use Rattle.expr_grammar.specs.declared.code.Name.{Name}
 use Rattle.expr_grammar.specs.declared.code.Stmt as statement
 use Rattle.expr_grammar.specs.Tree as t
 use Rattle.expr_grammar.specs.Tree.{Tree, StmtTree, stmt_tree, code_trees}
-use Rattle.call_terms.specs.declared.calls.Value.{Value}
-use Rattle.call_terms.specs.NeedPoints.{Costs}
-use Rattle.call_terms.specs.World.{World}
-use Rattle.sequence_code.specs.Trees.{CodeSteps, SetTrees, NoSteps, steps_named}
-use Rattle.sequence_terms.specs.Calls.{given, guarded, missing}
-use Rattle.sequence_terms.specs.Late.{Late, late}
-use Rattle.sequence_terms.specs.Machine.{State, Out}
-use Rattle.sequence_terms.specs.Steps.{done, steps_at, sequence_at, debugged, run_of}
-use Rattle.sequence_terms.specs.Values.{value, stored}
-use Rattle.sequence_terms.specs.Variables.{set_visible}
-use Rattle.sequence_terms.proofs.LoopLemmas.{tail_two}
-use Rattle.late_calls.specs.declared.end.End.{End}
-use Rattle.late_calls.specs.Ends.{Ends, Gives}
-use Rattle.late_calls.proofs.Leaves.{After, ends_on, later_bind, later_ok}
+use Rattle.target_calls.specs.declared.calls.Value.{Value}
+use Rattle.target_calls.specs.NeedPoints.{Costs}
+use Rattle.target_calls.specs.World.{World}
+use Rattle.sequence_trees.specs.Trees.{CodeSteps, SetTrees, NoSteps, steps_named}
+use Rattle.sequence_rules.specs.Calls.{given, guarded, missing}
+use Rattle.sequence_rules.specs.Late.{Late, late}
+use Rattle.sequence_rules.specs.Machine.{State, Out}
+use Rattle.sequence_rules.specs.Steps.{steps_result, steps_at, sequence_at, debugged, run_of}
+use Rattle.sequence_rules.specs.Values.{value, stored}
+use Rattle.sequence_rules.specs.Variables.{set_visible}
+use Rattle.sequence_rules.proofs.LoopLemmas.{tail_two}
+use Rattle.function_calls.specs.declared.end.End.{End}
+use Rattle.function_calls.specs.Ends.{EndsLate, MeansLate}
+use Rattle.function_calls.proofs.Leaves.{After, ends_on, later_bind, later_ok}
 use Rattle.control_flow.specs.Calls.{debugged_one, defined}
 use Rattle.control_flow.proofs.Exits.{later_debugged, later_stored, later_done, later_sequence, later_steps_at}
 
@@ -47,7 +47,7 @@ module _ (cost : Costs) (w : World) (turn_us : ℕ) (set : SetTrees) where
   debug_on total xs i d s r same h is = same ∙ debug_more xs i d s h ∙ ap (λ o. o >>= λ y. debugged (late cost w) turn_us set (code_trees (drop (i + 1) xs)) y.1) is
 
   pub debug_fail : (lines : ℕ) (total : O (Unit {0})) (xs : List statement.Stmt) (i : ℕ) (d : statement.Stmt) (s r : S) (e : End) → total ≡ debugged (late cost w) turn_us set (code_trees (drop i xs)) s → i < length xs
-      → Ends w lines e r (debugged_one cost w turn_us set (stmt_tree (get_or xs i d)) s) → Ends w lines e r total
+      → EndsLate w lines e r (debugged_one cost w turn_us set (stmt_tree (get_or xs i d)) s) → EndsLate w lines e r total
   debug_fail lines total xs i d s r e same h is =
       rw (same ∙ debug_more xs i d s h) (ends_on w lines e r (debugged_one cost w turn_us set (stmt_tree (get_or xs i d)) s) _ is (λ y. later_debugged cost w turn_us set (code_trees (drop (i + 1) xs)) y.1))
 
@@ -60,8 +60,8 @@ module _ (cost : Costs) (w : World) (turn_us : ℕ) (set : SetTrees) where
   debug_next total xs i d a s r same h item is = debug_on total xs i d s r same h (subst (λ x. debugged_one cost w turn_us set (stmt_tree x) s ≡ Ok (tt, r)) item is)
 
   pub debug_end : (lines : ℕ) (total : O (Unit {0})) (xs : List statement.Stmt) (i : ℕ) (d a : statement.Stmt) (s r : S) (e : End) → total ≡ debugged (late cost w) turn_us set (code_trees (drop i xs)) s → i < length xs → a ≡ get_or xs i d
-      → Ends w lines e r (debugged_one cost w turn_us set (stmt_tree a) s) → Ends w lines e r total
-  debug_end lines total xs i d a s r e same h item is = debug_fail lines total xs i d s r e same h (subst (λ x. Ends w lines e r (debugged_one cost w turn_us set (stmt_tree x) s)) item is)
+      → EndsLate w lines e r (debugged_one cost w turn_us set (stmt_tree a) s) → EndsLate w lines e r total
+  debug_end lines total xs i d a s r e same h item is = debug_fail lines total xs i d s r e same h (subst (λ x. EndsLate w lines e r (debugged_one cost w turn_us set (stmt_tree x) s)) item is)
 
   -- ---- one debug variable
 
@@ -69,7 +69,7 @@ module _ (cost : Costs) (w : World) (turn_us : ℕ) (set : SetTrees) where
   unfolding stored guarded late
   defined_on name tree s r now v is at = rw is (rw at refl)
 
-  pub defined_first : (lines : ℕ) (e : End) (name : Name) (tree : Tree) (s now : S) → Ends w lines e now (value (late cost w) (λ n q. sequence_at (late cost w) turn_us set 0 n q) tree s) → Ends w lines e now (defined cost w turn_us set name tree s)
+  pub defined_first : (lines : ℕ) (e : End) (name : Name) (tree : Tree) (s now : S) → EndsLate w lines e now (value (late cost w) (λ n q. sequence_at (late cost w) turn_us set 0 n q) tree s) → EndsLate w lines e now (defined cost w turn_us set name tree s)
   defined_first lines e name tree s now h =
       ends_on w lines e now (value (late cost w) (λ n q. sequence_at (late cost w) turn_us set 0 n q) tree s) _ h (λ x. later_bind w x.1 (stored (late cost w) name x.0 x.1) _ (later_stored cost w name x.0 x.1) (λ y. later_ok w y.1 _))
 
@@ -85,16 +85,16 @@ module _ (cost : Costs) (w : World) (turn_us : ℕ) (set : SetTrees) where
   steps_found name s = given_steps (steps_named name set.sequences) s
 
   pub run_on : (lines : ℕ) (start : List ℕ) (s r now : S) (result : Result (Unit {0}) End) (steps : CodeSteps) → debugged (late cost w) turn_us set set.debugvars s ≡ Ok (tt, r) → steps ≡ unwrap_or (steps_named start set.sequences) NoSteps
-      → Gives w lines result now (done (late cost w) turn_us (λ n q. sequence_at (late cost w) turn_us set 31 n q) steps r) → Gives w lines result now (run_of (late cost w) turn_us set start s)
+      → MeansLate w lines result now (steps_result (late cost w) turn_us (λ n q. sequence_at (late cost w) turn_us set 31 n q) steps r) → MeansLate w lines result now (run_of (late cost w) turn_us set start s)
   unfolding run_of
   run_on lines start s r now result steps debug is h =
-      let f : CodeSteps × S → O (Unit {0}) = λ y. done (late cost w) turn_us (λ n q. sequence_at (late cost w) turn_us set 31 n q) y.0 y.1 in
-      let found : (steps_at (late cost w) turn_us set start r >>= f) ≡ done (late cost w) turn_us (λ n q. sequence_at (late cost w) turn_us set 31 n q) steps r =
-      ap (λ o. o >>= f) (steps_found start r) ∙ ap (λ k. done (late cost w) turn_us (λ n q. sequence_at (late cost w) turn_us set 31 n q) k r) (sym is) in
-      subst (λ o. Gives w lines result now o) (sym (ap (λ o. o >>= λ x. steps_at (late cost w) turn_us set start x.1 >>= f) debug ∙ found)) h
+      let f : CodeSteps × S → O (Unit {0}) = λ y. steps_result (late cost w) turn_us (λ n q. sequence_at (late cost w) turn_us set 31 n q) y.0 y.1 in
+      let found : (steps_at (late cost w) turn_us set start r >>= f) ≡ steps_result (late cost w) turn_us (λ n q. sequence_at (late cost w) turn_us set 31 n q) steps r =
+      ap (λ o. o >>= f) (steps_found start r) ∙ ap (λ k. steps_result (late cost w) turn_us (λ n q. sequence_at (late cost w) turn_us set 31 n q) k r) (sym is) in
+      subst (λ o. MeansLate w lines result now o) (sym (ap (λ o. o >>= λ x. steps_at (late cost w) turn_us set start x.1 >>= f) debug ∙ found)) h
 
   -- the debug variables ended
-  pub run_first : (lines : ℕ) (start : List ℕ) (s now : S) (e : End) → Ends w lines e now (debugged (late cost w) turn_us set set.debugvars s) → Ends w lines e now (run_of (late cost w) turn_us set start s)
+  pub run_first : (lines : ℕ) (start : List ℕ) (s now : S) (e : End) → EndsLate w lines e now (debugged (late cost w) turn_us set set.debugvars s) → EndsLate w lines e now (run_of (late cost w) turn_us set start s)
   unfolding run_of
   run_first lines start s now e h =
       ends_on w lines e now (debugged (late cost w) turn_us set set.debugvars s) _ h

@@ -2,15 +2,16 @@
 use Rattle.std.proofs.Common.{◌≡◌, ℕ, None, Some, Option, sym, ap, ◌∙◌}
 use Rattle.access_calls.proofs.KeepLemmas.{goes_same, goes_trans}
 use Rattle.access_calls.specs.Left.{answered_at, answered_by}
-use Rattle.access_calls.specs.Reported.{Reported}
+use Rattle.access_calls.specs.Reported.{AccessView}
 use Rattle.access_calls.specs.declared.stop.Stop.{Stop}
 use Rattle.access_calls.specs.declared.stop.Stop.TheVariants.{Cut, BenchFault, ReplyBad, OutOfMemory}
 use Rattle.control_flow.specs.Answers.{EndBy, HasSinkCause}
-use Rattle.control_flow.specs.Closing.{ComesToEnd, NoWriteFault, ending_of}
+use Rattle.access_calls.specs.Endings.{ending_of}
+use Rattle.control_flow.specs.Closing.{ComesToEnd, NoWriteFault}
 use Rattle.access_calls.specs.declared.ended.Ending.{Ending}
 use Rattle.access_calls.specs.declared.ended.Ending.TheVariants as e
-use Rattle.late_calls.proofs.Leaves.{left_on, stopped_end, stopped_ended}
-use Rattle.late_calls.specs.Ends.{EndsBy}
+use Rattle.function_calls.proofs.Leaves.{left_on, stopped_end, stopped_ended}
+use Rattle.function_calls.specs.Ends.{EndsBy}
 
 end_of : (st : Stop) (end : Option Stop) → EndsBy st end → EndBy (ending_of st) end
 end_of (Cut r) end h = h
@@ -23,7 +24,7 @@ pub stop_end : (st : Stop) (end : Option Stop) (is : Ending) → is ≡ ending_o
 stop_end st end is same h = rw same (end_of st end h)
 
 -- how many calls are answered, by a stop
-pub answered_as : (st : Stop) (a : Reported) → EndsBy st a.end → answered_by a ≡ answered_at (Some st) a.lines
+pub answered_as : (st : Stop) (a : AccessView) → EndsBy st a.end → answered_by a ≡ answered_at (Some st) a.lines
 answered_as (Cut r) a h = ap (λ e. answered_at e a.lines) h
 answered_as (BenchFault issued confirmed) a h = ap (λ e. answered_at e a.lines) h
 answered_as ReplyBad a h = ap (λ e. answered_at e a.lines) h

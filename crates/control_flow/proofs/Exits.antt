@@ -5,25 +5,25 @@ use Rattle.function_table.specs.declared.function.Function.{Function}
 use Rattle.function_table.specs.Lookup.{function_named}
 use Rattle.expr_grammar.specs.declared.code.Name.{Name}
 use Rattle.expr_grammar.specs.Tree.{Tree, ArgTrees, StmtTree}
-use Rattle.sequence_code.specs.Trees.{CodeSteps, SetTrees}
-use Rattle.call_terms.specs.declared.calls.Value.{Value}
-use Rattle.call_terms.specs.declared.calls.Value.TheVariants.{Number}
-use Rattle.call_terms.specs.NeedPoints.{Costs}
-use Rattle.call_terms.specs.World.{World}
+use Rattle.sequence_trees.specs.Trees.{CodeSteps, SetTrees}
+use Rattle.target_calls.specs.declared.calls.Value.{Value}
+use Rattle.target_calls.specs.declared.calls.Value.TheVariants.{Number}
+use Rattle.target_calls.specs.NeedPoints.{Costs}
+use Rattle.target_calls.specs.World.{World}
 use Rattle.access_calls.proofs.KeepLemmas.{goes_same, goes_trans}
 use Rattle.access_calls.specs.declared.stop.Stop.TheVariants.{OutOfMemory}
-use Rattle.sequence_terms.specs.declared.bindings.Binding.{Binding}
-use Rattle.sequence_terms.specs.Calls.{global}
-use Rattle.sequence_terms.specs.Late.{Late, late, Later}
-use Rattle.sequence_terms.specs.Machine.{State, Out, with_locals, with_variables}
-use Rattle.sequence_terms.specs.Steps.{turn, turns, counted, inside, polled, polled_at, repeated, block, done, debugged, steps_at, sequence_at}
-use Rattle.sequence_terms.specs.Values.{value, stored, used_now, operands, result_of, truth_of, arguments, numbers_of, all_used, called, call_of, text_of}
-use Rattle.sequence_terms.proofs.Goes as g
-use Rattle.sequence_terms.proofs.LateLemmas.{steady_late, later_same}
-use Rattle.sequence_terms.specs.Steady.{Goes}
-use Rattle.late_calls.specs.declared.end.End.{End}
-use Rattle.late_calls.specs.Ends.{Ends, Left}
-use Rattle.late_calls.proofs.Leaves.{After, ends_on, later_bind, later_cond, later_ok, later_halt, later_use, later_both, later_global, later_ask, left_on}
+use Rattle.sequence_rules.specs.declared.bindings.Binding.{Binding}
+use Rattle.sequence_rules.specs.Calls.{global}
+use Rattle.sequence_rules.specs.Late.{Late, late, Later}
+use Rattle.sequence_rules.specs.Machine.{State, Out, with_locals, with_variables}
+use Rattle.sequence_rules.specs.Steps.{turn, turns, counted, inside, poll_result, poll_result_at, repeat_result, block, steps_result, debugged, steps_at, sequence_at}
+use Rattle.sequence_rules.specs.Values.{value, stored, used_now, operands, result_of, truth_of, arguments, numbers_of, all_used, call_result, call_of, text_of}
+use Rattle.sequence_rules.proofs.Goes as g
+use Rattle.sequence_rules.proofs.LateLemmas.{steady_late, later_same}
+use Rattle.sequence_rules.specs.Steady.{Goes}
+use Rattle.function_calls.specs.declared.end.End.{End}
+use Rattle.function_calls.specs.Ends.{EndsLate, Left}
+use Rattle.function_calls.proofs.Leaves.{After, ends_on, later_bind, later_cond, later_ok, later_halt, later_use, later_both, later_global, later_ask, left_on}
 
 abbrev S : Type 0
 S = State Value Late
@@ -77,7 +77,7 @@ later_result cost w o s = back w s _ (g.goes_result (late cost w) (Later w) (ste
 pub later_all_used : (cost : Costs) (w : World) (vs : List Value) (s : S) → After w s (all_used (late cost w) vs s)
 later_all_used cost w vs s = back w s _ (g.goes_all_used (late cost w) (Later w) (steady_late cost w) vs s)
 
-pub later_called : (cost : Costs) (w : World) (seq : List ℕ → S → O (Unit {0})) (function : Option Function) (text n : List ℕ) (s : S) → CallsLater w seq → After w s (called (late cost w) seq function text n s)
+pub later_called : (cost : Costs) (w : World) (seq : List ℕ → S → O (Unit {0})) (function : Option Function) (text n : List ℕ) (s : S) → CallsLater w seq → After w s (call_result (late cost w) seq function text n s)
 later_called cost w seq function text n s q = back w s _ (g.goes_called (late cost w) (Later w) (steady_late cost w) seq (λ name r. go w r _ (q.so name r)) function text n s)
 
 pub later_arguments : (cost : Costs) (w : World) (seq : List ℕ → S → O (Unit {0})) (args : ArgTrees) (got : List Value) (s : S) → CallsLater w seq → After w s (arguments (late cost w) seq args got s)
@@ -86,7 +86,7 @@ later_arguments cost w seq args got s q = back w s _ (g.goes_arguments (late cos
 pub later_block : (cost : Costs) (w : World) (turn_us : ℕ) (seq : List ℕ → S → O (Unit {0})) (code : List StmtTree) (s : S) → CallsLater w seq → After w s (block (late cost w) turn_us seq code s)
 later_block cost w turn_us seq code s q = back w s _ (g.goes_block (late cost w) (Later w) (steady_late cost w) seq (λ name r. go w r _ (q.so name r)) turn_us code s)
 
-pub later_done : (cost : Costs) (w : World) (turn_us : ℕ) (seq : List ℕ → S → O (Unit {0})) (steps : CodeSteps) (s : S) → CallsLater w seq → After w s (done (late cost w) turn_us seq steps s)
+pub later_done : (cost : Costs) (w : World) (turn_us : ℕ) (seq : List ℕ → S → O (Unit {0})) (steps : CodeSteps) (s : S) → CallsLater w seq → After w s (steps_result (late cost w) turn_us seq steps s)
 later_done cost w turn_us seq steps s q = back w s _ (g.goes_done (late cost w) (Later w) (steady_late cost w) seq (λ name r. go w r _ (q.so name r)) turn_us steps s)
 
 pub later_inside : (cost : Costs) (w : World) (body : S → O (Unit {0})) (s : S) → ((r : S) → After w r (body r)) → After w s (inside (late cost w) body s)
@@ -96,10 +96,10 @@ pub later_turns : (cost : Costs) (w : World) (test : S → O Value) (body : S �
 later_turns cost w test body n s k l = back w s _ (g.goes_turns (late cost w) (Later w) (steady_late cost w) test body n s (λ r. go w r _ (k r)) (λ r. go w r _ (l r)))
 
 pub later_repeated : (cost : Costs) (w : World) (turn_us : ℕ) (seq : List ℕ → S → O (Unit {0})) (o : Option Tree) (timeout : Option ℕ) (steps : CodeSteps) (body : S → O (Unit {0})) (s : S) → CallsLater w seq → ((r : S) → After w r (body r))
-    → After w s (repeated (late cost w) turn_us seq o timeout steps body s)
+    → After w s (repeat_result (late cost w) turn_us seq o timeout steps body s)
 later_repeated cost w turn_us seq o timeout steps body s q k = back w s _ (g.goes_repeated (late cost w) (Later w) (steady_late cost w) seq (λ name r. go w r _ (q.so name r)) turn_us o timeout steps body s (λ r. go w r _ (k r)))
 
-pub later_polled_at : (cost : Costs) (w : World) (form : ℕ × ℕ) (n dp : ℕ) (s : S) → After w s (polled_at (late cost w) form n dp s)
+pub later_polled_at : (cost : Costs) (w : World) (form : ℕ × ℕ) (n dp : ℕ) (s : S) → After w s (poll_result_at (late cost w) form n dp s)
 later_polled_at cost w form n dp s = back w s _ (g.goes_polled_at (late cost w) (Later w) (steady_late cost w) form n dp s)
 
 pub later_debugged : (cost : Costs) (w : World) (turn_us : ℕ) (set : SetTrees) (code : List StmtTree) (s : S) → After w s (debugged (late cost w) turn_us set code s)
@@ -110,12 +110,12 @@ later_steps_at cost w turn_us set name s = back w s _ (g.goes_steps_at (late cos
 
 -- ---- exits with more than one part after them
 
-pub operands_first : (cost : Costs) (w : World) (lines : ℕ) (e : End) (now : S) (out : O Value) (f : S → O Value) → Ends w lines e now out → ((s : S) → After w s (f s)) → Ends w lines e now (operands (late cost w) out f)
+pub operands_first : (cost : Costs) (w : World) (lines : ℕ) (e : End) (now : S) (out : O Value) (f : S → O Value) → EndsLate w lines e now out → ((s : S) → After w s (f s)) → EndsLate w lines e now (operands (late cost w) out f)
 unfolding operands
 operands_first cost w lines e now out f h k = ends_on w lines e now out _ h (λ x. later_bind w x.1 (f x.1) _ (k x.1) (λ y. later_both cost w x.0 y.0 y.1))
 
 -- the arguments of a call ended
-pub call_first : (cost : Costs) (w : World) (lines : ℕ) (e : End) (now : S) (seq : List ℕ → S → O (Unit {0})) (name : Name) (args : ArgTrees) (out : O (List Value)) → CallsLater w seq → Ends w lines e now out → Ends w lines e now (call_of (late cost w) seq name args out)
+pub call_first : (cost : Costs) (w : World) (lines : ℕ) (e : End) (now : S) (seq : List ℕ → S → O (Unit {0})) (name : Name) (args : ArgTrees) (out : O (List Value)) → CallsLater w seq → EndsLate w lines e now out → EndsLate w lines e now (call_of (late cost w) seq name args out)
 unfolding call_of numbers_of
 call_first cost w lines e now seq name args out q h =
     ends_on w lines e now (out >>= λ x. all_used (late cost w) x.0 x.1) _
@@ -125,8 +125,8 @@ call_first cost w lines e now seq name args out q h =
 later_turn_rest : (w : World) (n : ℕ) (body : S → O (Unit {0})) (s : S) → ((r : S) → After w r (body r)) → After w s (cond (nat_eq n 0) (Ok (false, s)) (body s >>= λ y. Ok (true, y.1)))
 later_turn_rest w n body s k = later_cond w s (nat_eq n 0) _ _ (later_ok w s false) (later_bind w s (body s) _ (k s) (λ y. later_ok w y.1 true))
 
-pub turn_test : (cost : Costs) (w : World) (lines : ℕ) (e : End) (now s r : S) (test : S → O Value) (body : S → O (Unit {0})) → counted (late cost w) s ≡ Ok (tt, r) → Ends w lines e now (used_now (late cost w) (test r)) → ((r : S) → After w r (body r))
-    → Ends w lines e now (turn (late cost w) test body s)
+pub turn_test : (cost : Costs) (w : World) (lines : ℕ) (e : End) (now s r : S) (test : S → O Value) (body : S → O (Unit {0})) → counted (late cost w) s ≡ Ok (tt, r) → EndsLate w lines e now (used_now (late cost w) (test r)) → ((r : S) → After w r (body r))
+    → EndsLate w lines e now (turn (late cost w) test body s)
 unfolding turn
 turn_test cost w lines e now s r test body is h l = rw is (ends_on w lines e now (used_now (late cost w) (test r)) _ h (λ x. later_turn_rest w x.0 body x.1 l))
 
@@ -135,8 +135,8 @@ pub refused_after : {A B : Type 0} (w : World) (lines : ℕ) (now : S) (out : O 
 refused_after w lines now out f x is k = record { later = rw is ((k (x, now)).so); first = tt }
 
 -- a poll was counted, and the look-up of `__dp` ended
-pub polled_first : (cost : Costs) (w : World) (lines : ℕ) (e : End) (form : ℕ × ℕ) (n : ℕ) (s k now : S) → counted (late cost w) s ≡ Ok (tt, k) → Ends w lines e now (global (late cost w) (codes "__dp") k) → Ends w lines e now (polled (late cost w) form n s)
-unfolding polled
+pub polled_first : (cost : Costs) (w : World) (lines : ℕ) (e : End) (form : ℕ × ℕ) (n : ℕ) (s k now : S) → counted (late cost w) s ≡ Ok (tt, k) → EndsLate w lines e now (global (late cost w) (codes "__dp") k) → EndsLate w lines e now (poll_result (late cost w) form n s)
+unfolding poll_result
 polled_first cost w lines e form n s k now is h = rw is (ends_on w lines e now (global (late cost w) (codes "__dp") k) _ h (λ d. later_polled_at cost w form n d.0 d.1))
 
 -- a number is itself, and nothing is lost

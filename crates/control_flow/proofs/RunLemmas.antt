@@ -4,19 +4,19 @@ use Rattle.std.specs.Prelude.{is_some, if◌then◌else◌}
 use Rattle.std.proofs.lemmas.List.{append-nil, append_assoc, length-append}
 use Rattle.target_machine.specs.declared.unit.Call.{Call}
 use Rattle.target_machine.specs.declared.unit.HaltCause.{HaltCause}
-use Rattle.call_terms.specs.Asks.{settled_last}
-use Rattle.call_terms.specs.Journal.{Entry}
-use Rattle.call_terms.specs.NeedPoints.{Asks, Costs, needed, finished, nothing_asked}
-use Rattle.call_terms.specs.Values.{number_of}
-use Rattle.call_terms.specs.World.{World, is_over, fewer, stop, skips, world_after}
-use Rattle.call_terms.specs.declared.calls.Ask.{Ask}
-use Rattle.call_terms.specs.declared.calls.Value.{Value}
-use Rattle.call_terms.proofs.CallLists.{stop_stays, count_within}
-use Rattle.call_terms.proofs.MarkLemmas.{stop_marked, skips_marked, value_marked, length_marked}
-use Rattle.call_terms.proofs.WorldLemmas.{whole_after}
+use Rattle.target_calls.specs.Asks.{settled_last}
+use Rattle.target_calls.specs.Journal.{Entry}
+use Rattle.target_calls.specs.NeedPoints.{Asks, Costs, needed, finished, nothing_asked}
+use Rattle.target_calls.specs.Values.{number_of}
+use Rattle.target_calls.specs.World.{World, is_over, fewer, stop, skips, world_after}
+use Rattle.target_calls.specs.declared.calls.Ask.{Ask}
+use Rattle.target_calls.specs.declared.calls.Value.{Value}
+use Rattle.target_calls.proofs.CallLists.{stop_stays, count_within}
+use Rattle.target_calls.proofs.MarkLemmas.{stop_marked, skips_marked, value_marked, length_marked}
+use Rattle.target_calls.proofs.WorldLemmas.{whole_after}
 use Rattle.access_calls.specs.Answers.{AtCut, StopsCalls, StopsOrSettles, StopsSettling, calls_finished}
 use Rattle.access_calls.specs.Left.{answered_at, answered_cut}
-use Rattle.access_calls.specs.Reported.{Beginning, Reported, start_of, world_of}
+use Rattle.access_calls.specs.Reported.{AccessView, Beginning, start_of, world_of}
 use Rattle.access_calls.specs.Standing.{Stands, StandsAt, WhereObservable}
 use Rattle.access_calls.specs.declared.stop.Report.{Report}
 use Rattle.access_calls.specs.declared.stop.Stop.{Stop}
@@ -25,26 +25,27 @@ use Rattle.access_calls.specs.declared.stop.StopCause.{StopCause}
 use Rattle.access_calls.specs.declared.stop.StopCause.TheVariants as cause
 use Rattle.target_machine.specs.State.{TargetState}
 use Rattle.probe_core.specs.Bench.{BenchState}
-use Rattle.sequence_terms.specs.declared.bindings.Binding.{Binding}
-use Rattle.sequence_terms.specs.Alike.{Binds, Alike}
-use Rattle.sequence_terms.specs.Direct.{Now, line_after}
-use Rattle.sequence_terms.specs.Late.{Late, late, late_of, ComesTo, SameRest, StoppedAt, FaultedAt, Grows, Later}
-use Rattle.sequence_terms.specs.Laws.{Pair}
-use Rattle.sequence_terms.specs.Machine as machine
-use Rattle.sequence_terms.specs.Machine.{Over, State, Out, end_state}
-use Rattle.sequence_terms.specs.Runs as runs
-use Rattle.sequence_terms.specs.Runs.{Outcome, Program, late_meaning, meaning, outcome_of, units_of}
-use Rattle.sequence_terms.specs.Steps.{run_of, start_state}
-use Rattle.sequence_terms.proofs.Goes as g
-use Rattle.sequence_terms.proofs.LateLemmas.{append_none, stop_here, steady_late}
-use Rattle.sequence_terms.proofs.Made.{no_cost, late_pair}
-use Rattle.late_calls.specs.Ends.{Left}
-use Rattle.late_calls.specs.Held.{state_of}
-use Rattle.late_calls.specs.declared.held.Held.{Held}
+use Rattle.sequence_rules.specs.declared.bindings.Binding.{Binding}
+use Rattle.sequence_rules.specs.Alike.{Binds, Alike}
+use Rattle.sequence_rules.specs.Direct.{Now, line_after}
+use Rattle.sequence_rules.specs.Late.{Late, late, late_of, ComesTo, SameRest, StoppedAt, FaultedAt, Grows, Later}
+use Rattle.sequence_rules.specs.Laws.{Pair}
+use Rattle.sequence_rules.specs.Machine as machine
+use Rattle.sequence_rules.specs.Machine.{Over, State, Out, end_state}
+use Rattle.sequence_rules.specs.Runs as runs
+use Rattle.sequence_rules.specs.Runs.{Outcome, Program, late_meaning, meaning, outcome_of, units_of}
+use Rattle.sequence_rules.specs.Steps.{run_of, start_state}
+use Rattle.sequence_rules.proofs.Goes as g
+use Rattle.sequence_rules.proofs.LateLemmas.{append_none, stop_here, steady_late}
+use Rattle.sequence_rules.proofs.Made.{no_cost, late_pair}
+use Rattle.function_calls.specs.Ends.{Left}
+use Rattle.function_calls.specs.Held.{state_of}
+use Rattle.function_calls.specs.declared.held.Held.{Held}
 use Rattle.access_calls.specs.declared.ended.Ending.{Ending}
 use Rattle.access_calls.specs.declared.ended.Ending.TheVariants as ending
-use Rattle.control_flow.specs.Answers.{Ran, IsAll, SharesCalls, IsPart, IsFaulted, IsWhole, StopsAfter, IsCut, EndsAs, HasNeeds}
-use Rattle.control_flow.specs.Closing.{numbers_in, AreAsked, OutIs, ending_of}
+use Rattle.control_flow.specs.Answers.{Ran, IsAll, SharesCalls, IsPart, IsFaulted, IsWhole, StopsAfter, EndsAtCut, EndsAs, HasNeeds}
+use Rattle.access_calls.specs.Endings.{ending_of}
+use Rattle.control_flow.specs.Closing.{numbers_in, AreAsked, OutIs}
 
 abbrev L : Type 0
 L = Out Value Late (Unit {0})
@@ -261,7 +262,7 @@ module _ (w : World) where
 
   -- the code left the meaning in its middle
   is_cut_off : (lines : ℕ) (report : Report) (r : Ran) (now : State Value Late) (out : L) (q : Q) → Pair w out q → w.answered ≡ answered_cut report.cause lines → Left w lines (Cut report) now out → r.asks.calls ≡ now.rest.asks.calls → r.written ≡ now.rest.written
-      → IsCut report.cause lines (outcome_of q) r
+      → EndsAtCut report.cause lines (outcome_of q) r
   is_cut_off lines report r now out q p answered left calls written = record {
     stops = stops_after report.cause lines out q p answered (ap (stop w) left.later.calls ∙ stop_stays w now.rest.asks.calls left.later.more (lines + 1) left.first);
     written = written ∙ sym (left.later.kept (lines + 1) left.first) ∙ sym (same_lines out q p);
@@ -276,7 +277,7 @@ module _ (w : World) where
 
   -- a stop while the end of the meaning is settled
   settling_cut : (lines : ℕ) (report : Report) (r : Ran) (out : L) (q : Q) → Pair w out q → w.answered ≡ answered_cut report.cause lines → StopsSettling w (end_state out).rest.asks.calls lines (Cut report)
-      → r.asks.calls ≡ settled_last (end_state out).rest.asks.calls → r.written ≡ (end_state out).rest.written → IsCut report.cause lines (outcome_of q) r
+      → r.asks.calls ≡ settled_last (end_state out).rest.asks.calls → r.written ≡ (end_state out).rest.written → EndsAtCut report.cause lines (outcome_of q) r
   settling_cut lines report r out q p answered stops calls written = record {
     stops = by_cause report.cause answered stops.so;
     written = written ∙ sym (same_lines out q p);
@@ -403,14 +404,14 @@ no_needs (BenchFault issued confirmed) asks out = tt
 no_needs ReplyBad asks out = tt
 no_needs OutOfMemory asks out = tt
 
-pub finished_calls : (a : Reported) (c : List Ask) → a.end ≡ None → c ≡ calls_finished a → c ≡ settled_last a.asks.calls
+pub finished_calls : (a : AccessView) (c : List Ask) → a.end ≡ None → c ≡ calls_finished a → c ≡ settled_last a.asks.calls
 finished_calls a c none is = is ∙ ap (λ (e : Option Stop). cond (is_some e) a.asks.calls (settled_last a.asks.calls)) none
 
 -- an access without an end knows how many calls were skipped
-skips_at : (entries : List Entry) (a : Reported) (b : Beginning) (m : BenchState) → a.end ≡ None → StandsAt a.end entries a b m → a.skipped ≡ skips (world_of b) a.asks.calls
+skips_at : (entries : List Entry) (a : AccessView) (b : Beginning) (m : BenchState) → a.end ≡ None → StandsAt a.end entries a b m → a.skipped ≡ skips (world_of b) a.asks.calls
 skips_at entries a b m none h = (subst (λ e. StandsAt e entries a b m) none h).skipped
 
-pub skipped_is : (journal : TargetState → List Ask → List Entry) (a : Reported) (b : Beginning) → a.end ≡ None → Stands journal a b → a.skipped ≡ skips (world_of b) a.asks.calls
+pub skipped_is : (journal : TargetState → List Ask → List Entry) (a : AccessView) (b : Beginning) → a.end ≡ None → Stands journal a b → a.skipped ≡ skips (world_of b) a.asks.calls
 skipped_is journal a b none stands = by_state a.state stands
   where
     by_state : (o : Option BenchState) → WhereObservable o (λ m. StandsAt a.end (journal (start_of b) a.asks.calls) a b m) → a.skipped ≡ skips (world_of b) a.asks.calls

@@ -5,22 +5,22 @@ use Rattle.expr_grammar.specs.Tree as t
 use Rattle.expr_grammar.specs.Tree.{StmtTree, stmt_tree, code_trees}
 use Rattle.expr_grammar.specs.declared.code.Stmt as statement
 use Rattle.function_table.specs.Variables.{predefined}
-use Rattle.sequence_code.specs.Trees.{SetTrees}
+use Rattle.sequence_trees.specs.Trees.{SetTrees}
 use Rattle.target_machine.specs.declared.unit.Variable.{Variable}
-use Rattle.sequence_terms.proofs.PredefinedNames.{name_at, names_length}
-use Rattle.sequence_terms.specs.declared.bindings.Binding.{Binding}
-use Rattle.call_terms.specs.NeedPoints.{Costs, nothing_asked}
-use Rattle.call_terms.specs.Values.{number_of, IsAsked}
-use Rattle.call_terms.specs.World.{World}
-use Rattle.call_terms.specs.declared.calls.Ask.{Ask}
-use Rattle.call_terms.specs.declared.calls.Value.{Value}
-use Rattle.call_terms.specs.declared.calls.Value.TheVariants.{Number}
-use Rattle.sequence_terms.specs.Late.{Late, late, late_of}
-use Rattle.sequence_terms.specs.Machine.{State}
-use Rattle.sequence_terms.specs.Runs as runs
-use Rattle.sequence_terms.specs.Steps.{declared_names, start_state}
-use Rattle.sequence_terms.specs.Variables.{bound, has_in, with_new, with_all_new}
-use Rattle.control_flow.specs.Answers.{variables_of}
+use Rattle.sequence_rules.proofs.PredefinedNames.{name_at, names_length}
+use Rattle.sequence_rules.specs.declared.bindings.Binding.{Binding}
+use Rattle.target_calls.specs.NeedPoints.{Costs, nothing_asked}
+use Rattle.target_calls.specs.Values.{number_of, IsAsked}
+use Rattle.target_calls.specs.World.{World}
+use Rattle.target_calls.specs.declared.calls.Ask.{Ask}
+use Rattle.target_calls.specs.declared.calls.Value.{Value}
+use Rattle.target_calls.specs.declared.calls.Value.TheVariants.{Number}
+use Rattle.sequence_rules.specs.Late.{Late, late, late_of}
+use Rattle.sequence_rules.specs.Machine.{State}
+use Rattle.sequence_rules.specs.Runs as runs
+use Rattle.sequence_rules.specs.Steps.{declared_names, start_state}
+use Rattle.sequence_rules.specs.Variables.{bound, has_in, with_new, with_all_new}
+use Rattle.sequence_rules.specs.Runs.{variables_of}
 use Rattle.control_flow.specs.Closing.{as_values, numbers_in, AreAsked}
 
 -- ---- the predefined variables have names of their own

@@ -1,35 +1,22 @@
 -- What a run answers.
 use Rattle.std.specs.Prelude.{◌≡◌, ◌⊎◌, ℕ, ◌+◌, List, [], ◌∷◌, ◌++◌, map, Option, Some, None}
 use Rattle.dap_base.specs.Causes.{Rose}
-use Rattle.call_terms.specs.Asks.{settled_last}
-use Rattle.call_terms.specs.NeedPoints.{Asks, finished, needed}
-use Rattle.call_terms.specs.declared.calls.Ask.{Ask}
-use Rattle.call_terms.specs.declared.calls.Value.{Value}
+use Rattle.target_calls.specs.Asks.{settled_last}
+use Rattle.target_calls.specs.NeedPoints.{Asks, finished, needed}
+use Rattle.target_calls.specs.declared.calls.Ask.{Ask}
+use Rattle.target_calls.specs.declared.calls.Value.{Value}
 use Rattle.access_calls.specs.declared.stop.Stop.{Stop}
 use Rattle.access_calls.specs.declared.stop.Stop.TheVariants as stop
 use Rattle.access_calls.specs.declared.stop.StopCause.{StopCause}
 use Rattle.access_calls.specs.declared.stop.StopCause.TheVariants as cause
-use Rattle.seq_check.specs.Answers.{checked_trees}
-use Rattle.seq_check.specs.declared.checked.Checked.{Checked}
-use Rattle.target_machine.specs.declared.unit.Settings.{Settings}
-use Rattle.target_machine.specs.declared.unit.Variable.{Variable}
-use Rattle.sequence_terms.specs.Late.{Late, Grows}
-use Rattle.sequence_terms.specs.Machine.{Out, end_state}
-use Rattle.sequence_terms.specs.Runs as runs
-use Rattle.sequence_terms.specs.Runs.{Program, Outcome, units_of}
-use Rattle.sequence_terms.specs.declared.bindings.Binding.{Binding}
+use Rattle.sequence_rules.specs.Late.{Late, Grows}
+use Rattle.sequence_rules.specs.Machine.{Out, end_state}
+use Rattle.sequence_rules.specs.Runs as runs
+use Rattle.sequence_rules.specs.Runs.{Outcome, units_of, variables_of}
+use Rattle.sequence_rules.specs.declared.bindings.Binding.{Binding}
 use Rattle.access_calls.specs.declared.ended.Ended.{Ended}
 use Rattle.access_calls.specs.declared.ended.Ending.{Ending}
 use Rattle.access_calls.specs.declared.ended.Ending.TheVariants as e
-
--- variables with their values
-abbrev pub variables_of : List Variable → List (Binding ℕ)
-variables_of variables = map (λ (v : Variable). record { name = v.name; value = v.value }) variables
-
--- What a call runs: a checked set, the name of a sequence, and settings.
-abbrev pub program_of : Checked → List ℕ → Settings → Program
-program_of checked start settings =
-    record { set = checked_trees checked; start = start; turn_us = settings.turn_us; predefined = variables_of settings.start }
 
 -- What a run reports: its variables, units and skips, what was asked, and what was written, where that is known.
 pub record Ran : Type 0 where
@@ -90,7 +77,7 @@ StopsAfter cause.Faulted lines o = IsFaulted o.ending × (units_of o ≡ lines +
 StopsAfter cause.NoAnswer lines o = ((o.ending ≡ runs.Unanswered) × (units_of o ≡ lines + 1)) ⊎ (IsWhole o.ending × (units_of o ≡ lines))
 
 -- A run that was cut: the outcome stops there, exactly its lines are written, and its calls are among the first.
-pub record IsCut (cause : StopCause) (lines : ℕ) (o : Outcome) (r : Ran) : Type 0 where
+pub record EndsAtCut (cause : StopCause) (lines : ℕ) (o : Outcome) (r : Ran) : Type 0 where
   pub stops : StopsAfter cause lines o
   pub written : r.written ≡ o.written
   pub calls : SharesCalls r.asks.calls o
@@ -99,7 +86,7 @@ pub record IsCut (cause : StopCause) (lines : ℕ) (o : Outcome) (r : Ran) : Typ
 abbrev pub EndsAs : Ending → ℕ → Outcome → Ran → Type 0
 EndsAs e.Done lines o r = (o.ending ≡ runs.Done) × IsAll o r
 EndsAs (e.Halted cause) lines o r = (o.ending ≡ runs.Halted cause) × IsAll o r
-EndsAs (e.Cut report) lines o r = IsCut report.cause lines o r
+EndsAs (e.Cut report) lines o r = EndsAtCut report.cause lines o r
 EndsAs (e.BenchFault issued confirmed) lines o r = IsPart o r
 EndsAs e.ReplyBad lines o r = IsPart o r
 EndsAs e.WriteFault lines o r = IsPart o r

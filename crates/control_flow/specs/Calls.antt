@@ -4,15 +4,15 @@ use Rattle.dap_base.specs.Outcome.{◌>>=◌}
 use Rattle.expr_grammar.specs.declared.code.Name.{Name}
 use Rattle.expr_grammar.specs.Tree as t
 use Rattle.expr_grammar.specs.Tree.{Tree, StmtTree}
-use Rattle.call_terms.specs.declared.calls.Value.{Value}
-use Rattle.call_terms.specs.NeedPoints.{Costs}
-use Rattle.call_terms.specs.World.{World}
+use Rattle.target_calls.specs.declared.calls.Value.{Value}
+use Rattle.target_calls.specs.NeedPoints.{Costs}
+use Rattle.target_calls.specs.World.{World}
 use Rattle.seq_check.specs.Answers.{checked_trees}
-use Rattle.sequence_code.specs.Trees.{SetTrees}
-use Rattle.sequence_terms.specs.Late.{Late, late}
-use Rattle.sequence_terms.specs.Machine.{State, Out}
-use Rattle.sequence_terms.specs.Steps.{sequence_at}
-use Rattle.sequence_terms.specs.Values.{value, stored}
+use Rattle.sequence_trees.specs.Trees.{SetTrees}
+use Rattle.sequence_rules.specs.Late.{Late, late}
+use Rattle.sequence_rules.specs.Machine.{State, Out}
+use Rattle.sequence_rules.specs.Steps.{sequence_at}
+use Rattle.sequence_rules.specs.Values.{value, stored}
 use Rattle.control_flow.specs.declared.runner.Runner.{Runner}
 
 -- the sequences of the runner's set, from which calls lead at most so deep

@@ -1,16 +1,14 @@
 -- How a run is closed.
 use Rattle.std.specs.Prelude.{◌≡◌, ⊤, ℕ, List, [], ◌∷◌, map, Ok, Err}
-use Rattle.call_terms.specs.Values.{number_of, IsAsked}
-use Rattle.call_terms.specs.World.{World}
-use Rattle.call_terms.specs.declared.calls.Ask.{Ask}
-use Rattle.call_terms.specs.declared.calls.Value.{Value}
-use Rattle.call_terms.specs.declared.calls.Value.TheVariants.{Number}
-use Rattle.access_calls.specs.declared.stop.Stop.{Stop}
-use Rattle.access_calls.specs.declared.stop.Stop.TheVariants as stop
-use Rattle.sequence_terms.specs.Late.{Late}
-use Rattle.sequence_terms.specs.Machine as machine
-use Rattle.sequence_terms.specs.Machine.{State, Out}
-use Rattle.sequence_terms.specs.declared.bindings.Binding.{Binding}
+use Rattle.target_calls.specs.Values.{number_of, IsAsked}
+use Rattle.target_calls.specs.World.{World}
+use Rattle.target_calls.specs.declared.calls.Ask.{Ask}
+use Rattle.target_calls.specs.declared.calls.Value.{Value}
+use Rattle.target_calls.specs.declared.calls.Value.TheVariants.{Number}
+use Rattle.sequence_rules.specs.Late.{Late}
+use Rattle.sequence_rules.specs.Machine as machine
+use Rattle.sequence_rules.specs.Machine.{State, Out}
+use Rattle.sequence_rules.specs.declared.bindings.Binding.{Binding}
 use Rattle.access_calls.specs.declared.ended.Ending.{Ending}
 use Rattle.access_calls.specs.declared.ended.Ending.TheVariants as e
 
@@ -46,13 +44,6 @@ ComesToEnd (e.BenchFault issued confirmed) = ⊥
 ComesToEnd e.ReplyBad = ⊥
 ComesToEnd e.WriteFault = ⊥
 ComesToEnd e.OutOfMemory = ⊥
-
--- how a run ends by a stop
-abbrev pub ending_of : Stop → Ending
-ending_of (stop.Cut r) = e.Cut r
-ending_of (stop.BenchFault issued confirmed) = e.BenchFault issued confirmed
-ending_of stop.ReplyBad = e.ReplyBad
-ending_of stop.OutOfMemory = e.OutOfMemory
 
 -- the sink did not fail
 abbrev pub NoWriteFault : Ending → Type 0

@@ -3,34 +3,34 @@ ghost use Rattle.std.specs.Prelude.{◌≡◌, [], ℕ, Bool, List, Option, None
 ghost use Rattle.expr_grammar.specs.Tree.{arg_tree, arg_trees, tree};
 ghost use Rattle.function_table.specs.declared.function.Function.{Function};
 ghost use Rattle.seq_check.specs.Answers.{checked_trees};
-ghost use Rattle.sequence_code.specs.Trees.{NoSteps, steps_named, steps_tree};
-ghost use Rattle.sequence_terms.specs.Steps as st;
-ghost use Rattle.sequence_terms.specs.Values as v;
-ghost use Rattle.late_calls.specs.Ends.{Counted, EndIs, Gives, GivesAs, HasSinkCause};
+ghost use Rattle.sequence_trees.specs.Trees.{NoSteps, steps_named, steps_tree};
+ghost use Rattle.sequence_rules.specs.Steps as st;
+ghost use Rattle.sequence_rules.specs.Values as v;
+ghost use Rattle.function_calls.specs.Ends.{Counted, EndIs, HasSinkCause, MeansLate, MeansLateAs};
 ghost use Rattle.probe_core.specs.Bench.{BenchState};
 ghost use Rattle.access_calls.specs.GoesOn.{GoesOn};
 ghost use Rattle.access_calls.specs.Left.{IsLeft};
 ghost use Rattle.access_calls.specs.Reported.{world_from};
-ghost use Rattle.sequence_terms.specs.Late.{late};
-ghost use Rattle.sequence_terms.specs.Known.{Knows};
-ghost use Rattle.late_calls.specs.Held.{seen};
+ghost use Rattle.sequence_rules.specs.Late.{late};
+ghost use Rattle.sequence_rules.specs.Known.{Knows};
+ghost use Rattle.function_calls.specs.Held.{seen};
 ghost use Rattle.control_flow.specs.Calls.{calls_of};
 
 use crate::runner::Runner;
 use access_calls::{Access, Stop};
-use call_terms::Value;
 use dap_base::Sink;
 use expr_grammar::{Arg, CalledName, Expr};
+use function_calls::{End, Held, make_call, use_values};
 use function_table::Function;
-use late_calls::{End, Held, numbers_of, performed};
-use sequence_code::CheckedStep;
-use sequence_terms::text_of;
+use sequence_rules::text_of;
+use sequence_trees::CheckedStep;
+use target_calls::Value;
 
 impl Runner<'_> {
     // An argument is evaluated; a text is none.
     #[cycle(eval)]
-    #[tactic(auto, unfolding(sequence_terms::specs::Values::argument), using(crate::proofs::Exits::goes_on))]
-    fn argument<A: Access, K: Sink>(
+    #[tactic(auto, unfolding(sequence_rules::specs::Values::argument), using(crate::proofs::Exits::goes_on))]
+    fn evaluate_argument<A: Access, K: Sink>(
         &self,
         arg: &Arg,
         values: &mut Vec<Value>,
@@ -42,7 +42,7 @@ impl Runner<'_> {
         requires open { (A.reported access.old).end ≡ None }
         requires counted { held.old.units ≡ length (A.reported access.old).asks.calls }
         ensures gives { (m : BenchState) (answered : Option ℕ) (known : Bool) → A.begun access.old m → IsLeft (A.reported access.new) answered → Knows known (K.written sink.old)
-            → GivesAs (world_from m answered) (A.reported access.new).lines values.new.items result (seen known held.new (A.reported access.new).asks (K.written sink.new)) (v.argument (late A.cost (world_from m answered)) (calls_of A.cost (world_from m answered) self.now depth) (arg_tree arg.now) values.old.items (seen known held.old (A.reported access.old).asks (K.written sink.old))) }
+            → MeansLateAs (world_from m answered) (A.reported access.new).lines values.new.items result (seen known held.new (A.reported access.new).asks (K.written sink.new)) (v.argument (late A.cost (world_from m answered)) (calls_of A.cost (world_from m answered) self.now depth) (arg_tree arg.now) values.old.items (seen known held.old (A.reported access.old).asks (K.written sink.old))) }
         ensures knows { (known : Bool) → Knows known (K.written sink.old) → Knows known (K.written sink.new) }
         ensures counted { Counted result held.new.units (A.reported access.new).asks.calls }
         ensures end { EndIs result (A.reported access.new).end }
@@ -60,7 +60,7 @@ impl Runner<'_> {
 
     // A value after others.
     #[cycle(eval)]
-    #[tactic(auto, unfolding(sequence_terms::specs::Values::appended), using(crate::proofs::Exits::goes_on))]
+    #[tactic(auto, unfolding(sequence_rules::specs::Values::appended), using(crate::proofs::Exits::goes_on))]
     fn push_value<A: Access, K: Sink>(
         &self,
         expr: &Expr,
@@ -73,7 +73,7 @@ impl Runner<'_> {
         requires open { (A.reported access.old).end ≡ None }
         requires counted { held.old.units ≡ length (A.reported access.old).asks.calls }
         ensures gives { (m : BenchState) (answered : Option ℕ) (known : Bool) → A.begun access.old m → IsLeft (A.reported access.new) answered → Knows known (K.written sink.old)
-            → GivesAs (world_from m answered) (A.reported access.new).lines values.new.items result (seen known held.new (A.reported access.new).asks (K.written sink.new)) (v.appended (late A.cost (world_from m answered)) values.old.items (v.value (late A.cost (world_from m answered)) (calls_of A.cost (world_from m answered) self.now depth) (tree expr.now) (seen known held.old (A.reported access.old).asks (K.written sink.old)))) }
+            → MeansLateAs (world_from m answered) (A.reported access.new).lines values.new.items result (seen known held.new (A.reported access.new).asks (K.written sink.new)) (v.appended (late A.cost (world_from m answered)) values.old.items (v.value (late A.cost (world_from m answered)) (calls_of A.cost (world_from m answered) self.now depth) (tree expr.now) (seen known held.old (A.reported access.old).asks (K.written sink.old)))) }
         ensures knows { (known : Bool) → Knows known (K.written sink.old) → Knows known (K.written sink.new) }
         ensures counted { Counted result held.new.units (A.reported access.new).asks.calls }
         ensures end { EndIs result (A.reported access.new).end }
@@ -83,7 +83,7 @@ impl Runner<'_> {
         ensures identity { A.identity access.new ≡ A.identity access.old }
         ensures goes { GoesOn (A.reported access.old) (A.reported access.new) }
     {
-        let value = match self.value(expr, depth, held, access, sink) {
+        let value = match self.evaluate(expr, depth, held, access, sink) {
             Ok(value) => value,
             Err(end) => return Err(end),
         };
@@ -95,8 +95,8 @@ impl Runner<'_> {
 
     // The arguments of a call, in order.
     #[cycle(eval)]
-    #[tactic(auto, unfolding(sequence_terms::specs::Values::arguments), using(crate::proofs::Exits::goes_on))]
-    fn arguments<A: Access, K: Sink>(
+    #[tactic(auto, unfolding(sequence_rules::specs::Values::arguments), using(crate::proofs::Exits::goes_on))]
+    fn evaluate_arguments<A: Access, K: Sink>(
         &self,
         args: &[Arg],
         values: &mut Vec<Value>,
@@ -108,7 +108,7 @@ impl Runner<'_> {
         requires open { (A.reported access.old).end ≡ None }
         requires counted { held.old.units ≡ length (A.reported access.old).asks.calls }
         ensures gives { (m : BenchState) (answered : Option ℕ) (known : Bool) → A.begun access.old m → IsLeft (A.reported access.new) answered → Knows known (K.written sink.old)
-            → GivesAs (world_from m answered) (A.reported access.new).lines values.new.items result (seen known held.new (A.reported access.new).asks (K.written sink.new)) (v.arguments (late A.cost (world_from m answered)) (calls_of A.cost (world_from m answered) self.now depth) (arg_trees args.now) values.old.items (seen known held.old (A.reported access.old).asks (K.written sink.old))) }
+            → MeansLateAs (world_from m answered) (A.reported access.new).lines values.new.items result (seen known held.new (A.reported access.new).asks (K.written sink.new)) (v.arguments (late A.cost (world_from m answered)) (calls_of A.cost (world_from m answered) self.now depth) (arg_trees args.now) values.old.items (seen known held.old (A.reported access.old).asks (K.written sink.old))) }
         ensures knows { (known : Bool) → Knows known (K.written sink.old) → Knows known (K.written sink.new) }
         ensures counted { Counted result held.new.units (A.reported access.new).asks.calls }
         ensures end { EndIs result (A.reported access.new).end }
@@ -119,7 +119,7 @@ impl Runner<'_> {
         ensures goes { GoesOn (A.reported access.old) (A.reported access.new) }
     {
         for arg in args {
-            match self.argument(arg, values, depth, held, access, sink) {
+            match self.evaluate_argument(arg, values, depth, held, access, sink) {
                 Ok(()) => {}
                 Err(end) => return Err(end),
             }
@@ -129,7 +129,7 @@ impl Runner<'_> {
 
     // A call: its arguments are evaluated, and then all are used, and then the function is called.
     #[cycle(eval)]
-    #[tactic(auto, unfolding(sequence_terms::specs::Values::call_of, sequence_terms::specs::Values::numbers_of, sequence_terms::specs::Calls::guarded), using(crate::proofs::Exits::goes_on))]
+    #[tactic(auto, unfolding(sequence_rules::specs::Values::call_of, sequence_rules::specs::Values::numbers_of, sequence_rules::specs::Calls::guarded), using(crate::proofs::Exits::goes_on))]
     pub(crate) fn call<A: Access, K: Sink>(
         &self,
         called: &CalledName,
@@ -142,7 +142,7 @@ impl Runner<'_> {
         requires open { (A.reported access.old).end ≡ None }
         requires counted { held.old.units ≡ length (A.reported access.old).asks.calls }
         ensures gives { (m : BenchState) (answered : Option ℕ) (known : Bool) → A.begun access.old m → IsLeft (A.reported access.new) answered → Knows known (K.written sink.old)
-            → Gives (world_from m answered) (A.reported access.new).lines result (seen known held.new (A.reported access.new).asks (K.written sink.new)) (v.call_of (late A.cost (world_from m answered)) (calls_of A.cost (world_from m answered) self.now depth) called.now.name (arg_trees args.now) (v.arguments (late A.cost (world_from m answered)) (calls_of A.cost (world_from m answered) self.now depth) (arg_trees args.now) [] (seen known held.old (A.reported access.old).asks (K.written sink.old)))) }
+            → MeansLate (world_from m answered) (A.reported access.new).lines result (seen known held.new (A.reported access.new).asks (K.written sink.new)) (v.call_of (late A.cost (world_from m answered)) (calls_of A.cost (world_from m answered) self.now depth) called.now.name (arg_trees args.now) (v.arguments (late A.cost (world_from m answered)) (calls_of A.cost (world_from m answered) self.now depth) (arg_trees args.now) [] (seen known held.old (A.reported access.old).asks (K.written sink.old)))) }
         ensures knows { (known : Bool) → Knows known (K.written sink.old) → Knows known (K.written sink.new) }
         ensures counted { Counted result held.new.units (A.reported access.new).asks.calls }
         ensures end { EndIs result (A.reported access.new).end }
@@ -153,15 +153,15 @@ impl Runner<'_> {
         ensures goes { GoesOn (A.reported access.old) (A.reported access.new) }
     {
         let mut values = Vec::new(self.alloc);
-        match self.arguments(args, &mut values, depth, held, access, sink) {
+        match self.evaluate_arguments(args, &mut values, depth, held, access, sink) {
             Ok(()) => {}
             Err(end) => return Err(end),
         }
-        let numbers = match numbers_of(self.alloc, values.as_slice(), access) {
+        let numbers = match use_values(self.alloc, values.as_slice(), access) {
             Ok(numbers) => numbers,
             Err(end) => return Err(end),
         };
-        self.called(
+        self.call_function(
             called.function,
             text_of(args),
             numbers.as_slice(),
@@ -174,8 +174,8 @@ impl Runner<'_> {
 
     // The function of a call.
     #[cycle(eval)]
-    #[tactic(auto, unfolding(sequence_terms::specs::Values::called, sequence_terms::specs::Calls::missing), using(crate::proofs::Exits::goes_on))]
-    fn called<A: Access, K: Sink>(
+    #[tactic(auto, unfolding(sequence_rules::specs::Values::call_result, sequence_rules::specs::Calls::missing), using(crate::proofs::Exits::goes_on))]
+    fn call_function<A: Access, K: Sink>(
         &self,
         function: Option<Function>,
         text: &str,
@@ -188,7 +188,7 @@ impl Runner<'_> {
         requires open { (A.reported access.old).end ≡ None }
         requires counted { held.old.units ≡ length (A.reported access.old).asks.calls }
         ensures gives { (m : BenchState) (answered : Option ℕ) (known : Bool) → A.begun access.old m → IsLeft (A.reported access.new) answered → Knows known (K.written sink.old)
-            → Gives (world_from m answered) (A.reported access.new).lines result (seen known held.new (A.reported access.new).asks (K.written sink.new)) (v.called (late A.cost (world_from m answered)) (calls_of A.cost (world_from m answered) self.now depth) function text.now numbers.now (seen known held.old (A.reported access.old).asks (K.written sink.old))) }
+            → MeansLate (world_from m answered) (A.reported access.new).lines result (seen known held.new (A.reported access.new).asks (K.written sink.new)) (v.call_result (late A.cost (world_from m answered)) (calls_of A.cost (world_from m answered) self.now depth) function text.now numbers.now (seen known held.old (A.reported access.old).asks (K.written sink.old))) }
         ensures knows { (known : Bool) → Knows known (K.written sink.old) → Knows known (K.written sink.new) }
         ensures counted { Counted result held.new.units (A.reported access.new).asks.calls }
         ensures end { EndIs result (A.reported access.new).end }
@@ -200,15 +200,15 @@ impl Runner<'_> {
     {
         match function {
             None => Ok(Value::Number(0)),
-            Some(Function::Sequence) => self.sequence_call(text, depth, held, access, sink),
-            Some(function) => performed(function, text, numbers, self.alloc, held, access, sink),
+            Some(Function::Sequence) => self.call_sequence(text, depth, held, access, sink),
+            Some(function) => make_call(function, text, numbers, self.alloc, held, access, sink),
         }
     }
 
     // A call of a sequence.
     #[cycle(eval)]
-    #[tactic(auto, unfolding(sequence_terms::specs::Values::called), using(crate::proofs::Exits::goes_on))]
-    fn sequence_call<A: Access, K: Sink>(
+    #[tactic(auto, unfolding(sequence_rules::specs::Values::call_result), using(crate::proofs::Exits::goes_on))]
+    fn call_sequence<A: Access, K: Sink>(
         &self,
         name: &str,
         depth: u32,
@@ -219,7 +219,7 @@ impl Runner<'_> {
         requires open { (A.reported access.old).end ≡ None }
         requires counted { held.old.units ≡ length (A.reported access.old).asks.calls }
         ensures gives { (m : BenchState) (answered : Option ℕ) (known : Bool) → A.begun access.old m → IsLeft (A.reported access.new) answered → Knows known (K.written sink.old)
-            → Gives (world_from m answered) (A.reported access.new).lines result (seen known held.new (A.reported access.new).asks (K.written sink.new)) (v.called (late A.cost (world_from m answered)) (calls_of A.cost (world_from m answered) self.now depth) (Some Function.Sequence) name.now [] (seen known held.old (A.reported access.old).asks (K.written sink.old))) }
+            → MeansLate (world_from m answered) (A.reported access.new).lines result (seen known held.new (A.reported access.new).asks (K.written sink.new)) (v.call_result (late A.cost (world_from m answered)) (calls_of A.cost (world_from m answered) self.now depth) (Some Function.Sequence) name.now [] (seen known held.old (A.reported access.old).asks (K.written sink.old))) }
         ensures knows { (known : Bool) → Knows known (K.written sink.old) → Knows known (K.written sink.new) }
         ensures counted { Counted result held.new.units (A.reported access.new).asks.calls }
         ensures end { EndIs result (A.reported access.new).end }
@@ -229,7 +229,7 @@ impl Runner<'_> {
         ensures identity { A.identity access.new ≡ A.identity access.old }
         ensures goes { GoesOn (A.reported access.old) (A.reported access.new) }
     {
-        match self.sequence(name, depth, held, access, sink) {
+        match self.run_named(name, depth, held, access, sink) {
             Ok(()) => Ok(Value::Number(0)),
             Err(end) => Err(end),
         }
@@ -237,8 +237,8 @@ impl Runner<'_> {
 
     // The sequence of the name.
     #[cycle(eval)]
-    #[tactic(auto, unfolding(sequence_terms::specs::Steps::sequence_at, sequence_terms::specs::Calls::missing), using(crate::proofs::Exits::goes_on))]
-    pub(crate) fn sequence<A: Access, K: Sink>(
+    #[tactic(auto, unfolding(sequence_rules::specs::Steps::sequence_at, sequence_rules::specs::Calls::missing), using(crate::proofs::Exits::goes_on))]
+    pub(crate) fn run_named<A: Access, K: Sink>(
         &self,
         name: &str,
         depth: u32,
@@ -249,7 +249,7 @@ impl Runner<'_> {
         requires open { (A.reported access.old).end ≡ None }
         requires counted { held.old.units ≡ length (A.reported access.old).asks.calls }
         ensures gives { (m : BenchState) (answered : Option ℕ) (known : Bool) → A.begun access.old m → IsLeft (A.reported access.new) answered → Knows known (K.written sink.old)
-            → Gives (world_from m answered) (A.reported access.new).lines result (seen known held.new (A.reported access.new).asks (K.written sink.new)) ((calls_of A.cost (world_from m answered) self.now depth) name.now (seen known held.old (A.reported access.old).asks (K.written sink.old))) }
+            → MeansLate (world_from m answered) (A.reported access.new).lines result (seen known held.new (A.reported access.new).asks (K.written sink.new)) ((calls_of A.cost (world_from m answered) self.now depth) name.now (seen known held.old (A.reported access.old).asks (K.written sink.old))) }
         ensures knows { (known : Bool) → Knows known (K.written sink.old) → Knows known (K.written sink.new) }
         ensures counted { Counted result held.new.units (A.reported access.new).asks.calls }
         ensures end { EndIs result (A.reported access.new).end }
@@ -262,7 +262,7 @@ impl Runner<'_> {
         if depth == 0 {
             return Ok(());
         }
-        self.entered(self.steps_of(name), depth - 1, held, access, sink)
+        self.run_sequence(self.steps_of(name), depth - 1, held, access, sink)
     }
 
     // The steps of the sequence of the name, none where the set does not have it.
@@ -278,8 +278,8 @@ impl Runner<'_> {
     // The steps of a called sequence. After them the caller has its variables again, and its `__dp`, `__ap` and `__errorcontrol`;
     // none of these is used.
     #[cycle(eval)]
-    #[tactic(auto, unfolding(sequence_terms::specs::Steps::entered), using(crate::proofs::Exits::goes_on))]
-    fn entered<A: Access, K: Sink>(
+    #[tactic(auto, unfolding(sequence_rules::specs::Steps::sequence_result), using(crate::proofs::Exits::goes_on))]
+    fn run_sequence<A: Access, K: Sink>(
         &self,
         steps: &[CheckedStep],
         depth: u32,
@@ -290,7 +290,7 @@ impl Runner<'_> {
         requires open { (A.reported access.old).end ≡ None }
         requires counted { held.old.units ≡ length (A.reported access.old).asks.calls }
         ensures gives { (m : BenchState) (answered : Option ℕ) (known : Bool) → A.begun access.old m → IsLeft (A.reported access.new) answered → Knows known (K.written sink.old)
-            → Gives (world_from m answered) (A.reported access.new).lines result (seen known held.new (A.reported access.new).asks (K.written sink.new)) (st.entered (late A.cost (world_from m answered)) (st.done (late A.cost (world_from m answered)) self.now.turn_us (calls_of A.cost (world_from m answered) self.now depth) (steps_tree steps.now)) (seen known held.old (A.reported access.old).asks (K.written sink.old))) }
+            → MeansLate (world_from m answered) (A.reported access.new).lines result (seen known held.new (A.reported access.new).asks (K.written sink.new)) (st.sequence_result (late A.cost (world_from m answered)) (st.steps_result (late A.cost (world_from m answered)) self.now.turn_us (calls_of A.cost (world_from m answered) self.now depth) (steps_tree steps.now)) (seen known held.old (A.reported access.old).asks (K.written sink.old))) }
         ensures knows { (known : Bool) → Knows known (K.written sink.old) → Knows known (K.written sink.new) }
         ensures counted { Counted result held.new.units (A.reported access.new).asks.calls }
         ensures end { EndIs result (A.reported access.new).end }
@@ -300,11 +300,11 @@ impl Runner<'_> {
         ensures identity { A.identity access.new ≡ A.identity access.old }
         ensures goes { GoesOn (A.reported access.old) (A.reported access.new) }
     {
-        let dp = held.global("__dp");
-        let ap = held.global("__ap");
-        let control = held.global("__errorcontrol");
+        let dp = held.get_global("__dp");
+        let ap = held.get_global("__ap");
+        let control = held.get_global("__errorcontrol");
         let locals = held.take_locals(self.alloc);
-        match self.done(steps, depth, held, access, sink) {
+        match self.run_steps(steps, depth, held, access, sink) {
             Ok(()) => {
                 held.give_back(dp, ap, control, locals);
                 Ok(())

@@ -1,33 +1,33 @@
 //! How a run is closed.
 ghost use Rattle.std.specs.Prelude.{◌≡◌, [], ℕ, List, Option, None, OnOk, IfOk, IfErr, length};
 ghost use Rattle.probe_core.specs.Bench.{BenchState};
-ghost use Rattle.call_terms.specs.Values.{IsAsked, number_of};
+ghost use Rattle.target_calls.specs.Values.{IsAsked, number_of};
 ghost use Rattle.access_calls.specs.Answers.{StopsCalls};
 ghost use Rattle.access_calls.specs.GoesOn.{GoesOn};
 ghost use Rattle.access_calls.specs.Left.{IsLeft, answered_by};
 ghost use Rattle.access_calls.specs.Reported.{world_from};
-ghost use Rattle.sequence_terms.specs.Direct.{Now};
-ghost use Rattle.sequence_terms.specs.Late.{Late};
-ghost use Rattle.sequence_terms.specs.Laws.{Pair};
-ghost use Rattle.sequence_terms.specs.Machine.{Out};
-ghost use Rattle.sequence_terms.specs.Runs.{outcome_of};
-ghost use Rattle.sequence_terms.specs.Shared.{bindings_of};
-ghost use Rattle.late_calls.specs.Ends.{EndsBy};
-ghost use Rattle.late_calls.specs.Held.{state_of};
-ghost use Rattle.control_flow.specs.Answers.{EndBy, EndsAs, HasNeeds, ran, variables_of};
-ghost use Rattle.control_flow.specs.Closing.{AreAsked, ComesToEnd, NoWriteFault, OutIs, ending_of, numbers_in};
+ghost use Rattle.sequence_rules.specs.Direct.{Now};
+ghost use Rattle.sequence_rules.specs.Late.{Late};
+ghost use Rattle.sequence_rules.specs.Laws.{Pair};
+ghost use Rattle.sequence_rules.specs.Machine.{Out};
+ghost use Rattle.sequence_rules.specs.Runs.{outcome_of, variables_of};
+ghost use Rattle.sequence_rules.specs.Shared.{bindings_of};
+ghost use Rattle.function_calls.specs.Ends.{EndsBy};
+ghost use Rattle.function_calls.specs.Held.{state_of};
+ghost use Rattle.control_flow.specs.Answers.{EndBy, EndsAs, HasNeeds, ran};
+ghost use Rattle.control_flow.specs.Closing.{AreAsked, ComesToEnd, NoWriteFault, OutIs, numbers_in};
 
 use access_calls::{Access, Ended, Ending, Stop};
-use call_terms::Value;
 use dap_base::NameText;
-use late_calls::Held;
-use sequence_terms::Globals;
+use function_calls::Held;
+use sequence_rules::Globals;
 use std::alloc::Global;
+use target_calls::Value;
 use target_machine::{Variable, Variables};
 
 // The number of a value.
 #[tactic(auto, using(crate::proofs::EndRules::ending))]
-fn number<A: Access>(value: Value, access: &mut A) -> Result<u64, Stop>
+fn look_up<A: Access>(value: Value, access: &mut A) -> Result<u64, Stop>
     requires open { (A.reported access.old).end ≡ None }
     ensures value { (m : BenchState) (answered : Option ℕ) → A.begun access.old m → IsLeft (A.reported access.new) answered
         → IfOk result (λ n. n ≡ number_of (world_from m answered) (A.reported access.old).asks.calls value) }
@@ -49,7 +49,7 @@ fn number<A: Access>(value: Value, access: &mut A) -> Result<u64, Stop>
 
 // The variables that all sequences share, with their numbers.
 #[tactic(auto, using(crate::proofs::EndRules::ending))]
-fn variables<A: Access>(
+fn look_up_variables<A: Access>(
     alloc: Global,
     globals: &Globals<Value>,
     access: &mut A,
@@ -76,7 +76,7 @@ fn variables<A: Access>(
         let Ok(name) = NameText::new(alloc, name) else {
             return Err(Stop::OutOfMemory);
         };
-        let value = match number(value, access) {
+        let value = match look_up(value, access) {
             Ok(value) => value,
             Err(stop) => return Err(stop),
         };
@@ -89,20 +89,8 @@ fn variables<A: Access>(
     Ok(variables)
 }
 
-// How a run ends by a stop.
-pub(crate) fn ending_of(stop: Stop) -> Ending
-    ensures { result ≡ ending_of stop }
-{
-    match stop {
-        Stop::Cut(report) => Ending::Cut(report),
-        Stop::BenchFault { issued, confirmed } => Ending::BenchFault { issued, confirmed },
-        Stop::ReplyBad => Ending::ReplyBad,
-        Stop::OutOfMemory => Ending::OutOfMemory,
-    }
-}
-
 // The answer of a run that was left.
-pub(crate) fn left(alloc: Global, ending: Ending, units: u32, skipped: u32) -> Ended
+pub(crate) fn ended_early(alloc: Global, ending: Ending, units: u32, skipped: u32) -> Ended
     ensures ending { result.ending ≡ ending }
     ensures units { result.units ≡ units }
     ensures skipped { result.skipped ≡ skipped }
@@ -118,7 +106,7 @@ pub(crate) fn left(alloc: Global, ending: Ending, units: u32, skipped: u32) -> E
 
 // The answer of a run that comes to its end: all calls are made and settled, and the variables looked up.
 #[tactic(auto, using(crate::proofs::EndRules::ending))]
-pub(crate) fn finished<A: Access>(
+pub(crate) fn ended_whole<A: Access>(
     alloc: Global,
     ending: Ending,
     held: &Held,
@@ -138,15 +126,15 @@ pub(crate) fn finished<A: Access>(
 {
     match access.finish() {
         Ok(()) => {}
-        Err(stop) => return left(alloc, ending_of(stop), held.units, access.skipped()),
+        Err(stop) => return ended_early(alloc, Ending::from(stop), held.units, access.skipped()),
     }
-    match variables(alloc, &held.globals, access) {
+    match look_up_variables(alloc, &held.globals, access) {
         Ok(variables) => Ended {
             ending,
             units: held.units,
             skipped: access.skipped(),
             variables,
         },
-        Err(stop) => left(alloc, ending_of(stop), held.units, access.skipped()),
+        Err(stop) => ended_early(alloc, Ending::from(stop), held.units, access.skipped()),
     }
 }

@@ -6,18 +6,19 @@ ghost use Rattle.access_calls.specs.GoesOn.{GoesOn};
 ghost use Rattle.access_calls.specs.Left.{IsLeft};
 ghost use Rattle.access_calls.specs.Reported.{world_from};
 ghost use Rattle.seq_check.specs.Answers.{checked_trees};
-ghost use Rattle.sequence_terms.specs.Late.{late};
-ghost use Rattle.sequence_terms.specs.Steps as st;
-ghost use Rattle.late_calls.specs.Ends.{Counted, EndIs, Gives, HasSinkCause};
-ghost use Rattle.sequence_terms.specs.Known.{Knows};
-ghost use Rattle.late_calls.specs.Held.{seen};
+ghost use Rattle.sequence_rules.specs.Late.{late};
+ghost use Rattle.sequence_rules.specs.Steps as st;
+ghost use Rattle.function_calls.specs.Ends.{Counted, EndIs, HasSinkCause, MeansLate};
+ghost use Rattle.sequence_rules.specs.Known.{Knows};
+ghost use Rattle.function_calls.specs.Held.{seen};
 ghost use Rattle.control_flow.specs.Calls.{debugged_one, defined};
 
 use crate::runner::Runner;
 use access_calls::Access;
 use dap_base::Sink;
 use expr_grammar::{Expr, Name, Stmt};
-use late_calls::{End, Held};
+use function_calls::{End, Held};
+use sequence_rules::MOST_CALLS_DEEP;
 
 impl Runner<'_> {
     // A debug variable gets its value, which is not used.
@@ -33,7 +34,7 @@ impl Runner<'_> {
         requires open { (A.reported access.old).end ≡ None }
         requires counted { held.old.units ≡ length (A.reported access.old).asks.calls }
         ensures gives { (m : BenchState) (answered : Option ℕ) (known : Bool) → A.begun access.old m → IsLeft (A.reported access.new) answered → Knows known (K.written sink.old)
-            → Gives (world_from m answered) (A.reported access.new).lines result (seen known held.new (A.reported access.new).asks (K.written sink.new)) (defined A.cost (world_from m answered) self.now.turn_us (checked_trees self.now.set.now) name.now (tree expr.now) (seen known held.old (A.reported access.old).asks (K.written sink.old))) }
+            → MeansLate (world_from m answered) (A.reported access.new).lines result (seen known held.new (A.reported access.new).asks (K.written sink.new)) (defined A.cost (world_from m answered) self.now.turn_us (checked_trees self.now.set.now) name.now (tree expr.now) (seen known held.old (A.reported access.old).asks (K.written sink.old))) }
         ensures knows { (known : Bool) → Knows known (K.written sink.old) → Knows known (K.written sink.new) }
         ensures counted { Counted result held.new.units (A.reported access.new).asks.calls }
         ensures end { EndIs result (A.reported access.new).end }
@@ -43,7 +44,7 @@ impl Runner<'_> {
         ensures identity { A.identity access.new ≡ A.identity access.old }
         ensures goes { GoesOn (A.reported access.old) (A.reported access.new) }
     {
-        let value = match self.value(expr, 0, held, access, sink) {
+        let value = match self.evaluate(expr, 0, held, access, sink) {
             Ok(value) => value,
             Err(end) => return Err(end),
         };
@@ -53,7 +54,7 @@ impl Runner<'_> {
 
     // A statement of the debug variables.
     #[tactic(auto, using(crate::proofs::Exits::goes_on))]
-    fn debug_one<A: Access, K: Sink>(
+    fn define_one<A: Access, K: Sink>(
         &self,
         one: &Stmt,
         held: &mut Held,
@@ -63,7 +64,7 @@ impl Runner<'_> {
         requires open { (A.reported access.old).end ≡ None }
         requires counted { held.old.units ≡ length (A.reported access.old).asks.calls }
         ensures gives { (m : BenchState) (answered : Option ℕ) (known : Bool) → A.begun access.old m → IsLeft (A.reported access.new) answered → Knows known (K.written sink.old)
-            → Gives (world_from m answered) (A.reported access.new).lines result (seen known held.new (A.reported access.new).asks (K.written sink.new)) (debugged_one A.cost (world_from m answered) self.now.turn_us (checked_trees self.now.set.now) (stmt_tree one.now) (seen known held.old (A.reported access.old).asks (K.written sink.old))) }
+            → MeansLate (world_from m answered) (A.reported access.new).lines result (seen known held.new (A.reported access.new).asks (K.written sink.new)) (debugged_one A.cost (world_from m answered) self.now.turn_us (checked_trees self.now.set.now) (stmt_tree one.now) (seen known held.old (A.reported access.old).asks (K.written sink.old))) }
         ensures knows { (known : Bool) → Knows known (K.written sink.old) → Knows known (K.written sink.new) }
         ensures counted { Counted result held.new.units (A.reported access.new).asks.calls }
         ensures end { EndIs result (A.reported access.new).end }
@@ -81,7 +82,7 @@ impl Runner<'_> {
 
     // The debug variables get their values, in order.
     #[tactic(auto, using(crate::proofs::Exits::goes_on))]
-    fn debug<A: Access, K: Sink>(
+    fn define_all<A: Access, K: Sink>(
         &self,
         code: &[Stmt],
         held: &mut Held,
@@ -91,7 +92,7 @@ impl Runner<'_> {
         requires open { (A.reported access.old).end ≡ None }
         requires counted { held.old.units ≡ length (A.reported access.old).asks.calls }
         ensures gives { (m : BenchState) (answered : Option ℕ) (known : Bool) → A.begun access.old m → IsLeft (A.reported access.new) answered → Knows known (K.written sink.old)
-            → Gives (world_from m answered) (A.reported access.new).lines result (seen known held.new (A.reported access.new).asks (K.written sink.new)) (st.debugged (late A.cost (world_from m answered)) self.now.turn_us (checked_trees self.now.set.now) (code_trees code.now) (seen known held.old (A.reported access.old).asks (K.written sink.old))) }
+            → MeansLate (world_from m answered) (A.reported access.new).lines result (seen known held.new (A.reported access.new).asks (K.written sink.new)) (st.debugged (late A.cost (world_from m answered)) self.now.turn_us (checked_trees self.now.set.now) (code_trees code.now) (seen known held.old (A.reported access.old).asks (K.written sink.old))) }
         ensures knows { (known : Bool) → Knows known (K.written sink.old) → Knows known (K.written sink.new) }
         ensures counted { Counted result held.new.units (A.reported access.new).asks.calls }
         ensures end { EndIs result (A.reported access.new).end }
@@ -102,7 +103,7 @@ impl Runner<'_> {
         ensures goes { GoesOn (A.reported access.old) (A.reported access.new) }
     {
         for one in code {
-            match self.debug_one(one, held, access, sink) {
+            match self.define_one(one, held, access, sink) {
                 Ok(()) => {}
                 Err(end) => return Err(end),
             }
@@ -111,8 +112,8 @@ impl Runner<'_> {
     }
 
     // A run: the debug variables, and then the sequence of the name, in a chain of at most 32 sequences.
-    #[tactic(auto, unfolding(sequence_terms::specs::Steps::run_of), using(crate::proofs::Exits::goes_on))]
-    pub(crate) fn evaluate<A: Access, K: Sink>(
+    #[tactic(auto, unfolding(sequence_rules::specs::Steps::run_of), using(crate::proofs::Exits::goes_on))]
+    pub(crate) fn run_all<A: Access, K: Sink>(
         &self,
         start: &str,
         held: &mut Held,
@@ -122,7 +123,7 @@ impl Runner<'_> {
         requires open { (A.reported access.old).end ≡ None }
         requires counted { held.old.units ≡ length (A.reported access.old).asks.calls }
         ensures gives { (m : BenchState) (answered : Option ℕ) (known : Bool) → A.begun access.old m → IsLeft (A.reported access.new) answered → Knows known (K.written sink.old)
-            → Gives (world_from m answered) (A.reported access.new).lines result (seen known held.new (A.reported access.new).asks (K.written sink.new)) (st.run_of (late A.cost (world_from m answered)) self.now.turn_us (checked_trees self.now.set.now) start.now (seen known held.old (A.reported access.old).asks (K.written sink.old))) }
+            → MeansLate (world_from m answered) (A.reported access.new).lines result (seen known held.new (A.reported access.new).asks (K.written sink.new)) (st.run_of (late A.cost (world_from m answered)) self.now.turn_us (checked_trees self.now.set.now) start.now (seen known held.old (A.reported access.old).asks (K.written sink.old))) }
         ensures knows { (known : Bool) → Knows known (K.written sink.old) → Knows known (K.written sink.new) }
         ensures counted { Counted result held.new.units (A.reported access.new).asks.calls }
         ensures end { EndIs result (A.reported access.new).end }
@@ -132,10 +133,10 @@ impl Runner<'_> {
         ensures identity { A.identity access.new ≡ A.identity access.old }
         ensures goes { GoesOn (A.reported access.old) (A.reported access.new) }
     {
-        match self.debug(self.set.debugvars().as_slice(), held, access, sink) {
+        match self.define_all(self.set.debugvars().as_slice(), held, access, sink) {
             Ok(()) => {}
             Err(end) => return Err(end),
         }
-        self.done(self.steps_of(start), 31, held, access, sink)
+        self.run_steps(self.steps_of(start), MOST_CALLS_DEEP, held, access, sink)
     }
 }

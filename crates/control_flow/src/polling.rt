@@ -4,18 +4,18 @@ ghost use Rattle.probe_core.specs.Bench.{BenchState};
 ghost use Rattle.access_calls.specs.GoesOn.{GoesOn};
 ghost use Rattle.access_calls.specs.Left.{IsLeft};
 ghost use Rattle.access_calls.specs.Reported.{world_from};
-ghost use Rattle.sequence_terms.specs.Late.{late};
-ghost use Rattle.sequence_terms.specs.Steps as st;
-ghost use Rattle.late_calls.specs.Ends.{Counted, EndIs, Gives, NoWriteFault};
-ghost use Rattle.late_calls.specs.Held.{state_of};
+ghost use Rattle.sequence_rules.specs.Late.{late};
+ghost use Rattle.sequence_rules.specs.Steps as st;
+ghost use Rattle.function_calls.specs.Ends.{Counted, EndIs, MeansLate, NoWriteFault};
+ghost use Rattle.function_calls.specs.Held.{state_of};
 
 use access_calls::Access;
-use late_calls::{End, Held, ask, debug_port};
+use function_calls::{End, Held, ask, use_debug_port};
 use target_machine::{HaltCause, Unit};
 
 // One unit, whose result is dropped.
-#[tactic(auto, unfolding(sequence_terms::specs::Steps::polled_at, sequence_terms::specs::Steps::dropped), using(crate::proofs::Exits::goes_on))]
-fn polled_at<A: Access>(
+#[tactic(auto, unfolding(sequence_rules::specs::Steps::poll_result_at, sequence_rules::specs::Steps::dropped), using(crate::proofs::Exits::goes_on))]
+fn run_poll_at<A: Access>(
     mask: u32,
     requested: u32,
     count: u32,
@@ -28,7 +28,7 @@ fn polled_at<A: Access>(
     requires open { (A.reported access.old).end ≡ None }
     requires counted { held.old.units ≡ length (A.reported access.old).asks.calls }
     ensures gives { (m : BenchState) (answered : Option ℕ) (written : Option (List ℕ)) → A.begun access.old m → IsLeft (A.reported access.new) answered
-        → Gives (world_from m answered) (A.reported access.new).lines result (state_of held.new (A.reported access.new).asks written) (st.polled_at (late A.cost (world_from m answered)) (mask, requested) count dp (state_of held.old (A.reported access.old).asks written)) }
+        → MeansLate (world_from m answered) (A.reported access.new).lines result (state_of held.new (A.reported access.new).asks written) (st.poll_result_at (late A.cost (world_from m answered)) (mask, requested) count dp (state_of held.old (A.reported access.old).asks written)) }
     ensures counted { Counted result held.new.units (A.reported access.new).asks.calls }
     ensures end { EndIs result (A.reported access.new).end }
     ensures cause { NoWriteFault result }
@@ -52,8 +52,8 @@ fn polled_at<A: Access>(
 }
 
 // A poll is counted as a step, and uses `__dp`.
-#[tactic(auto, unfolding(sequence_terms::specs::Steps::polled), using(crate::proofs::Exits::goes_on))]
-pub(crate) fn polled<A: Access>(
+#[tactic(auto, unfolding(sequence_rules::specs::Steps::poll_result), using(crate::proofs::Exits::goes_on))]
+pub(crate) fn run_poll<A: Access>(
     mask: u32,
     requested: u32,
     count: u32,
@@ -65,7 +65,7 @@ pub(crate) fn polled<A: Access>(
     requires open { (A.reported access.old).end ≡ None }
     requires counted { held.old.units ≡ length (A.reported access.old).asks.calls }
     ensures gives { (m : BenchState) (answered : Option ℕ) (written : Option (List ℕ)) → A.begun access.old m → IsLeft (A.reported access.new) answered
-        → Gives (world_from m answered) (A.reported access.new).lines result (state_of held.new (A.reported access.new).asks written) (st.polled (late A.cost (world_from m answered)) (mask, requested) count (state_of held.old (A.reported access.old).asks written)) }
+        → MeansLate (world_from m answered) (A.reported access.new).lines result (state_of held.new (A.reported access.new).asks written) (st.poll_result (late A.cost (world_from m answered)) (mask, requested) count (state_of held.old (A.reported access.old).asks written)) }
     ensures counted { Counted result held.new.units (A.reported access.new).asks.calls }
     ensures end { EndIs result (A.reported access.new).end }
     ensures cause { NoWriteFault result }
@@ -78,8 +78,8 @@ pub(crate) fn polled<A: Access>(
         Ok(()) => {}
         Err(cause) => return Err(End::Halted(cause)),
     }
-    match debug_port(held, access) {
-        Ok(dp) => polled_at(mask, requested, count, dp, held, access),
+    match use_debug_port(held, access) {
+        Ok(dp) => run_poll_at(mask, requested, count, dp, held, access),
         Err(end) => Err(end),
     }
 }

@@ -2,20 +2,21 @@
 ghost use Rattle.std.specs.Prelude.{◌≡◌, ◌<◌, ℕ, Bool, List, Option, None, map};
 ghost use Rattle.function_table.specs.Variables.{predefined};
 ghost use Rattle.probe_core.specs.Bench.{BenchState};
-ghost use Rattle.call_terms.specs.NeedPoints.{nothing_asked};
+ghost use Rattle.target_calls.specs.NeedPoints.{nothing_asked};
 ghost use Rattle.access_calls.specs.GoesOn.{GoesOn};
 ghost use Rattle.access_calls.specs.Left.{answered_by};
 ghost use Rattle.access_calls.specs.Reported.{world_from};
-ghost use Rattle.sequence_terms.specs.Runs.{late_meaning, meaning, outcome_of};
-ghost use Rattle.sequence_terms.specs.Known.{Knows, known_part};
-ghost use Rattle.control_flow.specs.Answers.{EndBy, EndsAs, HasNeeds, HasSinkCause, program_of, ran};
+ghost use Rattle.seq_check.specs.Answers.{checked_trees};
+ghost use Rattle.sequence_rules.specs.Runs.{late_meaning, meaning, outcome_of, program_of};
+ghost use Rattle.sequence_rules.specs.Known.{Knows, known_part};
+ghost use Rattle.control_flow.specs.Answers.{EndBy, EndsAs, HasNeeds, HasSinkCause, ran};
 
-use crate::closing::{ending_of, finished, left};
+use crate::closing::{ended_early, ended_whole};
 use crate::runner::Runner;
 use crate::start::held_at_start;
 use access_calls::{Access, Ended, Ending};
 use dap_base::Sink;
-use late_calls::End;
+use function_calls::End;
 use seq_check::Checked;
 use std::alloc::Global;
 use target_machine::Settings;
@@ -45,12 +46,12 @@ pub fn run<A: Access, K: Sink>(
     // How it ended, what is answered, and the lines are those of what the program means in the world that is left.
     ensures answer { (m : BenchState) (known : Bool) → A.begun access.old m → Knows known (K.written sink.old)
         → EndsAs result.ending (A.reported access.new).lines
-        (outcome_of (meaning (world_from m (answered_by (A.reported access.new))) (program_of checked.now start.now settings.now) (known_part known (K.written sink.old))))
+        (outcome_of (meaning (world_from m (answered_by (A.reported access.new))) (program_of (checked_trees checked.now) start.now settings.now) (known_part known (K.written sink.old))))
         (ran result (A.reported access.new).asks (known_part known (K.written sink.new))) }
     // What was asked has the need points of the meaning with results that come later, and one for the end.
     ensures needs { (m : BenchState) (known : Bool) → A.begun access.old m → Knows known (K.written sink.old)
         → HasNeeds result.ending (A.reported access.new).asks
-        (late_meaning A.cost (world_from m (answered_by (A.reported access.new))) (program_of checked.now start.now settings.now) (known_part known (K.written sink.old))) }
+        (late_meaning A.cost (world_from m (answered_by (A.reported access.new))) (program_of (checked_trees checked.now) start.now settings.now) (known_part known (K.written sink.old))) }
     ensures end { EndBy result.ending (A.reported access.new).end }
     ensures skipped { result.skipped ≡ (A.reported access.new).skipped }
     ensures cause { HasSinkCause result.ending (K.faults sink.old) (K.faults sink.new) }
@@ -59,17 +60,27 @@ pub fn run<A: Access, K: Sink>(
     ensures goes { GoesOn (A.reported access.old) (A.reported access.new) }
 {
     let Ok(mut held) = held_at_start(alloc, checked, settings) else {
-        return left(alloc, Ending::OutOfMemory, 0, access.skipped());
+        return ended_early(alloc, Ending::OutOfMemory, 0, access.skipped());
     };
     let runner = Runner {
         alloc,
         set: checked,
         turn_us: settings.turn_us,
     };
-    match runner.evaluate(start, &mut held, access, sink) {
-        Ok(()) => finished(alloc, Ending::Done, &held, access),
-        Err(End::Halted(cause)) => finished(alloc, Ending::Halted(cause), &held, access),
-        Err(End::Stopped(stop)) => left(alloc, ending_of(stop), held.units, access.skipped()),
-        Err(End::WriteFault) => left(alloc, Ending::WriteFault, held.units, access.skipped()),
+    match runner.run_all(start, &mut held, access, sink) {
+        Ok(()) => ended_whole(alloc, Ending::Done, &held, access),
+        Err(End::Halted(cause)) => ended_whole(alloc, Ending::Halted(cause), &held, access),
+        Err(End::Stopped(stop)) => ended_early(
+            alloc,
+            Ending::from(stop),
+            held.units,
+            access.skipped(),
+        ),
+        Err(End::WriteFault) => ended_early(
+            alloc,
+            Ending::WriteFault,
+            held.units,
+            access.skipped(),
+        ),
     }
 }

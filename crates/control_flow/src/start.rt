@@ -1,31 +1,31 @@
 //! What a run starts with.
 ghost use Rattle.std.specs.Prelude.{◌≡◌, ◌∷◌, [], ℕ, List, Option, IfOk, OnOk, map};
-ghost use Rattle.call_terms.specs.NeedPoints.{Costs, nothing_asked};
-ghost use Rattle.call_terms.specs.World.{World};
-ghost use Rattle.call_terms.specs.declared.calls.Value.TheVariants.{Number};
+ghost use Rattle.target_calls.specs.NeedPoints.{Costs, nothing_asked};
+ghost use Rattle.target_calls.specs.World.{World};
+ghost use Rattle.target_calls.specs.declared.calls.Value.TheVariants.{Number};
 ghost use Rattle.expr_grammar.specs.Tree.{code_trees, stmt_tree};
 ghost use Rattle.function_table.specs.Variables.{predefined};
 ghost use Rattle.seq_check.specs.Answers.{checked_trees};
-ghost use Rattle.sequence_terms.specs.Late.{late, late_of};
-ghost use Rattle.sequence_terms.specs.Runs as r;
-ghost use Rattle.sequence_terms.specs.Shared.{bindings_of};
-ghost use Rattle.sequence_terms.specs.Steps.{declared_names, start_state};
-ghost use Rattle.sequence_terms.specs.Variables.{with_all_new};
-ghost use Rattle.late_calls.specs.Held.{state_of};
-ghost use Rattle.control_flow.specs.Answers.{variables_of};
+ghost use Rattle.sequence_rules.specs.Late.{late, late_of};
+ghost use Rattle.sequence_rules.specs.Runs as r;
+ghost use Rattle.sequence_rules.specs.Shared.{bindings_of};
+ghost use Rattle.sequence_rules.specs.Steps.{declared_names, start_state};
+ghost use Rattle.sequence_rules.specs.Variables.{with_all_new};
+ghost use Rattle.function_calls.specs.Held.{state_of};
+ghost use Rattle.sequence_rules.specs.Runs.{variables_of};
 ghost use Rattle.control_flow.specs.Closing.{as_values};
 
-use call_terms::Value;
 use dap_base::OutOfMemory;
 use expr_grammar::Stmt;
-use late_calls::Held;
+use function_calls::Held;
 use seq_check::Checked;
-use sequence_terms::Globals;
+use sequence_rules::Globals;
 use std::alloc::Global;
+use target_calls::Value;
 use target_machine::{Settings, Variable};
 
 // The predefined variables with their starting values.
-fn starting(alloc: Global, start: &[Variable]) -> Result<Globals<Value>, OutOfMemory>
+fn make_globals(alloc: Global, start: &[Variable]) -> Result<Globals<Value>, OutOfMemory>
     requires { map (λ variable. variable.name) start.now ≡ predefined }
     ensures { IfOk result (λ globals. bindings_of globals ≡ as_values (variables_of start.now)) }
 {
@@ -74,7 +74,7 @@ pub(crate) fn held_at_start(
         ≡ start_state (late cost w) settings.now.turn_us (checked_trees checked.now) (r.as_values (late cost w) (variables_of settings.now.start)) (late_of nothing_asked written)) }
     ensures units { IfOk result (λ held. held.units ≡ 0) }
 {
-    let mut globals = starting(alloc, settings.start.as_slice())?;
+    let mut globals = make_globals(alloc, settings.start.as_slice())?;
     add_declared(&mut globals, alloc, checked.debugvars().as_slice())?;
     Ok(Held::new(alloc, globals))
 }

@@ -5,25 +5,25 @@ ghost use Rattle.probe_core.specs.Bench.{BenchState};
 ghost use Rattle.access_calls.specs.GoesOn.{GoesOn};
 ghost use Rattle.access_calls.specs.Left.{IsLeft};
 ghost use Rattle.access_calls.specs.Reported.{world_from};
-ghost use Rattle.sequence_terms.specs.Late.{late};
-ghost use Rattle.sequence_terms.specs.Values as v;
-ghost use Rattle.late_calls.specs.Ends.{Counted, EndIs, Gives, HasSinkCause};
-ghost use Rattle.sequence_terms.specs.Known.{Knows};
-ghost use Rattle.late_calls.specs.Held.{seen};
+ghost use Rattle.sequence_rules.specs.Late.{late};
+ghost use Rattle.sequence_rules.specs.Values as v;
+ghost use Rattle.function_calls.specs.Ends.{Counted, EndIs, HasSinkCause, MeansLate};
+ghost use Rattle.sequence_rules.specs.Known.{Knows};
+ghost use Rattle.function_calls.specs.Held.{seen};
 ghost use Rattle.control_flow.specs.Calls.{calls_of};
 
 use crate::runner::Runner;
 use access_calls::Access;
-use call_terms::Value;
 use dap_base::Sink;
 use expr_grammar::{Expr, Name};
-use late_calls::{End, Held, number_of};
+use function_calls::{End, Held, use_value};
+use target_calls::Value;
 
 impl Runner<'_> {
     // The value of an expression: a name or an access is not used.
     #[cycle(eval)]
-    #[tactic(auto, unfolding(sequence_terms::specs::Values::value, sequence_terms::specs::Values::named, sequence_terms::specs::Calls::given, sequence_terms::specs::Calls::missing), using(crate::proofs::Exits::goes_on))]
-    pub(crate) fn value<A: Access, K: Sink>(
+    #[tactic(auto, unfolding(sequence_rules::specs::Values::value, sequence_rules::specs::Values::named, sequence_rules::specs::Calls::given, sequence_rules::specs::Calls::missing), using(crate::proofs::Exits::goes_on))]
+    pub(crate) fn evaluate<A: Access, K: Sink>(
         &self,
         expr: &Expr,
         depth: u32,
@@ -34,7 +34,7 @@ impl Runner<'_> {
         requires open { (A.reported access.old).end ≡ None }
         requires counted { held.old.units ≡ length (A.reported access.old).asks.calls }
         ensures gives { (m : BenchState) (answered : Option ℕ) (known : Bool) → A.begun access.old m → IsLeft (A.reported access.new) answered → Knows known (K.written sink.old)
-            → Gives (world_from m answered) (A.reported access.new).lines result (seen known held.new (A.reported access.new).asks (K.written sink.new)) (v.value (late A.cost (world_from m answered)) (calls_of A.cost (world_from m answered) self.now depth) (tree expr.now) (seen known held.old (A.reported access.old).asks (K.written sink.old))) }
+            → MeansLate (world_from m answered) (A.reported access.new).lines result (seen known held.new (A.reported access.new).asks (K.written sink.new)) (v.value (late A.cost (world_from m answered)) (calls_of A.cost (world_from m answered) self.now depth) (tree expr.now) (seen known held.old (A.reported access.old).asks (K.written sink.old))) }
         ensures knows { (known : Bool) → Knows known (K.written sink.old) → Knows known (K.written sink.new) }
         ensures counted { Counted result held.new.units (A.reported access.new).asks.calls }
         ensures end { EndIs result (A.reported access.new).end }
@@ -46,13 +46,15 @@ impl Runner<'_> {
     {
         match expr {
             Expr::Number(number) => Ok(Value::Number(*number)),
-            Expr::Name(name) => Ok(held.visible(name.text.as_str())),
-            Expr::Group(inner) => self.value(inner, depth, held, access, sink),
-            Expr::Unary(op, operand) => self.unary_of(*op, operand, depth, held, access, sink),
-            Expr::Binary(op, left, right) => self.binary_of(
+            Expr::Name(name) => Ok(held.get_visible(name.text.as_str())),
+            Expr::Group(inner) => self.evaluate(inner, depth, held, access, sink),
+            Expr::Unary(op, operand) => self.evaluate_unary(
+                *op, operand, depth, held, access, sink,
+            ),
+            Expr::Binary(op, left, right) => self.evaluate_binary(
                 *op, left, right, depth, held, access, sink,
             ),
-            Expr::Cond(test, first, second) => self.choice(
+            Expr::Cond(test, first, second) => self.evaluate_choice(
                 test, first, second, depth, held, access, sink,
             ),
             Expr::Assign(name, right) => self.assign(name, right, depth, held, access, sink),
@@ -69,8 +71,8 @@ impl Runner<'_> {
 
     // The number of an expression, whose value is used.
     #[cycle(eval)]
-    #[tactic(auto, unfolding(sequence_terms::specs::Values::used_now), using(crate::proofs::Exits::goes_on))]
-    pub(crate) fn used<A: Access, K: Sink>(
+    #[tactic(auto, unfolding(sequence_rules::specs::Values::used_now), using(crate::proofs::Exits::goes_on))]
+    pub(crate) fn evaluate_number<A: Access, K: Sink>(
         &self,
         expr: &Expr,
         depth: u32,
@@ -81,7 +83,7 @@ impl Runner<'_> {
         requires open { (A.reported access.old).end ≡ None }
         requires counted { held.old.units ≡ length (A.reported access.old).asks.calls }
         ensures gives { (m : BenchState) (answered : Option ℕ) (known : Bool) → A.begun access.old m → IsLeft (A.reported access.new) answered → Knows known (K.written sink.old)
-            → Gives (world_from m answered) (A.reported access.new).lines result (seen known held.new (A.reported access.new).asks (K.written sink.new)) (v.used_now (late A.cost (world_from m answered)) (v.value (late A.cost (world_from m answered)) (calls_of A.cost (world_from m answered) self.now depth) (tree expr.now) (seen known held.old (A.reported access.old).asks (K.written sink.old)))) }
+            → MeansLate (world_from m answered) (A.reported access.new).lines result (seen known held.new (A.reported access.new).asks (K.written sink.new)) (v.used_now (late A.cost (world_from m answered)) (v.value (late A.cost (world_from m answered)) (calls_of A.cost (world_from m answered) self.now depth) (tree expr.now) (seen known held.old (A.reported access.old).asks (K.written sink.old)))) }
         ensures knows { (known : Bool) → Knows known (K.written sink.old) → Knows known (K.written sink.new) }
         ensures counted { Counted result held.new.units (A.reported access.new).asks.calls }
         ensures end { EndIs result (A.reported access.new).end }
@@ -91,16 +93,16 @@ impl Runner<'_> {
         ensures identity { A.identity access.new ≡ A.identity access.old }
         ensures goes { GoesOn (A.reported access.old) (A.reported access.new) }
     {
-        match self.value(expr, depth, held, access, sink) {
-            Ok(value) => number_of(value, access),
+        match self.evaluate(expr, depth, held, access, sink) {
+            Ok(value) => use_value(value, access),
             Err(end) => Err(end),
         }
     }
 
     // One of two, by a condition that is used. The value of the chosen one is not used.
     #[cycle(eval)]
-    #[tactic(auto, unfolding(sequence_terms::specs::Values::choice), using(crate::proofs::Exits::goes_on))]
-    fn choice<A: Access, K: Sink>(
+    #[tactic(auto, unfolding(sequence_rules::specs::Values::choice), using(crate::proofs::Exits::goes_on))]
+    fn evaluate_choice<A: Access, K: Sink>(
         &self,
         test: &Expr,
         first: &Expr,
@@ -113,7 +115,7 @@ impl Runner<'_> {
         requires open { (A.reported access.old).end ≡ None }
         requires counted { held.old.units ≡ length (A.reported access.old).asks.calls }
         ensures gives { (m : BenchState) (answered : Option ℕ) (known : Bool) → A.begun access.old m → IsLeft (A.reported access.new) answered → Knows known (K.written sink.old)
-            → Gives (world_from m answered) (A.reported access.new).lines result (seen known held.new (A.reported access.new).asks (K.written sink.new)) (v.choice (late A.cost (world_from m answered)) (v.value (late A.cost (world_from m answered)) (calls_of A.cost (world_from m answered) self.now depth) (tree test.now) (seen known held.old (A.reported access.old).asks (K.written sink.old))) (v.value (late A.cost (world_from m answered)) (calls_of A.cost (world_from m answered) self.now depth) (tree first.now)) (v.value (late A.cost (world_from m answered)) (calls_of A.cost (world_from m answered) self.now depth) (tree second.now))) }
+            → MeansLate (world_from m answered) (A.reported access.new).lines result (seen known held.new (A.reported access.new).asks (K.written sink.new)) (v.choice (late A.cost (world_from m answered)) (v.value (late A.cost (world_from m answered)) (calls_of A.cost (world_from m answered) self.now depth) (tree test.now) (seen known held.old (A.reported access.old).asks (K.written sink.old))) (v.value (late A.cost (world_from m answered)) (calls_of A.cost (world_from m answered) self.now depth) (tree first.now)) (v.value (late A.cost (world_from m answered)) (calls_of A.cost (world_from m answered) self.now depth) (tree second.now))) }
         ensures knows { (known : Bool) → Knows known (K.written sink.old) → Knows known (K.written sink.new) }
         ensures counted { Counted result held.new.units (A.reported access.new).asks.calls }
         ensures end { EndIs result (A.reported access.new).end }
@@ -123,20 +125,20 @@ impl Runner<'_> {
         ensures identity { A.identity access.new ≡ A.identity access.old }
         ensures goes { GoesOn (A.reported access.old) (A.reported access.new) }
     {
-        let number = match self.used(test, depth, held, access, sink) {
+        let number = match self.evaluate_number(test, depth, held, access, sink) {
             Ok(number) => number,
             Err(end) => return Err(end),
         };
         if number == 0 {
-            self.value(second, depth, held, access, sink)
+            self.evaluate(second, depth, held, access, sink)
         } else {
-            self.value(first, depth, held, access, sink)
+            self.evaluate(first, depth, held, access, sink)
         }
     }
 
     // An assignment. The value is not used.
     #[cycle(eval)]
-    #[tactic(auto, unfolding(sequence_terms::specs::Values::assigned), using(crate::proofs::Exits::goes_on))]
+    #[tactic(auto, unfolding(sequence_rules::specs::Values::assigned), using(crate::proofs::Exits::goes_on))]
     fn assign<A: Access, K: Sink>(
         &self,
         name: &Name,
@@ -149,7 +151,7 @@ impl Runner<'_> {
         requires open { (A.reported access.old).end ≡ None }
         requires counted { held.old.units ≡ length (A.reported access.old).asks.calls }
         ensures gives { (m : BenchState) (answered : Option ℕ) (known : Bool) → A.begun access.old m → IsLeft (A.reported access.new) answered → Knows known (K.written sink.old)
-            → Gives (world_from m answered) (A.reported access.new).lines result (seen known held.new (A.reported access.new).asks (K.written sink.new)) (v.assigned (late A.cost (world_from m answered)) name.now (v.value (late A.cost (world_from m answered)) (calls_of A.cost (world_from m answered) self.now depth) (tree right.now) (seen known held.old (A.reported access.old).asks (K.written sink.old)))) }
+            → MeansLate (world_from m answered) (A.reported access.new).lines result (seen known held.new (A.reported access.new).asks (K.written sink.new)) (v.assigned (late A.cost (world_from m answered)) name.now (v.value (late A.cost (world_from m answered)) (calls_of A.cost (world_from m answered) self.now depth) (tree right.now) (seen known held.old (A.reported access.old).asks (K.written sink.old)))) }
         ensures knows { (known : Bool) → Knows known (K.written sink.old) → Knows known (K.written sink.new) }
         ensures counted { Counted result held.new.units (A.reported access.new).asks.calls }
         ensures end { EndIs result (A.reported access.new).end }
@@ -159,7 +161,7 @@ impl Runner<'_> {
         ensures identity { A.identity access.new ≡ A.identity access.old }
         ensures goes { GoesOn (A.reported access.old) (A.reported access.new) }
     {
-        let value = match self.value(right, depth, held, access, sink) {
+        let value = match self.evaluate(right, depth, held, access, sink) {
             Ok(value) => value,
             Err(end) => return Err(end),
         };

@@ -15,7 +15,7 @@ use Rattle.dapseq_tool.specs.Headline.{AreBytesOf}
 use Rattle.dapseq_tool.specs.declared.asking.Answer.{Answer}
 use Rattle.dapseq_tool.specs.declared.asking.Run.{Run}
 use Rattle.dapseq_tool.specs.declared.asking.Answer.TheVariants as answers
-use Rattle.dapseq_tool.specs.declared.asking.Asked.{Asked}
+use Rattle.dapseq_tool.specs.declared.asking.Requested.{Requested}
 use Rattle.dapseq_tool.specs.declared.asking.What.{What}
 use Rattle.dapseq_tool.specs.declared.asking.What.TheVariants as whats
 
@@ -25,7 +25,7 @@ some_bytes None = ([], tt)
 some_bytes (Some bytes) = (bytes, refl)
 
 -- words that are no command ask for the usage
-pub usage_asked : (words : List (List ℕ)) (left : Option (List ℕ)) (asked : Asked) → IsUsage words → asked.number ≡ None → asked.what ≡ whats.Answer answers.Usage
+pub usage_asked : (words : List (List ℕ)) (left : Option (List ℕ)) (asked : Requested) → IsUsage words → asked.number ≡ None → asked.what ≡ whats.Answer answers.Usage
     → (bytes : List ℕ) × AreBytesOf left bytes × Asks words bytes asked
 usage_asked words left asked none number what = let some = some_bytes left in (some.0, some.1, usage none number what)
 
@@ -39,12 +39,12 @@ long_asked left c long = (long.0, long.1, by_length (nat_le (length long.0) limi
     by_length false e = refl
 
 -- what a command asks for, the words do
-pub command_asked : (words : List (List ℕ)) (left : Option (List ℕ)) (c : Command) (asked : Asked) → IsCommand words c → ReadsSource c → asked.number ≡ None
+pub command_asked : (words : List (List ℕ)) (left : Option (List ℕ)) (c : Command) (asked : Requested) → IsCommand words c → ReadsSource c → asked.number ≡ None
     → ((bytes : List ℕ) × AreBytesOf left bytes × AsksOfCommand c bytes asked.what) → (bytes : List ℕ) × AreBytesOf left bytes × Asks words bytes asked
 command_asked words left c asked is reads number asks = (asks.0, asks.1, command c is reads number asks.2)
 
 -- a number asks for its job
-pub number_asked : (words : List (List ℕ)) (left : Option (List ℕ)) (n : ℕ) (asked : Asked) → IsCommand words (commands.Gen n) → asked.number ≡ Some n
+pub number_asked : (words : List (List ℕ)) (left : Option (List ℕ)) (n : ℕ) (asked : Requested) → IsCommand words (commands.Gen n) → asked.number ≡ Some n
     → AsksOfRun its_device its_sequence false (job_text n) asked.what → (bytes : List ℕ) × AreBytesOf left bytes × Asks words bytes asked
 number_asked words left n asked is number asks = let some = some_bytes left in (some.0, some.1, generated n is number asks)
 
@@ -87,14 +87,14 @@ refused_used end (Ok what) is = refused_what (λ w. w ≢ whats.Answer answers.U
 -- ---- the words
 
 -- what a number asks for
-pub with_number : {E : Type 0} (words : List (List ℕ)) (left : Option (List ℕ)) (c : Command) (n : ℕ) (r : Result Asked E) → IsCommand words c → c ≡ commands.Gen n
+pub with_number : {E : Type 0} (words : List (List ℕ)) (left : Option (List ℕ)) (c : Command) (n : ℕ) (r : Result Requested E) → IsCommand words c → c ≡ commands.Gen n
     → IfOk r (λ asked. asked.number ≡ Some n) → IfOk r (λ asked. AsksOfRun its_device its_sequence false (job_text n) asked.what)
     → IfOk r (λ asked. (bytes : List ℕ) × AreBytesOf left bytes × Asks words bytes asked)
 with_number words left c n (Ok asked) is gen number asks = number_asked words left n asked (subst (IsCommand words) gen is) number asks
 with_number words left c n (Err e) is gen number asks = tt
 
 -- what the bytes of a source ask for
-pub with_source : {E : Type 0} (words : List (List ℕ)) (left : Option (List ℕ)) (c : Command) (r : Result Asked E) → IsCommand words c → ReadsSource c
+pub with_source : {E : Type 0} (words : List (List ℕ)) (left : Option (List ℕ)) (c : Command) (r : Result Requested E) → IsCommand words c → ReadsSource c
     → IfOk r (λ asked. asked.number ≡ None) → IfOk r (λ asked. (bytes : List ℕ) × AreBytesOf left bytes × AsksOfCommand c bytes asked.what)
     → IfOk r (λ asked. (bytes : List ℕ) × AreBytesOf left bytes × Asks words bytes asked)
 with_source words left c (Ok asked) is reads number asks = command_asked words left c asked is reads number asks
@@ -105,6 +105,6 @@ run_of_line : (words : List (List ℕ)) (c : Command) (what : What) → IsComman
 run_of_line words c (whats.Run run) is runs = (c, is, runs)
 run_of_line words c (whats.Answer answer) is runs = tt
 
-pub with_run : {E : Type 0} (words : List (List ℕ)) (c : Command) (r : Result Asked E) → IsCommand words c → IfOk r (λ asked. OnRun asked.what (λ run. IsRunCommand c)) → IfOk r (λ asked. OnRun asked.what (λ run. IsRunLine words))
+pub with_run : {E : Type 0} (words : List (List ℕ)) (c : Command) (r : Result Requested E) → IsCommand words c → IfOk r (λ asked. OnRun asked.what (λ run. IsRunCommand c)) → IfOk r (λ asked. OnRun asked.what (λ run. IsRunLine words))
 with_run words c (Ok asked) is runs = run_of_line words c asked.what is runs
 with_run words c (Err e) is runs = tt

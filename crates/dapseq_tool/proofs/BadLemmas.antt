@@ -4,10 +4,11 @@ use Rattle.std.specs.Prelude.{IsSome}
 use Rattle.probe_core.specs.Bench.{BenchState}
 use Rattle.access_calls.specs.declared.ended.Ending.{Ending}
 use Rattle.access_calls.specs.declared.ended.Ending.TheVariants as e
-use Rattle.bench_access.specs.Opening.{HasBadReply}
+use Rattle.access_calls.specs.Opening.{HasBadReply}
 use Rattle.job_runs.specs.Runs.{AccessKind, ComesTo, IsUnopened, LeavesAs, not_opened, opened}
+use Rattle.dapseq_tool.proofs.RunLemmas.{putting_fails}
 use Rattle.dapseq_tool.specs.Answers.{answer_status, answer_text, fault_text, head_text, run_status}
-use Rattle.dapseq_tool.specs.Headline.{After, Call, Does, DoesWhat, FailsWriting, HasRun, IsRunTo, IsWritten, RunEnd, Runs, after_of, does, no_memory, not_headed, not_loaded, ran, unread}
+use Rattle.dapseq_tool.specs.Headline.{After, Call, Does, DoesWhat, FailsWriting, HasRun, IsPut, IsRunTo, RunEnd, Runs, after_of, does, no_memory, not_headed, not_loaded, ran, unread}
 use Rattle.dapseq_tool.specs.Success.{HasGotBadReply, left_by, run_from}
 use Rattle.dapseq_tool.specs.declared.asking.Answer.{Answer}
 use Rattle.dapseq_tool.specs.declared.asking.Answer.TheVariants as answers
@@ -37,9 +38,9 @@ bad_ending e.WriteFault is = absurd (cc is)
 bad_ending e.OutOfMemory is = absurd (cc is)
 
 -- such a text has no such status
-written_well : (old new : Option (List ℕ)) (text : List ℕ) (own end : Status) → (own ≡ status.ReplyBad → ⊥) → IsWritten old new text own end → end ≡ status.ReplyBad → ⊥
+written_well : (old new : Option (List ℕ)) (text : List ℕ) (own end : Status) → (own ≡ status.ReplyBad → ⊥) → IsPut old new text own end → end ≡ status.ReplyBad → ⊥
 written_well old new text own end none (inl h) is = none (sym h.0 ∙ is)
-written_well old new text own end none (inr h) is = not_failing end is h.0
+written_well old new text own end none (inr h) is = not_failing end is (putting_fails end h.0)
 
 run_ending : (ending : Ending) (end : Status) → end ≡ status.ReplyBad → (end ≡ run_status ending) ⊎ FailsWriting end → ending ≡ e.ReplyBad
 run_ending ending end is (inl h) = bad_ending ending (sym h ∙ is)
@@ -50,7 +51,7 @@ comes_well : (access : AccessKind) (run : Run) (before : Option (List ℕ)) (r :
     → IsRunTo access run before r a n → ⊥
 comes_well access run before r a n is h = elim h.comes [
   | not_opened o ↦ subst IsUnopened is o.ending
-  | opened first op leaves ↦ subst (λ (x : Ending). LeavesAs x (run_from access run first before) (left_by before r n)) is leaves
+  | opened leaves ↦ subst (λ (x : Ending). LeavesAs x (run_from access run before) (left_by before r n)) is leaves
 ]
 
 -- what is known of it by a run that ended so
@@ -63,7 +64,7 @@ by_run access call run before r is h =
 run_bad : (access : AccessKind) (call : Call) (unchanged : Type 0) (number : Option ℕ) (run : Run) → call.end ≡ status.ReplyBad
     → Runs access call unchanged number run → HasGotBadReply call
 run_bad access call unchanged number run is h = elim h [
-  | not_headed fails part same ↦ absurd (not_failing call.end is fails)
+  | not_headed some fails part same ↦ absurd (not_failing call.end is (putting_fails call.end fails))
   | not_loaded end head state ↦ absurd (by_end end)
   | ran before r head has ↦ by_run access call run before r is has
 ]

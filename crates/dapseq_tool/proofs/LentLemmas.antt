@@ -9,7 +9,7 @@ use Rattle.job_runs.specs.Runs.{AccessKind}
 module _ (access : AccessKind) (call : Call) (u v : Type 0) (so : u → v) where
   runs_so : (number : Option ℕ) (run : Run) → Runs access call u number run → Runs access call v number run
   runs_so number run h = elim h [
-    | not_headed fails part same ↦ not_headed fails part (so same)
+    | not_headed some fails part same ↦ not_headed some fails part (so same)
     | not_loaded end head state ↦ not_loaded end head state
     | ran before r head has ↦ ran before r head has
   ]

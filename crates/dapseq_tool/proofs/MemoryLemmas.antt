@@ -5,7 +5,7 @@ use Rattle.dapseq_tool.specs.Asked.{Asks}
 use Rattle.dapseq_tool.specs.Headline.{AreBytesOf, Call}
 use Rattle.dapseq_tool.specs.InMemory.{IsCallInMemory}
 use Rattle.dapseq_tool.specs.Success.{IsDone, IsQuietCall, Success}
-use Rattle.dapseq_tool.specs.declared.asking.Asked.{Asked}
+use Rattle.dapseq_tool.specs.declared.asking.Requested.{Requested}
 use Rattle.dapseq_tool.specs.declared.memory.InMemory.{InMemory}
 use Rattle.dapseq_tool.specs.declared.status.Status.{Status}
 use Rattle.dapseq_tool.specs.declared.status.Status.TheVariants as status
@@ -20,8 +20,8 @@ quiet_sink before now end zero (inr fault) none = absurd (none fault)
 
 -- what was asked for of these bytes was done
 pub done_in_memory : (access : AccessKind) (words : List (List ℕ)) (bytes : List ℕ) (end : InMemory) (call : Call) → IsCallInMemory words bytes end call →
-    (found : List ℕ) (asked : Asked) → AreBytesOf call.old.left found → Asks call.words found asked → IsDone access call asked.number asked.what →
-    (call : Call) × IsCallInMemory words bytes end call × (asked : Asked) × Asks words bytes asked × IsDone access call asked.number asked.what
+    (found : List ℕ) (asked : Requested) → AreBytesOf call.old.left found → Asks call.words found asked → IsDone access call asked.number asked.what →
+    (call : Call) × IsCallInMemory words bytes end call × (asked : Requested) × Asks words bytes asked × IsDone access call asked.number asked.what
 done_in_memory access words bytes end call is found asked of asks done =
     let same : found ≡ bytes = subst (λ (left : Option (List ℕ)). AreBytesOf left found) is.bytes_are of in
     (call, is, asked, subst (λ (ws : List (List ℕ)). Asks ws bytes asked) is.words_are (subst (λ (bs : List ℕ). Asks call.words bs asked) same asks), done)

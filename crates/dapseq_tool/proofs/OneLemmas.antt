@@ -17,7 +17,7 @@ use Rattle.dapseq_tool.specs.Asked.{Asks, AsksOfBytes, AsksOfCheck, AsksOfComman
 use Rattle.dapseq_tool.specs.Generated.{its_device, its_sequence, job_text}
 use Rattle.dapseq_tool.specs.declared.asking.Answer.{Answer}
 use Rattle.dapseq_tool.specs.declared.asking.Answer.TheVariants as answers
-use Rattle.dapseq_tool.specs.declared.asking.Asked.{Asked}
+use Rattle.dapseq_tool.specs.declared.asking.Requested.{Requested}
 use Rattle.dapseq_tool.specs.declared.asking.Run.{Run}
 use Rattle.dapseq_tool.specs.declared.asking.What.{What}
 use Rattle.dapseq_tool.specs.declared.asking.What.TheVariants as whats
@@ -107,7 +107,7 @@ of_numbers words x y n m is_n is_m p q =
     of_run its_device its_sequence false (job_text n) x y p
     (subst (λ (k : ℕ). AsksOfRun its_device its_sequence false (job_text k) y) (same_number m n (one_command words (commands.Gen m) (commands.Gen n) is_m is_n)) q)
 
-pub one_what : (words : List (List ℕ)) (bytes : List ℕ) (x y : Asked) → Asks words bytes x → Asks words bytes y → IsSameWhat x.what y.what
+pub one_what : (words : List (List ℕ)) (bytes : List ℕ) (x y : Requested) → Asks words bytes x → Asks words bytes y → IsSameWhat x.what y.what
 one_what words bytes x y p q = elim p [
   | usage none number is ↦ elim q [
     | usage none_too number_too is_too ↦ same_by x.what y.what (is ∙ sym is_too)

@@ -1,6 +1,6 @@
 -- From a run and its text to its status, and what it shows of faults.
 use Rattle.std.proofs.Common.{◌≡◌, ◌∙◌, ◌⊎◌, inl, inr, ℕ, ◌-◌, List, true, false, Option, None, Some, Result, Ok, Err, refl, sym, ap, subst, arith}
-use Rattle.std.specs.Prelude.{IfSome, IsSome}
+use Rattle.std.specs.Prelude.{◌≢◌, IfErr, IfSome, IsSome}
 use Rattle.dap_base.specs.Causes.{Rose}
 use Rattle.dap_base.specs.Streams.{PutAppends}
 use Rattle.text_lines.specs.Causes.{NamesFault}
@@ -12,10 +12,10 @@ use Rattle.access_calls.specs.declared.ended.Ending.{Ending}
 use Rattle.access_calls.specs.declared.ended.Ending.TheVariants as e
 use Rattle.report_lines.specs.declared.put.TextEnd.{TextEnd}
 use Rattle.report_lines.specs.declared.put.TextEnd.TheVariants as texts
-use Rattle.job_runs.specs.Ends.{HasBenchCause}
-use Rattle.bench_access.specs.Opening.{HasBadReply}
+use Rattle.job_runs.specs.Ends.{HasBenchCause, HasGotResponse}
+use Rattle.access_calls.specs.Opening.{HasBadReply}
 use Rattle.dapseq_tool.specs.Answers.{IsRunStatus, run_status, status_after, text_status}
-use Rattle.dapseq_tool.specs.Headline.{FailsWriting, IsWritten}
+use Rattle.dapseq_tool.specs.Headline.{FailsPutting, FailsWriting, IsPut, IsWritten}
 use Rattle.dapseq_tool.specs.declared.status.Status.{Status}
 use Rattle.dapseq_tool.specs.declared.status.Status.TheVariants as status
 
@@ -29,11 +29,34 @@ text_fails texts.BenchFault = tt
 text_fails texts.WriteFault = tt
 text_fails texts.OutOfMemory = tt
 
+pub putting_fails : (end : Status) → FailsPutting end → FailsWriting end
+putting_fails status.Done h = absurd h
+putting_fails status.Refused h = absurd h
+putting_fails status.Usage h = absurd h
+putting_fails status.Stopped h = absurd h
+putting_fails status.BenchFault h = absurd h
+putting_fails status.ReadFault h = absurd h
+putting_fails status.WriteFault h = tt
+putting_fails status.OutOfMemory h = tt
+putting_fails status.ReplyBad h = absurd h
+
+pub put_written : (old new : Option (List ℕ)) (text : List ℕ) (own end : Status) → IsPut old new text own end → IsWritten old new text own end
+put_written old new text own end (inl h) = inl h
+put_written old new text own end (inr h) = inr (putting_fails end h.0, h.1)
+
 -- the text was written, or writing it failed
 pub text_written : (w : W) (ending : Ending) (mid new : Option (List ℕ)) (text : List ℕ) (end : Status) → end ≡ status_after w ending → PutAppends mid new w text
     → IsWritten mid new text (run_status ending) end
 text_written (Ok u) ending mid new text end is put = inl (is, put)
 text_written (Err t) ending mid new text end is put = inr (subst FailsWriting (sym is) (text_fails t), put)
+
+-- the same of a text that no bench is asked for
+pub text_put : (w : W) (ending : Ending) (mid new : Option (List ℕ)) (text : List ℕ) (end : Status) → end ≡ status_after w ending → IfErr w (λ t. t ≢ texts.BenchFault) → PutAppends mid new w text
+    → IsPut mid new text (run_status ending) end
+text_put (Ok u) ending mid new text end is unasked put = inl (is, put)
+text_put (Err texts.BenchFault) ending mid new text end is unasked put = absurd (unasked refl)
+text_put (Err texts.WriteFault) ending mid new text end is unasked put = inr (subst FailsPutting (sym is) tt, put)
+text_put (Err texts.OutOfMemory) ending mid new text end is unasked put = inr (subst FailsPutting (sym is) tt, put)
 
 pub status_is : (w : W) (ending : Ending) (end : Status) → end ≡ status_after w ending → (end ≡ run_status ending) ⊎ FailsWriting end
 status_is (Ok u) ending end is = inl is
@@ -142,3 +165,16 @@ pub bad_before : (old mid new : Reported) (job : BenchJob) (sent got : List ℕ)
 bad_before old mid new job sent got is h =
     let k = subst (λ (r : Reported). HasBadReply r new sent got) is h in
     record { begun = k.begun; place = k.place; packet = k.packet; reply = k.reply; bad = k.bad }
+
+-- ---- a response
+
+-- nothing changed but the count of faults
+pub got_after : (code : ℕ) (old mid new : Reported) → IsSame mid new → HasGotResponse code old mid → HasGotResponse code old new
+got_after code old mid new same h =
+    subst (λ (r : Reported). HasGotResponse code old r) (sym same) (record { begun = h.begun; place = h.place; response = h.response })
+
+-- a load keeps the number of exchanges
+pub got_before : (code : ℕ) (old mid new : Reported) (job : BenchJob) → mid ≡ loaded old job → HasGotResponse code mid new → HasGotResponse code old new
+got_before code old mid new job is h =
+    let k = subst (λ (r : Reported). HasGotResponse code r new) is h in
+    record { begun = k.begun; place = k.place; response = k.response }

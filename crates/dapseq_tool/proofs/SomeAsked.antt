@@ -12,7 +12,7 @@ use Rattle.job_check.proofs.SomeAnswer.{some_answer}
 use Rattle.job_check.proofs.SomeRun.{run_or_refusal}
 use Rattle.dapseq_tool.specs.Generated.{its_device, its_sequence, job_text}
 use Rattle.dapseq_tool.specs.declared.asking.Answer.TheVariants as answers
-use Rattle.dapseq_tool.specs.declared.asking.Asked.{Asked}
+use Rattle.dapseq_tool.specs.declared.asking.Requested.{Requested}
 use Rattle.dapseq_tool.specs.declared.asking.What.{What}
 use Rattle.dapseq_tool.specs.declared.asking.What.TheVariants as whats
 use Rattle.dapseq_tool.specs.Asked.{limit, ReadsSource, of_check, AsksOfRun, AsksOfBytes, AsksOfCommand, Asks, usage, command, generated}
@@ -56,10 +56,10 @@ of_command : (c : Command) → ReadsSource c → (bytes : List ℕ) → (what : 
 of_command c reads bytes = by_length c reads bytes (nat_le (length bytes) limit) refl
 
 module _ (words : List (List ℕ)) (bytes : List ℕ) where
-  read_line : (c : Command) → IsCommand words c → ReadsSource c → (asked : Asked) × Asks words bytes asked
+  read_line : (c : Command) → IsCommand words c → ReadsSource c → (asked : Requested) × Asks words bytes asked
   read_line c is reads = let w = of_command c reads bytes in (record { number = None; what = w.0 }, command c is reads refl w.1)
 
-  by_command : (c : Command) → IsCommand words c → (asked : Asked) × Asks words bytes asked
+  by_command : (c : Command) → IsCommand words c → (asked : Requested) × Asks words bytes asked
   by_command (commands.Check s) is = read_line (commands.Check s) is tt
   by_command (commands.Run s sequence) is = read_line (commands.Run s sequence) is tt
   by_command (commands.Trace s sequence) is = read_line (commands.Trace s sequence) is tt
@@ -67,7 +67,7 @@ module _ (words : List (List ℕ)) (bytes : List ℕ) where
       let w = of_run its_device its_sequence false (job_text n) (job_few n is.row.2.bits) in
       (record { number = Some n; what = w.0 }, generated n is refl w.1)
 
-  pub something_is_asked : (asked : Asked) × Asks words bytes asked
+  pub something_is_asked : (asked : Requested) × Asks words bytes asked
   something_is_asked = elim (command_or_none words) [
     | inl c ↦ by_command c.0 c.1
     | inr none ↦ (record { number = None; what = whats.Answer answers.Usage }, usage none refl refl)

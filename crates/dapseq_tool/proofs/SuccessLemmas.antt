@@ -7,9 +7,10 @@ use Rattle.dap_base.specs.Streams.{AppendsPrefix}
 use Rattle.probe_core.specs.Bench.{BenchState}
 use Rattle.access_calls.specs.declared.ended.Ending.{Ending}
 use Rattle.access_calls.specs.declared.ended.Ending.TheVariants as e
-use Rattle.job_runs.specs.Meant.{FailedOutside}
-use Rattle.job_runs.specs.Runs.{AccessKind, IsNotOpened, IsUnopened, not_opened, opened}
+use Rattle.job_runs.specs.Meant.{EndsAsMeant, FailedOutside}
+use Rattle.job_runs.specs.Runs.{AccessKind, IsNotOpened, IsUnopened, LeavesAs, not_opened, opened}
 use Rattle.job_runs.proofs.MeantLemmas.{ends_as_meant}
+use Rattle.dapseq_tool.proofs.RunLemmas.{put_written, putting_fails}
 use Rattle.dapseq_tool.specs.Answers.{answer_status, answer_text, head_text, run_status}
 use Rattle.dapseq_tool.specs.Headline.{After, Answers, Call, Does, DoesWhat, FailsWriting, HasRun, IsRunTo, IsWritten, RunEnd, Runs, after_of, does, no_memory, not_headed, not_loaded, ran, unread}
 use Rattle.dapseq_tool.specs.Success.{HasCauses, HasRunAsMeant, IsAnswered, IsDone, IsQuietCall, Success, left_by, run_from}
@@ -70,21 +71,24 @@ module _ (access : AccessKind) (call : Call) (number : Option ℕ) (run : Run) (
   not_outside : (ending : Ending) → call.end ≡ run_status ending → FailedOutside ending → ⊥
   not_outside ending is h = none (subst FailsWriting (sym is) (outside_fails ending h))
 
+  as_it_is : (before : Option (List ℕ)) (r : RunEnd) (n : BenchState) → LeavesAs r.ended.ending (run_from access run before) (left_by before r n)
+      → call.end ≡ run_status r.ended.ending → EndsAsMeant (run_from access run before) (left_by before r n)
+  as_it_is before r n leaves is = ends_as_meant r.ended.ending (run_from access run before) (left_by before r n) refl leaves (not_outside r.ended.ending is)
+
   as_meant : (before : Option (List ℕ)) (r : RunEnd) (n : BenchState) → Appends call.old.written before (head_text number)
       → IsRunTo access run before r (after_of call.new call.end) n → HasRunAsMeant access call number run
   as_meant before r n head h =
       let put = whole r.written call.new.written _ (run_status r.ended.ending) call.end none h.text in
       elim h.comes [
         | not_opened o ↦ absurd (not_outside r.ended.ending put.0 (unopened_outside r.ended.ending o.ending))
-        | opened first op leaves ↦ record {
+        | opened leaves ↦ record {
           before = before;
           head = head;
-          first = first;
-          opened = op;
           r = r;
           last = n;
           state = h.state;
-          meant = ends_as_meant r.ended.ending (run_from access run first before) (left_by before r n) refl leaves (not_outside r.ended.ending put.0);
+          meant = as_it_is before r n leaves put.0;
+          none_over = (as_it_is before r n leaves put.0).none_over;
           text = put.1;
           status = put.0;
         }
@@ -92,7 +96,7 @@ module _ (access : AccessKind) (call : Call) (number : Option ℕ) (run : Run) (
 
   run_done : (unchanged : Type 0) → IsSome call.old.state → Runs access call unchanged number run → HasRunAsMeant access call number run
   run_done unchanged some h = elim h [
-    | not_headed fails part same ↦ absurd (none fails)
+    | not_headed headed fails part same ↦ absurd (none (putting_fails call.end fails))
     | not_loaded end head state ↦ absurd (by_end end)
     | ran before r head has ↦ let x = has.comes some in as_meant before r x.0 head x.1
   ]
@@ -104,7 +108,7 @@ module _ (access : AccessKind) (call : Call) (number : Option ℕ) (run : Run) (
 what_done : (access : AccessKind) (call : Call) (unchanged : Type 0) (number : Option ℕ) (what : What) → (FailsWriting call.end → ⊥) → IsSome call.old.state
     → DoesWhat access call unchanged number what → IsDone access call number what
 what_done access call unchanged number (whats.Answer answer) none some h =
-    let put = whole call.old.written call.new.written (head_text number ++ answer_text answer) (answer_status answer) call.end none h.text in
+    let put = whole call.old.written call.new.written (head_text number ++ answer_text answer) (answer_status answer) call.end none (put_written call.old.written call.new.written (head_text number ++ answer_text answer) (answer_status answer) call.end h.text) in
     record { text = put.1; status = put.0 }
 what_done access call unchanged number (whats.Run run) none some h = run_done access call number run none unchanged some h
 

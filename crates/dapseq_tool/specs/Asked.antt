@@ -15,7 +15,7 @@ use Rattle.job_check.specs.Running.{IsRefusedRun, IsSameRun, IsValidRun}
 use Rattle.dapseq_tool.specs.Generated.{its_device, its_sequence, job_text}
 use Rattle.dapseq_tool.specs.declared.asking.Answer.{Answer}
 use Rattle.dapseq_tool.specs.declared.asking.Answer.TheVariants as answers
-use Rattle.dapseq_tool.specs.declared.asking.Asked.{Asked}
+use Rattle.dapseq_tool.specs.declared.asking.Requested.{Requested}
 use Rattle.dapseq_tool.specs.declared.asking.Run.{Run}
 use Rattle.dapseq_tool.specs.declared.asking.What.{What}
 use Rattle.dapseq_tool.specs.declared.asking.What.TheVariants as whats
@@ -101,7 +101,7 @@ abbrev pub AsksOfCommand : Command → List ℕ → What → Type 0
 AsksOfCommand c bytes what = MatchBool (nat_le (length bytes) limit) (AsksOfBytes c bytes what) (what ≡ whats.Answer answers.TooLong)
 
 -- This is what the words and all the bytes of the source ask for. In the mode `gen` the bytes are those of the job of the number.
-pub data Asks (words : List (List ℕ)) (bytes : List ℕ) (asked : Asked) : Type 0 where
+pub data Asks (words : List (List ℕ)) (bytes : List ℕ) (asked : Requested) : Type 0 where
   usage : IsUsage words → asked.number ≡ None → asked.what ≡ whats.Answer answers.Usage → Asks words bytes asked
   command : (c : Command) → IsCommand words c → ReadsSource c → asked.number ≡ None → AsksOfCommand c bytes asked.what → Asks words bytes asked
   generated : (n : ℕ) → IsCommand words (commands.Gen n) → asked.number ≡ Some n → AsksOfRun its_device its_sequence false (job_text n) asked.what → Asks words bytes asked

@@ -6,16 +6,19 @@ use Rattle.dap_base.specs.Streams.{AppendsPrefix}
 use Rattle.probe_core.specs.Bench.{Reported, BenchState, Seen}
 use Rattle.probe_core.specs.Probe.{fresh_probe}
 use Rattle.probe_core.specs.Runs.{IsWholeRun}
+use Rattle.access_calls.specs.Causes.{code_of_cause}
 use Rattle.access_calls.specs.declared.ended.Ended.{Ended}
 use Rattle.access_calls.specs.declared.ended.Ending.TheVariants as e
+use Rattle.access_calls.specs.declared.stop.Report.{Report}
 use Rattle.report_lines.specs.Endings.{ending_lines, shows_target}
-use Rattle.bench_access.specs.Opening.{HasBadReply}
-use Rattle.job_runs.specs.Runs.{AccessKind, ComesTo, known_after, program_in}
+use Rattle.access_calls.specs.Opening.{HasBadReply}
+use Rattle.job_runs.specs.Ends.{HasGotResponse}
+use Rattle.job_runs.specs.Runs.{AccessKind, ComesTo, config_of, known_after, program_in}
 use Rattle.job_runs.specs.Texts.{run_text}
 use Rattle.dapseq_tool.specs.Answers.{answer_status, answer_text, fault_text, head_text, run_status}
 use Rattle.dapseq_tool.specs.Asked.{Asks}
 use Rattle.dapseq_tool.specs.declared.asking.Answer.{Answer}
-use Rattle.dapseq_tool.specs.declared.asking.Asked.{Asked}
+use Rattle.dapseq_tool.specs.declared.asking.Requested.{Requested}
 use Rattle.dapseq_tool.specs.declared.asking.Run.{Run}
 use Rattle.dapseq_tool.specs.declared.asking.What.{What}
 use Rattle.dapseq_tool.specs.declared.asking.What.TheVariants as whats
@@ -69,15 +72,25 @@ FailsWriting status.WriteFault = Unit {0}
 FailsWriting status.OutOfMemory = Unit {0}
 FailsWriting other = ⊥
 
+-- a call can fail while it writes a text that no bench is asked for
+abbrev pub FailsPutting : Status → Type 0
+FailsPutting status.WriteFault = Unit {0}
+FailsPutting status.OutOfMemory = Unit {0}
+FailsPutting other = ⊥
+
 -- The text was appended, and the status is its own; or writing it failed, and a part of it was appended, from its front.
 abbrev pub IsWritten : Option (List ℕ) → Option (List ℕ) → List ℕ → Status → Status → Type 0
 IsWritten old new text own end = ((end ≡ own) × Appends old new text) ⊎ (FailsWriting end × AppendsPrefix old new text)
+
+-- the same of a text that no bench is asked for
+abbrev pub IsPut : Option (List ℕ) → Option (List ℕ) → List ℕ → Status → Status → Type 0
+IsPut old new text own end = ((end ≡ own) × Appends old new text) ⊎ (FailsPutting end × AppendsPrefix old new text)
 
 -- ---- where no run is asked for
 
 -- the answer is written after the head, and the bench is the one that it was
 pub record Answers (call : Call) (unchanged : Type 0) (number : Option ℕ) (answer : Answer) : Type 0 where
-  pub text : IsWritten call.old.written call.new.written (head_text number ++ answer_text answer) (answer_status answer) call.end
+  pub text : IsPut call.old.written call.new.written (head_text number ++ answer_text answer) (answer_status answer) call.end
   pub bench : unchanged
 
 -- ---- where a run is asked for
@@ -99,25 +112,26 @@ pub record After : Type 0 where
 -- a run of the job's probe.
 pub record IsRunTo (access : AccessKind) (run : Run) (before : Option (List ℕ)) (r : RunEnd) (a : After) (n : BenchState) : Type 0 where
   pub state : a.bench.state ≡ Some n
-  pub comes : ComesTo access run.valid.job.bench (program_in run.valid run.sequence) before (record { ended = r.ended; written = known_after before r.written; bench = n })
+  pub comes : ComesTo access (config_of run.valid.job.settings) run.valid.job.bench (program_in run.valid run.sequence) before (record { ended = r.ended; written = known_after before r.written; bench = n })
   pub text : IsWritten r.written a.written (run_text run.is_traced r.ended r.sent r.got run.valid.job n) (run_status r.ended.ending) a.end
   pub log : IsWholeRun (fresh_probe run.valid.job.bench) n
 
 -- A run that ended so, from a bench that reported this: what it came to where the bench is observable; its text where the report
--- does not show the target; and its status. A bad reply is the one that is reported.
+-- does not show the target; and its status. A cut comes with a reply of its response, and a bad reply is the one that is reported.
 pub record HasRun (access : AccessKind) (run : Run) (observable : Type 0) (old : Reported) (before : Option (List ℕ)) (r : RunEnd) (a : After) : Type 0 where
   pub comes : observable → (n : BenchState) × IsRunTo access run before r a n
-  pub alone : shows_target r.ended.ending ≡ false → IsWritten r.written a.written (ending_lines r.ended.ending r.ended r.sent r.got) (run_status r.ended.ending) a.end
+  pub alone : shows_target r.ended.ending ≡ false → IsPut r.written a.written (ending_lines r.ended.ending r.ended r.sent r.got) (run_status r.ended.ending) a.end
   pub status : (a.end ≡ run_status r.ended.ending) ⊎ FailsWriting a.end
+  pub cut : (report : Report) → r.ended.ending ≡ e.Cut report → HasGotResponse (code_of_cause report.cause) old a.bench.reported
   pub bad : r.ended.ending ≡ e.ReplyBad → HasBadReply old a.bench.reported r.sent r.got
 
 -- the same moment without the source
 abbrev pub after_of : Moment → Status → After
 after_of m end = record { written = m.written; end = end; bench = record { reported = m.reported; state = m.state } }
 
--- What is done of a run: the head is not written whole; or the bench was not loaded, and is as it was; or it ran.
+-- What is done of a run: there is a head, and it is not written whole; or the bench was not loaded, and is as it was; or it ran.
 pub data Runs (access : AccessKind) (call : Call) (unchanged : Type 0) (number : Option ℕ) (run : Run) : Type 0 where
-  not_headed : FailsWriting call.end → AppendsPrefix call.old.written call.new.written (head_text number) → unchanged → Runs access call unchanged number run
+  not_headed : IsSome number → FailsPutting call.end → AppendsPrefix call.old.written call.new.written (head_text number) → unchanged → Runs access call unchanged number run
   not_loaded : (call.end ≡ status.BenchFault) ⊎ (call.end ≡ status.OutOfMemory) → Appends call.old.written call.new.written (head_text number)
       → call.new.state ≡ call.old.state → Runs access call unchanged number run
   ran : (before : Option (List ℕ)) (r : RunEnd) → Appends call.old.written before (head_text number)
@@ -134,7 +148,7 @@ DoesWhat access call unchanged number (whats.Run run) = Runs access call unchang
 -- observable, of which the words ask for something, and it was done. Or the source failed, or memory was refused before it was
 -- known what is asked for.
 pub data Does (access : AccessKind) (call : Call) (unchanged : Type 0) : Type 0 where
-  does : (bytes : List ℕ) (asked : Asked) → AreBytesOf call.old.left bytes → Asks call.words bytes asked
+  does : (bytes : List ℕ) (asked : Requested) → AreBytesOf call.old.left bytes → Asks call.words bytes asked
       → DoesWhat access call unchanged asked.number asked.what → Does access call unchanged
-  unread : Rose call.old.source_faults call.new.source_faults → IsWritten call.old.written call.new.written fault_text status.ReadFault call.end → unchanged → Does access call unchanged
+  unread : Rose call.old.source_faults call.new.source_faults → IsPut call.old.written call.new.written fault_text status.ReadFault call.end → unchanged → Does access call unchanged
   no_memory : call.end ≡ status.OutOfMemory → call.new.written ≡ call.old.written → unchanged → Does access call unchanged

@@ -2,7 +2,7 @@
 use Rattle.std.specs.Prelude.{◌≡◌, ◌⊎◌, ℕ, List, Option, IsSome}
 use Rattle.probe_core.specs.Bench.{Seen}
 use Rattle.dapseq_tool.specs.Answers.{answer_status, answer_text}
-use Rattle.dapseq_tool.specs.Headline.{After, HasRun, IsWritten, RunEnd}
+use Rattle.dapseq_tool.specs.Headline.{After, HasRun, IsPut, RunEnd}
 use Rattle.dapseq_tool.specs.declared.asking.What.{What}
 use Rattle.dapseq_tool.specs.declared.asking.What.TheVariants as whats
 use Rattle.dapseq_tool.specs.declared.asking.Run.{Run}
@@ -16,5 +16,5 @@ pub data AskedRun (access : AccessKind) (run : Run) (old : Seen) (before : Optio
 
 -- What is done of what is asked for, after the first line: an answer is written, and the bench is the one that it was; or a run.
 abbrev pub DoesAfter : AccessKind → What → Seen → Type 0 → Option (List ℕ) → After → Type 0
-DoesAfter access (whats.Answer answer) old unchanged before a = IsWritten before a.written (answer_text answer) (answer_status answer) a.end × unchanged
+DoesAfter access (whats.Answer answer) old unchanged before a = IsPut before a.written (answer_text answer) (answer_status answer) a.end × unchanged
 DoesAfter access (whats.Run run) old unchanged before a = AskedRun access run old before a

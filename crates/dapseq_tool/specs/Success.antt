@@ -1,18 +1,19 @@
 -- What a call does that nothing outside disturbs.
-use Rattle.std.specs.Prelude.{◌≡◌, ◌≢◌, ℕ, List, ◌++◌, Option, Some, IsSome}
+use Rattle.std.specs.Prelude.{◌≡◌, ◌≢◌, ℕ, ◌≤◌, List, ◌++◌, Option, Some, IsSome}
+use Rattle.std.specs.List.{All}
 use Rattle.std.specs.Io.KnownBytes.{Appends}
 use Rattle.dap_base.specs.Causes.{IsQuiet, Rose}
 use Rattle.probe_core.specs.Bench.{BenchState}
 use Rattle.job_runs.specs.Meant.{EndsAsMeant}
-use Rattle.bench_access.specs.Opening.{HasBadReply, IsOpened}
+use Rattle.access_calls.specs.Opening.{HasBadReply}
 use Rattle.job_runs.specs.Runs as runs
-use Rattle.job_runs.specs.Runs.{AccessKind, Left, known_after, program_in}
+use Rattle.job_runs.specs.Runs.{AccessKind, Left, NoneEnded, config_of, known_after, program_in, run_of}
 use Rattle.job_runs.specs.Texts.{run_text}
 use Rattle.dapseq_tool.specs.Answers.{answer_status, answer_text, head_text, run_status}
 use Rattle.dapseq_tool.specs.Asked.{Asks}
 use Rattle.dapseq_tool.specs.Headline.{AreBytesOf, Call, RunEnd}
 use Rattle.dapseq_tool.specs.declared.asking.Answer.{Answer}
-use Rattle.dapseq_tool.specs.declared.asking.Asked.{Asked}
+use Rattle.dapseq_tool.specs.declared.asking.Requested.{Requested}
 use Rattle.dapseq_tool.specs.declared.asking.Run.{Run}
 use Rattle.dapseq_tool.specs.declared.asking.What.{What}
 use Rattle.dapseq_tool.specs.declared.asking.What.TheVariants as whats
@@ -36,24 +37,24 @@ pub record IsAnswered (call : Call) (number : Option ℕ) (answer : Answer) : Ty
   pub status : call.end ≡ answer_status answer
 
 -- what is run, from where its access began
-abbrev pub run_from : AccessKind → Run → BenchState → Option (List ℕ) → runs.Run
-run_from access run first before = record { access = access; limits = run.valid.job.bench.limits; program = program_in run.valid run.sequence; first = first; before = before }
+abbrev pub run_from : AccessKind → Run → Option (List ℕ) → runs.Run
+run_from access run before = run_of access (config_of run.valid.job.settings) run.valid.job.bench (program_in run.valid run.sequence) before
 
 -- what it left
 abbrev pub left_by : Option (List ℕ) → RunEnd → BenchState → Left
 left_by before r n = record { ended = r.ended; written = known_after before r.written; bench = n }
 
 -- The run ended as it is meant to, from the target of its job on; its report, and the trace where it is requested, was written
--- whole after the head and the lines of the run; and the status is that of how it ended.
+-- whole after the head and the lines of the run; and the status is that of how it ended. Where no stall of the job is over its retry
+-- number, no retry ended.
 pub record HasRunAsMeant (access : AccessKind) (call : Call) (number : Option ℕ) (run : Run) : Type 0 where
   pub before : Option (List ℕ)
   pub head : Appends call.old.written before (head_text number)
-  pub first : BenchState
-  pub opened : IsOpened run.valid.job.bench first
   pub r : RunEnd
   pub last : BenchState
   pub state : call.new.state ≡ Some last
-  pub meant : EndsAsMeant (run_from access run first before) (left_by before r last)
+  pub meant : EndsAsMeant (run_from access run before) (left_by before r last)
+  pub none_over : All (λ stall. stall ≤ run.valid.job.settings.retry) run.valid.job.bench.stalls → NoneEnded (run_from access run before) (left_by before r last)
   pub text : Appends r.written call.new.written (run_text run.is_traced r.ended r.sent r.got run.valid.job last)
   pub status : call.end ≡ run_status r.ended.ending
 
@@ -66,7 +67,7 @@ IsDone access call number (whats.Run run) = HasRunAsMeant access call number run
 -- the words ask for something, and that was done.
 abbrev pub Success : AccessKind → Call → Type 0
 Success access call = IsQuietCall call → IsSome call.old.state
-    → (bytes : List ℕ) × (asked : Asked) × AreBytesOf call.old.left bytes × Asks call.words bytes asked × IsDone access call asked.number asked.what
+    → (bytes : List ℕ) × (asked : Requested) × AreBytesOf call.old.left bytes × Asks call.words bytes asked × IsDone access call asked.number asked.what
 
 -- ---- a bad reply
 

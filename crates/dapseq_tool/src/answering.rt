@@ -1,5 +1,5 @@
 //! What is written where no sequence runs, and before one runs.
-ghost use Rattle.std.specs.Prelude.{◌≡◌, ◌⊎◌, Some, IfOk};
+ghost use Rattle.std.specs.Prelude.{◌≡◌, ◌⊎◌, Some, IfErr, IfOk, IsSome};
 ghost use Rattle.dap_base.specs.Streams.{PutAppends};
 ghost use Rattle.text_lines.specs.Causes.{NamesFault};
 ghost use Rattle.dapseq_tool.specs.Answers.{answer_text, answer_status, head_text};
@@ -55,6 +55,7 @@ pub fn write_head<K: Sink>(
     sink: &mut K,
 ) -> Result<(), TextError>
     ensures text { PutAppends (K.written sink.old) (K.written sink.new) result (head_text number) }
+    ensures some { IfErr result (λ e. IsSome number) }
     ensures sink { NamesFault TextError.Failed (K.faults sink.old) (K.faults sink.new) result }
 {
     match number {

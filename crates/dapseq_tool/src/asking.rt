@@ -50,7 +50,7 @@ pub enum What {
 
 /// What a call is asked for.
 #[derive(Drop)]
-pub struct Asked {
+pub struct Requested {
     /// The number of the job that is made, in the mode `gen`.
     pub number: Option<u16>,
     pub what: What,
@@ -66,7 +66,7 @@ pub enum Unasked {
 }
 
 // What is asked for where no sequence runs.
-fn no_run(refusal: RunRefusal) -> Result<What, OutOfMemory>
+fn ask_no_run(refusal: RunRefusal) -> Result<What, OutOfMemory>
     ensures { IfOk result (λ what. of_refused refusal ≡ Some what) }
 {
     match refusal {
@@ -77,7 +77,7 @@ fn no_run(refusal: RunRefusal) -> Result<What, OutOfMemory>
 }
 
 // What the bytes of a job ask for in a mode that runs.
-fn asked_of_run(
+fn ask_for_run(
     alloc: Global,
     selection: &Selection,
     sequence: &str,
@@ -94,12 +94,12 @@ fn asked_of_run(
             sequence: NameText::new(alloc, sequence)?,
             is_traced,
         })),
-        Err(refusal) => no_run(refusal),
+        Err(refusal) => ask_no_run(refusal),
     }
 }
 
 // What the bytes of a job ask for in the mode `check`.
-fn asked_of_check(alloc: Global, selection: &Selection, bytes: &[u8]) -> Result<What, OutOfMemory>
+fn ask_for_check(alloc: Global, selection: &Selection, bytes: &[u8]) -> Result<What, OutOfMemory>
     ensures asked { IfOk result (AsksOfCheck selection.now bytes.now) }
     ensures no_run { IfOk result (λ what. OnRun what (λ run. ⊥)) }
     ensures used { IfOk result (λ what. what ≢ What.Answer Answer.Usage) }
@@ -112,7 +112,7 @@ fn asked_of_check(alloc: Global, selection: &Selection, bytes: &[u8]) -> Result<
 }
 
 // What the bytes of a job ask for.
-fn asked_of_bytes(alloc: Global, command: &Command, bytes: &[u8]) -> Result<What, OutOfMemory>
+fn ask_by_bytes(alloc: Global, command: &Command, bytes: &[u8]) -> Result<What, OutOfMemory>
     requires { ReadsSource command.now }
     ensures asked { IfOk result (AsksOfBytes command.now bytes.now) }
     ensures sound { IfOk result (λ what. OnRun what IsSoundRun) }
@@ -120,21 +120,21 @@ fn asked_of_bytes(alloc: Global, command: &Command, bytes: &[u8]) -> Result<What
     ensures used { IfOk result (λ what. what ≢ What.Answer Answer.Usage) }
 {
     match command {
-        Command::Check(selection) => asked_of_check(alloc, selection, bytes),
+        Command::Check(selection) => ask_for_check(alloc, selection, bytes),
         Command::Run {
             selection,
             sequence,
-        } => asked_of_run(alloc, selection, sequence.as_str(), false, bytes),
+        } => ask_for_run(alloc, selection, sequence.as_str(), false, bytes),
         Command::Trace {
             selection,
             sequence,
-        } => asked_of_run(alloc, selection, sequence.as_str(), true, bytes),
+        } => ask_for_run(alloc, selection, sequence.as_str(), true, bytes),
         Command::Gen(_) => unreachable!(),
     }
 }
 
 // What the source asks for.
-fn asked_of_source<S: Source>(
+fn ask_by_source<S: Source>(
     alloc: Global,
     command: &Command,
     source: &mut S,
@@ -155,14 +155,14 @@ fn asked_of_source<S: Source>(
         Err(Unread::Failed) => return Err(Unasked::ReadFault),
         Err(Unread::OutOfMemory) => return Err(Unasked::OutOfMemory),
     };
-    match asked_of_bytes(alloc, command, &bytes) {
+    match ask_by_bytes(alloc, command, &bytes) {
         Ok(what) => Ok(what),
         Err(OutOfMemory) => Err(Unasked::OutOfMemory),
     }
 }
 
 // What the job of a number asks for.
-fn asked_of_number(alloc: Global, number: u16) -> Result<What, OutOfMemory>
+fn ask_by_number(alloc: Global, number: u16) -> Result<What, OutOfMemory>
     ensures asked { IfOk result (AsksOfRun its_device its_sequence false (job_text number)) }
     ensures sound { IfOk result (λ what. OnRun what IsSoundRun) }
     ensures used { IfOk result (λ what. what ≢ What.Answer Answer.Usage) }
@@ -173,19 +173,19 @@ fn asked_of_number(alloc: Global, number: u16) -> Result<What, OutOfMemory>
         variant: None,
         pname: None,
     };
-    asked_of_run(alloc, &selection, "Main", false, text.as_bytes())
+    ask_for_run(alloc, &selection, "Main", false, text.as_bytes())
 }
 
 // The same with the number of the job that is made.
-fn asked_with_number(alloc: Global, number: u16) -> Result<Asked, Unasked>
+fn ask_with_number(alloc: Global, number: u16) -> Result<Requested, Unasked>
     ensures number { IfOk result (λ asked. asked.number ≡ Some number) }
     ensures asked { IfOk result (λ asked. AsksOfRun its_device its_sequence false (job_text number) asked.what) }
     ensures sound { IfOk result (λ asked. OnRun asked.what IsSoundRun) }
     ensures used { IfOk result (λ asked. asked.what ≢ What.Answer Answer.Usage) }
     ensures memory { IfErr result (λ e. e ≡ Unasked.OutOfMemory) }
 {
-    match asked_of_number(alloc, number) {
-        Ok(what) => Ok(Asked {
+    match ask_by_number(alloc, number) {
+        Ok(what) => Ok(Requested {
             number: Some(number),
             what,
         }),
@@ -194,11 +194,11 @@ fn asked_with_number(alloc: Global, number: u16) -> Result<Asked, Unasked>
 }
 
 // What the source asks for, where no job is made.
-fn asked_of_words<S: Source>(
+fn ask_by_words<S: Source>(
     alloc: Global,
     command: &Command,
     source: &mut S,
-) -> Result<Asked, Unasked>
+) -> Result<Requested, Unasked>
     requires { ReadsSource command.now }
     ensures number { IfOk result (λ asked. asked.number ≡ None) }
     ensures asked { IfOk result (λ asked. (bytes : List ℕ) × AreBytesOf (S.left source.old) bytes × AsksOfCommand command.now bytes asked.what) }
@@ -210,8 +210,8 @@ fn asked_of_words<S: Source>(
     ensures quiet { IfErr result (λ e. (e ≡ Unasked.ReadFault) ⊎ (S.faults source.new ≡ S.faults source.old)) }
     ensures quiet_ok { OnOk result (S.faults source.new ≡ S.faults source.old) }
 {
-    match asked_of_source(alloc, command, source) {
-        Ok(what) => Ok(Asked { number: None, what }),
+    match ask_by_source(alloc, command, source) {
+        Ok(what) => Ok(Requested { number: None, what }),
         Err(end) => Err(end),
     }
 }
@@ -228,7 +228,7 @@ fn number_of(command: &Command) -> Option<u16>
 
 /// What the words and the source ask for. Where the words are no command, and in the mode `gen`, the
 /// source is not read.
-pub fn ask<S: Source>(alloc: Global, words: &Words, source: &mut S) -> Result<Asked, Unasked>
+pub fn ask<S: Source>(alloc: Global, words: &Words, source: &mut S) -> Result<Requested, Unasked>
     ensures asked { IfOk result (λ asked. (bytes : List ℕ) × AreBytesOf (S.left source.old) bytes × Asks words.now bytes asked) }
     ensures taken { OnOk result (IsReadLine words.now → AreTaken (S.left source.old) (S.left source.new)) }
     ensures unread { (IsReadLine words.now → ⊥) → source.new ≡ source.old }
@@ -244,7 +244,7 @@ pub fn ask<S: Source>(alloc: Global, words: &Words, source: &mut S) -> Result<As
     let command = match command_of(alloc, words) {
         Ok(command) => command,
         Err(WordsError::Usage) => {
-            return Ok(Asked {
+            return Ok(Requested {
                 number: None,
                 what: What::Answer(Answer::Usage),
             });
@@ -252,7 +252,7 @@ pub fn ask<S: Source>(alloc: Global, words: &Words, source: &mut S) -> Result<As
         Err(WordsError::OutOfMemory) => return Err(Unasked::OutOfMemory),
     };
     match number_of(&command) {
-        Some(number) => asked_with_number(alloc, number),
-        None => asked_of_words(alloc, &command, source),
+        Some(number) => ask_with_number(alloc, number),
+        None => ask_by_words(alloc, &command, source),
     }
 }

@@ -3,10 +3,10 @@ ghost use Rattle.std.specs.Prelude.{◌≡◌, ◌≢◌, ◌⊎◌, ◌++◌, �
 ghost use Rattle.std.specs.Io.KnownBytes.{Appends};
 ghost use Rattle.dap_base.specs.Causes.{IsQuiet, Rose};
 ghost use Rattle.probe_core.specs.Bench.{seen};
-ghost use Rattle.bench_access.specs.Opening.{HasBadReply};
+ghost use Rattle.access_calls.specs.Opening.{HasBadReply};
 ghost use Rattle.dapseq_tool.specs.Answers.{answer_status, answer_text, failed_status, fault_text, head_text, IsRunStatus};
 ghost use Rattle.dapseq_tool.specs.Asked.{IsReadLine, IsRunLine, IsSoundRun, IsUsage, OnRun};
-ghost use Rattle.dapseq_tool.specs.Headline.{moment, AreTaken, Does, FailsWriting, IsWritten};
+ghost use Rattle.dapseq_tool.specs.Headline.{moment, AreTaken, Does, FailsWriting, IsPut};
 ghost use Rattle.dapseq_tool.specs.RunEnds.{AskedRun, DoesAfter};
 ghost use Rattle.job_runs.specs.Runs.{access_kind};
 
@@ -14,7 +14,7 @@ use crate::answering::{status_of, write_answer, write_head};
 use crate::asking::{Answer, Unasked, What, ask};
 use crate::runs::run_asked;
 use crate::status::Status;
-use bench_access::OverBench;
+use access_calls::OverBench;
 use dap_base::{Sink, Source, Words};
 use probe_core::Bench;
 use std::alloc::Global;
@@ -40,7 +40,7 @@ fn failed_status(end: TextError) -> Status
 
 // Writes an answer.
 fn answer<K: Sink>(alloc: Global, answer: &Answer, sink: &mut K) -> Status
-    ensures text { IsWritten (K.written sink.old) (K.written sink.new) (answer_text answer.now) (answer_status answer.now) result }
+    ensures text { IsPut (K.written sink.old) (K.written sink.new) (answer_text answer.now) (answer_status answer.now) result }
     ensures write { result ≡ Status.WriteFault → Rose (K.faults sink.old) (K.faults sink.new) }
     ensures sink_counted { (K.faults sink.new ≡ K.faults sink.old) ⊎ (result ≡ Status.WriteFault) }
     ensures ends { (result ≡ answer_status answer.now) ⊎ (result ≡ Status.WriteFault) ⊎ (result ≡ Status.OutOfMemory) }
@@ -82,7 +82,7 @@ fn perform<B: Bench, K: Sink, A: OverBench<B>>(
 
 // Reports that the source failed.
 fn read_fault<K: Sink>(sink: &mut K) -> Status
-    ensures text { IsWritten (K.written sink.old) (K.written sink.new) fault_text Status.ReadFault result }
+    ensures text { IsPut (K.written sink.old) (K.written sink.new) fault_text Status.ReadFault result }
     ensures write { result ≡ Status.WriteFault → Rose (K.faults sink.old) (K.faults sink.new) }
     ensures sink_counted { (K.faults sink.new ≡ K.faults sink.old) ⊎ (result ≡ Status.WriteFault) }
     ensures ends { (result ≡ Status.ReadFault) ⊎ (result ≡ Status.WriteFault) }

@@ -5,7 +5,7 @@ ghost use Rattle.dapseq_tool.specs.Asked.{Asks, IsRunLine};
 ghost use Rattle.dapseq_tool.specs.Headline.{Call};
 ghost use Rattle.dapseq_tool.specs.InMemory.{IsCallInMemory};
 ghost use Rattle.dapseq_tool.specs.Success.{IsDone};
-ghost use Rattle.dapseq_tool.specs.declared.asking.Asked.{Asked};
+ghost use Rattle.dapseq_tool.specs.declared.asking.Requested.{Requested};
 ghost use Rattle.dapseq_tool.specs.Packed.{packed};
 
 use crate::packed::dapseq;
@@ -84,7 +84,7 @@ fn is_out_of_room(status: Status) -> bool
 pub fn dapseq_in_memory(alloc: Global, words: &Words, bytes: &[u8]) -> Result<InMemory, OutOfMemory>
     // What the words and the bytes ask for was done.
     ensures done { IfOk result (λ end. (call : Call) × IsCallInMemory words.now bytes.now end call
-        × (asked : Asked) × Asks words.now bytes.now asked × IsDone packed call asked.number asked.what) }
+        × (asked : Requested) × Asks words.now bytes.now asked × IsDone packed call asked.number asked.what) }
 
     // A run alone loads the bench, and only where its job is not refused.
     ensures unloaded { IfOk result (λ end. (IsRunLine words.now → ⊥) → IsBeforeLoad end.bench) }

@@ -2,7 +2,7 @@
 ghost use Rattle.std.specs.Prelude.{◌≡◌, ◌≢◌, ◌⊎◌, ℕ, List, Some, IsSome};
 ghost use Rattle.dap_base.specs.Causes.{Rose};
 ghost use Rattle.probe_core.specs.Bench.{fresh, seen};
-ghost use Rattle.bench_access.specs.Opening.{IsIdle};
+ghost use Rattle.access_calls.specs.Opening.{IsIdle};
 ghost use Rattle.dapseq_tool.specs.Answers.{IsRunStatus, run_status, status_after, text_status};
 ghost use Rattle.dapseq_tool.specs.Asked.{IsSoundRun};
 ghost use Rattle.dapseq_tool.specs.Headline.{After, FailsWriting, HasRun, RunEnd};
@@ -12,8 +12,7 @@ ghost use Rattle.job_runs.specs.Runs.{access_kind};
 use crate::asking::Run;
 use crate::call::Over;
 use crate::status::Status;
-use access_calls::Ending;
-use bench_access::OverBench;
+use access_calls::{Ending, OverBench};
 use dap_base::Sink;
 use job_runs::{Ran, run_on, write_run};
 use probe_core::{Bench, LoadError};

@@ -17,6 +17,3 @@ pub use pack::{
 };
 pub use shared::SharedSteps;
 pub use steps::{Step, Steps};
-
-#[cfg(test)]
-mod tests;

@@ -26,3 +26,8 @@ pub mod Sound
 pub mod Whole
 pub mod Places
 pub mod Spellings
+pub mod Local
+pub mod Moves
+pub mod Again
+pub mod Plain
+pub mod Fits

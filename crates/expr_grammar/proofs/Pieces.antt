@@ -44,7 +44,8 @@ quote_parts : (bs : List ℕ) → first bs ≡ 34 → bs ≡ 34 ∷ drop 1 bs
 quote_parts [] e = absurd (omega (arith, e))
 quote_parts (b ∷ bs) e = ap (λ (c : ℕ). c ∷ bs) e
 
-text_kind : (kind : TokenKind) (t : List ℕ) → first t ≡ 34 → IsTokenText kind t → kind ≡ kinds.Text
+-- what begins with a quote is a string
+pub text_kind : (kind : TokenKind) (t : List ℕ) → first t ≡ 34 → IsTokenText kind t → kind ≡ kinds.Text
 text_kind kind t e h = kind_is kind t h ∙ rw e refl
 
 first_take : (bs : List ℕ) (m : ℕ) → 0 < m → first (take m bs) ≡ first bs
@@ -54,7 +55,7 @@ taken_some : (kind : TokenKind) (bs : List ℕ) (m : ℕ) → m ≤ length bs �
 taken_some kind bs m le t = omega (arith, token_some kind (take m bs) t, length-take-le m bs le)
 
 -- a string of m bytes at the front is what the search finds
-string_found : (bs : List ℕ) (m : ℕ) → m ≤ length bs → IsStringText (take m bs) → string_end false (drop 1 bs) ≡ Some (m - 1)
+pub string_found : (bs : List ℕ) (m : ℕ) → m ≤ length bs → IsStringText (take m bs) → string_end false (drop 1 bs) ≡ Some (m - 1)
 string_found bs m le s =
     let size : m ≡ length s.body + 2 = omega (arith, sym (length-take-le m bs le), ap length s.parts, length-append s.body (34 ∷ [])) in
     let whole : bs ≡ 34 ∷ (s.body ++ 34 ∷ drop m bs) = sym (take-append-drop m bs) ∙ ap (λ (l : List ℕ). l ++ drop m bs) s.parts ∙ ap (λ (l : List ℕ). 34 ∷ l) (append_assoc s.body (34 ∷ []) (drop m bs)) in

@@ -10,3 +10,7 @@ pub mod Refusal
 pub mod Counting
 pub mod Alike
 pub mod Arithmetic
+pub mod Moved
+pub mod Bare
+pub mod Plain
+pub mod Fits

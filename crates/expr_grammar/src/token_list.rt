@@ -71,15 +71,16 @@ impl<'a> Tokens<'a> {
         self.items.get(index)
     }
 
-    /// The tokens, lent without a copy.
-    pub(crate) fn as_slice(&self) -> &[Token<'a>]
+    /// All tokens, in order, lent without a copy.
+    pub fn as_slice(&self) -> &[Token<'a>]
         ensures { lexemes result.now ≡ self.now }
     {
         self.items.as_slice()
     }
 
-    /// The place of the token at `index`; at the end, the place just past the last token, or 1:1.
-    pub(crate) fn place(&self, index: usize) -> Place
+    /// The place of the token at `index`, counted from 0, at most the number of tokens. At that number it is the place just past the
+    /// last token, on its line; with no token, 1:1.
+    pub fn place(&self, index: usize) -> Place
         requires { index ≤ length self.now }
         ensures { result ≡ place_of self.now index }
     {

@@ -9,11 +9,11 @@ use Rattle.dap_messages.specs.declared.request.Response.TheVariants.{Good, Wait,
 use Rattle.dap_messages.specs.Requests.{mask_request}
 use Rattle.target_machine.specs.Counts.{one_if}
 use Rattle.dap_transfer.specs.Laws.{one_at_a_time}
-use Rattle.dap_transfer.specs.State.{TransferState, Transferred, grown, is_wait}
+use Rattle.dap_transfer.specs.State.{Setting, TransferState, Transferred, grown, is_wait}
 use Rattle.dap_transfer.specs.Transfer.{transferred}
 use Rattle.dap_transfer.proofs.Guards.{match_shuts}
 use Rattle.flight_forms.specs.Packing.{guarded_requests, payload}
-use Rattle.flight_forms.specs.Flights.{AreClear, DoesPart, Part, slot_values}
+use Rattle.flight_forms.specs.Flights.{AreClear, DoesPart, IsOver, Part, slot_values}
 use Rattle.flight_forms.specs.Chains.{AllTaken, CutAs, DoesChain, IsCutOnce, IsGuardOpen, IsGuardShut, IsShut, LeavesGuard, all_of, chain_after, chain_part, chain_replies, guarded_part, joined_as, nothing_yet}
 use Rattle.flight_forms.proofs.Guarded.{DoesGuarded, does_guarded, leaves_by}
 use Rattle.flight_forms.proofs.Rows.{clear-append, good_whole, one-append, slots-append, take_after, take_all, take_front}
@@ -59,6 +59,7 @@ part_joined p q r xs ys a b e first last =
       retries = last.retries ∙ ap (λ n. cond (is_wait b.response) (min (n + 1) (2 ^ 32 - 1)) n) (first.retries ∙ no_wait a.response (min (p.ended_retries + 1) (2 ^ 32 - 1)) p.ended_retries e);
       pending = λ f. (let z = good.0 in let y = good.1 in let x = last.pending f in omega arith);
       number = (let y = first.number in let x = last.number in let w = no_wait_one a.response e in omega arith);
+      over = λ f. subst (λ (s : Setting). IsOver s r.line.number) first.setting (last.over f);
     }
 
 -- a part after which nothing was done
@@ -86,6 +87,7 @@ part_front p q xs ys a bad h =
       retries = h.retries;
       pending = h.pending;
       number = h.number;
+      over = h.over;
     }
 
 pub shut_now : (q : TransferState) (accesses : List RegAccess) → IsGuardShut q → transferred q (guarded_requests accesses) ≡ record { executed = 0; response = Mismatch; words = []; next = q }
@@ -120,6 +122,7 @@ none_done p clear = record {
   retries = refl;
   pending = λ e. absurd (cc);
   number = omega arith;
+  over = λ e. absurd (cc);
 }
 
 cut_here : (x : Response) (p q r : TransferState) (xs ys : List RegAccess) (a b : Part) (replies : List Transferred) (rest : Type 0) → a.response ≡ x → (x ≡ Good → ⊥) → (x ≡ Mismatch → ⊥) →

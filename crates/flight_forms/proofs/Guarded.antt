@@ -37,7 +37,7 @@ leaves_by x y q e h = subst (λ z. LeavesGuard z q) (sym e) h
 
 -- the same part, whatever the mask was and is
 under_mask : (p q : TransferState) (m n : ℕ) (accesses : List RegAccess) (part : Part) → DoesPart (record p { mask = m }) q accesses part → DoesPart p (record q { mask = n }) accesses part
-under_mask p q m n accesses part h = record { made = h.made; values = h.values; work = h.work; setting = h.setting; retries = h.retries; pending = h.pending; number = h.number }
+under_mask p q m n accesses part h = record { made = h.made; values = h.values; work = h.work; setting = h.setting; retries = h.retries; pending = h.pending; number = h.number; over = h.over }
 
 shut_by : (p : TransferState) (d : Transferred) (accesses : List RegAccess) (rs : List Request) → IsGuardOpen p → d.next.mask ≡ 1 →
     DoesPart (record p { mask = 1 }) d.next accesses (part_of (take d.executed rs) d.response d.words) → IsGuardShut d.next

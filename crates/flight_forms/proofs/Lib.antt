@@ -3,6 +3,7 @@ pub mod OwnAccesses
 pub mod AskedRequests
 pub mod SeenValues
 pub mod Numbers
+pub mod Stalled
 pub mod OwnParts
 pub mod Transfers
 pub mod Rows

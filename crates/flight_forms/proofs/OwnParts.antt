@@ -28,6 +28,7 @@ use Rattle.dap_transfer.proofs.Numbering.{numbers_transfers}
 use Rattle.flight_forms.proofs.OwnAccesses.{ChecksFollow, doubted_count, own_count, performs_own, taken_own}
 use Rattle.flight_forms.proofs.Numbers.{number_kept}
 use Rattle.flight_forms.proofs.SeenValues.{all_seen, less_seen}
+use Rattle.flight_forms.proofs.Stalled.{command_over}
 
 -- ---- whether the last access is in doubt shows in the reply
 
@@ -148,4 +149,5 @@ does_own p rs normal guarded follow clear =
       retries = refl;
       pending = λ e. wait_count x d.next.pending k (own_count (n - one_if doubt) rs) c e near_own c_is;
       number = number_kept t rs p.line.number d.next.line.number (length d.words) n x d.next.pending normal follow ends (numbers_transfers p rs normal);
+      over = command_over p rs;
     }

@@ -40,6 +40,7 @@ part_asked p q accesses part taken h = record {
   retries = h.retries;
   pending = h.pending;
   number = h.number;
+  over = h.over;
 }
 
 -- ---- one Transfer

@@ -1,5 +1,5 @@
 -- What a flight does, in terms of its accesses made one at a time; and what its replies show of that.
-use Rattle.std.specs.Prelude.{◌≡◌, ℕ, ◌+◌, ◌-◌, ◌*◌, ◌^◌, ◌≤◌, ◌<◌, min, nat_lt, not, ◌&&◌, ◌||◌, Bool, true, false, if◌then◌else◌, List, [], ◌∷◌, length, map, take, drop, Option, Some, None}
+use Rattle.std.specs.Prelude.{◌≡◌, ℕ, ◌+◌, ◌-◌, ◌*◌, ◌^◌, ◌≤◌, ◌<◌, min, nat_lt, not, ◌&&◌, ◌||◌, slice_index, Bool, true, false, if◌then◌else◌, List, [], ◌∷◌, length, map, take, drop, Option, Some, None}
 use Rattle.target_machine.specs.State.{TargetState}
 use Rattle.target_machine.specs.Attempt.{attempt}
 use Rattle.target_machine.specs.declared.access.RegAccess.{RegAccess}
@@ -10,9 +10,9 @@ use Rattle.dap_messages.specs.Requests.{kind, reads_in, write_after}
 use Rattle.dap_transfer.specs.Block.{blocked}
 use Rattle.target_machine.specs.Counts.{one_if}
 use Rattle.dap_transfer.specs.Laws.{accesses_in, one_at_a_time, reads_value, value_now}
-use Rattle.dap_transfer.specs.State.{TransferState, grown, is_good, is_wait}
+use Rattle.dap_transfer.specs.State.{Setting, TransferState, grown, is_good, is_wait}
 use Rattle.dap_transfer.specs.Transfer.{transferred}
-use Rattle.dap_transfer.specs.WireTransfer.{reads_rdbuff_itself}
+use Rattle.dap_transfer.specs.WireTransfer.{next_number, reads_rdbuff_itself}
 use Rattle.dap_transfer.specs.Wires.{access_of}
 use Rattle.flight_forms.specs.Packing.{requests_for}
 
@@ -49,6 +49,10 @@ pub record Part : Type 0 where
   -- what each confirmed access gave: a read its value, a write none
   pub values : List (Option ℕ)
 
+-- The last transfer that was numbered met more WAITs than the retry number allows: this is the number of the next.
+abbrev pub IsOver : Setting → ℕ → Type 0
+IsOver s number = (place : ℕ) × (number ≡ next_number place) × (s.retry < slice_index s.stalls place)
+
 -- Accesses did this part of themselves, from one state of the probe to another.
 pub record DoesPart (p q : TransferState) (accesses : List RegAccess) (part : Part) : Type 0 where
   pub made : Performs p.line.target q.line.target accesses part.performed part.confirmed part.response
@@ -60,6 +64,8 @@ pub record DoesPart (p q : TransferState) (accesses : List RegAccess) (part : Pa
   pub pending : part.response ≡ Wait → part.performed ≡ part.confirmed + one_if q.pending
   -- how far the list of stalls went on
   pub number : q.line.number ≤ p.line.number + 2 * part.performed + one_if (is_wait part.response)
+  -- where a retry ended
+  pub over : part.response ≡ Wait → IsOver p.setting q.line.number
 
 -- ---- what a reply shows
 

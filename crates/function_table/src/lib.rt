@@ -10,6 +10,3 @@ mod variables;
 pub use format::{Conversion, FormatPiece, NumberForm, conversions, front_piece};
 pub use function::{Function, ParameterKind, ResultKind, function_of};
 pub use variables::PREDEFINED;
-
-#[cfg(test)]
-mod tests;

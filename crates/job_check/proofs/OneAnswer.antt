@@ -20,7 +20,7 @@ use Rattle.job_check.specs.declared.answer.Refusal.TheVariants as refusals
 use Rattle.job_check.specs.declared.answer.ValidSet.{ValidSet}
 use Rattle.job_check.specs.declared.answer.CheckRefusal.{CheckRefusal}
 use Rattle.job_check.specs.declared.answer.CheckRefusal.TheVariants as ends
-use Rattle.job_check.specs.Answers.{NoJob, NoSet, NoValid, AnswersSet, valid, not_valid, AnswersPack, resolved, not_resolved, IsAnswer, described, not_described, AnswersJob, Gives}
+use Rattle.job_check.specs.Answers.{NoJob, NoSet, NoValid, AnswersSet, valid, not_valid, AnswersPack, resolved, not_resolved, IsAnswer, described, not_described, AnswersJob, AnswersAs}
 
 abbrev Answer : Type 0
 Answer = Result SeqSet Refusal
@@ -167,7 +167,7 @@ one_answer bytes s x y p q = elim p [
 -- ---- what a call answers
 
 -- the answer is what is answered, unless memory is refused
-pub only : (bytes : List ℕ) (s : Selection) (r : Result ValidSet CheckRefusal) → AnswersJob bytes s r → (answer : Answer) → IsAnswer bytes s answer → Gives answer r
+pub only : (bytes : List ℕ) (s : Selection) (r : Result ValidSet CheckRefusal) → AnswersJob bytes s r → (answer : Answer) → IsAnswer bytes s answer → AnswersAs answer r
 only bytes s (Ok v) given answer is = one_answer bytes s answer (Ok v.set) is given
 only bytes s (Err (ends.Refused r)) given answer is = one_answer bytes s answer (Err r) is given
 only bytes s (Err ends.OutOfMemory) given answer is = tt

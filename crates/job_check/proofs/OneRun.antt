@@ -4,9 +4,9 @@ use Rattle.sequence_resolve.specs.declared.selection.Selection.{Selection}
 use Rattle.sequence_resolve.specs.declared.entry.SeqSet.{SeqSet}
 use Rattle.sequence_resolve.specs.Resolving.{IsEffectiveSet}
 use Rattle.sequence_resolve.proofs.OneSet.{one_set}
-use Rattle.sequence_code.specs.Reading.{ReadsSet}
-use Rattle.sequence_code.specs.Trees.{SetTrees}
-use Rattle.sequence_code.proofs.SetLaws as trees
+use Rattle.sequence_trees.specs.Reading.{ReadsSet}
+use Rattle.sequence_trees.specs.Trees.{SetTrees}
+use Rattle.sequence_trees.proofs.SetLaws as trees
 use Rattle.seq_check.specs.Answers.{checked_trees}
 use Rattle.job_text.specs.declared.job.Job.{Job}
 use Rattle.job_text.specs.Answers.{Describes}

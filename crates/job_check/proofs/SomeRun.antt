@@ -4,7 +4,7 @@ use Rattle.serde_json.specs.Read.{read}
 use Rattle.device_tree.specs.PackForm.{IsPack}
 use Rattle.sequence_resolve.specs.declared.selection.Selection.{Selection}
 use Rattle.sequence_resolve.specs.declared.entry.SeqSet.{SeqSet}
-use Rattle.sequence_code.specs.Reading.{ReadsSet}
+use Rattle.sequence_trees.specs.Reading.{ReadsSet}
 use Rattle.seq_check.specs.declared.checked.Checked.{Checked}
 use Rattle.seq_check.specs.Valid.{IsSound}
 use Rattle.seq_check.specs.Answers.{checked_trees}

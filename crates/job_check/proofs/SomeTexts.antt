@@ -11,15 +11,15 @@ use Rattle.expr_grammar.specs.Lexing.{AreTokensOf, place_at}
 use Rattle.expr_grammar.specs.Grammar.{ReadsCode, ReadsExpr}
 use Rattle.expr_grammar.specs.Refusal.{place_of}
 use Rattle.expr_grammar.specs.Tree.{Tree, StmtTree}
-use Rattle.sequence_code.specs.declared.spot.Part.{Part}
-use Rattle.sequence_code.specs.declared.spot.Part.TheVariants as kinds
-use Rattle.sequence_code.specs.declared.spot.Spot.{Spot}
-use Rattle.sequence_code.specs.Texts.{IsTextOf, IsFaultyText, bad_token, unexpected, too_deep, IsCodeOf, IsConditionOf, IsFaultyCode, IsFaultyCondition}
-use Rattle.sequence_code.specs.Trees.{CodeStep, Block, Control, CodeSteps, NoSteps, MoreSteps, SequenceTrees, SetTrees}
-use Rattle.sequence_code.specs.Order.{TextAt, moved, IsFirstFaulty, StepText, text_if_some, block_texts, control_texts, under, steps_texts, enabled_steps, entry_texts, entries_texts, debugvars_texts, IsFirstFault}
-use Rattle.sequence_code.specs.Reading.{MayBeCondition, ReadsBlock, ReadsControl, Begins, ReadsSteps, ReadsEntry, ReadsEntries, ReadsSet}
-use Rattle.sequence_code.proofs.OrderLaws.{AreFine, fine_both, fine_moved, first_before, first_after, first_moved, first_single}
-use Rattle.sequence_code.proofs.ReadingLaws.{cond_fine, repeat_fine, block_fine, control_fine, steps_fine}
+use Rattle.sequence_trees.specs.declared.spot.Part.{Part}
+use Rattle.sequence_trees.specs.declared.spot.Part.TheVariants as kinds
+use Rattle.sequence_trees.specs.declared.spot.Spot.{Spot}
+use Rattle.sequence_trees.specs.Texts.{IsTextOf, IsFaultyText, bad_token, unexpected, too_deep, IsCodeOf, IsConditionOf, IsFaultyCode, IsFaultyCondition}
+use Rattle.sequence_trees.specs.Trees.{CodeStep, Block, Control, CodeSteps, NoSteps, MoreSteps, SequenceTrees, SetTrees}
+use Rattle.sequence_trees.specs.Order.{TextAt, moved, IsFirstFaulty, StepText, text_if_some, block_texts, control_texts, under, steps_texts, enabled_steps, entry_texts, entries_texts, debugvars_texts, IsFirstFault}
+use Rattle.sequence_trees.specs.Reading.{MayBeCondition, ReadsBlock, ReadsControl, Begins, ReadsSteps, ReadsEntry, ReadsEntries, ReadsSet}
+use Rattle.sequence_trees.proofs.OrderLaws.{AreFine, fine_both, fine_moved, first_before, first_after, first_moved, first_single}
+use Rattle.sequence_trees.proofs.ReadingLaws.{cond_fine, repeat_fine, block_fine, control_fine, steps_fine}
 use Rattle.job_check.proofs.SomeTokens.{cut}
 use Rattle.job_check.proofs.SomeTree.{Parsed, expression, code}
 

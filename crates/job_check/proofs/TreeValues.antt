@@ -18,12 +18,12 @@ use Rattle.expr_grammar.specs.Tree.{Tree, ArgTree, ArgTrees, NoArgs, MoreArgs, S
 use Rattle.function_table.specs.Lookup.{function_named}
 use Rattle.sequence_resolve.specs.declared.entry.SeqEntry.{SeqEntry}
 use Rattle.sequence_resolve.specs.declared.entry.SeqSet.{SeqSet}
-use Rattle.sequence_code.specs.declared.steps.CheckedStep.{CheckedStep}
-use Rattle.sequence_code.specs.declared.steps.CheckedStep.TheVariants as c
-use Rattle.sequence_code.specs.declared.set.ReadSet.{ReadSet}
-use Rattle.sequence_code.specs.Trees.{CodeStep, Block, Control, CodeSteps, NoSteps, MoreSteps, step_tree, steps_tree, SequenceTrees, SetTrees}
-use Rattle.sequence_code.specs.SetView.{entry_view, set_trees}
-use Rattle.sequence_code.specs.Reading.{ReadsEntries, ReadsSet}
+use Rattle.sequence_trees.specs.declared.steps.CheckedStep.{CheckedStep}
+use Rattle.sequence_trees.specs.declared.steps.CheckedStep.TheVariants as c
+use Rattle.sequence_trees.specs.declared.set.ReadSet.{ReadSet}
+use Rattle.sequence_trees.specs.Trees.{CodeStep, Block, Control, CodeSteps, NoSteps, MoreSteps, step_tree, steps_tree, SequenceTrees, SetTrees}
+use Rattle.sequence_trees.specs.SetView.{entry_view, set_trees}
+use Rattle.sequence_trees.specs.Reading.{ReadsEntries, ReadsSet}
 use Rattle.code_check.proofs.TreeLemmas.{tree-Number, tree-Name, tree-Group, tree-Unary, tree-Binary, tree-Cond, tree-Assign, tree-Call, arg_tree-Number, arg_tree-Text}
 use Rattle.seq_check.specs.declared.checked.Checked.{Checked}
 use Rattle.seq_check.specs.Valid.{IsSound}

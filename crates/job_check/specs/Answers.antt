@@ -7,7 +7,7 @@ use Rattle.sequence_resolve.specs.declared.selection.Selection.{Selection}
 use Rattle.sequence_resolve.specs.declared.entry.SeqSet.{SeqSet}
 use Rattle.sequence_resolve.specs.declared.fault.ResolveFault.TheVariants as resolving
 use Rattle.sequence_resolve.specs.Resolving.{IsEffectiveSet, HasNone}
-use Rattle.sequence_code.specs.Reading.{ReadsSet}
+use Rattle.sequence_trees.specs.Reading.{ReadsSet}
 use Rattle.seq_check.specs.declared.checked.Checked.{Checked}
 use Rattle.seq_check.specs.Valid.{IsSound, IsValid, IsFirstFaultOf}
 use Rattle.seq_check.specs.Answers.{checked_trees}
@@ -86,7 +86,7 @@ AnswersJob bytes s (Err (ends.Refused r)) = IsAnswer bytes s (Err r)
 AnswersJob bytes s (Err ends.OutOfMemory) = Unit {0}
 
 -- this answer, unless memory ran out
-abbrev pub Gives : Result SeqSet Refusal → Result ValidSet CheckRefusal → Type 0
-Gives answer (Ok found) = answer ≡ Ok found.set
-Gives answer (Err (ends.Refused r)) = answer ≡ Err r
-Gives answer (Err ends.OutOfMemory) = Unit {0}
+abbrev pub AnswersAs : Result SeqSet Refusal → Result ValidSet CheckRefusal → Type 0
+AnswersAs answer (Ok found) = answer ≡ Ok found.set
+AnswersAs answer (Err (ends.Refused r)) = answer ≡ Err r
+AnswersAs answer (Err ends.OutOfMemory) = Unit {0}

@@ -58,9 +58,9 @@ OnEnd P ends.NoSequence = P ends.NoSequence
 OnEnd P ends.OutOfMemory = Unit {0}
 
 -- why no sequence runs, by why there is no valid set
-abbrev pub end_of : CheckRefusal → RunRefusal
-end_of (checks.Refused r) = ends.Refused r
-end_of checks.OutOfMemory = ends.OutOfMemory
+abbrev pub run_refusal_of : CheckRefusal → RunRefusal
+run_refusal_of (checks.Refused r) = ends.Refused r
+run_refusal_of checks.OutOfMemory = ends.OutOfMemory
 
 -- two runs of one job, with the same set and the same trees
 pub record IsSameRun (x y : ValidRun) : Type 0 where

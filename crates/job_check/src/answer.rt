@@ -2,8 +2,8 @@
 use dap_base::OutOfMemory;
 use device_tree::JobFault;
 use seq_check::{Checked, FaultKind};
-use sequence_code::Spot;
 use sequence_resolve::SeqSet;
+use sequence_trees::Spot;
 
 /// A valid set of sequences, and the trees of its texts.
 #[derive(Debug, Drop)]

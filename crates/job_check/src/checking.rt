@@ -10,7 +10,7 @@ ghost use Rattle.job_text.specs.Answers.{Describes};
 ghost use Rattle.job_text.specs.Ranges.{AreSettings, AreWatched};
 ghost use Rattle.probe_core.specs.Ranges.{IsBenchJob};
 ghost use Rattle.job_check.specs.declared.answer.Refusal.{Refusal};
-ghost use Rattle.job_check.specs.Answers.{OnRefusal, NoJob, NoSet, NoValid, AreTreesOf, IsAnswer, Gives, AnswersJob};
+ghost use Rattle.job_check.specs.Answers.{OnRefusal, NoJob, NoSet, NoValid, AreTreesOf, IsAnswer, AnswersAs, AnswersJob};
 
 use crate::answer::{CheckRefusal, Refusal, ValidSet};
 use dap_base::NameText;
@@ -20,7 +20,7 @@ use seq_check::{CheckFault, check};
 use sequence_resolve::{ResolveFault, Selection, SeqSet, effective};
 use std::alloc::Global;
 
-pub(crate) fn job_in(alloc: Global, bytes: &[u8]) -> Result<Job, CheckRefusal>
+pub(crate) fn read_job(alloc: Global, bytes: &[u8]) -> Result<Job, CheckRefusal>
     ensures found { IfOk result (Describes bytes.now) }
     ensures refused { IfErr result (OnRefusal (NoJob bytes.now)) }
     ensures settings { IfOk result (λ job. AreSettings job.settings) }
@@ -44,7 +44,7 @@ fn text_of(name: &Option<NameText>) -> Option<&str>
     }
 }
 
-pub(crate) fn set_in(
+pub(crate) fn resolve_set(
     alloc: Global,
     pack: &Pack,
     selection: &Selection,
@@ -65,7 +65,7 @@ pub(crate) fn set_in(
     }
 }
 
-pub(crate) fn checked(alloc: Global, set: SeqSet) -> Result<ValidSet, CheckRefusal>
+pub(crate) fn check_set(alloc: Global, set: SeqSet) -> Result<ValidSet, CheckRefusal>
     requires { IsDistinct bytes_eq (map (λ e. e.name) set.entries) }
     ensures same { IfOk result (λ valid. valid.set ≡ set) }
     ensures trees { IfOk result (λ valid. AreTreesOf valid.set valid.trees) }
@@ -80,13 +80,17 @@ pub(crate) fn checked(alloc: Global, set: SeqSet) -> Result<ValidSet, CheckRefus
     }
 }
 
-fn answered(alloc: Global, bytes: &[u8], selection: &Selection) -> Result<ValidSet, CheckRefusal>
+fn find_valid_set(
+    alloc: Global,
+    bytes: &[u8],
+    selection: &Selection,
+) -> Result<ValidSet, CheckRefusal>
     ensures answer { AnswersJob bytes.now selection.now result }
     ensures trees { IfOk result (λ valid. AreTreesOf valid.set valid.trees) }
 {
-    let job = job_in(alloc, bytes)?;
-    let set = set_in(alloc, &job.pack, selection)?;
-    checked(alloc, set)
+    let job = read_job(alloc, bytes)?;
+    let set = resolve_set(alloc, &job.pack, selection)?;
+    check_set(alloc, set)
 }
 
 /// The set of sequences that the job of these bytes has for the selected device, where it is valid,
@@ -105,9 +109,9 @@ pub fn valid_set(
     // What is answered is the answer to the bytes and the selection.
     ensures answer { AnswersJob bytes.now selection.now result }
     // Their answer is what is answered, unless memory is refused.
-    ensures only { (answer : Result SeqSet Refusal) → IsAnswer bytes.now selection.now answer → Gives answer result }
+    ensures only { (answer : Result SeqSet Refusal) → IsAnswer bytes.now selection.now answer → AnswersAs answer result }
     // The trees are those that the grammar gives the texts of the set.
     ensures trees { IfOk result (λ valid. AreTreesOf valid.set valid.trees) }
 {
-    answered(alloc, bytes, selection)
+    find_valid_set(alloc, bytes, selection)
 }

@@ -7,10 +7,10 @@ ghost use Rattle.job_text.specs.Answers.{Describes};
 ghost use Rattle.job_text.specs.Ranges.{AreSettings, AreWatched};
 ghost use Rattle.probe_core.specs.Ranges.{IsBenchJob};
 ghost use Rattle.job_check.specs.Answers.{AreTreesOf, OnRefusal, NoValid};
-ghost use Rattle.job_check.specs.Running.{IsValidRun, IsRefusedRun, OnEnd, end_of, has_sequence};
+ghost use Rattle.job_check.specs.Running.{IsValidRun, IsRefusedRun, OnEnd, run_refusal_of, has_sequence};
 
 use crate::answer::{CheckRefusal, Refusal, ValidSet};
-use crate::checking::{checked, job_in, set_in};
+use crate::checking::{check_set, read_job, resolve_set};
 use job_text::Job;
 use seq_check::Checked;
 use sequence_resolve::{Selection, SeqSet};
@@ -38,8 +38,8 @@ pub enum RunRefusal {
 }
 
 // Why no sequence runs, by why there is no valid set.
-fn refused(refusal: CheckRefusal) -> RunRefusal
-    ensures { result ≡ end_of refusal }
+fn refuse_run(refusal: CheckRefusal) -> RunRefusal
+    ensures { result ≡ run_refusal_of refusal }
 {
     match refusal {
         CheckRefusal::Refused(refusal) => RunRefusal::Refused(refusal),
@@ -78,19 +78,19 @@ pub fn valid_run(
     ensures watch { IfOk result (λ r. AreWatched r.job.bench.target.memory r.job.watch) }
     ensures ranges { IfOk result (λ r. IsBenchJob r.job.bench) }
 {
-    let job = match job_in(alloc, bytes) {
+    let job = match read_job(alloc, bytes) {
         Ok(job) => job,
-        Err(refusal) => return Err(refused(refusal)),
+        Err(refusal) => return Err(refuse_run(refusal)),
     };
-    let set = match set_in(alloc, &job.pack, selection) {
+    let set = match resolve_set(alloc, &job.pack, selection) {
         Ok(set) => set,
-        Err(refusal) => return Err(refused(refusal)),
+        Err(refusal) => return Err(refuse_run(refusal)),
     };
     if !has_sequence(&set, name) {
         return Err(RunRefusal::NoSequence);
     }
-    match checked(alloc, set) {
+    match check_set(alloc, set) {
         Ok(ValidSet { set, trees }) => Ok(ValidRun { job, set, trees }),
-        Err(refusal) => Err(refused(refusal)),
+        Err(refusal) => Err(refuse_run(refusal)),
     }
 }

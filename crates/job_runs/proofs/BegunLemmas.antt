@@ -7,19 +7,19 @@ use Rattle.std.proofs.lemmas.List.{length-append, take-append-le, take-take}
 use Rattle.target_machine.specs.State.{Agree, TargetState}
 use Rattle.probe_core.specs.Bench.{BenchState}
 use Rattle.probe_core.specs.Probe.{target_of}
-use Rattle.call_terms.specs.Asks.{settled_last}
-use Rattle.call_terms.specs.Journal.{Entry, target_after}
-use Rattle.call_terms.specs.World.{World, stop}
-use Rattle.call_terms.specs.declared.calls.Ask.{Ask}
-use Rattle.call_terms.proofs.CallLists.{stop_more}
-use Rattle.call_terms.proofs.MarkLemmas.{stop_marked}
+use Rattle.target_calls.specs.Asks.{settled_last}
+use Rattle.target_calls.specs.Journal.{Entry, target_after}
+use Rattle.target_calls.specs.World.{World, stop}
+use Rattle.target_calls.specs.declared.calls.Ask.{Ask}
+use Rattle.target_calls.proofs.CallLists.{stop_more}
+use Rattle.target_calls.proofs.MarkLemmas.{stop_marked}
 use Rattle.access_calls.specs.Growing.{GoesOnWith, IsAfter, IsWithin, JournalGrows, JournalSettles}
 use Rattle.access_calls.specs.Reported.{Beginning, start_of}
 use Rattle.access_calls.specs.Standing.{IsAfterPart, IsPartOf}
 use Rattle.control_flow.specs.Answers.{IsWhole}
-use Rattle.sequence_terms.specs.Laws.{StopBy}
-use Rattle.sequence_terms.specs.Runs as runs
-use Rattle.sequence_terms.specs.Runs.{Ending}
+use Rattle.sequence_rules.specs.Laws.{StopBy}
+use Rattle.sequence_rules.specs.Runs as runs
+use Rattle.sequence_rules.specs.Runs.{Ending}
 use Rattle.job_runs.proofs.FrontLemmas.{Meets, beyond, covers, goes_beyond, marked, within}
 
 -- ---- lists

@@ -1,21 +1,22 @@
 -- The journal of the calls that were asked, and that of the outcome's calls: they have a front in common, in which all lies that a
 -- stop speaks of.
-use Rattle.std.proofs.Common.{◌≡◌, ◌∙◌, ◌⊎◌, inl, inr, ℕ, zero, suc, ◌+◌, ◌-◌, ◌<◌, ◌≤◌, Bool, true, false, cond, List, [], ◌∷◌, ◌++◌, append-nil, append_assoc, length, take, nat_le, Option, None, Some, refl, sym, ap, subst, arith}
+use Rattle.std.proofs.Common.{◌≡◌, ◌∙◌, ◌⊎◌, inl, inr, ℕ, zero, suc, ◌+◌, ◌-◌, ◌<◌, ◌≤◌, Bool, true, false, cond, List, [], ◌∷◌, ◌++◌, append-nil, append_assoc, length, take, drop, nat_le, Option, None, Some, refl, sym, ap, subst, arith}
 use Rattle.std.specs.List.{AllByRecursion}
 use Rattle.std.specs.Prelude.{option_map, slice_get}
-use Rattle.std.proofs.lemmas.List.{length-append, take-append-le}
+use Rattle.std.proofs.lemmas.List.{length-append, take-append-drop, take-append-le}
 use Rattle.std.proofs.lemmas.Option.{same_Some, slice_get_within}
 use Rattle.target_machine.specs.Plain.{acted}
 use Rattle.target_machine.specs.State.{Agree, TargetState}
 use Rattle.target_machine.specs.declared.unit.Call.{Call}
 use Rattle.probe_core.specs.Bench.{BenchState}
 use Rattle.probe_core.specs.Probe.{target_of}
-use Rattle.call_terms.specs.Asks.{settled_last}
-use Rattle.call_terms.specs.Journal.{Entry, attempted_in, first_fault, is_unforgiven, lines_before, skipped_in, target_after}
-use Rattle.call_terms.specs.Weights.{performed, weight}
-use Rattle.call_terms.specs.World.{later_by}
-use Rattle.call_terms.specs.declared.calls.Ask.{Ask}
-use Rattle.call_terms.proofs.MarkLemmas.{length_marked}
+use Rattle.target_calls.specs.Asks.{settled_last}
+use Rattle.target_calls.specs.Journal.{Entry, attempted_in, first_fault, is_unforgiven, lines_before, skipped_in, target_after}
+use Rattle.target_calls.specs.Weights.{performed, weight, weight_in}
+use Rattle.target_calls.proofs.EntryLemmas.{weight_append}
+use Rattle.target_calls.specs.World.{later_by}
+use Rattle.target_calls.specs.declared.calls.Ask.{Ask}
+use Rattle.target_calls.proofs.MarkLemmas.{length_marked}
 use Rattle.access_calls.specs.Growing.{GoesOnWith, IsAfter, JournalGrows, JournalSettles}
 use Rattle.access_calls.specs.Numbers.{HasNumbers, StopNumbers, attempted_by, lines_at, unit_at}
 use Rattle.access_calls.specs.Reported.{Beginning, start_of}
@@ -23,7 +24,7 @@ use Rattle.access_calls.specs.Standing.{HasPerformed, grown_since}
 use Rattle.access_calls.specs.declared.stop.Report.{Report}
 use Rattle.access_calls.specs.declared.stop.StopCause.{StopCause}
 use Rattle.control_flow.specs.Answers.{IsWhole, SharesCalls}
-use Rattle.sequence_terms.specs.Runs.{Outcome}
+use Rattle.sequence_rules.specs.Runs.{Outcome}
 use Rattle.job_runs.specs.Runs.{HasMade}
 
 -- ---- lists
@@ -177,6 +178,10 @@ fault_of_front t (x ∷ xs) ys zs f is le =
         let number : 1 + k ≡ f = same_Some (1 + k) f e in
         ap (later_by 1) (h k refl (omega (arith, number, le))) ∙ ap Some number
 
+-- the first entries weigh no more than all
+first_weigh : (t : TargetState) (k : ℕ) (es : List Entry) → weight_in t (take k es) ≤ weight_in t es
+first_weigh t k es = (let w = weight_append t (take k es) (drop k es) in let a = ap (weight_in t) (take-append-drop k es) in omega (arith, w, a))
+
 -- ---- a stop
 
 -- the numbers of a stop, by the entry that it names and those that were performed
@@ -228,8 +233,8 @@ module _ (r : Report) (ours theirs : List Entry) (h : Meeting r ours theirs) (on
   }
 
   -- and the same entries were performed
-  pub same_made : (b : Beginning) (m : BenchState) → HasPerformed ours r.accesses b m → HasMade r.unit theirs r.accesses b m
-  same_made b m p = record {
+  pub same_made : (b : Beginning) (m : BenchState) → HasPerformed ours r.accesses b m → grown_since b m ≤ weight_in (start_of b) (take (r.confirmed + 1) ours) → HasMade r.unit theirs r.accesses b m
+  same_made b m p up_to = record {
     front = h.front;
     goes_on = record { rest = h.their_rest; joined = h.theirs_are; later = h.later };
     performed = record {
@@ -237,6 +242,12 @@ module _ (r : Report) (ours theirs : List Entry) (h : Meeting r ours theirs) (on
           let all : r.accesses ≡ performed (start_of b) (h.front ++ h.our_rest) (grown_since b m) = p.count_is ∙ ap (λ (l : List Entry). performed (start_of b) l (grown_since b m)) h.ours_are in
           let few = within_front in
           all ∙ performed_of_front (start_of b) h.front h.our_rest (grown_since b m) (omega (arith, all, few));
+      no_more =
+          let first : take (r.confirmed + 1) ours ≡ take (r.confirmed + 1) h.front =
+          ap (take (r.confirmed + 1)) h.ours_are ∙ take-append-le (r.confirmed + 1) h.front h.our_rest (let n = h.next in omega (arith, n)) in
+          let same = ap (weight_in (start_of b)) first in
+          let most = first_weigh (start_of b) (r.confirmed + 1) h.front in
+          omega (arith, up_to, same, most);
       within = within_front;
       target = subst (λ (l : List Entry). Agree (target_of m.probe) (target_after (start_of b) l))
           (ap (take r.accesses) h.ours_are ∙ take-append-le r.accesses h.front h.our_rest within_front) p.target;

@@ -2,25 +2,27 @@
 use Rattle.std.proofs.Common.{◌≡◌, ◌∙◌, ◌⊎◌, inl, inr, ℕ, ◌+◌, ◌-◌, ◌*◌, ◌/◌, ◌<◌, ◌≤◌, if◌then◌else◌, List, [], ◌++◌, append-nil, length, take, Bool, true, false, Option, None, Some, refl, sym, ap, subst, arith}
 use Rattle.std.specs.List.{AllByRecursion}
 use Rattle.std.specs.Prelude.{option_map, slice_get}
+use Rattle.target_machine.specs.Start.{start}
 use Rattle.target_machine.specs.State.{Agree, TargetState}
 use Rattle.probe_core.specs.Bench.{BenchState, Seen, StepsTo, fresh}
-use Rattle.probe_core.specs.Probe.{target_of}
+use Rattle.probe_core.specs.Probe.{ExecutorState, target_of, work_of}
+use Rattle.probe_core.specs.declared.job.Config.{Config}
 use Rattle.probe_core.specs.declared.job.BenchJob.{BenchJob}
 use Rattle.probe_core.specs.declared.job.Limits.{Limits}
-use Rattle.call_terms.specs.Asks.{is_settled, settled_last}
-use Rattle.call_terms.specs.Journal.{Entry, lines_before, target_after}
-use Rattle.call_terms.specs.Journal.{settles as is_settling}
-use Rattle.call_terms.specs.NeedPoints.{Asks, finished, needed}
-use Rattle.call_terms.specs.Weights.{commands_in, registers_in}
-use Rattle.call_terms.specs.World.{start_world, world_after}
-use Rattle.call_terms.specs.World.{stop as call_stop}
-use Rattle.call_terms.specs.declared.calls.Ask.{Ask}
-use Rattle.call_terms.proofs.MarkLemmas.{after_marked, marked_settled}
+use Rattle.target_calls.specs.Asks.{is_settled, settled_last}
+use Rattle.target_calls.specs.Journal.{Entry, lines_before, target_after}
+use Rattle.target_calls.specs.Journal.{settles as is_settling}
+use Rattle.target_calls.specs.NeedPoints.{Asks, finished, needed}
+use Rattle.target_calls.specs.Weights.{commands_in, registers_in, weight_in}
+use Rattle.target_calls.specs.World.{start_world, world_after}
+use Rattle.target_calls.specs.World.{stop as call_stop}
+use Rattle.target_calls.specs.declared.calls.Ask.{Ask}
+use Rattle.target_calls.proofs.MarkLemmas.{after_marked, marked_settled}
 use Rattle.access_calls.specs.Bounds.{AreNextWrites, KeepsBounds, KeepsBoundsIf, block_words, capacity, starting_since}
 use Rattle.access_calls.specs.Left.{answered_at, answered_by, answered_cut}
 use Rattle.access_calls.specs.Growing.{IsWithin, JournalGrows, JournalSettles}
 use Rattle.access_calls.specs.Numbers.{HasNumbers, StopNumbers, lines_at, unit_at}
-use Rattle.access_calls.specs.Reported.{Reported, began, world_from}
+use Rattle.access_calls.specs.Reported.{AccessView, began, world_from}
 use Rattle.access_calls.specs.Standing as s
 use Rattle.access_calls.specs.Standing.{Stands, StandsAt, WhereObservable, HasPerformed, IsOpen, grown_since, number_of, pending_of}
 use Rattle.access_calls.specs.declared.ended.Ended.{Ended}
@@ -31,32 +33,32 @@ use Rattle.access_calls.specs.declared.stop.Stop.{Stop}
 use Rattle.access_calls.specs.declared.stop.Stop.TheVariants as stop
 use Rattle.access_calls.specs.declared.stop.StopCause.{StopCause}
 use Rattle.access_calls.specs.declared.stop.StopCause.TheVariants.{Faulted, NoAnswer}
-use Rattle.sequence_terms.specs.Laws as laws
-use Rattle.sequence_terms.specs.Laws.{IsCutShort}
-use Rattle.sequence_terms.specs.Runs.{Program, Outcome, late_meaning, meaning, outcome, outcome_of, units_of}
-use Rattle.sequence_terms.specs.Machine.{end_state}
-use Rattle.sequence_terms.proofs.Limits.{limit_cuts}
-use Rattle.sequence_terms.proofs.Made.{are_made}
-use Rattle.sequence_terms.proofs.Writing.{only_written}
+use Rattle.sequence_rules.specs.Laws as laws
+use Rattle.sequence_rules.specs.Laws.{IsCutShort}
+use Rattle.sequence_rules.specs.Runs.{Program, Outcome, late_meaning, meaning, outcome, outcome_of, units_of}
+use Rattle.sequence_rules.specs.Machine.{end_state}
+use Rattle.sequence_rules.proofs.Limits.{limit_cuts}
+use Rattle.sequence_rules.proofs.Made.{are_made}
+use Rattle.sequence_rules.proofs.Writing.{only_written}
 use Rattle.control_flow.specs.Answers as answers
-use Rattle.control_flow.specs.Answers.{EndBy, EndsAs, HasNeeds, IsAll, IsCut, IsPart, Ran, SharesCalls, StopsAfter, ran}
-use Rattle.sequence_terms.specs.Known.{Knows, known_part}
+use Rattle.control_flow.specs.Answers.{EndBy, EndsAs, EndsAtCut, HasNeeds, IsAll, IsPart, Ran, SharesCalls, StopsAfter, ran}
+use Rattle.sequence_rules.specs.Known.{Knows, known_part}
 use Rattle.target_machine.specs.Counts.{one_if}
 use Rattle.job_runs.proofs.BegunLemmas.{Share, asked_stop, begun_share, ends_how, part_shared}
 use Rattle.job_runs.proofs.FrontLemmas.{Covers, Meeting, call_within, covered, covers, few_asked, get_some, goes_beyond, meeting, meets, own_call, same_fault, same_first, same_made, same_numbers}
-use Rattle.job_runs.specs.Runs.{AccessKind, ComesTo, HasAsked, HasStopped, IsBroken, IsFaultStop, IsFew, IsFewIf, IsFront, IsLeftOff, IsNotOpened, IsRetryStop, IsStop, IsUnopened, IsWhole, Left, LeavesAs, Run, calls_in, entries_in, known_after, needs_in, not_opened, opened, outcome_with}
-use Rattle.job_runs.specs.Ends.{ending_of}
-use Rattle.bench_access.specs.Opening.{IsLoaded, IsNotBegun, IsOpened, RefusedBy}
+use Rattle.job_runs.specs.Runs.{AccessKind, ComesTo, HasStopped, IsBroken, IsFaultStop, IsFew, IsFewIf, IsFront, IsLeftOff, IsNotOpened, IsRetryStop, IsStop, IsUnopened, IsWhole, Left, LeavesAs, Run, calls_in, entries_in, known_after, needs_in, not_opened, opened, outcome_with}
+use Rattle.access_calls.specs.Endings.{ending_of}
+use Rattle.access_calls.specs.Opening.{HasTried, IsNotBegun, MayBegin, RefusedBy, opened_bench}
 
 -- what an access reports at this end, where its bench is observable
-stands_at : (journal : TargetState → List Ask → List Entry) (a : Reported) (first n : BenchState) (end : Option Stop) → a.end ≡ end → a.state ≡ Some n
+stands_at : (journal : TargetState → List Ask → List Entry) (a : AccessView) (first n : BenchState) (end : Option Stop) → a.end ≡ end → a.state ≡ Some n
     → Stands journal a (began first (answered_by a)) → StandsAt end (journal (target_of first.probe) a.asks.calls) a (began first (answered_at end a.lines)) n
 stands_at journal a first n end is seen h =
     subst (λ (x : Option Stop). StandsAt x (journal (target_of first.probe) a.asks.calls) a (began first (answered_at x a.lines)) n) is
     (subst (λ (o : Option BenchState). WhereObservable o (λ m. StandsAt a.end (journal (target_of first.probe) a.asks.calls) a (began first (answered_by a)) m)) seen h)
 
 -- what a run answers at this end
-ends_at : (ending : Ending) (p : Program) (a : Reported) (first : BenchState) (before : Option (List ℕ)) (r : Ran) (end : Option Stop) → a.end ≡ end
+ends_at : (ending : Ending) (p : Program) (a : AccessView) (first : BenchState) (before : Option (List ℕ)) (r : Ran) (end : Option Stop) → a.end ≡ end
     → EndsAs ending a.lines (outcome_of (meaning (world_from first (answered_by a)) p before)) r
     → EndsAs ending a.lines (outcome_of (meaning (world_from first (answered_at end a.lines)) p before)) r
 ends_at ending p a first before r end is h =
@@ -82,7 +84,7 @@ module _ (access : AccessKind) (grows : JournalGrows access.journal) (settles : 
   abbrev run : Run
   run = record { access = access; limits = limits; program = p; first = first; before = before }
 
-  abbrev entries : Reported → List Entry
+  abbrev entries : AccessView → List Entry
   entries a = access.journal (target_of first.probe) a.asks.calls
 
   abbrev whole : Outcome
@@ -95,20 +97,20 @@ module _ (access : AccessKind) (grows : JournalGrows access.journal) (settles : 
       ap (λ (c : List Ask). (world_after w c).target) is ∙ ap (λ x. x.target) (after_marked w whole.calls) ∙ sym (are_made w p before).made.target
 
   -- what an access reports of need points at the end of its run
-  abbrev HasRunNeeds : Ending → Reported → Type 0
+  abbrev HasRunNeeds : Ending → AccessView → Type 0
   HasRunNeeds ending a = HasNeeds ending a.asks (late_meaning access.cost (world_from first (answered_by a)) p before)
 
   -- the same where all is answered
-  all_needs : (ending : Ending) (a : Reported) → a.end ≡ None → HasRunNeeds ending a → HasNeeds ending a.asks (late_meaning access.cost (world_from first None) p before)
+  all_needs : (ending : Ending) (a : AccessView) → a.end ≡ None → HasRunNeeds ending a → HasNeeds ending a.asks (late_meaning access.cost (world_from first None) p before)
   all_needs ending a end h = subst (λ (x : Option Stop). HasNeeds ending a.asks (late_meaning access.cost (world_from first (answered_at x a.lines)) p before)) end h
 
   -- the lines before do not count
-  counted_needs : (a : Reported) → a.asks ≡ needed (finished (end_state (late_meaning access.cost (world_from first None) p before)).rest.asks) → a.asks.needs ≡ needs_in run
+  counted_needs : (a : AccessView) → a.asks ≡ needed (finished (end_state (late_meaning access.cost (world_from first None) p before)).rest.asks) → a.asks.needs ≡ needs_in run
   counted_needs a is = ap (λ (x : Asks). x.needs) is
       ∙ ap (λ (x : Asks). (needed (finished x)).needs) (sym (only_written access.cost (world_from first None) p before None).asks)
 
   -- the bounds of the access are those of the run
-  is_few : (answered : Option ℕ) (a : Reported) (l : Left) → a.bench.limits ≡ limits → first.starting ≡ 0 → a.asks.calls ≡ settled_last whole.calls → a.asks.needs ≡ needs_in run
+  is_few : (answered : Option ℕ) (a : AccessView) (l : Left) → a.bench.limits ≡ limits → first.starting ≡ 0 → a.asks.calls ≡ settled_last whole.calls → a.asks.needs ≡ needs_in run
       → KeepsBounds (entries a) a (began first answered) l.bench → IsFew run l
   is_few answered a l same opening calls points h = record {
     few = since_load _ first.starting _ opening
@@ -125,13 +127,13 @@ module _ (access : AccessKind) (grows : JournalGrows access.journal) (settles : 
   }
 
   -- so it is of an access that says so
-  few_if : (is_sparing : Bool) (answered : Option ℕ) (a : Reported) (l : Left) → a.end ≡ None → a.state ≡ Some l.bench → a.bench.limits ≡ limits → first.starting ≡ 0
+  few_if : (is_sparing : Bool) (answered : Option ℕ) (a : AccessView) (l : Left) → a.end ≡ None → a.state ≡ Some l.bench → a.bench.limits ≡ limits → first.starting ≡ 0
       → a.asks.calls ≡ settled_last whole.calls → a.asks.needs ≡ needs_in run → KeepsBoundsIf is_sparing (entries a) a (began first answered) → IsFewIf is_sparing run l
   few_if false answered a l end seen same opening calls points h = tt
   few_if true answered a l end seen same opening calls points h =
       is_few answered a l same opening calls points (subst (λ (o : Option BenchState). WhereObservable o (λ m. KeepsBounds (entries a) a (began first answered) m)) seen (h end))
 
-  is_whole : (a : Reported) (l : Left) → IsAll whole (ran l.ended a.asks l.written) → IsOpen (entries a) a (began first None) l.bench → IsFewIf access.is_sparing run l → IsWhole run l
+  is_whole : (a : AccessView) (l : Left) → IsAll whole (ran l.ended a.asks l.written) → IsOpen (entries a) a (began first None) l.bench → IsFewIf access.is_sparing run l → IsWhole run l
   is_whole a l all at few = record {
     variables = all.variables;
     units = all.units;
@@ -144,11 +146,11 @@ module _ (access : AccessKind) (grows : JournalGrows access.journal) (settles : 
   }
 
   -- all that was asked is the outcome's, where no more were asked
-  covered_by : (a : Reported) → SharesCalls a.asks.calls whole → length a.asks.calls ≤ length whole.calls → Covers access.journal grows settles (target_of first.probe) a.asks.calls whole.calls
+  covered_by : (a : AccessView) → SharesCalls a.asks.calls whole → length a.asks.calls ≤ length whole.calls → Covers access.journal grows settles (target_of first.probe) a.asks.calls whole.calls
   covered_by a shares few = covers access.journal grows settles (target_of first.probe) a.asks.calls whole.calls (meets a.asks.calls whole shares) few
 
   -- where more were asked, the outcome ends at its last call, and what was begun is not after that
-  begun_own : (a : Reported) (begun : ℕ) → SharesCalls a.asks.calls whole → s.StayWithin (target_of first.probe) a.asks.calls (take begun (entries a))
+  begun_own : (a : AccessView) (begun : ℕ) → SharesCalls a.asks.calls whole → s.StayWithin (target_of first.probe) a.asks.calls (take begun (entries a))
       → length whole.calls < length a.asks.calls → AllByRecursion (IsWithin (length whole.calls)) (take begun (entries a))
   begun_own a begun shares own more = by_end (ends_how (start_world (target_of first.probe) None) whole.ending whole.calls (are_made (start_world (target_of first.probe) None) p before).made.ending)
     where
@@ -156,12 +158,12 @@ module _ (access : AccessKind) (grows : JournalGrows access.journal) (settles : 
       by_end (inl ends) = absurd (let few = few_asked a.asks.calls whole shares ends in omega (arith, few, more))
       by_end (inr stops) = own.so (length whole.calls) (asked_stop (start_world (target_of first.probe) None) a.asks.calls whole.calls (meets a.asks.calls whole shares) more stops)
 
-  shared_by : (a : Reported) (begun : ℕ) → SharesCalls a.asks.calls whole → s.StayWithin (target_of first.probe) a.asks.calls (take begun (entries a)) → begun ≤ length (entries a)
+  shared_by : (a : AccessView) (begun : ℕ) → SharesCalls a.asks.calls whole → s.StayWithin (target_of first.probe) a.asks.calls (take begun (entries a)) → begun ≤ length (entries a)
       → Share begun (entries a) (entries_in run (calls_in run))
   shared_by a begun shares own le =
       begun_share access.journal grows settles (target_of first.probe) a.asks.calls whole.calls begun (meets a.asks.calls whole shares) le (begun_own a begun shares own)
 
-  is_front : (a : Reported) (begun : ℕ) (l : Left) → IsPart whole (ran l.ended a.asks l.written) → Share begun (entries a) (entries_in run (calls_in run)) → IsFront run a.asks.calls begun l
+  is_front : (a : AccessView) (begun : ℕ) (l : Left) → IsPart whole (ran l.ended a.asks l.written) → Share begun (entries a) (entries_in run (calls_in run)) → IsFront run a.asks.calls begun l
   is_front a begun l part share = record {
     written = part.written;
     calls = part.calls;
@@ -171,7 +173,7 @@ module _ (access : AccessKind) (grows : JournalGrows access.journal) (settles : 
     within = share.within;
   }
 
-  is_left_off : (a : Reported) (l : Left) → IsPart whole (ran l.ended a.asks l.written) → IsOpen (entries a) a (began first None) l.bench → IsLeftOff run l
+  is_left_off : (a : AccessView) (l : Left) → IsPart whole (ran l.ended a.asks l.written) → IsOpen (entries a) a (began first None) l.bench → IsLeftOff run l
   is_left_off a l part at =
       let share = shared_by a a.confirmed part.calls at.own at.performed.within in
       record {
@@ -183,7 +185,7 @@ module _ (access : AccessKind) (grows : JournalGrows access.journal) (settles : 
         retries = at.retries;
       }
 
-  is_broken : (issued confirmed : ℕ) (a : Reported) (l : Left) → IsPart whole (ran l.ended a.asks l.written)
+  is_broken : (issued confirmed : ℕ) (a : AccessView) (l : Left) → IsPart whole (ran l.ended a.asks l.written)
       → s.IsBenchFault a.asks.calls (entries a) issued confirmed (began first None) l.bench → IsBroken run issued confirmed l
   is_broken issued confirmed a l part fault =
       let broken = fault.broken in
@@ -196,14 +198,14 @@ module _ (access : AccessKind) (grows : JournalGrows access.journal) (settles : 
       }
 
   -- the entry that a stop names, and that its unit was asked
-  record Names (a : Reported) (r : Report) : Type 0 where
+  record Names (a : AccessView) (r : Report) : Type 0 where
     entry : Entry
     at : slice_get (entries a) r.confirmed ≡ Some entry
     lines : lines_before entry ≡ a.lines
     asked : r.unit ≤ length a.asks.calls
     unit : r.unit ≤ a.lines + 1
 
-  names : (a : Reported) (r : Report) → HasNumbers (entries a) a.asks.calls a.skipped a.lines r → Names a r
+  names : (a : AccessView) (r : Report) → HasNumbers (entries a) a.asks.calls a.skipped a.lines r → Names a r
   names a r numbers =
       let e = get_some r.confirmed (entries a) numbers.named in
       let lines : a.lines ≡ lines_before e.0 = ap (λ (n : StopNumbers). n.lines) numbers.numbers ∙ ap lines_at e.1 in
@@ -216,24 +218,20 @@ module _ (access : AccessKind) (grows : JournalGrows access.journal) (settles : 
         unit = (let high = unit_by_lines e.0 in omega (arith, lines, unit, high));
       }
 
-  has_stopped : (answered : Option ℕ) (o : Outcome) (a : Reported) (r : Report) (l : Left) (calls : List Ask) → IsCut r.cause a.lines o (ran l.ended a.asks l.written) → l.ended.skipped ≡ a.skipped
-      → HasNumbers (entries a) a.asks.calls a.skipped a.lines r → HasPerformed (entries a) r.accesses (began first answered) l.bench → r.accesses ≤ r.confirmed + 1
+  has_stopped : (answered : Option ℕ) (o : Outcome) (a : AccessView) (r : Report) (l : Left) (calls : List Ask) → EndsAtCut r.cause a.lines o (ran l.ended a.asks l.written) → l.ended.skipped ≡ a.skipped
+      → HasNumbers (entries a) a.asks.calls a.skipped a.lines r → HasPerformed (entries a) r.accesses (began first answered) l.bench
+      → grown_since (began first answered) l.bench ≤ weight_in (target_of first.probe) (take (r.confirmed + 1) (entries a)) → r.accesses ≤ r.confirmed + 1
       → Meeting r (entries a) (entries_in run calls) → option_map (λ (x : Ask). x.call) (slice_get calls (r.unit - 1)) ≡ Some r.what
       → HasStopped run answered o calls a.lines r l
-  has_stopped answered o a r l calls cut skipped numbers performed one meet what = record {
+  has_stopped answered o a r l calls cut skipped numbers performed up_to one meet what = record {
     stops = cut.stops;
     written = cut.written;
     numbers = subst (λ (n : ℕ). HasNumbers (entries_in run calls) calls n a.lines r) (sym skipped)
         (same_numbers r (entries a) (entries_in run calls) meet one a.asks.calls calls a.skipped a.lines numbers what);
-    performed = same_made r (entries a) (entries_in run calls) meet one (began first answered) l.bench performed;
+    performed = same_made r (entries a) (entries_in run calls) meet one (began first answered) l.bench performed up_to;
   }
 
-  has_asked : (answered : Option ℕ) (o : Outcome) (a : Reported) (r : Report) (l : Left) → IsCut r.cause a.lines o (ran l.ended a.asks l.written) → l.ended.skipped ≡ a.skipped
-      → HasNumbers (entries a) a.asks.calls a.skipped a.lines r → HasPerformed (entries a) r.accesses (began first answered) l.bench → HasAsked run answered o a.asks.calls a.lines r l
-  has_asked answered o a r l cut skipped numbers performed =
-      record { calls = cut.calls; numbers = subst (λ (n : ℕ). HasNumbers (entries a) a.asks.calls n a.lines r) (sym skipped) numbers; performed = performed }
-
-  is_fault_stop : (a : Reported) (r : Report) (l : Left) → r.cause ≡ Faulted → IsCut r.cause a.lines whole (ran l.ended a.asks l.written) → l.ended.skipped ≡ a.skipped
+  is_fault_stop : (a : AccessView) (r : Report) (l : Left) → r.cause ≡ Faulted → EndsAtCut r.cause a.lines whole (ran l.ended a.asks l.written) → l.ended.skipped ≡ a.skipped
       → s.IsFaulted (entries a) r a (began first None) l.bench → IsFaultStop run r l
   is_fault_stop a r l cause cut skipped at =
       let n = names a r at.numbers in
@@ -246,11 +244,8 @@ module _ (access : AccessKind) (grows : JournalGrows access.journal) (settles : 
       let what = own_call a.asks.calls whole.calls whole.calls [] (r.unit - 1) r.what m (sym (append-nil whole.calls)) (let high = n.unit in omega (arith, units, high)) at.numbers.what in
       record {
         lines = a.lines;
-        asked = a.asks.calls;
-        stopped = has_stopped None whole a r l (calls_in run) cut skipped at.numbers at.performed one meet what;
-        of_asked = has_asked None whole a r l cut skipped at.numbers at.performed;
+        stopped = has_stopped None whole a r l (calls_in run) cut skipped at.numbers at.performed at.up_to one meet what;
         fault = same_fault r (entries a) (entries_in run (calls_in run)) meet one (target_of first.probe) at.first;
-        fault_asked = at.first;
         confirmed = at.confirmed;
         retries = at.retries;
       }
@@ -263,25 +258,23 @@ module _ (access : AccessKind) (grows : JournalGrows access.journal) (settles : 
   retry_one r m is = (let few = one_at_most (pending_of m) in omega (arith, is, few))
 
   -- a retry that ended, in the journal of the whole outcome's calls
-  retry_in : (a : Reported) (r : Report) (l : Left) → IsCut r.cause a.lines (short a.lines) (ran l.ended a.asks l.written) → l.ended.skipped ≡ a.skipped
+  retry_in : (a : AccessView) (r : Report) (l : Left) → EndsAtCut r.cause a.lines (short a.lines) (ran l.ended a.asks l.written) → l.ended.skipped ≡ a.skipped
       → s.IsUnanswered (entries a) r a (began first (Some a.lines)) l.bench → Meeting r (entries a) (entries_in run (calls_in run))
       → option_map (λ (x : Ask). x.call) (slice_get (calls_in run) (r.unit - 1)) ≡ Some r.what → IsRetryStop run r l
   retry_in a r l cut skipped at meet what =
       let one = retry_one r l.bench at.confirmed in
       record {
         lines = a.lines;
-        asked = a.asks.calls;
-        stopped = has_stopped (Some a.lines) (short a.lines) a r l (calls_in run) cut skipped at.numbers at.performed one meet what;
-        of_asked = has_asked (Some a.lines) (short a.lines) a r l cut skipped at.numbers at.performed;
+        stopped = has_stopped (Some a.lines) (short a.lines) a r l (calls_in run) cut skipped at.numbers at.performed at.up_to one meet what;
         confirmed = at.confirmed;
         retries = at.retries;
+        over = at.over;
         number = subst (λ (es : List Entry). number_of l.bench + 2 * commands_in es ≤ number_of first + 2 * grown_since (began first (Some a.lines)) l.bench + 1)
             (same_first r (entries a) (entries_in run (calls_in run)) meet one) at.number;
-        number_asked = at.number;
       }
 
   -- where the next unit is not answered
-  retry_short : (a : Reported) (r : Report) (l : Left) → IsCut r.cause a.lines (short a.lines) (ran l.ended a.asks l.written) → l.ended.skipped ≡ a.skipped
+  retry_short : (a : AccessView) (r : Report) (l : Left) → EndsAtCut r.cause a.lines (short a.lines) (ran l.ended a.asks l.written) → l.ended.skipped ≡ a.skipped
       → s.IsUnanswered (entries a) r a (began first (Some a.lines)) l.bench → units_of (short a.lines) ≡ a.lines + 1 → (later : List Ask) → whole.calls ≡ (short a.lines).calls ++ later → IsRetryStop run r l
   retry_short a r l cut skipped at units later are =
       let n = names a r at.numbers in
@@ -292,7 +285,7 @@ module _ (access : AccessKind) (grows : JournalGrows access.journal) (settles : 
       (own_call a.asks.calls (short a.lines).calls whole.calls later (r.unit - 1) r.what m are (let high = n.unit in omega (arith, units, high)) at.numbers.what)
 
   -- where the outcome comes to its end
-  retry_whole : (a : Reported) (r : Report) (l : Left) → IsCut r.cause a.lines (short a.lines) (ran l.ended a.asks l.written) → l.ended.skipped ≡ a.skipped
+  retry_whole : (a : AccessView) (r : Report) (l : Left) → EndsAtCut r.cause a.lines (short a.lines) (ran l.ended a.asks l.written) → l.ended.skipped ≡ a.skipped
       → s.IsUnanswered (entries a) r a (began first (Some a.lines)) l.bench → answers.IsWhole (short a.lines).ending → short a.lines ≡ whole → IsRetryStop run r l
   retry_whole a r l cut skipped at ends same =
       let n = names a r at.numbers in
@@ -302,7 +295,7 @@ module _ (access : AccessKind) (grows : JournalGrows access.journal) (settles : 
       (covered access.journal grows settles (target_of first.probe) r a.asks.calls whole.calls c at.numbers.named n.asked)
       (c.same (r.unit - 1) r.what at.numbers.what)
 
-  is_retry_stop : (a : Reported) (r : Report) (l : Left) → r.cause ≡ NoAnswer → IsCut r.cause a.lines (short a.lines) (ran l.ended a.asks l.written) → l.ended.skipped ≡ a.skipped
+  is_retry_stop : (a : AccessView) (r : Report) (l : Left) → r.cause ≡ NoAnswer → EndsAtCut r.cause a.lines (short a.lines) (ran l.ended a.asks l.written) → l.ended.skipped ≡ a.skipped
       → s.IsUnanswered (entries a) r a (began first (Some a.lines)) l.bench → IsRetryStop run r l
   is_retry_stop a r l cause cut skipped at = by_limit (limit_cuts a.lines p (target_of first.probe) before) (subst (λ (c : StopCause). StopsAfter c a.lines (short a.lines)) cause cut.stops)
     where
@@ -314,21 +307,21 @@ module _ (access : AccessKind) (grows : JournalGrows access.journal) (settles : 
       by_limit (inr h) (inr stops) = absurd (subst answers.IsWhole h.ending stops.0)
 
   -- by the cause
-  is_stop : (cause : StopCause) (a : Reported) (r : Report) (l : Left) → cause ≡ r.cause
-      → IsCut r.cause a.lines (outcome_of (meaning (world_from first (answered_cut cause a.lines)) p before)) (ran l.ended a.asks l.written) → l.ended.skipped ≡ a.skipped
-      → s.IsCut cause (entries a) r a (began first (answered_cut cause a.lines)) l.bench → IsStop cause run r l
+  is_stop : (cause : StopCause) (a : AccessView) (r : Report) (l : Left) → cause ≡ r.cause
+      → EndsAtCut r.cause a.lines (outcome_of (meaning (world_from first (answered_cut cause a.lines)) p before)) (ran l.ended a.asks l.written) → l.ended.skipped ≡ a.skipped
+      → s.IsCutBy cause (entries a) r a (began first (answered_cut cause a.lines)) l.bench → IsStop cause run r l
   is_stop Faulted a r l is cut skipped at = is_fault_stop a r l (sym is) cut skipped at
   is_stop NoAnswer a r l is cut skipped at = is_retry_stop a r l (sym is) cut skipped at
 
   -- what is known of the packets of an access
-  pub record SendsFew (ending : Ending) (a : Reported) : Type 0 where
+  pub record SendsFew (ending : Ending) (a : AccessView) : Type 0 where
     pub limits_are : a.bench.limits ≡ limits
     pub opening : first.starting ≡ 0
     pub points : HasRunNeeds ending a
     pub bounds : KeepsBoundsIf access.is_sparing (entries a) a (began first (answered_by a))
 
   -- What a run leaves, by how it ended.
-  pub leaves : (ending : Ending) (a : Reported) (l : Left) → EndBy ending a.end → l.ended.skipped ≡ a.skipped → a.state ≡ Some l.bench → SendsFew ending a
+  pub leaves : (ending : Ending) (a : AccessView) (l : Left) → EndBy ending a.end → l.ended.skipped ≡ a.skipped → a.state ≡ Some l.bench → SendsFew ending a
       → EndsAs ending a.lines (outcome_of (meaning (world_from first (answered_by a)) p before)) (ran l.ended a.asks l.written)
       → Stands access.journal a (began first (answered_by a)) → LeavesAs ending run l
   leaves e.Done a l end skipped seen few ends stands =
@@ -368,22 +361,33 @@ still_seen step m old new is goes = by_new new (subst (λ (o : Option BenchState
     by_new None h = absurd h
     by_new (Some n) h = (n, refl, h)
 
-unopened : (s : Stop) (old new : Seen) (sent got : List ℕ) (job : BenchJob) → IsLoaded job old.state → RefusedBy s old new sent got → IsUnopened (ending_of s)
-unopened (stop.Cut r) old new sent got job is h = absurd h
-unopened (stop.BenchFault issued confirmed) old new sent got job is h = (h.0, h.1)
-unopened stop.ReplyBad old new sent got job is h = absurd (h.2 job is)
-unopened stop.OutOfMemory old new sent got job is h = tt
+unopened : (s : Stop) (old new : Seen) (sent got : List ℕ) (job : BenchJob) → old.state ≡ Some (fresh job) → MayBegin (fresh job) → RefusedBy s old new sent got → IsUnopened (ending_of s)
+unopened (stop.Cut r) old new sent got job is may h = absurd h
+unopened (stop.BenchFault issued confirmed) old new sent got job is may h = (h.0, h.1)
+unopened stop.ReplyBad old new sent got job is may h = absurd (let seen = still_seen (λ m n. MayBegin m → ⊥) (fresh job) old.state new.state is h.2 in seen.2 may)
+unopened stop.OutOfMemory old new sent got job is may h = tt
+
+tried_work : (config : Config) (job : BenchJob) (n : BenchState) → HasTried config (fresh job) n → work_of n.probe ≡ 0
+tried_work config job n (inl same) = ap (λ (e : ExecutorState). e.transfers.work) same
+tried_work config job n (inr set) = ap (λ (e : ExecutorState). e.transfers.work) set
+
+tried_target : (config : Config) (job : BenchJob) (n : BenchState) → HasTried config (fresh job) n → Agree (target_of n.probe) (start job.target)
+tried_target config job n (inl same) = subst (λ (t : TargetState). Agree t (start job.target)) (sym (ap (λ (e : ExecutorState). e.transfers.line.target) same)) (record { same = refl })
+tried_target config job n (inr set) = subst (λ (t : TargetState). Agree t (start job.target)) (sym (ap (λ (e : ExecutorState). e.transfers.line.target) set)) (record { same = refl })
 
 -- an access that did not begin
-pub not_begun : (access : AccessKind) (job : BenchJob) (p : Program) (before : Option (List ℕ)) (s : Stop) (old new : Seen) (sent got : List ℕ) (ended : Ended) (after : Option (List ℕ))
-    → IsLoaded job old.state → IsNotBegun old new s sent got → ended.ending ≡ ending_of s → after ≡ before
-    → (n : BenchState) × (new.state ≡ Some n) × ComesTo access job p before (record { ended = ended; written = after; bench = n })
-not_begun access job p before s old new sent got ended after loaded h ending same =
-    let seen = still_seen (λ m n. Agree (target_of n.probe) (target_of m.probe)) (fresh job) old.state new.state loaded.is (h.target job loaded) in
-    let so : IsNotOpened job before (record { ended = ended; written = after; bench = seen.0 }) = record {
-      ending = subst (λ (x : Ending). IsUnopened x) (sym ending) (unopened s old new sent got job loaded h.cause);
+pub not_begun : (access : AccessKind) (config : Config) (job : BenchJob) (p : Program) (before : Option (List ℕ)) (s : Stop) (old new : Seen) (sent got : List ℕ) (ended : Ended) (after : Option (List ℕ))
+    → old.state ≡ Some (fresh job) → MayBegin (fresh job) → IsNotBegun config old new s sent got → ended.ending ≡ ending_of s → after ≡ before
+    → (n : BenchState) × (new.state ≡ Some n) × ComesTo access config job p before (record { ended = ended; written = after; bench = n })
+not_begun access config job p before s old new sent got ended after is may h ending same =
+    let seen = still_seen (λ m n. MayBegin m → HasTried config m n) (fresh job) old.state new.state is h.tried in
+    let tried : HasTried config (fresh job) seen.0 = seen.2 may in
+    let so : IsNotOpened config job before (record { ended = ended; written = after; bench = seen.0 }) = record {
+      ending = subst (λ (x : Ending). IsUnopened x) (sym ending) (unopened s old new sent got job is may h.cause);
       written = same;
-      target = seen.2;
+      tried = tried;
+      work = tried_work config job seen.0 tried;
+      target = tried_target config job seen.0 tried;
     } in
     (seen.0, seen.1, not_opened so)
 
@@ -393,30 +397,33 @@ where_seen None P h = absurd h
 where_seen (Some n) P h = (n, refl)
 
 -- what a run answers, by what was known before
-abbrev EndsOf : Program → BenchState → Reported → Ended → Option (List ℕ) → Option (List ℕ) → Type 0
+abbrev EndsOf : Program → BenchState → AccessView → Ended → Option (List ℕ) → Option (List ℕ) → Type 0
 EndsOf p first a ended before after = EndsAs ended.ending a.lines (outcome_of (meaning (world_from first (answered_by a)) p before)) (ran ended a.asks after)
 
+-- where it began
+abbrev began_at : Config → BenchJob → BenchState
+began_at config job = opened_bench config (fresh job)
+
 -- a run over an access that began
-pub opened_run : (access : AccessKind) → JournalGrows access.journal → JournalSettles access.journal → (job : BenchJob) (p : Program) (before mid : Option (List ℕ)) (a : Reported) (ended : Ended)
-    → ((first : BenchState) × IsOpened job first × Stands access.journal a (began first (answered_by a))
-    × ((known : Bool) → Knows known before → EndsOf p first a ended (known_part known before) (known_part known mid))
-    × ((known : Bool) → Knows known before → HasNeeds ended.ending a.asks (late_meaning access.cost (world_from first (answered_by a)) p (known_part known before)))
-    × KeepsBoundsIf access.is_sparing (access.journal (target_of first.probe) a.asks.calls) a (began first (answered_by a)))
+pub opened_run : (access : AccessKind) → JournalGrows access.journal → JournalSettles access.journal → (config : Config) (job : BenchJob) (p : Program) (before mid : Option (List ℕ)) (a : AccessView) (ended : Ended)
+    → (Stands access.journal a (began (began_at config job) (answered_by a))
+    × ((known : Bool) → Knows known before → EndsOf p (began_at config job) a ended (known_part known before) (known_part known mid))
+    × ((known : Bool) → Knows known before → HasNeeds ended.ending a.asks (late_meaning access.cost (world_from (began_at config job) (answered_by a)) p (known_part known before)))
+    × KeepsBoundsIf access.is_sparing (access.journal (target_of (began_at config job).probe) a.asks.calls) a (began (began_at config job) (answered_by a)))
     → EndBy ended.ending a.end → ended.skipped ≡ a.skipped → a.bench.limits ≡ job.limits
-    → (n : BenchState) × (a.state ≡ Some n) × ComesTo access job p before (record { ended = ended; written = known_after before mid; bench = n })
-opened_run access grows settles job p before mid a ended h end skipped limits_are =
-    let first : BenchState = h.0 in
-    let seen = where_seen a.state (λ m. StandsAt a.end (access.journal (target_of first.probe) a.asks.calls) a (began first (answered_by a)) m) h.2 in
+    → (n : BenchState) × (a.state ≡ Some n) × ComesTo access config job p before (record { ended = ended; written = known_after before mid; bench = n })
+opened_run access grows settles config job p before mid a ended h end skipped limits_are =
+    let first : BenchState = began_at config job in
+    let seen = where_seen a.state (λ m. StandsAt a.end (access.journal (target_of first.probe) a.asks.calls) a (began first (answered_by a)) m) h.0 in
     let known = known_by before mid in
     let ends : EndsOf p first a ended before (known_after before mid) =
     subst (λ (x : Option (List ℕ)). EndsOf p first a ended before x) known.3
-    (subst (λ (x : Option (List ℕ)). EndsOf p first a ended x (known_part known.0 mid)) known.2 (h.3 known.0 known.1)) in
-    let points = subst (λ (x : Option (List ℕ)). HasNeeds ended.ending a.asks (late_meaning access.cost (world_from first (answered_by a)) p x)) known.2 (h.4 known.0 known.1) in
-    let few : SendsFew access grows settles job.limits p first before ended.ending a = record { limits_are = limits_are; opening = h.1.starting; points = points; bounds = h.5 } in (
+    (subst (λ (x : Option (List ℕ)). EndsOf p first a ended x (known_part known.0 mid)) known.2 (h.1 known.0 known.1)) in
+    let points = subst (λ (x : Option (List ℕ)). HasNeeds ended.ending a.asks (late_meaning access.cost (world_from first (answered_by a)) p x)) known.2 (h.2 known.0 known.1) in
+    let few : SendsFew access grows settles job.limits p first before ended.ending a = record { limits_are = limits_are; opening = refl; points = points; bounds = h.3 } in (
       seen.0,
       seen.1,
-      opened first h.1
-          (leaves access grows settles job.limits p first before ended.ending a (record { ended = ended; written = known_after before mid; bench = seen.0 }) end skipped seen.1 few ends h.2),
+      opened (leaves access grows settles job.limits p first before ended.ending a (record { ended = ended; written = known_after before mid; bench = seen.0 }) end skipped seen.1 few ends h.0),
     )
 
 -- nothing was written

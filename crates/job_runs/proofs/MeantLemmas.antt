@@ -1,5 +1,11 @@
 -- A run that nothing outside disturbed ends as it is meant to.
-use Rattle.std.proofs.Common.{◌≡◌, ℕ, ◌+◌, refl, sym, subst, arith}
+use Rattle.std.proofs.Common.{◌≡◌, ◌⊎◌, inl, inr, ℕ, ◌+◌, ◌<◌, ◌≤◌, List, length, refl, sym, subst, arith}
+use Rattle.std.specs.List.{All}
+use Rattle.std.specs.Prelude.{slice_index}
+use Rattle.std.proofs.lemmas.Bool.{cases_lt}
+use Rattle.std.proofs.lemmas.List.Elements.{All-get_or}
+use Rattle.std.proofs.lemmas.List.{get_or_past}
+use Rattle.access_calls.specs.Standing.{setting_of}
 use Rattle.probe_core.specs.Probe.{ended_retries_of}
 use Rattle.access_calls.specs.declared.ended.Ending.{Ending}
 use Rattle.access_calls.specs.declared.ended.Ending.TheVariants as e
@@ -8,7 +14,7 @@ use Rattle.access_calls.specs.declared.stop.StopCause.{StopCause}
 use Rattle.access_calls.specs.declared.stop.StopCause.TheVariants.{Faulted, NoAnswer}
 use Rattle.control_flow.specs.Answers as answers
 use Rattle.control_flow.specs.Answers.{IsFaulted, StopsAfter}
-use Rattle.sequence_terms.specs.Runs as runs
+use Rattle.sequence_rules.specs.Runs as runs
 use Rattle.job_runs.specs.Meant.{EndsAsMeant, FailedOutside, IsSameEnd}
 use Rattle.job_runs.specs.Runs.{IsFaultStop, IsRetryStop, IsStop, IsWhole, Left, LeavesAs, Run, outcome_in}
 
@@ -22,12 +28,21 @@ not_both runs.Lost w f = f
 one_more : (a b : ℕ) → a ≡ b + 1 → a ≡ b → ⊥
 one_more a b more same = omega (arith, more, same)
 
+-- where no transfer meets more WAITs than the retry number allows, none at this place does
+within : (retry : ℕ) (stalls : List ℕ) (place : ℕ) → All (λ stall. stall ≤ retry) stalls → retry < slice_index stalls place → ⊥
+within retry stalls place all over = by_place (cases_lt place (length stalls))
+  where
+    by_place : (place < length stalls) ⊎ (length stalls ≤ place) → ⊥
+    by_place (inl less) = (let few : slice_index stalls place ≤ retry = All-get_or (λ (stall : ℕ). stall ≤ retry) stalls place 0 less all in omega (arith, few, over))
+    by_place (inr ge) = (let none : slice_index stalls place ≡ 0 = get_or_past stalls place 0 ge in omega (arith, none, over))
+
 -- a run that is whole
 when_whole : (run : Run) (l : Left) (o : runs.Ending) → (outcome_in run).ending ≡ o → IsSameEnd o l.ended.ending → (IsFaulted o → ⊥) → IsWhole run l → EndsAsMeant run l
 when_whole run l o is same none whole = record {
   whole = λ w n. (subst (λ (x : runs.Ending). IsSameEnd x l.ended.ending) (sym is) same, whole);
   faulted = λ f n. absurd (none (subst IsFaulted is f));
   unanswered = λ some. absurd (some whole.retries);
+  none_over = λ all. whole.retries;
 }
 
 -- a run that was stopped at a fault
@@ -36,6 +51,7 @@ when_faulted run l r cause is stop = record {
   whole = λ w n. absurd (not_both (outcome_in run).ending w (subst (λ (c : StopCause). StopsAfter c stop.lines (outcome_in run)) cause stop.stopped.stops).0);
   faulted = λ f n. record { report = r; ending = is; cause = cause; stop = stop };
   unanswered = λ some. absurd (some stop.retries);
+  none_over = λ all. stop.retries;
 }
 
 -- a run that was stopped at an ended retry
@@ -44,6 +60,7 @@ when_unanswered run l r cause is stop = record {
   whole = λ w n. absurd (one_more (ended_retries_of l.bench.probe) (ended_retries_of run.first.probe) stop.retries n);
   faulted = λ f n. absurd (one_more (ended_retries_of l.bench.probe) (ended_retries_of run.first.probe) stop.retries n);
   unanswered = λ some. record { report = r; ending = is; cause = cause; stop = stop };
+  none_over = λ all. absurd (within (setting_of run.first).retry (setting_of run.first).stalls stop.over.0 all stop.over.2);
 }
 
 when_stopped : (cause : StopCause) (run : Run) (l : Left) (r : Report) → r.cause ≡ cause → l.ended.ending ≡ e.Cut r → IsStop cause run r l → EndsAsMeant run l

@@ -1,8 +1,8 @@
--- How a run over a bench ends, and what shows it.
+-- What shows how a run over a bench ends.
 use Rattle.std.specs.Prelude.{◌≡◌, ℕ}
 use Rattle.dap_base.specs.Causes.{Rose}
-use Rattle.access_calls.specs.declared.stop.Stop.{Stop}
-use Rattle.access_calls.specs.declared.stop.Stop.TheVariants as stop
+use Rattle.probe_core.specs.Bench.{Reported as BenchReported}
+use Rattle.access_calls.specs.Causes.{HasResponse}
 use Rattle.access_calls.specs.declared.ended.Ending.{Ending}
 use Rattle.access_calls.specs.declared.ended.Ending.TheVariants as e
 
@@ -16,9 +16,8 @@ HasBenchCause e.ReplyBad before now = now ≡ before
 HasBenchCause e.WriteFault before now = now ≡ before
 HasBenchCause e.OutOfMemory before now = now ≡ before
 
--- how a run ends whose access did not begin
-abbrev pub ending_of : Stop → Ending
-ending_of (stop.Cut r) = e.Cut r
-ending_of (stop.BenchFault issued confirmed) = e.BenchFault issued confirmed
-ending_of stop.ReplyBad = e.ReplyBad
-ending_of stop.OutOfMemory = e.OutOfMemory
+-- The last exchange began since, and one of its replies has this transfer response for one of its commands.
+pub record HasGotResponse (code : ℕ) (old new : BenchReported) : Type 0 where
+  pub begun : Rose old.exchanges new.exchanges
+  pub place : ℕ
+  pub response : HasResponse code new.last place

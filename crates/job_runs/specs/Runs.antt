@@ -2,33 +2,36 @@
 use Rattle.std.specs.Prelude.{◌≡◌, ⊤, ℕ, ◌+◌, ◌-◌, ◌*◌, ◌/◌, ◌^◌, ◌<◌, ◌≤◌, Bool, true, false, List, length, take, Option, Some, None}
 use Rattle.target_machine.specs.Start.{start}
 use Rattle.target_machine.specs.State.{Agree, TargetState}
-use Rattle.probe_core.specs.Bench.{BenchState}
-use Rattle.probe_core.specs.Probe.{ended_retries_of, target_of}
+use Rattle.target_machine.specs.declared.unit.Settings.{Settings}
+use Rattle.probe_core.specs.Bench.{BenchState, fresh}
+use Rattle.probe_core.specs.Probe.{ended_retries_of, target_of, work_of}
 use Rattle.probe_core.specs.declared.job.BenchJob.{BenchJob}
+use Rattle.probe_core.specs.declared.job.Config.{Config}
 use Rattle.probe_core.specs.declared.job.Limits.{Limits}
-use Rattle.call_terms.specs.Asks.{settled_last}
+use Rattle.target_calls.specs.Asks.{settled_last}
 use Rattle.target_machine.specs.Counts.{one_if}
-use Rattle.call_terms.specs.Journal.{Entry, first_fault, target_after}
-use Rattle.call_terms.specs.NeedPoints.{Costs}
-use Rattle.call_terms.specs.Weights.{commands_in, registers_in}
-use Rattle.call_terms.specs.declared.calls.Ask.{Ask}
+use Rattle.target_calls.specs.Journal.{Entry, first_fault, target_after}
+use Rattle.target_calls.specs.NeedPoints.{Costs}
+use Rattle.target_calls.specs.Weights.{commands_in, registers_in}
+use Rattle.target_calls.specs.declared.calls.Ask.{Ask}
 use Rattle.access_calls.specs.Bounds.{AreNextWrites, block_words, capacity}
 use Rattle.access_calls.specs.Growing.{GoesOnWith}
 use Rattle.access_calls.specs.Numbers.{HasNumbers}
 use Rattle.access_calls.specs.Reported.{Beginning, began, start_of}
-use Rattle.access_calls.specs.Standing.{HasPerformed, IsAfterPart, IsBenchFault, grown_since, number_of, pending_of}
+use Rattle.access_calls.specs.Standing.{HasPerformed, IsAfterPart, IsBenchFault, IsOver, grown_since, number_of, pending_of, setting_of}
 use Rattle.access_calls.specs.declared.ended.Ended.{Ended}
 use Rattle.access_calls.specs.declared.ended.Ending.{Ending}
 use Rattle.access_calls.specs.declared.ended.Ending.TheVariants as e
 use Rattle.access_calls.specs.declared.stop.Report.{Report}
 use Rattle.access_calls.specs.declared.stop.StopCause.{StopCause}
 use Rattle.access_calls.specs.declared.stop.StopCause.TheVariants.{Faulted, NoAnswer}
-use Rattle.control_flow.specs.Answers.{SharesCalls, StopsAfter, program_of, variables_of}
+use Rattle.control_flow.specs.Answers.{SharesCalls, StopsAfter}
 use Rattle.job_check.specs.declared.running.ValidRun.{ValidRun}
-use Rattle.bench_access.specs.Opening.{IsOpened}
-use Rattle.sequence_terms.specs.Late.{Grows}
-use Rattle.sequence_terms.specs.Runs as runs
-use Rattle.sequence_terms.specs.Runs.{Outcome, Program, needs, outcome, outcome_within, units_of}
+use Rattle.access_calls.specs.Opening.{HasTried, opened_bench}
+use Rattle.sequence_rules.specs.Late.{Grows}
+use Rattle.sequence_rules.specs.Runs as runs
+use Rattle.seq_check.specs.Answers.{checked_trees}
+use Rattle.sequence_rules.specs.Runs.{Outcome, Program, needs, outcome, outcome_within, program_of, units_of, variables_of}
 
 -- ---- what is run, and what it leaves
 
@@ -58,9 +61,18 @@ pub record Left : Type 0 where
   pub written : Option (List ℕ)
   pub bench : BenchState
 
+-- what the settings of a run say of the probe
+abbrev pub config_of : Settings → Config
+config_of settings = record { idle = settings.idle; retry = settings.retry }
+
+-- A run of a job over its bench, which was just loaded: the access counts from the state after the load with the settings of the run.
+abbrev pub run_of : AccessKind → Config → BenchJob → Program → Option (List ℕ) → Run
+run_of access config job p before =
+    record { access = access; limits = job.limits; program = p; first = opened_bench config (fresh job); before = before }
+
 -- the program of a job and a sequence
 abbrev pub program_in : ValidRun → List ℕ → Program
-program_in r sequence = program_of r.trees sequence r.job.settings
+program_in r sequence = program_of (checked_trees r.trees) sequence r.job.settings
 
 -- what is written, where it was known before
 abbrev pub known_after : Option (List ℕ) → Option (List ℕ) → Option (List ℕ)
@@ -142,39 +154,25 @@ pub record HasStopped (run : Run) (answered : Option ℕ) (o : Outcome) (calls :
   pub numbers : HasNumbers (entries_in run calls) calls l.ended.skipped lines r
   pub performed : HasMade r.unit (entries_in run calls) r.accesses (began run.first answered) l.bench
 
--- So it is in the journal of the calls that were asked too: these and the outcome's calls come first in one list of calls, the numbers
--- are those of a stop among them, and by the probe's work exactly the accesses of the report were performed.
-pub record HasAsked (run : Run) (answered : Option ℕ) (o : Outcome) (asked : List Ask) (lines : ℕ) (r : Report) (l : Left) : Type 0 where
-  pub calls : SharesCalls asked o
-  pub numbers : HasNumbers (entries_in run asked) asked l.ended.skipped lines r
-  pub performed : HasPerformed (entries_in run asked) r.accesses (began run.first answered) l.bench
-
 -- At a fault: the outcome ends at a fault of the next unit, and the last performed access is the first that gives a fault which its unit
--- does not forgive, in the journal of the outcome's calls and in that of the calls that were asked. No retry ended.
+-- does not forgive, in the journal of the outcome's calls. No retry ended.
 pub record IsFaultStop (run : Run) (r : Report) (l : Left) : Type 0 where
   pub lines : ℕ
-  pub asked : List Ask
   pub stopped : HasStopped run None (outcome_in run) (calls_in run) lines r l
-  pub of_asked : HasAsked run None (outcome_in run) asked lines r l
   pub fault : first_fault (target_in run) (entries_in run (calls_in run)) ≡ Some r.accesses
-  pub fault_asked : first_fault (target_in run) (entries_in run asked) ≡ Some r.accesses
   pub confirmed : r.accesses ≡ r.confirmed + 1
   pub retries : NoneEnded run l
 
 -- Where a retry ended: the outcome is the one with so many units answered, which comes first in the whole one; the journal is that
--- of the whole one's calls, and that of the calls that were asked. The performed accesses are confirmed,
--- except the last where a read was outstanding or a write unchecked. Just one retry ended, and the transfer that it ended is one of
--- the run's.
+-- of the whole one's calls. The performed accesses are confirmed, except the last where a read was outstanding or a write unchecked.
+-- Just one retry ended: at a transfer that met more WAITs than the retry number allows, and that is one of the run's.
 pub record IsRetryStop (run : Run) (r : Report) (l : Left) : Type 0 where
   pub lines : ℕ
-  pub asked : List Ask
   pub stopped : HasStopped run (Some lines) (outcome_with run lines) (calls_in run) lines r l
-  pub of_asked : HasAsked run (Some lines) (outcome_with run lines) asked lines r l
   pub confirmed : r.accesses ≡ r.confirmed + one_if (pending_of l.bench)
   pub retries : ended_retries_of l.bench.probe ≡ ended_retries_of run.first.probe + 1
+  pub over : IsOver (setting_of run.first) (number_of l.bench)
   pub number : number_of l.bench + 2 * commands_in (take r.accesses (entries_in run (calls_in run)))
-      ≤ number_of run.first + 2 * grown_since (began run.first (Some lines)) l.bench + 1
-  pub number_asked : number_of l.bench + 2 * commands_in (take r.accesses (entries_in run asked))
       ≤ number_of run.first + 2 * grown_since (began run.first (Some lines)) l.bench + 1
 
 -- by the cause
@@ -231,14 +229,16 @@ IsUnopened (e.BenchFault issued confirmed) = (issued ≡ 0) × (confirmed ≡ 0)
 IsUnopened e.OutOfMemory = Unit {0}
 IsUnopened other = ⊥
 
--- The access did not begin: nothing was written, and the target is the one after the load.
-pub record IsNotOpened (job : BenchJob) (before : Option (List ℕ)) (l : Left) : Type 0 where
+-- The access did not begin: nothing was written, no work was done, and of the probe as it was after the load the settings have changed
+-- or nothing. So the target is the one after the load.
+pub record IsNotOpened (config : Config) (job : BenchJob) (before : Option (List ℕ)) (l : Left) : Type 0 where
   pub ending : IsUnopened l.ended.ending
   pub written : l.written ≡ before
+  pub tried : HasTried config (fresh job) l.bench
+  pub work : work_of l.bench.probe ≡ 0
   pub target : Agree (target_of l.bench.probe) (start job.target)
 
--- What a run of a job comes to over a bench that was just loaded with it.
-pub data ComesTo (access : AccessKind) (job : BenchJob) (p : Program) (before : Option (List ℕ)) (l : Left) : Type 0 where
-  not_opened : IsNotOpened job before l → ComesTo access job p before l
-  opened : (first : BenchState) → IsOpened job first
-      → LeavesAs l.ended.ending (record { access = access; limits = job.limits; program = p; first = first; before = before }) l → ComesTo access job p before l
+-- What a run of a job with these settings comes to over a bench that was just loaded.
+pub data ComesTo (access : AccessKind) (config : Config) (job : BenchJob) (p : Program) (before : Option (List ℕ)) (l : Left) : Type 0 where
+  not_opened : IsNotOpened config job before l → ComesTo access config job p before l
+  opened : LeavesAs l.ended.ending (run_of access config job p before) l → ComesTo access config job p before l

@@ -3,16 +3,19 @@ ghost use Rattle.std.specs.Prelude.{◌≡◌, ◌≤◌, ℕ, List, Some, take}
 ghost use Rattle.job_text.specs.Ranges.{AreSettings};
 ghost use Rattle.probe_core.specs.Bench.{BenchState, fresh, seen};
 ghost use Rattle.probe_core.specs.Ranges.{IsBenchJob};
+ghost use Rattle.access_calls.specs.Endings.{ending_of};
 ghost use Rattle.access_calls.specs.declared.ended.Ending.TheVariants as ends;
-ghost use Rattle.control_flow.specs.Answers.{HasSinkCause, variables_of};
-ghost use Rattle.job_runs.specs.Ends.{HasBenchCause, ending_of};
-ghost use Rattle.bench_access.specs.Opening.{GoesOnTo, HasBadReply, IsIdle};
-ghost use Rattle.job_runs.specs.Runs.{ComesTo, access_kind, known_after, program_in};
+ghost use Rattle.control_flow.specs.Answers.{HasSinkCause};
+ghost use Rattle.sequence_rules.specs.Runs.{variables_of};
+ghost use Rattle.access_calls.specs.Causes.{code_of_cause};
+ghost use Rattle.access_calls.specs.declared.stop.Report.{Report};
+ghost use Rattle.job_runs.specs.Ends.{HasBenchCause, HasGotResponse};
+ghost use Rattle.access_calls.specs.Opening.{GoesOnTo, HasBadReply, IsIdle};
+ghost use Rattle.job_runs.specs.Runs.{ComesTo, access_kind, config_of, known_after, program_in};
 
 use crate::kept::Kept;
 use crate::ranges::numbers_fit;
-use access_calls::{Ended, Ending, NotBegun, Stop};
-use bench_access::OverBench;
+use access_calls::{Ended, Ending, NotBegun, OverBench, Stop};
 use control_flow::run;
 use dap_base::Sink;
 use job_check::ValidRun;
@@ -34,27 +37,17 @@ pub struct Ran<B> {
 }
 
 // What the settings of a run say of the probe.
-fn config_of(settings: &Settings) -> Config {
+fn config_of(settings: &Settings) -> Config
+    ensures { result ≡ config_of settings.now }
+{
     Config {
         idle: settings.idle,
         retry: settings.retry,
     }
 }
 
-// How a run ends whose access did not begin.
-fn ending_of(stop: Stop) -> Ending
-    ensures { result ≡ ending_of stop }
-{
-    match stop {
-        Stop::Cut(report) => Ending::Cut(report),
-        Stop::BenchFault { issued, confirmed } => Ending::BenchFault { issued, confirmed },
-        Stop::ReplyBad => Ending::ReplyBad,
-        Stop::OutOfMemory => Ending::OutOfMemory,
-    }
-}
-
 // A run whose access did not begin.
-fn not_begun<B: Bench>(alloc: Global, refused: NotBegun<B>) -> Ran<B>
+fn end_begin<B: Bench>(alloc: Global, refused: NotBegun<B>) -> Ran<B>
     requires sent { refused.sent_length ≤ 1024 }
     requires got { refused.got_length ≤ 1024 }
     ensures ending { result.ended.ending ≡ ending_of refused.stop }
@@ -72,7 +65,7 @@ fn not_begun<B: Bench>(alloc: Global, refused: NotBegun<B>) -> Ran<B>
     } = refused;
     Ran {
         ended: Ended {
-            ending: ending_of(stop),
+            ending: Ending::from(stop),
             units: 0,
             skipped: 0,
             variables: Variables::new(alloc),
@@ -102,7 +95,7 @@ pub fn run_on<B: Bench, K: Sink, A: OverBench<B>>(
     // What it comes to over an observable bench that was just loaded.
     ensures run { B.state bench ≡ Some (fresh run_of.now.job.bench)
         → (n : BenchState) × (B.state result.bench ≡ Some n)
-        × ComesTo (access_kind A.Access.journal A.Access.cost A.Access.is_sparing) run_of.now.job.bench (program_in run_of.now sequence.now) (K.written sink.old)
+        × ComesTo (access_kind A.Access.journal A.Access.cost A.Access.is_sparing) (config_of run_of.now.job.settings) run_of.now.job.bench (program_in run_of.now sequence.now) (K.written sink.old)
         (record { ended = result.ended; written = known_after (K.written sink.old) (K.written sink.new); bench = n }) }
     // What becomes of any bench.
     ensures goes { GoesOnTo (seen B.reported B.state bench) (B.reported result.bench) (B.state result.bench) }
@@ -110,6 +103,7 @@ pub fn run_on<B: Bench, K: Sink, A: OverBench<B>>(
     // Each fault has its cause.
     ensures bench { HasBenchCause result.ended.ending (B.reported bench).faults (B.reported result.bench).faults }
     ensures sink { HasSinkCause result.ended.ending (K.faults sink.old) (K.faults sink.new) }
+    ensures cut { (report : Report) → result.ended.ending ≡ ends.Cut report → HasGotResponse (code_of_cause report.cause) (B.reported bench) (B.reported result.bench) }
     ensures bad { result.ended.ending ≡ ends.ReplyBad → HasBadReply (B.reported bench) (B.reported result.bench) result.sent result.got }
 {
     numbers_fit(&run_of.job.bench.target);
@@ -132,6 +126,6 @@ pub fn run_on<B: Bench, K: Sink, A: OverBench<B>>(
                 bench,
             }
         }
-        Err(refused) => not_begun(alloc, refused),
+        Err(refused) => end_begin(alloc, refused),
     }
 }

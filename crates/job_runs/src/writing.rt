@@ -1,5 +1,5 @@
 //! What is written after a run.
-ghost use Rattle.std.specs.Prelude.{◌≡◌, ◌&&◌, Ok, false, IfSome};
+ghost use Rattle.std.specs.Prelude.{◌≡◌, ◌≢◌, ◌&&◌, Ok, false, IfErr, IfSome};
 ghost use Rattle.dap_base.specs.Streams.{PutAppends};
 ghost use Rattle.job_text.specs.Ranges.{AreWatched};
 ghost use Rattle.probe_core.specs.Bench.{IsAsBefore, seen};
@@ -65,6 +65,7 @@ fn write_report<K: Sink, B: Bench>(
     ensures text { IfSome (B.state ran.old.bench) (λ n. PutAppends (K.written sink.old) (K.written sink.new) result (run_text is_traced ran.old.ended ran.old.sent ran.old.got job.now n)) }
     ensures alone { shows_target ran.old.ended.ending ≡ false
         → PutAppends (K.written sink.old) (K.written sink.new) result (ending_lines ran.old.ended.ending ran.old.ended ran.old.sent ran.old.got) }
+    ensures unasked { shows_target ran.old.ended.ending ≡ false → IfErr result (λ e. e ≢ TextEnd.BenchFault) }
     ensures ended { ran.new.ended ≡ ran.old.ended }
     ensures same { IsAsBefore (seen B.reported B.state ran.old.bench) (seen B.reported B.state ran.new.bench) }
     ensures identity { B.identity ran.new.bench ≡ B.identity ran.old.bench }
@@ -100,6 +101,7 @@ pub fn write_run<K: Sink, B: Bench>(
     ensures text { IfSome (B.state ran.old.bench) (λ n. PutAppends (K.written sink.old) (K.written sink.new) result (run_text is_traced ran.old.ended ran.old.sent ran.old.got job.now n)) }
     ensures alone { shows_target ran.old.ended.ending ≡ false
         → PutAppends (K.written sink.old) (K.written sink.new) result (ending_lines ran.old.ended.ending ran.old.ended ran.old.sent ran.old.got) }
+    ensures unasked { shows_target ran.old.ended.ending ≡ false → IfErr result (λ e. e ≢ TextEnd.BenchFault) }
     ensures silent { has_report ran.old.ended.ending ≡ false → result ≡ Ok tt }
     ensures ended { ran.new.ended ≡ ran.old.ended }
     ensures same { IsAsBefore (seen B.reported B.state ran.old.bench) (seen B.reported B.state ran.new.bench) }

@@ -23,6 +23,3 @@ pub use numeric::{Number, tested};
 pub use path::{Path, PathStep};
 pub use placed::{fault_under_index, fault_under_key, missing};
 pub use reader::Reader;
-
-#[cfg(test)]
-mod tests;

@@ -8,21 +8,21 @@ use Rattle.target_machine.specs.State.{TargetState}
 use Rattle.target_machine.specs.declared.unit.ProbeCall.{ProbeCall}
 use Rattle.probe_core.specs.Bench.{BenchState, StepsTo}
 use Rattle.probe_core.specs.Probe.{target_of, work_of}
-use Rattle.call_terms.specs.Asks.{AreAskable, is_forgiving}
-use Rattle.call_terms.specs.Journal.{Entry, actions_in, is_unforgiven}
-use Rattle.call_terms.specs.Weights.{weight}
-use Rattle.call_terms.specs.World.{World, results, skips, small_now, start_world, stop, world_after}
-use Rattle.call_terms.specs.declared.calls.Ask.{Ask}
-use Rattle.call_terms.proofs.CallLists.{append_skips}
-use Rattle.call_terms.proofs.EndLemmas.{none_skipped}
+use Rattle.target_calls.specs.Asks.{AreAskable, is_forgiving}
+use Rattle.target_calls.specs.Journal.{Entry, actions_in, is_unforgiven}
+use Rattle.target_calls.specs.Weights.{weight}
+use Rattle.target_calls.specs.World.{World, results, skips, small_now, start_world, stop, world_after}
+use Rattle.target_calls.specs.declared.calls.Ask.{Ask}
+use Rattle.target_calls.proofs.CallLists.{append_skips}
+use Rattle.target_calls.proofs.EndLemmas.{none_skipped}
 use Rattle.access_regs.specs.Entries.{kept_by, target_by}
 use Rattle.access_regs.specs.Journal.{issue_of, issued, numbered}
 use Rattle.access_regs.proofs.EntryLemmas.{journal_grows}
 use Rattle.access_calls.specs.Issued.{kept_of}
 use Rattle.access_calls.specs.declared.issued.Issued.{Issued}
-use Rattle.calls_in_flight.specs.Sending.{IsSending}
-use Rattle.calls_in_flight.proofs.ComeLemmas.{result_given}
-use Rattle.calls_in_flight.proofs.SendLemmas.{action_sends}
+use Rattle.flight_laws.specs.Sending.{IsSending}
+use Rattle.flight_laws.proofs.ComeLemmas.{result_given}
+use Rattle.flight_laws.proofs.SendLemmas.{action_sends}
 use Rattle.access_calls.specs.Standing.{WhereObservable}
 use Rattle.batch_packer.specs.Flying.{CanFly}
 use Rattle.packed_access.specs.Begun.{HasIssued, IsIssuing, most_weight}

@@ -9,20 +9,20 @@ use Rattle.target_machine.specs.declared.access.RegAccess.{RegAccess}
 use Rattle.probe_core.specs.Bench.{BenchState}
 use Rattle.probe_core.specs.Bench.{Reported as BenchReported}
 use Rattle.probe_core.specs.Probe.{target_of}
-use Rattle.call_terms.specs.Asks.{IsAskable, is_forgiving, is_settled}
-use Rattle.call_terms.specs.Journal.{Entry}
-use Rattle.call_terms.specs.World.{results, skips, start_world, small_now}
-use Rattle.call_terms.specs.declared.calls.Ask.{Ask}
+use Rattle.target_calls.specs.Asks.{IsAskable, is_forgiving, is_settled}
+use Rattle.target_calls.specs.Journal.{Entry}
+use Rattle.target_calls.specs.World.{results, skips, start_world, small_now}
+use Rattle.target_calls.specs.declared.calls.Ask.{Ask}
 use Rattle.access_regs.specs.Entries.{kept_by, target_by}
 use Rattle.access_regs.specs.Journal.{issue_of, issued, numbered}
 use Rattle.access_regs.specs.Kept.{Kept}
 use Rattle.access_regs.proofs.EntryLemmas.{journal_grows}
 use Rattle.access_calls.specs.Issued.{kept_of}
-use Rattle.access_calls.specs.Reported.{Reported}
+use Rattle.access_calls.specs.Reported.{AccessView}
 use Rattle.access_calls.specs.Standing.{WhereObservable}
-use Rattle.calls_in_flight.specs.Flying.{IsFlying}
-use Rattle.calls_in_flight.specs.Sending.{IsSending}
-use Rattle.calls_in_flight.proofs.SendLemmas.{call_sends}
+use Rattle.flight_laws.specs.Flying.{IsFlying}
+use Rattle.flight_laws.specs.Sending.{IsSending}
+use Rattle.flight_laws.proofs.SendLemmas.{call_sends}
 use Rattle.access_calls.specs.Answers.{AtCut, StopsCalls}
 use Rattle.access_calls.specs.Reported.{world_from}
 use Rattle.access_calls.specs.declared.stop.Stop.{Stop}
@@ -45,7 +45,7 @@ module _ (p : Planner) (bench : BenchReported) (state : Option BenchState) (sent
   abbrev t0 : TargetState
   t0 = target_of m0.probe
 
-  abbrev a : Reported
+  abbrev a : AccessView
   a = reported_by bench state log sent got
 
   flying_is : IsFlying p a kept accesses (take log.known log.results) m0 m

@@ -15,12 +15,12 @@ use Rattle.target_machine.specs.declared.unit.Unit.TheVariants as unit
 use Rattle.probe_core.specs.Bench.{BenchState}
 use Rattle.probe_core.specs.Bench.{Reported as BenchReported}
 use Rattle.probe_core.specs.Probe.{target_of}
-use Rattle.call_terms.specs.Asks.{AreAskable, IsAskable, IsCallInRange, IsUnitInRange, is_forgiving, unit_ask}
-use Rattle.call_terms.specs.Journal.{Entry, target_after}
-use Rattle.call_terms.specs.NeedPoints.{Cost, asked, capped_sum}
-use Rattle.call_terms.specs.World.{small_now, start_world}
-use Rattle.call_terms.specs.declared.calls.Ask.{Ask}
-use Rattle.call_terms.specs.declared.journal.Part.TheVariants.{Settles}
+use Rattle.target_calls.specs.Asks.{AreAskable, IsAskable, IsCallInRange, IsUnitInRange, is_forgiving, unit_ask}
+use Rattle.target_calls.specs.Journal.{Entry, target_after}
+use Rattle.target_calls.specs.NeedPoints.{Cost, asked, capped_sum}
+use Rattle.target_calls.specs.World.{small_now, start_world}
+use Rattle.target_calls.specs.declared.calls.Ask.{Ask}
+use Rattle.target_calls.specs.declared.journal.Part.TheVariants.{Settles}
 use Rattle.access_regs.specs.Costs.{call_cost, cost_by, leading_reads}
 use Rattle.access_regs.specs.Entries.{kept_by, target_by}
 use Rattle.access_regs.specs.Journal.{Issue, after_settling, alone_at, before, by_cfg, gives, issue, issue_of, issued, making, numbered, planned, port_of, steps_of}
@@ -31,9 +31,9 @@ use Rattle.access_regs.specs.declared.known.Unsettled.{Unsettled}
 use Rattle.access_regs.proofs.CostLemmas.{planned_reads}
 use Rattle.access_regs.proofs.EntryLemmas.{journal_grows}
 use Rattle.access_calls.specs.declared.stop.Stop.{Stop}
-use Rattle.calls_in_flight.proofs.CfgLemmas.{small_by_cfg}
-use Rattle.calls_in_flight.proofs.OpenLemmas.{askable_first}
-use Rattle.calls_in_flight.proofs.SmallLemmas.{never_small}
+use Rattle.flight_laws.proofs.CfgLemmas.{small_by_cfg}
+use Rattle.flight_laws.proofs.OpenLemmas.{askable_first}
+use Rattle.flight_laws.proofs.SmallLemmas.{never_small}
 use Rattle.packed_access.specs.Begun.{HasAsked, HasBegun, HasIssued, IsIssuing, IsNoPoll, entries_of, own_entries, steps_left, target_issued}
 use Rattle.packed_access.specs.Logs.{LogState, asks_of, with_call, with_needs}
 use Rattle.packed_access.specs.Planned.{HasShown, reads_before, settle_before, settled_before, target_before}

@@ -8,25 +8,25 @@ use Rattle.target_machine.specs.declared.access.RegAccess.{RegAccess}
 use Rattle.probe_core.specs.Bench.{BenchState}
 use Rattle.probe_core.specs.Bench.{Reported as BenchReported}
 use Rattle.probe_core.specs.Probe.{target_of}
-use Rattle.call_terms.specs.Asks.{is_settled}
-use Rattle.call_terms.specs.Journal.{Entry, Passes, actions_in}
-use Rattle.call_terms.specs.World.{AtLeast, World, done_now, end_result, next_world, results, stop, stops_here}
-use Rattle.call_terms.specs.declared.calls.Ask.{Ask}
+use Rattle.target_calls.specs.Asks.{is_settled}
+use Rattle.target_calls.specs.Journal.{Entry, Passes, actions_in}
+use Rattle.target_calls.specs.World.{AtLeast, World, done_now, end_result, next_world, results, stop, stops_here}
+use Rattle.target_calls.specs.declared.calls.Ask.{Ask}
 use Rattle.access_regs.specs.Entries.{kept_by}
 use Rattle.access_regs.specs.Journal.{issued, making}
 use Rattle.access_regs.specs.Kept.{Kept}
 use Rattle.access_regs.proofs.StopLists.{passing_stops}
 use Rattle.access_calls.specs.Answers.{AtCut, StopsCalls, StopsOrSettles, StopsSettling}
 use Rattle.access_calls.specs.Left.{IsLeft, IsLeftAt}
-use Rattle.access_calls.specs.Reported.{Reported, began, world_from}
-use Rattle.access_calls.specs.Standing.{IsCut, StandsAt, WhereObservable}
+use Rattle.access_calls.specs.Reported.{AccessView, began, world_from}
+use Rattle.access_calls.specs.Standing.{IsCutBy, StandsAt, WhereObservable}
 use Rattle.access_calls.specs.declared.stop.Report.{Report}
 use Rattle.access_calls.specs.declared.stop.Stop.{Stop}
 use Rattle.access_calls.specs.declared.stop.Stop.TheVariants as stops
 use Rattle.access_calls.specs.declared.stop.StopCause.{StopCause}
 use Rattle.access_calls.specs.declared.stop.StopCause.TheVariants.{Faulted, NoAnswer}
-use Rattle.calls_in_flight.specs.Ending.{IsEnded, StopsBy}
-use Rattle.calls_in_flight.proofs.EndLemmas.{begun_came}
+use Rattle.flight_laws.specs.Ending.{IsEnded, StopsBy}
+use Rattle.flight_laws.proofs.EndLemmas.{begun_came}
 use Rattle.packed_access.specs.Begun.{HasBegun, HasEnded, HasIssued, IsIssuing, IsOpenAt, IsSince, StopsThere}
 use Rattle.packed_access.specs.Logs.{LogState, all_confirmed, all_taken, reported_by, result_at}
 use Rattle.packed_access.specs.Stands.{is_begun}

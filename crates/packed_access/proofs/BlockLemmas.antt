@@ -9,11 +9,11 @@ use Rattle.target_machine.specs.Plain.{Action, Makes}
 use Rattle.target_machine.specs.declared.access.RegAccess.{RegAccess}
 use Rattle.probe_core.specs.declared.job.Limits.{Limits}
 use Rattle.target_machine.specs.Counts.{one_if}
-use Rattle.call_terms.specs.Journal.{Entry, actions_in}
+use Rattle.target_calls.specs.Journal.{Entry, actions_in}
 use Rattle.access_regs.specs.Journal.{making}
 use Rattle.access_calls.specs.Bounds.{block_words, capacity}
 use Rattle.flight_forms.specs.Forms.{all_write_drw, writes_drw}
-use Rattle.calls_in_flight.specs.Packets.{drw_writes_in, is_drw_write}
+use Rattle.flight_laws.specs.Packets.{drw_writes_in, is_drw_write}
 use Rattle.bench_flights.specs.Full.{IsFull, transfer_accesses}
 use Rattle.packed_access.specs.Blocks.{AreBlocks, changes_after, changes_in, differs, others_in}
 

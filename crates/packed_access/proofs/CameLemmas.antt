@@ -9,14 +9,14 @@ use Rattle.target_machine.specs.Plain.{acted, given, result_of}
 use Rattle.target_machine.specs.State.{TargetState}
 use Rattle.probe_core.specs.Bench.{BenchState}
 use Rattle.probe_core.specs.Probe.{target_of}
-use Rattle.call_terms.specs.Asks.{AreAskable, is_forgiving, is_settled, settled_last}
-use Rattle.call_terms.specs.Journal.{Entry, Passes, lines_before, settles, target_after}
-use Rattle.call_terms.specs.World.{AtLeast, World, results, small_now, start_world, stop, world_after}
-use Rattle.call_terms.specs.declared.calls.Ask.{Ask}
-use Rattle.call_terms.specs.declared.journal.Part.TheVariants.{Settles}
-use Rattle.call_terms.proofs.CallLists.{append_results, count_of}
-use Rattle.call_terms.proofs.EntryLemmas.{pass_front}
-use Rattle.call_terms.proofs.MarkLemmas.{length_marked, marked_same, results_marked, stop_marked}
+use Rattle.target_calls.specs.Asks.{AreAskable, is_forgiving, is_settled, settled_last}
+use Rattle.target_calls.specs.Journal.{Entry, Passes, lines_before, settles, target_after}
+use Rattle.target_calls.specs.World.{AtLeast, World, results, small_now, start_world, stop, world_after}
+use Rattle.target_calls.specs.declared.calls.Ask.{Ask}
+use Rattle.target_calls.specs.declared.journal.Part.TheVariants.{Settles}
+use Rattle.target_calls.proofs.CallLists.{append_results, count_of}
+use Rattle.target_calls.proofs.EntryLemmas.{pass_front}
+use Rattle.target_calls.proofs.MarkLemmas.{length_marked, marked_same, results_marked, stop_marked}
 use Rattle.access_regs.specs.Alone.{NoneFaults, alone}
 use Rattle.access_regs.specs.Entries.{kept_by, target_by}
 use Rattle.access_regs.specs.Journal.{Step, entries_at, finish_of, issue_of, issued, issued_from, kept_at, kept_from, numbered, steps_of, target_at}
@@ -28,9 +28,9 @@ use Rattle.access_regs.proofs.Joins.{journal_joins}
 use Rattle.access_regs.proofs.Seams.{InFirst, InSecond, seam_in}
 use Rattle.access_regs.proofs.StopLists.{finish_settles, numbered_unit, passing_stops}
 use Rattle.access_calls.specs.Reported.{world_from}
-use Rattle.calls_in_flight.specs.Flights.{IsCutAt}
-use Rattle.calls_in_flight.proofs.OpenLemmas.{askable_first, whole_results}
-use Rattle.calls_in_flight.proofs.StopLemmas.{came_before}
+use Rattle.flight_laws.specs.Flights.{IsCutAt}
+use Rattle.flight_laws.proofs.OpenLemmas.{askable_first, whole_results}
+use Rattle.flight_laws.proofs.StopLemmas.{came_before}
 use Rattle.packed_access.specs.Marks.{length_unmarked, marked_unmarked, take_unmarked, unmarked_last, unmarked_same}
 use Rattle.packed_access.specs.Stands.{begins_with}
 use Rattle.access_regs.specs.declared.planner.Planner.{Planner}

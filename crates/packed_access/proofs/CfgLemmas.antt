@@ -13,12 +13,12 @@ use Rattle.target_machine.proofs.ActionLists.{order_from}
 use Rattle.probe_core.specs.Bench.{BenchState}
 use Rattle.probe_core.specs.Probe.{target_of}
 use Rattle.target_machine.specs.Counts.{one_if}
-use Rattle.call_terms.specs.Journal.{Entry, Passes, target_after}
-use Rattle.call_terms.specs.World.{start_world, stop}
-use Rattle.call_terms.specs.declared.calls.Ask.{Ask}
-use Rattle.call_terms.specs.declared.journal.Part.{Part}
-use Rattle.call_terms.specs.declared.journal.Part.TheVariants.{Leads}
-use Rattle.call_terms.proofs.EntryLemmas.{pass_rest}
+use Rattle.target_calls.specs.Journal.{Entry, Passes, target_after}
+use Rattle.target_calls.specs.World.{start_world, stop}
+use Rattle.target_calls.specs.declared.calls.Ask.{Ask}
+use Rattle.target_calls.specs.declared.journal.Part.{Part}
+use Rattle.target_calls.specs.declared.journal.Part.TheVariants.{Leads}
+use Rattle.target_calls.proofs.EntryLemmas.{pass_rest}
 use Rattle.access_regs.specs.Journal.{Issue, before, by_cfg, by_cfg_read, by_csw, gives, issued, making, numbered, port_of, steps_of}
 use Rattle.access_regs.specs.Kept.{Kept}
 use Rattle.access_regs.specs.Plan.{cfg_plan, learned_cfg, needs_cfg, needs_csw}

@@ -7,15 +7,15 @@ use Rattle.target_machine.specs.State.{TargetState}
 use Rattle.target_machine.specs.declared.unit.Call.TheVariants.{Probe}
 use Rattle.target_machine.specs.declared.unit.ProbeCall.{ProbeCall}
 use Rattle.target_machine.specs.declared.unit.ProbeCall.TheVariants as probe
-use Rattle.call_terms.specs.Asks.{probe_ask}
-use Rattle.call_terms.specs.NeedPoints.{Cost, asked, needed_more}
-use Rattle.call_terms.specs.Weights.{commands_for}
-use Rattle.call_terms.specs.World.{World, small_after, small_now, stop, world_after}
-use Rattle.call_terms.specs.declared.calls.Ask.{Ask}
-use Rattle.call_terms.specs.declared.journal.Part.TheVariants.{Ends}
+use Rattle.target_calls.specs.Asks.{probe_ask}
+use Rattle.target_calls.specs.NeedPoints.{Cost, asked, needed_more}
+use Rattle.target_calls.specs.Weights.{commands_for}
+use Rattle.target_calls.specs.World.{World, small_after, small_now, stop, world_after}
+use Rattle.target_calls.specs.declared.calls.Ask.{Ask}
+use Rattle.target_calls.specs.declared.journal.Part.TheVariants.{Ends}
 use Rattle.access_calls.specs.Issued.{kept_of}
 use Rattle.access_calls.specs.declared.issued.Issued.{Issued}
-use Rattle.calls_in_flight.proofs.SmallLemmas.{not_small}
+use Rattle.flight_laws.proofs.SmallLemmas.{not_small}
 use Rattle.packed_access.specs.Actions.{entry_of, log_done}
 use Rattle.packed_access.specs.Begun.{most_weight}
 use Rattle.access_regs.specs.Costs.{command_cost, cost_by}

@@ -6,13 +6,13 @@ use Rattle.target_machine.specs.declared.access.RegAccess.{RegAccess}
 use Rattle.probe_core.specs.Bench.{BenchState, StepsTo}
 use Rattle.probe_core.specs.Bench.{Reported as BenchReported}
 use Rattle.probe_core.specs.Probe.{target_of}
-use Rattle.call_terms.specs.Journal.{Entry, attempted_in, skipped_in}
-use Rattle.call_terms.specs.declared.calls.Ask.{Ask}
+use Rattle.target_calls.specs.Journal.{Entry, attempted_in, skipped_in}
+use Rattle.target_calls.specs.declared.calls.Ask.{Ask}
 use Rattle.access_regs.specs.Journal.{issued}
 use Rattle.access_calls.specs.Issued.{AreKeptOf}
 use Rattle.access_calls.specs.Left.{IsLeft}
 use Rattle.access_calls.specs.Numbers.{HasNumbers, attempted_by, lines_at, unit_at}
-use Rattle.access_calls.specs.Reported.{Reported}
+use Rattle.access_calls.specs.Reported.{AccessView}
 use Rattle.access_calls.specs.Standing.{WhereObservable}
 use Rattle.access_calls.specs.declared.stop.Report.{Report}
 use Rattle.access_calls.specs.declared.stop.Stop.{Stop}
@@ -23,9 +23,9 @@ use Rattle.batch_packer.specs.Flying.{CanFly}
 use Rattle.batch_packer.specs.declared.ends.Cut.{Cut}
 use Rattle.batch_packer.specs.declared.ends.FlightEnd.{FlightEnd}
 use Rattle.batch_packer.specs.declared.ends.FlightEnd.TheVariants as ends
-use Rattle.calls_in_flight.specs.Ending.{EndsCut, IsCutOff, IsEnded, IsStrictAt, response_of_cause}
-use Rattle.calls_in_flight.proofs.EndLemmas.{flight_ends, flight_fails}
-use Rattle.calls_in_flight.proofs.FlightLemmas.{flight_length}
+use Rattle.flight_laws.specs.Ending.{EndsCut, IsCutOff, IsEnded, IsStrictAt, response_of_cause}
+use Rattle.flight_laws.proofs.EndLemmas.{flight_ends, flight_fails}
+use Rattle.flight_laws.proofs.FlightLemmas.{flight_length}
 use Rattle.packed_access.specs.Begun.{HasEnded, HasIssued, IsIssuing, StopsThere}
 use Rattle.bench_flights.specs.Flown.{BrokeOff, MayHaveFlown, WasCut}
 use Rattle.packed_access.specs.Logs.{IsCause, IsStopped, LogState, reported_by}
@@ -63,7 +63,7 @@ numbers_longer entries n calls skipped lines r h le = record {
 module _ (p : Planner) (bench : BenchReported) (state : Option BenchState) (sent got : List ℕ) (log : LogState) (accesses : List RegAccess) (rest : List Entry) (m0 m o : BenchState) (h : IsIssuing p log accesses rest m0 m) where
   module _ (cut : Cut) (r : Report) (lines skipped : ℕ) (broke : WasCut cut accesses m o) (cause : IsCause cut.response r.cause) (accesses_are : r.accesses ≡ log.confirmed + cut.performed) (confirmed_are : r.confirmed ≡ log.confirmed + cut.confirmed)
       (numbers : (all : List Entry) → AreKeptOf all log.entries → HasNumbers all log.calls skipped lines r) where
-    abbrev b : Reported
+    abbrev b : AccessView
     b = reported_by bench state (record log { end = Some (stop.Cut r); came = lines; lines = lines; skipped = skipped }) sent got
 
     few : r.accesses ≤ length log.entries
@@ -108,7 +108,7 @@ module _ (p : Planner) (bench : BenchReported) (state : Option BenchState) (sent
 -- ---- any end
 
 -- what is so after an end
-pub record IsBrokenOff (p : Planner) (s : Stop) (a : Reported) (log : LogState) (calls : List Ask) (m0 o : BenchState) : Type 0 where
+pub record IsBrokenOff (p : Planner) (s : Stop) (a : AccessView) (log : LogState) (calls : List Ask) (m0 o : BenchState) : Type 0 where
   pub ended : IsEnded p s a (take log.known log.results) m0 o
   pub stops : (n : Option ℕ) → IsLeft a n → StopsThere m0 n calls log.lines s
 
@@ -136,11 +136,11 @@ broken_where p None y bench sent got log accesses rest m0 end s new h broke is =
 broken_where p (Some m) None bench sent got log accesses rest m0 end s new h broke is = absurd broke
 broken_where p (Some m) (Some o) bench sent got log accesses rest m0 end s new h broke is = broken_off p bench (Some o) sent got log accesses rest m0 m o h end s new (broke h.flies) is
 
-pub ended_in : (p : Planner) (y : Option BenchState) (s : Stop) (a : Reported) (log : LogState) (calls : List Ask) (m0 : BenchState) → WhereObservable y (λ o. IsBrokenOff p s a log calls m0 o) → WhereObservable y (λ o. IsEnded p s a (take log.known log.results) m0 o)
+pub ended_in : (p : Planner) (y : Option BenchState) (s : Stop) (a : AccessView) (log : LogState) (calls : List Ask) (m0 : BenchState) → WhereObservable y (λ o. IsBrokenOff p s a log calls m0 o) → WhereObservable y (λ o. IsEnded p s a (take log.known log.results) m0 o)
 ended_in p None s a log calls m0 h = h
 ended_in p (Some o) s a log calls m0 h = h.ended
 
-pub stops_in : (p : Planner) (y : Option BenchState) (s : Stop) (a : Reported) (log : LogState) (calls : List Ask) (m0 : BenchState) (n : Option ℕ) → WhereObservable y (λ o. IsBrokenOff p s a log calls m0 o) → IsLeft a n → StopsThere m0 n calls log.lines s
+pub stops_in : (p : Planner) (y : Option BenchState) (s : Stop) (a : AccessView) (log : LogState) (calls : List Ask) (m0 : BenchState) (n : Option ℕ) → WhereObservable y (λ o. IsBrokenOff p s a log calls m0 o) → IsLeft a n → StopsThere m0 n calls log.lines s
 stops_in p None s a log calls m0 n h left = absurd h
 stops_in p (Some o) s a log calls m0 n h left = h.stops n left
 

@@ -4,7 +4,7 @@ use Rattle.std.proofs.lemmas.List.{take_more_set, length-set}
 use Rattle.std.specs.Option.{unwrap_or}
 use Rattle.std.specs.Prelude.{slice_get}
 use Rattle.batch_packer.specs.SlotList.{slot_at}
-use Rattle.packed_access.specs.Logs.{LogState, filled, place_of, result_by, result_for, with_result}
+use Rattle.packed_access.specs.Logs.{LogState, filled, pending_place, result_by, result_for, with_result}
 
 -- one more of a list
 more_taken : (xs : List ℕ) (k : ℕ) → k < length xs → take (suc k) xs ≡ take k xs ++ get_or xs k 0 ∷ []
@@ -32,7 +32,7 @@ filled_is values log from (suc j) xs all front le le' each =
 
 -- one more result is taken
 pub filled_next : (values : List (Option ℕ)) (log now new : LogState) (index word place : ℕ) → log.came ≤ index → now ≡ record log { results = filled values log log.came (index - log.came) log.results } →
-    place ≡ place_of now index → word ≡ unwrap_or (slot_at values place) 0 → new ≡ with_result now index (result_for (slice_get now.calls index) word) →
+    place ≡ pending_place now index → word ≡ unwrap_or (slot_at values place) 0 → new ≡ with_result now index (result_for (slice_get now.calls index) word) →
     new ≡ record log { results = filled values log log.came (index + 1 - log.came) log.results }
 filled_next values log now new index word place low is at word_is next =
     next

@@ -8,12 +8,12 @@ use Rattle.target_machine.specs.declared.access.RegAccess.{RegAccess}
 use Rattle.probe_core.specs.Bench.{BenchState}
 use Rattle.probe_core.specs.Bench.{Reported as BenchReported}
 use Rattle.probe_core.specs.Probe.{target_of}
-use Rattle.call_terms.specs.Asks.{settled_last}
-use Rattle.call_terms.specs.Journal.{Entry}
-use Rattle.call_terms.specs.World.{World, done_now, end_result, next_world, one_if_skipped, results, skips, small_after, start_world, stop, stops_here, world_after}
-use Rattle.call_terms.specs.declared.calls.Ask.{Ask}
-use Rattle.call_terms.specs.declared.journal.Part.TheVariants.{Settles}
-use Rattle.call_terms.proofs.MarkLemmas.{length_marked, stop_marked}
+use Rattle.target_calls.specs.Asks.{settled_last}
+use Rattle.target_calls.specs.Journal.{Entry}
+use Rattle.target_calls.specs.World.{World, done_now, end_result, next_world, one_if_skipped, results, skips, small_after, start_world, stop, stops_here, world_after}
+use Rattle.target_calls.specs.declared.calls.Ask.{Ask}
+use Rattle.target_calls.specs.declared.journal.Part.TheVariants.{Settles}
+use Rattle.target_calls.proofs.MarkLemmas.{length_marked, stop_marked}
 use Rattle.access_regs.specs.Entries.{kept_by}
 use Rattle.access_regs.specs.Journal.{issued, numbered, steps_of}
 use Rattle.access_regs.specs.Kept.{Kept}
@@ -28,10 +28,10 @@ use Rattle.access_calls.specs.declared.stop.Stop.{Stop}
 use Rattle.access_calls.specs.declared.stop.Stop.TheVariants as stops
 use Rattle.access_calls.specs.declared.stop.StopCause.{StopCause}
 use Rattle.access_calls.specs.declared.stop.StopCause.TheVariants.{Faulted, NoAnswer}
-use Rattle.calls_in_flight.specs.Ending.{StopsBy}
-use Rattle.calls_in_flight.specs.Flying.{IsFlying}
-use Rattle.calls_in_flight.specs.Sending.{IsSending}
-use Rattle.calls_in_flight.proofs.SendLemmas.{finish_sends}
+use Rattle.flight_laws.specs.Ending.{StopsBy}
+use Rattle.flight_laws.specs.Flying.{IsFlying}
+use Rattle.flight_laws.specs.Sending.{IsSending}
+use Rattle.flight_laws.proofs.SendLemmas.{finish_sends}
 use Rattle.packed_access.specs.Begun.{HasBegun, HasIssued, IsGivenAt, IsIssuing, IsOpenAt, StopsThere, entries_of}
 use Rattle.packed_access.specs.Logs.{LogState, reported_by}
 use Rattle.packed_access.specs.Marks.{unmarked_last, unmarked_marked}

@@ -3,11 +3,11 @@ use Rattle.std.proofs.Common.{◌≡◌, ◌⊎◌, inl, inr, ℕ, ◌≤◌, Li
 use Rattle.probe_core.proofs.RunLemmas.{keeps_own_runs}
 use Rattle.probe_core.specs.Bench.{BenchState}
 use Rattle.probe_core.specs.Bench.{Reported as BenchReported}
-use Rattle.call_terms.specs.World.{AtLeast}
+use Rattle.target_calls.specs.World.{AtLeast}
 use Rattle.access_calls.specs.Causes.{EndedBy, code_of_cause}
 use Rattle.access_calls.specs.GoesOn.{GoesOn, StaysEnded}
 use Rattle.access_calls.specs.Left.{IsLeftAt, IsLeftCut}
-use Rattle.access_calls.specs.Reported.{Reported}
+use Rattle.access_calls.specs.Reported.{AccessView}
 use Rattle.access_calls.specs.declared.stop.Stop.{Stop}
 use Rattle.access_calls.specs.declared.stop.StopCause.{StopCause}
 use Rattle.access_calls.specs.declared.stop.StopCause.TheVariants.{Faulted, NoAnswer}
@@ -53,7 +53,7 @@ code_is response Faulted not (inr four) = four
 code_is response NoAnswer two either = two
 
 module _ (b b' : BenchReported) (x y : Option BenchState) (old : LogState) (packet reply packet' reply' : List ℕ) (goes : BenchGoesOn b b' x y) (none : old.end ≡ None) where
-  abbrev a : Reported
+  abbrev a : AccessView
   a = reported_by b x old packet reply
 
 -- ---- nothing is sent

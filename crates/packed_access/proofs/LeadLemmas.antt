@@ -8,12 +8,12 @@ use Rattle.target_machine.specs.State.{TargetState}
 use Rattle.target_machine.specs.declared.access.RegAccess.{RegAccess}
 use Rattle.target_machine.specs.declared.unit.Unit.{Unit as AccessUnit}
 use Rattle.probe_core.specs.Bench.{BenchState}
-use Rattle.call_terms.specs.declared.journal.Part.TheVariants.{Ends, Leads}
+use Rattle.target_calls.specs.declared.journal.Part.TheVariants.{Ends, Leads}
 use Rattle.access_regs.specs.Entries.{NoneFault}
 use Rattle.access_regs.specs.Journal.{Step, is_early, is_end, is_last, making, steps_of}
 use Rattle.access_regs.specs.Kept.{Kept}
 use Rattle.access_regs.specs.declared.planner.Planner.{Planner}
-use Rattle.calls_in_flight.specs.Forgiving.{steps_of_unit}
+use Rattle.flight_laws.specs.Forgiving.{steps_of_unit}
 use Rattle.packed_access.specs.Forgiving.{HasForgiven, HasTried, IsForgiven, IsNext, WentTo}
 use Rattle.packed_access.specs.Logs.{LogState}
 use Rattle.packed_access.proofs.BegunLemmas.{where_same}

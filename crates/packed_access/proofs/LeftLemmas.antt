@@ -1,19 +1,20 @@
 -- A poll or a command of the probe that did not come to its end.
-use Rattle.std.proofs.Common.{◌≡◌, ◌⊎◌, inl, inr, ◌∙◌, ℕ, ◌+◌, ◌*◌, ◌^◌, ◌<◌, ◌≤◌, Bool, true, false, not, ◌&&◌, List, [], ◌∷◌, ◌++◌, length, map, take, Option, Some, None, refl, sym, ap, subst, arith, append_assoc, length-append}
+use Rattle.std.proofs.Common.{◌≡◌, ◌⊎◌, inl, inr, ◌∙◌, ℕ, ◌+◌, ◌*◌, ◌^◌, ◌<◌, ◌≤◌, Bool, true, false, not, ◌&&◌, List, [], ◌∷◌, ◌++◌, length, map, take, drop, Option, Some, None, refl, sym, ap, subst, arith, append_assoc, length-append}
 use Rattle.std.proofs.lemmas.List.{map-append}
 use Rattle.target_machine.specs.Plain.{Action, acted, given, is_fault}
 use Rattle.probe_core.specs.Bench.{BenchState, StepsTo}
 use Rattle.probe_core.specs.Bench.{Reported as BenchReported}
 use Rattle.probe_core.specs.Probe.{target_of, work_of}
-use Rattle.call_terms.specs.Journal.{Entry, is_unforgiven}
-use Rattle.call_terms.specs.Weights.{weight}
-use Rattle.call_terms.specs.declared.calls.Ask.{Ask}
+use Rattle.target_calls.specs.Journal.{Entry, is_unforgiven}
+use Rattle.target_calls.specs.Weights.{weight}
+use Rattle.target_calls.specs.declared.calls.Ask.{Ask}
 use Rattle.access_regs.specs.Journal.{issued}
 use Rattle.access_calls.specs.Issued.{AreKeptOf, kept_of}
 use Rattle.access_calls.specs.Left.{IsLeft}
 use Rattle.access_calls.specs.Numbers.{HasNumbers}
-use Rattle.access_calls.specs.Reported.{Beginning, Reported, began}
-use Rattle.access_calls.specs.Standing.{HasBroken, IsBenchFault, WhereObservable}
+use Rattle.access_calls.specs.Reported.{AccessView, Beginning, began}
+use Rattle.access_calls.specs.Standing.{AreTogether, HasBroken, IsBenchFault, WhereObservable}
+use Rattle.flight_laws.proofs.ActionLemmas.{between}
 use Rattle.access_calls.specs.declared.issued.Issued.{Issued}
 use Rattle.access_calls.specs.declared.stop.Report.{Report}
 use Rattle.access_calls.specs.declared.stop.Stop.{Stop}
@@ -24,10 +25,10 @@ use Rattle.batch_packer.specs.Flying.{CanFly}
 use Rattle.batch_packer.specs.declared.ends.Cut.{Cut}
 use Rattle.batch_packer.specs.declared.ends.FlightEnd.{FlightEnd}
 use Rattle.batch_packer.specs.declared.ends.FlightEnd.TheVariants as ends
-use Rattle.calls_in_flight.specs.Ending.{EndsCut, IsCutOff, IsEnded}
-use Rattle.calls_in_flight.specs.Sending.{IsSending}
-use Rattle.calls_in_flight.proofs.EndLemmas.{action_fails, flight_fails, poll_ends}
-use Rattle.calls_in_flight.proofs.SendLemmas.{action_sends}
+use Rattle.flight_laws.specs.Ending.{EndsCut, IsCutOff, IsEnded}
+use Rattle.flight_laws.specs.Sending.{IsSending}
+use Rattle.flight_laws.proofs.EndLemmas.{action_fails, flight_fails, poll_ends}
+use Rattle.flight_laws.proofs.SendLemmas.{action_sends}
 use Rattle.flight_forms.specs.Flights.{Part}
 use Rattle.dap_messages.specs.declared.request.Response.TheVariants.{Good, Mismatch}
 use Rattle.packed_access.specs.Begun.{HasEnded, HasIssued, IsIssuing, StopsThere, most_weight}
@@ -39,27 +40,29 @@ use Rattle.packed_access.proofs.PushLemmas.{take_more}
 use Rattle.access_regs.specs.declared.planner.Planner.{Planner}
 
 -- fewer may be confirmed at a fault of the bench
-fewer_broken : (entries : List Entry) (many confirmed fewer : ℕ) (b : Beginning) (m : BenchState) → fewer ≤ confirmed → HasBroken entries many confirmed b m → HasBroken entries many fewer b m
-fewer_broken entries many confirmed fewer b m le h = record {
+fewer_broken : (entries : List Entry) (many confirmed fewer : ℕ) (b : Beginning) (m : BenchState) → fewer ≤ confirmed → AreTogether (drop fewer (take many entries)) → HasBroken entries many confirmed b m → HasBroken entries many fewer b m
+fewer_broken entries many confirmed fewer b m le both h = record {
   count = h.count;
   begun = h.begun;
   count_is = h.count_is;
+  no_more = h.no_more;
   low = (let l = h.low in omega (arith, l, le));
   high = h.high;
   within = h.within;
+  together = both;
   good = h.good;
   target = h.target;
 }
 
-fewer_stand : (asks : List Ask) (entries : List Entry) (many confirmed fewer : ℕ) (b : Beginning) (m : BenchState) → fewer ≤ confirmed → IsBenchFault asks entries many confirmed b m → IsBenchFault asks entries many fewer b m
+fewer_stand : (asks : List Ask) (entries : List Entry) (many confirmed fewer : ℕ) (b : Beginning) (m : BenchState) → fewer ≤ confirmed → AreTogether (drop fewer (take many entries)) → IsBenchFault asks entries many confirmed b m → IsBenchFault asks entries many fewer b m
 unfolding fewer_broken
-fewer_stand asks entries many confirmed fewer b m le h = record { broken = fewer_broken entries many confirmed fewer b m le h.broken; own = h.own }
+fewer_stand asks entries many confirmed fewer b m le both h = record { broken = fewer_broken entries many confirmed fewer b m le both h.broken; own = h.own }
 
-fewer_confirmed : (p : Planner) (bench : BenchReported) (state : Option BenchState) (sent got : List ℕ) (log : LogState) (many confirmed fewer : ℕ) (came : List ℕ) (m0 o : BenchState) → fewer ≤ confirmed →
+fewer_confirmed : (p : Planner) (bench : BenchReported) (state : Option BenchState) (sent got : List ℕ) (log : LogState) (many confirmed fewer : ℕ) (came : List ℕ) (m0 o : BenchState) → fewer ≤ confirmed → AreTogether (drop fewer (take many (issued p (target_of m0.probe) log.calls))) →
     IsEnded p (stop.BenchFault many confirmed) (reported_by bench state (record log { end = Some (stop.BenchFault many confirmed) }) sent got) came m0 o →
     IsEnded p (stop.BenchFault many fewer) (reported_by bench state (record log { end = Some (stop.BenchFault many fewer) }) sent got) came m0 o
-fewer_confirmed p bench state sent got log many confirmed fewer came m0 o le h = record {
-  stands = λ n left. fewer_stand log.calls (issued p (target_of m0.probe) log.calls) many confirmed fewer (began m0 n) o le (h.stands n (record { so = left.so }));
+fewer_confirmed p bench state sent got log many confirmed fewer came m0 o le both h = record {
+  stands = λ n left. fewer_stand log.calls (issued p (target_of m0.probe) log.calls) many confirmed fewer (began m0 n) o le both (h.stands n (record { so = left.so }));
   results_are = λ n left. h.results_are n (record { so = left.so });
 }
 
@@ -86,7 +89,7 @@ module _ (p : Planner) (bench : BenchReported) (state : Option BenchState) (sent
   -- a retry ended
   module _ (cut : Cut) (r : Report) (lines skipped : ℕ) (w : WasUnanswered e.action m o) (cause : r.cause ≡ NoAnswer) (accesses_are : r.accesses ≡ log.confirmed + cut.performed) (confirmed_are : r.confirmed ≡ log.confirmed + cut.confirmed)
       (none : (cut.performed ≡ 0) × (cut.confirmed ≡ 0)) (numbers : (all : List Entry) → AreKeptOf all (log.entries ++ kept_of e ∷ []) → HasNumbers all log.calls skipped lines r) where
-    abbrev b : Reported
+    abbrev b : AccessView
     b = reported_by bench state (record (with_entry log (kept_of e)) { end = Some (stop.Cut r); came = lines; lines = lines; skipped = skipped }) sent got
 
     cut_off : IsCutOff p r b m0
@@ -98,7 +101,7 @@ module _ (p : Planner) (bench : BenchReported) (state : Option BenchState) (sent
     }
 
     pub poll_cut : EndsCut p r b log.came (take log.known log.results) m0 o
-    poll_cut = poll_ends p log.confirmed log.came e rest (take log.known log.results) m0 m o w.work r b rest_is (w.work_is counts) w.less w.target (w.retries (let f = rest_is.on.few in let r = rest_is.on.retries in omega (arith, f, r))) w.number w.pending cause
+    poll_cut = poll_ends p log.confirmed log.came e rest (take log.known log.results) m0 m o w.work r b rest_is (w.work_is counts) w.less w.target (w.retries (let f = rest_is.on.few in let r = rest_is.on.retries in omega (arith, f, r))) w.over w.number w.pending cause
         (let n = none.0 in omega (arith, accesses_are, n)) (let n = none.1 in omega (arith, confirmed_are, n)) cut_off
 
   -- the bench failed
@@ -123,13 +126,16 @@ module _ (p : Planner) (bench : BenchReported) (state : Option BenchState) (sent
   never_good : Good ≡ Mismatch → ⊥
   never_good k = cc
 
+  alone : AreTogether (drop log.confirmed (take (log.confirmed + 1) (issued p (target_of m0.probe) log.calls)))
+  alone = inr (ap (λ (n : ℕ). length (drop n (take (n + 1) (issued p (target_of m0.probe) log.calls)))) (sym rest_is.confirmed_is) ∙ ap length (between (issued p (target_of m0.probe) log.calls) rest_is.made (e ∷ []) rest seam))
+
   pub all_done : (word : ℕ) → HasDone e.action word m o → weight (target_of m.probe) e.action ≤ most_weight → length log.entries < 2 ^ 32 →
       IsEnded p (stop.BenchFault (log.confirmed + 1) log.confirmed) (reported_by bench state (record (with_entry log (kept_of e)) { end = Some (stop.BenchFault (log.confirmed + 1) log.confirmed) }) sent got) (take log.known log.results) m0 o
   all_done word d light bounded =
       let room : work_of o.probe < 2 ^ 64 = (let f = h.few in let w = (d.does counts).work in omega (arith, f, w, light, bounded)) in
       let sent_is : IsSending p log.calls (log.confirmed + 1) log.came [] rest [] (take log.known log.results) m0 o = action_sends p log.calls log.confirmed log.came e rest (take log.known log.results) m0 m o rest_is (d.does counts) (unforgiven d.good) room in
       let more : (log.confirmed + 1) + 0 ≡ log.confirmed + 1 = omega arith in
-      fewer_confirmed p bench state sent got (with_entry log (kept_of e)) (log.confirmed + 1) (log.confirmed + 1) log.confirmed (take log.known log.results) m0 o (omega arith)
+      fewer_confirmed p bench state sent got (with_entry log (kept_of e)) (log.confirmed + 1) (log.confirmed + 1) log.confirmed (take log.known log.results) m0 o (omega arith) alone
       (subst (λ (n : ℕ). IsEnded p (stop.BenchFault n (log.confirmed + 1)) (reported_by bench state (record (with_entry log (kept_of e)) { end = Some (stop.BenchFault n (log.confirmed + 1)) }) sent got) (take log.known log.results) m0 o) more
       (flight_fails p (log.confirmed + 1) log.came [] rest [] (take log.known log.results) m0 o o nothing
       (reported_by bench state (record (with_entry log (kept_of e)) { end = Some (stop.BenchFault ((log.confirmed + 1) + 0) (log.confirmed + 1)) }) sent got)

@@ -5,9 +5,9 @@ use Rattle.std.specs.List.{AllByRecursion}
 use Rattle.std.specs.Prelude.{slice_get, IfSome}
 use Rattle.target_machine.specs.Sound.{IsSoundCall}
 use Rattle.target_machine.specs.Plain.{Commands, forgives}
-use Rattle.call_terms.specs.Asks.{settled_last}
-use Rattle.call_terms.specs.Journal.{Entry, settles}
-use Rattle.call_terms.specs.declared.calls.Ask.{Ask}
+use Rattle.target_calls.specs.Asks.{settled_last}
+use Rattle.target_calls.specs.Journal.{Entry, settles}
+use Rattle.target_calls.specs.declared.calls.Ask.{Ask}
 use Rattle.access_calls.specs.Issued.{AreKeptOf, kept_of, lines_before_kept}
 use Rattle.access_calls.specs.Numbers.{HasNumbers, StopNumbers, lines_at}
 use Rattle.access_calls.specs.declared.issued.Issued.{Issued}

@@ -5,20 +5,20 @@ use Rattle.target_machine.specs.declared.access.RegAccess.{RegAccess}
 use Rattle.probe_core.specs.Bench.{BenchState}
 use Rattle.probe_core.specs.Bench.{Reported as BenchReported}
 use Rattle.probe_core.specs.Probe.{target_of}
-use Rattle.call_terms.specs.Journal.{Entry}
-use Rattle.call_terms.specs.NeedPoints.{needed, needed_more, used}
-use Rattle.call_terms.specs.declared.calls.Slot.{Slot}
+use Rattle.target_calls.specs.Journal.{Entry}
+use Rattle.target_calls.specs.NeedPoints.{needed, needed_more, used}
+use Rattle.target_calls.specs.declared.calls.Slot.{Slot}
 use Rattle.access_regs.specs.Journal.{issued}
 use Rattle.access_regs.specs.Kept.{Kept}
 use Rattle.access_calls.specs.Left.{IsLeft}
-use Rattle.access_calls.specs.Reported.{Beginning, Reported, began}
-use Rattle.access_calls.specs.Standing.{IsBenchFault, IsCut, IsFaulted, IsUnanswered, StandsAt, WhereObservable}
+use Rattle.access_calls.specs.Reported.{AccessView, Beginning, began}
+use Rattle.access_calls.specs.Standing.{IsBenchFault, IsCutBy, IsFaulted, IsUnanswered, StandsAt, WhereObservable}
 use Rattle.access_calls.specs.declared.stop.Report.{Report}
 use Rattle.access_calls.specs.declared.stop.Stop.{Stop}
 use Rattle.access_calls.specs.declared.stop.Stop.TheVariants as stops
 use Rattle.access_calls.specs.declared.stop.StopCause.{StopCause}
 use Rattle.access_calls.specs.declared.stop.StopCause.TheVariants.{Faulted, NoAnswer}
-use Rattle.calls_in_flight.specs.Ending.{IsEnded}
+use Rattle.flight_laws.specs.Ending.{IsEnded}
 use Rattle.packed_access.specs.Begun.{HasBegun, IsIssuing, IsOpenAt, IsSince}
 use Rattle.packed_access.specs.Logs.{LogState, asks_of, reported_by, with_asks, with_needs}
 use Rattle.access_regs.specs.declared.planner.Planner.{Planner}
@@ -43,28 +43,28 @@ issuing_needs p log accesses rest m0 m needs fence room h = record {
   few = h.few;
 }
 
-cut_needs : (cause : StopCause) (entries : List Entry) (r : Report) (a : Reported) (needs fence : ℕ) (b : Beginning) (m : BenchState) → IsCut cause entries r a b m → IsCut cause entries r (record a { asks = record a.asks { needs = needs; fence = fence } }) b m
-cut_needs Faulted entries r a needs fence b m h = record { performed = h.performed; first = h.first; confirmed = h.confirmed; numbers = h.numbers; retries = h.retries }
-cut_needs NoAnswer entries r a needs fence b m h = record { performed = h.performed; confirmed = h.confirmed; numbers = h.numbers; retries = h.retries; number = h.number }
+cut_needs : (cause : StopCause) (entries : List Entry) (r : Report) (a : AccessView) (needs fence : ℕ) (b : Beginning) (m : BenchState) → IsCutBy cause entries r a b m → IsCutBy cause entries r (record a { asks = record a.asks { needs = needs; fence = fence } }) b m
+cut_needs Faulted entries r a needs fence b m h = record { performed = h.performed; first = h.first; confirmed = h.confirmed; up_to = h.up_to; numbers = h.numbers; retries = h.retries }
+cut_needs NoAnswer entries r a needs fence b m h = record { performed = h.performed; confirmed = h.confirmed; up_to = h.up_to; numbers = h.numbers; retries = h.retries; over = h.over; number = h.number }
 
-stands_needs : (s : Stop) (entries : List Entry) (a : Reported) (needs fence : ℕ) (b : Beginning) (m : BenchState) → StandsAt (Some s) entries a b m → StandsAt (Some s) entries (record a { asks = record a.asks { needs = needs; fence = fence } }) b m
+stands_needs : (s : Stop) (entries : List Entry) (a : AccessView) (needs fence : ℕ) (b : Beginning) (m : BenchState) → StandsAt (Some s) entries a b m → StandsAt (Some s) entries (record a { asks = record a.asks { needs = needs; fence = fence } }) b m
 stands_needs (stops.Cut r) entries a needs fence b m h = cut_needs r.cause entries r a needs fence b m h
 stands_needs (stops.BenchFault issued confirmed) entries a needs fence b m h = h
 stands_needs stops.ReplyBad entries a needs fence b m h = h
 stands_needs stops.OutOfMemory entries a needs fence b m h = h
 
-ended_needs : (p : Planner) (s : Stop) (a : Reported) (came : List ℕ) (needs fence : ℕ) (m0 m : BenchState) → IsEnded p s a came m0 m → IsEnded p s (record a { asks = record a.asks { needs = needs; fence = fence } }) came m0 m
+ended_needs : (p : Planner) (s : Stop) (a : AccessView) (came : List ℕ) (needs fence : ℕ) (m0 m : BenchState) → IsEnded p s a came m0 m → IsEnded p s (record a { asks = record a.asks { needs = needs; fence = fence } }) came m0 m
 ended_needs p s a came needs fence m0 m h = record {
   stands = λ n left. stands_needs s (issued p (target_of m0.probe) a.asks.calls) a needs fence (began m0 n) m (h.stands n (record { so = left.so }));
   results_are = λ n left. h.results_are n (record { so = left.so });
 }
 
-since_needs : (p : Planner) (e : Option Stop) (a : Reported) (log : LogState) (kept : Kept) (accesses : List RegAccess) (needs fence room : ℕ) (m0 m : BenchState) → IsSince p e a log kept accesses m0 m →
+since_needs : (p : Planner) (e : Option Stop) (a : AccessView) (log : LogState) (kept : Kept) (accesses : List RegAccess) (needs fence room : ℕ) (m0 m : BenchState) → IsSince p e a log kept accesses m0 m →
     IsSince p e (record a { asks = record a.asks { needs = needs; fence = fence } }) (record log { needs = needs; fence = fence; room = room }) kept accesses m0 m
 since_needs p None a log kept accesses needs fence room m0 m h = record { issuing = issuing_needs p log accesses [] m0 m needs fence room h.issuing; whole_is = h.whole_is; kept_is = h.kept_is; calm = h.calm }
 since_needs p (Some s) a log kept accesses needs fence room m0 m h = ended_needs p s a (take log.known log.results) needs fence m0 m h
 
-needs_where : (p : Planner) (x : Option BenchState) (e : Option Stop) (a : Reported) (log : LogState) (kept : Kept) (accesses : List RegAccess) (needs fence room : ℕ) (m0 : BenchState) → WhereObservable x (λ m. IsSince p e a log kept accesses m0 m) →
+needs_where : (p : Planner) (x : Option BenchState) (e : Option Stop) (a : AccessView) (log : LogState) (kept : Kept) (accesses : List RegAccess) (needs fence room : ℕ) (m0 : BenchState) → WhereObservable x (λ m. IsSince p e a log kept accesses m0 m) →
     WhereObservable x (λ m. IsSince p e (record a { asks = record a.asks { needs = needs; fence = fence } }) (record log { needs = needs; fence = fence; room = room }) kept accesses m0 m)
 needs_where p None e a log kept accesses needs fence room m0 h = h
 needs_where p (Some m) e a log kept accesses needs fence room m0 h = since_needs p e a log kept accesses needs fence room m0 m h

@@ -5,11 +5,11 @@ use Rattle.std.specs.Prelude.{nat_lt}
 use Rattle.target_machine.specs.State.{TargetState}
 use Rattle.target_machine.specs.declared.unit.Call.TheVariants.{Probe}
 use Rattle.target_machine.specs.declared.unit.ProbeCall.{ProbeCall}
-use Rattle.call_terms.specs.Asks.{probe_ask, settled_last}
+use Rattle.target_calls.specs.Asks.{probe_ask, settled_last}
 use Rattle.target_machine.specs.Counts.{one_if}
-use Rattle.call_terms.specs.NeedPoints.{Asks, Cost, asked, capped_sum, needed, needed_more, used, with_call}
-use Rattle.call_terms.specs.declared.calls.Ask.{Ask}
-use Rattle.call_terms.specs.declared.calls.Slot.{Slot}
+use Rattle.target_calls.specs.NeedPoints.{Asks, Cost, asked, capped_sum, needed, needed_more, used, with_call}
+use Rattle.target_calls.specs.declared.calls.Ask.{Ask}
+use Rattle.target_calls.specs.declared.calls.Slot.{Slot}
 use Rattle.access_regs.specs.Costs.{cost_by}
 use Rattle.packed_access.specs.Logs.{LogState, asks_of, with_asks, with_needs}
 use Rattle.packed_access.specs.Sparing.{AreNeeded, first_cost, marks_in}

@@ -27,11 +27,11 @@ use Rattle.target_machine.specs.declared.access.RegAccess.{RegAccess}
 use Rattle.access_regs.specs.Kept.{Kept, nothing_kept}
 use Rattle.packed_access.specs.Begun.{HasBegun, IsIssuing}
 use Rattle.packed_access.specs.Logs.{LogState, nothing_logged}
-use Rattle.bench_flights.specs.Opening.{HasOpened, MayBegin, least_of}
+use Rattle.access_calls.specs.Opening.{HasOpened, MayBegin, opened_bench}
 use Rattle.bench_flights.proofs.OpeningLemmas.{opened_flies, opened_target}
 use Rattle.access_regs.specs.declared.planner.Planner.{Planner}
 
-issuing_at : (p : Planner) (config : Config) (m o : BenchState) → MayBegin m → HasOpened config m o → IsIssuing p nothing_logged [] [] m o
+issuing_at : (p : Planner) (config : Config) (m o : BenchState) → MayBegin m → HasOpened config m o → IsIssuing p nothing_logged [] [] (opened_bench config m) o
 issuing_at p config m o b h =
     let flies : CanFly o = opened_flies config m o b h in
     let work : work_of o.probe ≡ work_of m.probe = ap (λ (e : ExecutorState). e.transfers.work) h.executor in
@@ -53,6 +53,7 @@ issuing_at p config m o b h =
           room = (let w = b.work in omega (arith, w, work));
           retries = ended;
           few = (let r = b.retries in omega (arith, r, ended));
+          setting = ap (λ (e : ExecutorState). e.transfers.setting) h.executor;
           number = (let n = ap (λ (e : ExecutorState). e.transfers.line.number) h.executor in omega (arith, n));
         };
         confirmed_is = refl;
@@ -76,7 +77,7 @@ issuing_at p config m o b h =
       few = (let w = b.work in omega (arith, w, work));
     }
 
-begun_at : (p : Planner) (bench : BenchReported) (config : Config) (m o : BenchState) (sent got : List ℕ) → MayBegin m → HasOpened config m o → HasBegun p bench (Some o) nothing_logged sent got nothing_kept [] m
+begun_at : (p : Planner) (bench : BenchReported) (config : Config) (m o : BenchState) (sent got : List ℕ) → MayBegin m → HasOpened config m o → HasBegun p bench (Some o) nothing_logged sent got nothing_kept [] (opened_bench config m)
 begun_at p bench config m o sent got b h = record {
   so = record {
     issuing = issuing_at p config m o b h;
@@ -86,15 +87,15 @@ begun_at p bench config m o sent got b h = record {
   };
 }
 
-begun_where : (p : Planner) (x y : Option BenchState) (bench : BenchReported) (config : Config) (sent got : List ℕ) → StepsTo (λ m o. IsInRange (target_of m.probe) → HasOpened config m o) x y → StepsTo (λ m o. MayBegin m → HasBegun p bench y nothing_logged sent got nothing_kept [] m) x y
+begun_where : (p : Planner) (x y : Option BenchState) (bench : BenchReported) (config : Config) (sent got : List ℕ) → StepsTo (λ m o. IsInRange (target_of m.probe) → HasOpened config m o) x y → StepsTo (λ m o. MayBegin m → HasBegun p bench y nothing_logged sent got nothing_kept [] (opened_bench config m)) x y
 begun_where p None None bench config sent got h = tt
 begun_where p None (Some o) bench config sent got h = absurd h
 begun_where p (Some m) None bench config sent got h = absurd h
 begun_where p (Some m) (Some o) bench config sent got h = λ b. begun_at p bench config m o sent got b (h b.in_range)
 
 pub has_begun : (p : Planner) (x y : Option BenchState) (bench : BenchReported) (config : Config) (log : LogState) (sent got : List ℕ) (kept : Kept) (accesses : List RegAccess) → log ≡ nothing_logged → kept ≡ nothing_kept → accesses ≡ [] →
-    StepsTo (λ m o. IsInRange (target_of m.probe) → HasOpened config m o) x y → StepsTo (λ m o. MayBegin m → HasBegun p bench y log sent got kept accesses m) x y
+    StepsTo (λ m o. IsInRange (target_of m.probe) → HasOpened config m o) x y → StepsTo (λ m o. MayBegin m → HasBegun p bench y log sent got kept accesses (opened_bench config m)) x y
 has_begun p x y bench config log sent got kept accesses none nothing empty h =
-    subst (λ (l : LogState). StepsTo (λ m o. MayBegin m → HasBegun p bench y l sent got kept accesses m) x y) (sym none)
-    (subst (λ (k : Kept). StepsTo (λ m o. MayBegin m → HasBegun p bench y nothing_logged sent got k accesses m) x y) (sym nothing)
-    (subst (λ (a : List RegAccess). StepsTo (λ m o. MayBegin m → HasBegun p bench y nothing_logged sent got nothing_kept a m) x y) (sym empty) (begun_where p x y bench config sent got h)))
+    subst (λ (l : LogState). StepsTo (λ m o. MayBegin m → HasBegun p bench y l sent got kept accesses (opened_bench config m)) x y) (sym none)
+    (subst (λ (k : Kept). StepsTo (λ m o. MayBegin m → HasBegun p bench y nothing_logged sent got k accesses (opened_bench config m)) x y) (sym nothing)
+    (subst (λ (a : List RegAccess). StepsTo (λ m o. MayBegin m → HasBegun p bench y nothing_logged sent got nothing_kept a (opened_bench config m)) x y) (sym empty) (begun_where p x y bench config sent got h)))

@@ -8,12 +8,12 @@ use Rattle.probe_core.specs.Bench.{BenchState, StepsTo}
 use Rattle.probe_core.specs.Bench.{Reported as BenchReported}
 use Rattle.probe_core.specs.Probe.{target_of}
 use Rattle.probe_core.specs.declared.job.Limits.{Limits}
-use Rattle.call_terms.specs.Asks.{settled_last}
+use Rattle.target_calls.specs.Asks.{settled_last}
 use Rattle.target_machine.specs.Counts.{one_if}
-use Rattle.call_terms.specs.Journal.{Entry}
-use Rattle.call_terms.specs.NeedPoints.{Asks, needed, used}
-use Rattle.call_terms.specs.declared.calls.Ask.{Ask}
-use Rattle.call_terms.specs.declared.calls.Slot.{Slot}
+use Rattle.target_calls.specs.Journal.{Entry}
+use Rattle.target_calls.specs.NeedPoints.{Asks, needed, used}
+use Rattle.target_calls.specs.declared.calls.Ask.{Ask}
+use Rattle.target_calls.specs.declared.calls.Slot.{Slot}
 use Rattle.access_regs.specs.Journal.{issued}
 use Rattle.access_regs.specs.Kept.{Kept, nothing_kept}
 use Rattle.access_regs.proofs.EntryLemmas.{journal_marks}
@@ -21,8 +21,9 @@ use Rattle.access_regs.proofs.Joins.{journal_joins}
 use Rattle.access_calls.specs.declared.stop.Stop.{Stop}
 use Rattle.packed_access.specs.Begun.{HasBegun, HasEnded}
 use Rattle.packed_access.specs.Logs.{LogState, all_confirmed, all_taken, asks_of, nothing_logged, reported_by, with_asks, with_call, with_needs}
-use Rattle.bench_flights.specs.Opening.{MayBegin}
-use Rattle.packed_access.specs.Sparing.{AreNeeded, HasBegunSparing, HasPaid, HasSpared, left_of}
+use Rattle.access_calls.specs.Opening.{MayBegin, opened_bench}
+use Rattle.probe_core.specs.declared.job.Config.{Config}
+use Rattle.packed_access.specs.Sparing.{AreNeeded, HasBegunSet, HasBegunSparing, HasPaid, HasSpared, left_of}
 use Rattle.packed_access.proofs.BegunLemmas.{ended_begun}
 use Rattle.packed_access.proofs.NeedLemmas.{begun_needs, refused_new}
 use Rattle.packed_access.proofs.NeededLemmas.{needed_same}
@@ -180,19 +181,22 @@ sparing_refused p limits bench state log new sent got kept accesses m0 h is = re
 
 -- ---- where the access begins
 
-pub sparing_begins : (p : Planner) (x y : Option BenchState) (limits : Limits) (bench : BenchReported) (log : LogState) (sent got : List ℕ) (kept : Kept) (accesses : List RegAccess) → log ≡ nothing_logged → StepsTo (λ m o. MayBegin m → HasBegun p bench y log sent got kept accesses m) x y →
-    StepsTo (λ m o. MayBegin m → HasPaid p limits bench.limits y log 0 m) x y → StepsTo (λ m o. MayBegin m → HasBegunSparing p limits bench y log sent got kept accesses m) x y
-sparing_begins p x y limits bench log sent got kept accesses none h part_is = by_states x y h part_is
+pub sparing_begins : (p : Planner) (config : Config) (x y : Option BenchState) (limits : Limits) (bench : BenchReported) (log : LogState) (sent got : List ℕ) (kept : Kept) (accesses : List RegAccess) → log ≡ nothing_logged → StepsTo (λ m o. MayBegin m → HasBegun p bench y log sent got kept accesses (opened_bench config m)) x y →
+    StepsTo (λ m o. MayBegin m → HasPaid p limits bench.limits y log 0 (opened_bench config m)) x y → StepsTo (λ m o. MayBegin m → HasBegunSet config.retry p limits bench y log sent got kept accesses (opened_bench config m)) x y
+sparing_begins p config x y limits bench log sent got kept accesses none h part_is = by_states x y h part_is
   where
     zero_left : left_of log ≡ 0
     zero_left = ap left_of none
 
-    by_states : (a b : Option BenchState) → StepsTo (λ m o. MayBegin m → HasBegun p bench y log sent got kept accesses m) a b → StepsTo (λ m o. MayBegin m → HasPaid p limits bench.limits y log 0 m) a b → StepsTo (λ m o. MayBegin m → HasBegunSparing p limits bench y log sent got kept accesses m) a b
+    by_states : (a b : Option BenchState) → StepsTo (λ m o. MayBegin m → HasBegun p bench y log sent got kept accesses (opened_bench config m)) a b → StepsTo (λ m o. MayBegin m → HasPaid p limits bench.limits y log 0 (opened_bench config m)) a b → StepsTo (λ m o. MayBegin m → HasBegunSet config.retry p limits bench y log sent got kept accesses (opened_bench config m)) a b
     by_states None None h part_is = tt
     by_states None (Some o) h part_is = absurd h
     by_states (Some m) None h part_is = absurd h
     by_states (Some m) (Some o) h part_is = λ may. record {
-      begun = h may;
-      paid = λ open_. subst (λ (n : ℕ). HasPaid p limits bench.limits y log n m) (sym zero_left) (part_is may);
-      needed = λ open_. subst (λ (l : LogState). AreNeeded p (target_of m.probe) (asks_of l)) (sym none) (record { so = omega arith });
+      sparing = record {
+        begun = h may;
+        paid = λ open_. subst (λ (n : ℕ). HasPaid p limits bench.limits y log n (opened_bench config m)) (sym zero_left) (part_is may);
+        needed = λ open_. subst (λ (l : LogState). AreNeeded p (target_of m.probe) (asks_of l)) (sym none) (record { so = omega arith });
+      };
+      set = refl;
     }

@@ -7,8 +7,8 @@ use Rattle.target_machine.specs.State.{TargetState}
 use Rattle.target_machine.specs.declared.access.RegAccess.{RegAccess}
 use Rattle.target_machine.specs.declared.unit.Unit.{Unit as AccessUnit}
 use Rattle.target_machine.specs.declared.unit.Unit.TheVariants as unit
-use Rattle.call_terms.specs.Journal.{Entry}
-use Rattle.call_terms.specs.declared.journal.Part.TheVariants.{Ends, Leads, Settles}
+use Rattle.target_calls.specs.Journal.{Entry}
+use Rattle.target_calls.specs.declared.journal.Part.TheVariants.{Ends, Leads, Settles}
 use Rattle.access_regs.specs.Journal.{Issue, Step, before, by_csw, by_plan, gives, numbered, port_of, steps_of}
 use Rattle.access_regs.specs.Kept.{Kept}
 use Rattle.access_regs.specs.Plan.{first_plan, last_access, leads, learned, made, needs_csw}

@@ -5,6 +5,9 @@ use Rattle.std.proofs.lemmas.Bool.{eqb-true}
 use Rattle.std.proofs.lemmas.Nat.{and_assoc}
 use Rattle.std.specs.Prelude.{bit_and, is_some, slice_get}
 use Rattle.target_machine.specs.Attempt.{Attempt, attempt, bank}
+use Rattle.dap_transfer.specs.State.{Setting}
+use Rattle.access_calls.specs.Standing.{setting_of}
+use Rattle.bench_flights.specs.Flown.{CanMatch}
 use Rattle.target_machine.specs.declared.access.Outcome.{Outcome}
 use Rattle.target_machine.specs.declared.access.Outcome.TheVariants.{Value, Done, Fault}
 use Rattle.target_machine.specs.Plain.{Action, Polled, Polls, call_done, dp_read_of, looked, polled, result_of}
@@ -17,12 +20,12 @@ use Rattle.target_machine.specs.declared.access.RegAccess.{RegAccess}
 use Rattle.probe_core.specs.Bench.{BenchState, StepsTo}
 use Rattle.probe_core.specs.Bench.{Reported as BenchReported}
 use Rattle.probe_core.specs.Probe.{target_of}
-use Rattle.call_terms.specs.Asks.{AreAskable, is_forgiving, is_settled}
-use Rattle.call_terms.specs.Journal.{Entry, Passes, target_after}
-use Rattle.call_terms.specs.NeedPoints.{Cost, asked, needed_more}
-use Rattle.call_terms.specs.World.{World, small_after, small_now, stop, world_after}
-use Rattle.call_terms.specs.declared.calls.Ask.{Ask}
-use Rattle.call_terms.specs.declared.journal.Part.TheVariants.{Ends}
+use Rattle.target_calls.specs.Asks.{AreAskable, is_forgiving, is_settled}
+use Rattle.target_calls.specs.Journal.{Entry, Passes, target_after}
+use Rattle.target_calls.specs.NeedPoints.{Cost, asked, needed_more}
+use Rattle.target_calls.specs.World.{World, small_after, small_now, stop, world_after}
+use Rattle.target_calls.specs.declared.calls.Ask.{Ask}
+use Rattle.target_calls.specs.declared.journal.Part.TheVariants.{Ends}
 use Rattle.access_regs.specs.Alone.{NoneFaults}
 use Rattle.access_regs.specs.Costs.{call_cost, cost_by, leading_reads, poll_cost, portions}
 use Rattle.access_regs.specs.Entries.{kept_by, target_by}
@@ -35,9 +38,9 @@ use Rattle.access_regs.proofs.StopLists.{passing_stops}
 use Rattle.access_calls.specs.Issued.{kept_of}
 use Rattle.access_calls.specs.Standing.{WhereObservable}
 use Rattle.batch_packer.specs.Flying.{CanFly}
-use Rattle.calls_in_flight.specs.Sending.{IsSending}
-use Rattle.calls_in_flight.proofs.OpenLemmas.{askable_first}
-use Rattle.calls_in_flight.proofs.SmallLemmas.{not_small}
+use Rattle.flight_laws.specs.Sending.{IsSending}
+use Rattle.flight_laws.proofs.OpenLemmas.{askable_first}
+use Rattle.flight_laws.proofs.SmallLemmas.{not_small}
 use Rattle.packed_access.specs.Actions.{entry_of, log_done}
 use Rattle.packed_access.specs.Begun.{HasAsked, HasBegun, HasIssued, IsIssuing, most_weight, own_entries}
 use Rattle.packed_access.specs.Logs.{LogState, asks_of, result_for, with_needs}
@@ -177,12 +180,15 @@ fact_with None y Q P A h s f = absurd h
 fact_with (Some m) None Q P A h s f = absurd s
 fact_with (Some m) (Some o) Q P A h s f = f m o h s
 
-module _ (p : Planner) (x y : Option BenchState) (log : LogState) (kept : Kept) (calls : List Ask) (ask : Ask) (mask requested turns : ℕ) (m0 : BenchState) (h : HasPoll p x log kept calls ask mask requested turns m0) (zero_is : Bool) where
+module _ (p : Planner) (x y : Option BenchState) (log : LogState) (kept : Kept) (calls : List Ask) (ask : Ask) (mask requested turns retry : ℕ) (m0 : BenchState) (h : HasPoll p x log kept calls ask mask requested turns retry m0) (zero_is : Bool) where
   -- what is so where DPBANKSEL is 0 is so
-  pub poll_steps : (zero_is ≡ true → bank_zero kept ≡ true) → (R : BenchState → BenchState → Type 0) → StepsTo (λ m o. CanFly m → (zero_is ≡ true → bank (target_of m.probe) ≡ 0) → R m o) x y → StepsTo (λ m o. CanFly m → R m o) x y
+  pub poll_steps : (zero_is ≡ true → bank_zero kept ≡ true) → (R : BenchState → BenchState → Type 0) → StepsTo (λ m o. CanFly m → (zero_is ≡ true → CanMatch retry m) → R m o) x y → StepsTo (λ m o. CanFly m → R m o) x y
   poll_steps by R s =
-      step_with x y (λ m. IsIssuing p log [] (entry_of calls (Polls mask requested turns) ∷ []) m0 m) (λ m o. CanFly m → (zero_is ≡ true → bank (target_of m.probe) ≡ 0) → R m o) (λ m o. CanFly m → R m o) h.issued.so s
-      (λ m o i part_is fly. part_is fly (λ is. bank_there p log kept calls ask mask requested turns m0 m i h.are h.call h.unmarked h.kept_is (by is)))
+      step_with x y (λ m. IsIssuing p log [] (entry_of calls (Polls mask requested turns) ∷ []) m0 m) (λ m o. CanFly m → (zero_is ≡ true → CanMatch retry m) → R m o) (λ m o. CanFly m → R m o) h.issued.so s
+      (λ m o i part_is fly. part_is fly (λ is. record {
+        bank_zero = bank_there p log kept calls ask mask requested turns m0 m i h.are h.call h.unmarked h.kept_is (by is);
+        retry_is = ap (λ (s : Setting). s.retry) i.sending.on.setting ∙ h.set;
+      }))
 
   pub poll_points : zero_is ≡ bank_zero kept → (points : ℕ) → StepsTo (λ m o. CanFly m → points ≡ 1 + cond zero_is (portions turns) (polled turns mask requested (target_of m.probe)).reads) x y → points ≡ poll_cost kept (target_by p (target_of m0.probe) calls) mask requested turns
   poll_points by points s =
@@ -211,20 +217,21 @@ poll_needs p t calls ask mask requested turns found points count needs fence log
 -- ---- between two calls
 
 -- all that was asked before is sent
-pub asked_poll : (p : Planner) (x y : Option BenchState) (log mid : LogState) (accesses : List RegAccess) (kept kept' : Kept) (calls : List Ask) (ask : Ask) (mask requested turns : ℕ) (m0 : BenchState) → ask.call ≡ Access (unit.Poll mask requested turns) → HasAsked p x log accesses kept calls ask m0 →
-    HasIssued p y mid [] (own_entries p (target_of m0.probe) calls kept ask) m0 → mid.calls ≡ log.calls → kept' ≡ kept → HasPoll p y mid kept' calls ask mask requested turns m0
-asked_poll p x y log mid accesses kept kept' calls ask mask requested turns m0 call h there same kept_is = record {
+pub asked_poll : (p : Planner) (x y : Option BenchState) (log mid : LogState) (accesses : List RegAccess) (kept kept' : Kept) (calls : List Ask) (ask : Ask) (mask requested turns retry : ℕ) (m0 : BenchState) → (setting_of m0).retry ≡ retry → ask.call ≡ Access (unit.Poll mask requested turns) → HasAsked p x log accesses kept calls ask m0 →
+    HasIssued p y mid [] (own_entries p (target_of m0.probe) calls kept ask) m0 → mid.calls ≡ log.calls → kept' ≡ kept → HasPoll p y mid kept' calls ask mask requested turns retry m0
+asked_poll p x y log mid accesses kept kept' calls ask mask requested turns retry m0 set call h there same kept_is = record {
   are = same ∙ h.are;
   call = call;
   unmarked = h.unmarked;
   kept_is = h.kept_is ∙ sym kept_is;
   issued = subst (λ (rest : List Entry). HasIssued p y mid [] rest m0) (poll_entries p (target_of m0.probe) calls kept ask mask requested turns call) there;
+  set = set;
 }
 
 -- the poll is made
-pub begun_polled : (p : Planner) (bench : BenchReported) (x y : Option BenchState) (log new : LogState) (sent got : List ℕ) (kept kept' : Kept) (accesses : List RegAccess) (calls : List Ask) (ask : Ask) (mask requested turns : ℕ) (m0 : BenchState) → HasPoll p x log kept calls ask mask requested turns m0 →
+pub begun_polled : (p : Planner) (bench : BenchReported) (x y : Option BenchState) (log new : LogState) (sent got : List ℕ) (kept kept' : Kept) (accesses : List RegAccess) (calls : List Ask) (ask : Ask) (mask requested turns retry : ℕ) (m0 : BenchState) → HasPoll p x log kept calls ask mask requested turns retry m0 →
     HasIssued p y new [] [] m0 → new.calls ≡ log.calls → new.end ≡ None → new.whole ≡ length new.calls → kept' ≡ kept → accesses ≡ [] → HasBegun p bench y new sent got kept' accesses m0
-begun_polled p bench x y log new sent got kept kept' accesses calls ask mask requested turns m0 h there same none whole kept_is empty =
+begun_polled p bench x y log new sent got kept kept' accesses calls ask mask requested turns retry m0 h there same none whole kept_is empty =
     subst (λ (xs : List RegAccess). HasBegun p bench y new sent got kept' xs m0) (sym empty)
     (issued_begun p bench y new sent got kept' [] m0 there none whole
     (ap (kept_by p (target_of m0.probe)) (same ∙ h.are) ∙ (journal_grows p (target_of m0.probe) calls ask h.unmarked).1

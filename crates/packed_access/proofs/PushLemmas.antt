@@ -6,14 +6,14 @@ use Rattle.target_machine.specs.Plain.{Makes}
 use Rattle.target_machine.specs.declared.access.RegAccess.{RegAccess}
 use Rattle.probe_core.specs.Bench.{BenchState}
 use Rattle.probe_core.specs.Probe.{target_of, work_of}
-use Rattle.call_terms.specs.Journal.{Entry}
+use Rattle.target_calls.specs.Journal.{Entry}
 use Rattle.access_regs.specs.Journal.{issued}
 use Rattle.access_calls.specs.Issued.{kept_of}
 use Rattle.access_calls.specs.Standing.{WhereObservable}
 use Rattle.access_calls.specs.declared.issued.Issued.{Issued}
-use Rattle.calls_in_flight.specs.Flights.{AreStrict}
-use Rattle.calls_in_flight.proofs.FlightLemmas.{flight_length}
-use Rattle.calls_in_flight.proofs.SendLemmas.{push_sends}
+use Rattle.flight_laws.specs.Flights.{AreStrict}
+use Rattle.flight_laws.proofs.FlightLemmas.{flight_length}
+use Rattle.flight_laws.proofs.SendLemmas.{push_sends}
 use Rattle.packed_access.specs.Begun.{HasIssued, IsIssuing, most_weight}
 use Rattle.packed_access.specs.Logs.{LogState, with_entry}
 use Rattle.access_regs.specs.declared.planner.Planner.{Planner}

@@ -9,16 +9,16 @@ use Rattle.target_machine.specs.State.{TargetState}
 use Rattle.target_machine.specs.declared.access.RegAccess.{RegAccess}
 use Rattle.probe_core.specs.Bench.{BenchState, StepsTo}
 use Rattle.probe_core.specs.Probe.{target_of}
-use Rattle.call_terms.specs.Journal.{Entry, Passes, actions_in, target_after}
-use Rattle.call_terms.specs.declared.journal.Part.{Part}
-use Rattle.call_terms.proofs.EntryLemmas.{pass_rest}
+use Rattle.target_calls.specs.Journal.{Entry, Passes, actions_in, target_after}
+use Rattle.target_calls.specs.declared.journal.Part.{Part}
+use Rattle.target_calls.proofs.EntryLemmas.{pass_rest}
 use Rattle.access_regs.specs.Entries.{NoneFault}
 use Rattle.access_regs.specs.Journal.{gives, issued, making}
 use Rattle.access_regs.proofs.Seams.{after_split}
 use Rattle.access_calls.specs.Standing.{WhereObservable}
 use Rattle.batch_packer.specs.Flying.{CanFly}
 use Rattle.batch_packer.specs.SlotList.{slot_at}
-use Rattle.calls_in_flight.proofs.PushLemmas.{plan_gives}
+use Rattle.flight_laws.proofs.PushLemmas.{plan_gives}
 use Rattle.packed_access.specs.Begun.{HasIssued, IsIssuing, entries_of, target_issued}
 use Rattle.bench_flights.specs.Flown.{HasCome}
 use Rattle.packed_access.specs.Logs.{LogState}

@@ -12,15 +12,15 @@ use Rattle.dap_messages.specs.declared.request.Response.TheVariants.{Good}
 use Rattle.flight_forms.specs.Flights.{Part, slot_values}
 use Rattle.probe_core.specs.Bench.{BenchState}
 use Rattle.probe_core.specs.Probe.{target_of}
-use Rattle.call_terms.specs.Journal.{Entry, actions_in, target_after}
+use Rattle.target_calls.specs.Journal.{Entry, actions_in, target_after}
 use Rattle.access_regs.specs.Journal.{making}
 use Rattle.batch_packer.specs.SlotList.{slot_at, value_in}
-use Rattle.calls_in_flight.specs.Flights.{Flies}
-use Rattle.calls_in_flight.specs.Pushing.{flat, value_at}
-use Rattle.calls_in_flight.specs.UnderWay.{IsUnderWay}
-use Rattle.calls_in_flight.proofs.CutLemmas.{Cutting, cut_list}
-use Rattle.calls_in_flight.proofs.FlightLemmas.{head_makes, values_came}
-use Rattle.calls_in_flight.proofs.PushLemmas.{same_cut, value_is_given}
+use Rattle.batch_packer.specs.Flying.{Flies}
+use Rattle.flight_laws.specs.Pushing.{value_at}
+use Rattle.flight_laws.specs.UnderWay.{IsUnderWay}
+use Rattle.flight_laws.proofs.CutLemmas.{Cutting, cut_list}
+use Rattle.flight_laws.proofs.FlightLemmas.{head_makes, values_came}
+use Rattle.flight_laws.proofs.PushLemmas.{same_cut, value_is_given}
 use Rattle.packed_access.proofs.WriteLemmas.{write_gives}
 
 -- the access that an entry of a flight is
@@ -33,16 +33,12 @@ access_of : (front : List Entry) (e : Entry) (back : List Entry) (accesses : Lis
 access_of [] e back [] h = absurd (cc)
 access_of [] e back (b ∷ accesses) h =
     let p = head_makes e.action (Makes b) (actions_in back) (making accesses) h in
-    record { access = b; is = p.0; slot = λ t write. ap (λ (x : Bool). flat (Some (cond x (Some (value_now t b)) None))) write }
+    record { access = b; is = p.0; slot = λ t write. ap (λ (x : Bool). value_in (Some (cond x (Some (value_now t b)) None))) write }
 access_of (x ∷ front) e back [] h = absurd (cc)
 access_of (x ∷ front) e back (b ∷ accesses) h =
     let p = head_makes x.action (Makes b) (actions_in (front ++ e ∷ back)) (making accesses) h in
     let r = access_of front e back accesses p.1 in
     record { access = r.access; is = r.is; slot = λ t write. r.slot (attempt t b).next write }
-
-same_value : (x : Option (Option ℕ)) → value_in x ≡ flat x
-same_value None = refl
-same_value (Some v) = refl
 
 -- what the slot at a place of a whole flight has
 pub slot_gives : (entries made flying rest : List Entry) (accesses : List RegAccess) (m0 m o : BenchState) (part : Part) (values : List (Option ℕ)) (front : List Entry) (e : Entry) (more : List Entry) (place : ℕ) →
@@ -50,7 +46,7 @@ pub slot_gives : (entries made flying rest : List Entry) (accesses : List RegAcc
     entries ≡ front ++ e ∷ more → length front ≡ length made + place → place < length flying →
     unwrap_or (slot_at values place) 0 ≡ given (acted (target_after (target_of m0.probe) front) e.action).outcome
 slot_gives entries made flying rest accesses m0 m o part values front e more place on flies good values_are is at within =
-    ap (λ (v : List (Option ℕ)). unwrap_or (slot_at v place) 0) values_are ∙ ap (λ (v : Option ℕ). unwrap_or v 0) (same_value (slice_get part.values place)) ∙ by_read (found.access.read) refl
+    ap (λ (v : List (Option ℕ)). unwrap_or (slot_at v place) 0) values_are ∙ by_read (found.access.read) refl
   where
     t0 : TargetState
     t0 = target_of m0.probe

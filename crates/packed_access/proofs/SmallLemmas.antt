@@ -8,18 +8,18 @@ use Rattle.target_machine.specs.declared.unit.Unit.{Unit as AccessUnit}
 use Rattle.probe_core.specs.Bench.{BenchState}
 use Rattle.probe_core.specs.Bench.{Reported as BenchReported}
 use Rattle.probe_core.specs.Probe.{target_of}
-use Rattle.call_terms.specs.Asks.{is_wide, unit_ask}
-use Rattle.call_terms.specs.World.{AtLeast, is_faulted, is_small_end, later_by, one_fewer, small_after, small_now, start_world, stop, world_after}
-use Rattle.call_terms.specs.declared.calls.Ask.{Ask}
-use Rattle.call_terms.proofs.OneCall.{one_small}
+use Rattle.target_calls.specs.Asks.{is_wide, unit_ask}
+use Rattle.target_calls.specs.World.{AtLeast, is_faulted, is_small_end, later_by, one_fewer, small_after, small_now, start_world, stop, world_after}
+use Rattle.target_calls.specs.declared.calls.Ask.{Ask}
+use Rattle.target_calls.proofs.OneCall.{one_small}
 use Rattle.access_regs.specs.Alone.{NoneFaults, alone, alone_after, large_of_all}
 use Rattle.access_regs.specs.Kept.{Kept}
 use Rattle.access_regs.specs.Stops.{world_at}
 use Rattle.access_regs.proofs.StopLists.{good_end, live_more}
 use Rattle.access_calls.specs.Left.{IsLeft}
 use Rattle.access_calls.specs.Reported.{world_from}
-use Rattle.calls_in_flight.proofs.OpenLemmas.{after_alone, large_alone}
-use Rattle.calls_in_flight.proofs.SmallLemmas.{NeverStops, never_narrow, never_stops}
+use Rattle.flight_laws.proofs.OpenLemmas.{after_alone, large_alone}
+use Rattle.flight_laws.proofs.SmallLemmas.{NeverStops, never_narrow, never_stops}
 use Rattle.packed_access.specs.Begun.{HasBegun, IsOpenAt}
 use Rattle.packed_access.specs.Logs.{LogState, reported_by}
 use Rattle.packed_access.proofs.BegunLemmas.{enough_left, fact_of, open_where}

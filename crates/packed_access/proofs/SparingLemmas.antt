@@ -3,7 +3,6 @@ use Rattle.std.proofs.Common.{◌≡◌, ◌∙◌, ℕ, zero, suc, ◌+◌, ◌
 use Rattle.std.proofs.lemmas.List.Sums.{sum_by-cons}
 use Rattle.std.proofs.Math.Seq.{take-append_seam}
 use Rattle.std.specs.Prelude.{IfSome}
-use Rattle.target_machine.specs.Attempt.{bank}
 use Rattle.target_machine.specs.InRange.{IsInRange}
 use Rattle.target_machine.specs.declared.unit.ProbeCall.{ProbeCall}
 use Rattle.target_machine.specs.declared.unit.ProbeCall.TheVariants as probe
@@ -16,21 +15,21 @@ use Rattle.probe_core.specs.Reports.{AgreesWith}
 use Rattle.probe_core.specs.Probe.{target_of}
 use Rattle.probe_core.specs.Ranges.{AreLimits}
 use Rattle.probe_core.specs.declared.job.Limits.{Limits}
-use Rattle.call_terms.specs.Journal.{Entry, actions_in}
-use Rattle.call_terms.specs.Weights.{registers_in, registers_of}
-use Rattle.call_terms.specs.declared.calls.Ask.{Ask}
-use Rattle.call_terms.proofs.EntryLemmas.{registers_append}
+use Rattle.target_calls.specs.Journal.{Entry, actions_in}
+use Rattle.target_calls.specs.Weights.{registers_in, registers_of}
+use Rattle.target_calls.specs.declared.calls.Ask.{Ask}
+use Rattle.target_calls.proofs.EntryLemmas.{registers_append}
 use Rattle.access_regs.specs.Journal.{issued, making}
 use Rattle.access_calls.specs.Bounds.{capacity}
 use Rattle.access_calls.specs.Standing.{WhereObservable}
 use Rattle.batch_packer.specs.Flying.{CanFly}
 use Rattle.packed_access.specs.Begun.{HasIssued, IsIssuing}
 use Rattle.bench_flights.specs.Full.{IsFull}
-use Rattle.bench_flights.specs.Flown.{HasCome, SendsFew}
+use Rattle.bench_flights.specs.Flown.{CanMatch, HasCome, SendsFew}
 use Rattle.packed_access.specs.Forgiving.{closed}
 use Rattle.packed_access.specs.Logs.{IsFurther, LogState, nothing_logged, with_needs}
-use Rattle.call_terms.specs.NeedPoints.{capped_sum}
-use Rattle.bench_flights.specs.Opening.{HasOpened, MayBegin}
+use Rattle.target_calls.specs.NeedPoints.{capped_sum}
+use Rattle.access_calls.specs.Opening.{HasOpened, MayBegin, opened_bench}
 use Rattle.probe_core.specs.declared.job.Config.{Config as OpenConfig}
 use Rattle.packed_access.specs.Sparing.{HasPaid, HasSpared, IsSpared, counted}
 use Rattle.packed_access.proofs.BlockLemmas.{blocks_full, blocks_grown, head_same, sum_longer, sum_upto}
@@ -262,11 +261,15 @@ has_commanded p x y limits given limits' given' log new accesses rest call point
     has_cost p x y limits given limits' given' log new accesses rest points (command_cost call) m0 i h (command_some call) (steps_map _ _ (λ m o f flies. f flies.in_range) x y sent) calls more same there
 
 -- a poll by value matches
-pub polled_few : (x y : Option BenchState) (zero_is : Bool) (turns points : ℕ) → zero_is ≡ true → points ≡ 1 + portions turns → StepsTo (λ m o. CanFly m → bank (target_of m.probe) ≡ 0 → SendsFew (portions turns) m o) x y →
-    StepsTo (λ m o. CanFly m → (zero_is ≡ true → bank (target_of m.probe) ≡ 0) → SendsFew (points - 1) m o) x y
-polled_few x y zero_is turns points zeroed is h =
+pub polled_few : (x y : Option BenchState) (retry : ℕ) (zero_is : Bool) (turns points : ℕ) → zero_is ≡ true → points ≡ 1 + portions turns → StepsTo (λ m o. CanFly m → CanMatch retry m → SendsFew (portions turns) m o) x y →
+    StepsTo (λ m o. CanFly m → (zero_is ≡ true → CanMatch retry m) → SendsFew (points - 1) m o) x y
+polled_few x y retry zero_is turns points zeroed is h =
     let less : portions turns ≡ points - 1 = omega (arith, is) in
     steps_map _ _ (λ m o f flies zeros. subst (λ (n : ℕ). SendsFew n m o) less (f flies (zeros zeroed))) x y h
+
+pub polled_by_matches : (P : BenchState → BenchState → Type 0) (x y : Option BenchState) (retry : ℕ) (zero_is : Bool) → zero_is ≡ true → StepsTo (λ m o. CanFly m → CanMatch retry m → P m o) x y →
+    StepsTo (λ m o. CanFly m → (zero_is ≡ true → CanMatch retry m) → P m o) x y
+polled_by_matches P x y retry zero_is zeroed h = steps_map _ _ (λ m o f flies zeros. f flies (zeros zeroed)) x y h
 
 -- ---- units that are made alone
 
@@ -280,24 +283,24 @@ spared_closed p x limits given w log new points more m0 h is within le =
 
 -- ---- where the access begins
 
-begun_spared : (p : Planner) (limits given : Limits) (m o : BenchState) → o.starting ≤ m.starting + 3 → o.starting < 2 ^ 64 → limits ≡ given → AreLimits limits → IsSpared p limits given nothing_logged 0 m o
-begun_spared p limits given m o few counts same fits = record { full = 0; few = omega (arith, few); filled = omega arith; counts = counts; limits_are = same; fits = fits; blocks = record { blocks = 0; mixed = 0; bare = 0; all = omega arith; written = omega arith; changing = omega arith; others = omega arith; sizes = omega arith } }
+begun_spared : (p : Planner) (limits given : Limits) (m o : BenchState) → o.starting ≡ min (m.starting + 3) (2 ^ 64 - 1) → limits ≡ given → AreLimits limits → IsSpared p limits given nothing_logged 0 m o
+begun_spared p limits given m o count same fits = record { full = 0; few = omega (arith, count); filled = omega arith; counts = omega (arith, count); limits_are = same; fits = fits; blocks = record { blocks = 0; mixed = 0; bare = 0; all = omega arith; written = omega arith; changing = omega arith; others = omega arith; sizes = omega arith } }
 
 paid_where : (p : Planner) (x y : Option BenchState) (config : OpenConfig) (reported : BenchReported) (limits given job : Limits) → AreLimits limits → given ≡ job → reported.limits ≡ job → IfSome x (AgreesWith reported) → StepsTo (λ m o. IsInRange (target_of m.probe) → HasOpened config m o) x y →
-    StepsTo (λ m o. IsInRange (target_of m.probe) → m.probe.executor.limits ≡ job → limits ≡ job) x y → StepsTo (λ m o. MayBegin m → HasPaid p limits given y nothing_logged 0 m) x y
+    StepsTo (λ m o. IsInRange (target_of m.probe) → m.probe.executor.limits ≡ job → limits ≡ job) x y → StepsTo (λ m o. MayBegin m → HasPaid p limits given y nothing_logged 0 (opened_bench config m)) x y
 paid_where p None None config reported limits given job fits same is agrees h l = tt
 paid_where p None (Some o) config reported limits given job fits same is agrees h l = absurd h
 paid_where p (Some m) None config reported limits given job fits same is agrees h l = absurd h
 paid_where p (Some m) (Some o) config reported limits given job fits same is agrees h l = λ b. record {
   paid = 0;
-  spared = record { so = λ managed. begun_spared p limits given m o (h b.in_range).starting (h b.in_range).counts (l b.in_range (sym agrees.limits ∙ is) ∙ sym same) fits };
+  spared = record { so = λ managed. begun_spared p limits given (opened_bench config m) o (h b.in_range).starting (l b.in_range (sym agrees.limits ∙ is) ∙ sym same) fits };
   covers = λ managed. omega arith;
 }
 
 pub has_paid_none : (p : Planner) (x y : Option BenchState) (config : OpenConfig) (reported : BenchReported) (limits given job : Limits) (log : LogState) → AreLimits limits → log ≡ nothing_logged → given ≡ job → reported.limits ≡ job → IfSome x (AgreesWith reported) → StepsTo (λ m o. IsInRange (target_of m.probe) → HasOpened config m o) x y →
-    StepsTo (λ m o. IsInRange (target_of m.probe) → m.probe.executor.limits ≡ job → limits ≡ job) x y → StepsTo (λ m o. MayBegin m → HasPaid p limits given y log 0 m) x y
+    StepsTo (λ m o. IsInRange (target_of m.probe) → m.probe.executor.limits ≡ job → limits ≡ job) x y → StepsTo (λ m o. MayBegin m → HasPaid p limits given y log 0 (opened_bench config m)) x y
 has_paid_none p x y config reported limits given job log fits none same is agrees h l =
-    subst (λ (k : LogState). StepsTo (λ m o. MayBegin m → HasPaid p limits given y k 0 m) x y) (sym none) (paid_where p x y config reported limits given job fits same is agrees h l)
+    subst (λ (k : LogState). StepsTo (λ m o. MayBegin m → HasPaid p limits given y k 0 (opened_bench config m)) x y) (sym none) (paid_where p x y config reported limits given job fits same is agrees h l)
 
 -- ---- the last need point came where all calls before it had come, or one is left
 

@@ -12,11 +12,11 @@ use Rattle.target_machine.specs.declared.unit.Unit.TheVariants as unit
 use Rattle.target_machine.proofs.ActionLists.{pass_after}
 use Rattle.probe_core.specs.Bench.{BenchState}
 use Rattle.probe_core.specs.Probe.{target_of}
-use Rattle.call_terms.specs.Asks.{AreAskable, IsAskable, is_forgiving, unit_ask}
-use Rattle.call_terms.specs.Journal.{Entry, actions_in, target_after}
-use Rattle.call_terms.specs.World.{start_world, stop}
-use Rattle.call_terms.specs.declared.calls.Ask.{Ask}
-use Rattle.call_terms.specs.declared.journal.Part.TheVariants.{Settles}
+use Rattle.target_calls.specs.Asks.{AreAskable, IsAskable, is_forgiving, unit_ask}
+use Rattle.target_calls.specs.Journal.{Entry, actions_in, target_after}
+use Rattle.target_calls.specs.World.{start_world, stop}
+use Rattle.target_calls.specs.declared.calls.Ask.{Ask}
+use Rattle.target_calls.specs.declared.journal.Part.TheVariants.{Settles}
 use Rattle.access_regs.specs.Alone.{alone_after, large_of_all}
 use Rattle.access_regs.specs.Entries.{kept_by, target_by}
 use Rattle.access_regs.specs.Follows.{Follows}
@@ -28,7 +28,7 @@ use Rattle.access_regs.proofs.EntryLemmas.{journal_grows}
 use Rattle.access_regs.proofs.Seams.{after_split}
 use Rattle.access_regs.proofs.Settle.{settles}
 use Rattle.access_calls.specs.Standing.{WhereObservable}
-use Rattle.calls_in_flight.proofs.SmallLemmas.{NeverStops, never_stops}
+use Rattle.flight_laws.proofs.SmallLemmas.{NeverStops, never_stops}
 use Rattle.packed_access.specs.Begun.{HasAsked, HasIssued, IsIssuing, entries_of, own_entries}
 use Rattle.packed_access.specs.Forgiving.{HasTried, IsTrying}
 use Rattle.packed_access.specs.Logs.{LogState}

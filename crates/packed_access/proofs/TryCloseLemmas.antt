@@ -8,8 +8,8 @@ use Rattle.target_machine.specs.Plain.{CallEnd, Answered, Faulted, Skipped, Smal
 use Rattle.target_machine.specs.State.{TargetState}
 use Rattle.probe_core.specs.Bench.{BenchState}
 use Rattle.probe_core.specs.Probe.{target_of}
-use Rattle.call_terms.specs.World.{World, done_now, next_world, one_if_skipped, results, skips, start_world, stops_here}
-use Rattle.call_terms.specs.declared.calls.Ask.{Ask}
+use Rattle.target_calls.specs.World.{World, done_now, next_world, one_if_skipped, results, skips, start_world, stops_here}
+use Rattle.target_calls.specs.declared.calls.Ask.{Ask}
 use Rattle.access_regs.specs.Journal.{issued}
 use Rattle.packed_access.specs.Begun.{HasIssued, IsIssuing}
 use Rattle.packed_access.specs.Forgiving.{closed}

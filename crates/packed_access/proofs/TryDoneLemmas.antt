@@ -11,17 +11,17 @@ use Rattle.target_machine.specs.declared.unit.Unit.TheVariants as unit
 use Rattle.probe_core.specs.Bench.{BenchState}
 use Rattle.probe_core.specs.Bench.{Reported as BenchReported}
 use Rattle.probe_core.specs.Probe.{target_of}
-use Rattle.call_terms.specs.Asks.{unit_ask}
-use Rattle.call_terms.specs.NeedPoints.{Asks, asked, needed_more, with_call}
-use Rattle.call_terms.specs.World.{World, results, skips, small_now, start_world}
-use Rattle.call_terms.specs.declared.calls.Ask.{Ask}
+use Rattle.target_calls.specs.Asks.{unit_ask}
+use Rattle.target_calls.specs.NeedPoints.{Asks, asked, needed_more, with_call}
+use Rattle.target_calls.specs.World.{World, results, skips, small_now, start_world}
+use Rattle.target_calls.specs.declared.calls.Ask.{Ask}
 use Rattle.access_regs.specs.Costs.{cost_by, leading_reads}
 use Rattle.access_regs.specs.Entries.{NoneFault, kept_by, target_by}
 use Rattle.access_regs.specs.Journal.{Issue, Step, alone_at, issue_of, making, numbered, port_of}
 use Rattle.access_regs.specs.Kept.{Kept, forget}
 use Rattle.access_regs.specs.Plan.{settle, settled}
 use Rattle.access_regs.proofs.EntryLemmas.{journal_grows}
-use Rattle.calls_in_flight.specs.Forgiving.{abort_after, steps_of_unit}
+use Rattle.flight_laws.specs.Forgiving.{abort_after, steps_of_unit}
 use Rattle.packed_access.specs.Begun.{HasBegun, HasIssued, IsIssuing}
 use Rattle.packed_access.specs.Forgiving.{EndsTo, HasForgiven, HasTried, IsDoneBy, IsForgiven, IsSmallBy, IsTrying}
 use Rattle.packed_access.specs.Logs.{LogState, asks_of, with_needs}

@@ -9,16 +9,16 @@ use Rattle.flight_forms.specs.Flights.{Part}
 use Rattle.probe_core.specs.Bench.{BenchState}
 use Rattle.probe_core.specs.Bench.{Reported as BenchReported}
 use Rattle.probe_core.specs.Probe.{target_of, work_of}
-use Rattle.call_terms.specs.Journal.{Entry, Passes, target_after}
-use Rattle.call_terms.specs.Weights.{performed}
-use Rattle.call_terms.specs.World.{results}
+use Rattle.target_calls.specs.Journal.{Entry, Passes, target_after}
+use Rattle.target_calls.specs.Weights.{performed}
+use Rattle.target_calls.specs.World.{results}
 use Rattle.access_regs.specs.Journal.{issued}
 use Rattle.access_regs.proofs.Seams.{passes_both}
 use Rattle.access_regs.specs.Kept.{Kept}
 use Rattle.access_calls.specs.Issued.{AreKeptOf}
 use Rattle.access_calls.specs.Numbers.{HasNumbers}
-use Rattle.access_calls.specs.Reported.{Reported, began, world_from}
-use Rattle.access_calls.specs.Standing.{HasPerformed, IsPart}
+use Rattle.access_calls.specs.Reported.{AccessView, began, world_from}
+use Rattle.access_calls.specs.Standing.{AreTogether, HasPerformed, IsPart}
 use Rattle.access_calls.specs.declared.issued.Issued.{Issued}
 use Rattle.access_calls.specs.declared.stop.Report.{Report}
 use Rattle.access_calls.specs.declared.stop.Stop.{Stop}
@@ -28,21 +28,21 @@ use Rattle.access_calls.specs.declared.stop.StopCause.TheVariants.{Faulted, NoAn
 use Rattle.batch_packer.specs.declared.ends.Cut.{Cut}
 use Rattle.batch_packer.specs.declared.ends.FlightEnd.{FlightEnd}
 use Rattle.batch_packer.specs.declared.ends.FlightEnd.TheVariants as ends
-use Rattle.calls_in_flight.specs.Ending.{EndsCut, IsCutOff, IsEnded, IsStrictAt, response_of_cause}
-use Rattle.calls_in_flight.specs.Flights.{Flies}
-use Rattle.calls_in_flight.specs.Sending.{IsSending}
-use Rattle.calls_in_flight.proofs.CutLemmas.{front_length, front_target, has_at, has_part, passes_but_last, split as cut_split, take_front}
-use Rattle.calls_in_flight.proofs.ActionLemmas.{forgiving_passes}
-use Rattle.calls_in_flight.proofs.EndLemmas.{bench_fault, flight_ends, flight_fails}
-use Rattle.calls_in_flight.proofs.FlightLemmas.{flight_length}
+use Rattle.flight_laws.specs.Ending.{EndsCut, IsCutOff, IsEnded, IsStrictAt, response_of_cause}
+use Rattle.batch_packer.specs.Flying.{Flies}
+use Rattle.flight_laws.specs.Sending.{IsSending}
+use Rattle.flight_laws.proofs.CutLemmas.{front_length, front_target, has_at, has_part, passes_but_last, split as cut_split, take_front}
+use Rattle.flight_laws.proofs.ActionLemmas.{all_performed, between, forgiving_passes}
+use Rattle.flight_laws.proofs.EndLemmas.{bench_fault, flight_ends, flight_fails}
+use Rattle.flight_laws.proofs.FlightLemmas.{flight_length}
 use Rattle.bench_flights.specs.Clearing.{ClearedOff, is_fault_end}
 use Rattle.bench_flights.specs.Flown.{BrokeOff, DidLess, HasDone, IsCutResponse, MayHaveFlown, WasCut}
 use Rattle.packed_access.specs.Forgiving.{IsNext, IsTrying}
 use Rattle.packed_access.specs.Logs.{IsCause, IsStopped, LogState, reported_by}
 use Rattle.packed_access.proofs.EndLemmas.{IsBrokenOff, numbers_longer}
-use Rattle.packed_access.proofs.TryLemmas.{abort, abort_room, cleared, flying, flying_abort, forgiving_all}
+use Rattle.packed_access.proofs.TryLemmas.{abort, abort_room, cleared, flying, flying_abort, forgiving_all, none_there}
 use Rattle.access_regs.specs.declared.planner.Planner.{Planner}
-use Rattle.calls_in_flight.specs.Flights.{AreStrict}
+use Rattle.flight_laws.specs.Flights.{AreStrict}
 
 -- ---- a retry ended, or the bench failed
 
@@ -67,7 +67,7 @@ module _ (p : Planner) (forgive : Bool) (bench : BenchReported) (state : Option 
 
   module _ (cut : Cut) (r : Report) (lines skipped : ℕ) (broke : WasCut cut accesses m o) (cause : IsCause cut.response r.cause) (strict : IsStrictAt r.cause flying) (accesses_are : r.accesses ≡ log.confirmed + cut.performed) (confirmed_are : r.confirmed ≡ log.confirmed + cut.confirmed)
       (numbers : (all : List Entry) → AreKeptOf all entries → HasNumbers all log.calls skipped lines r) where
-    abbrev b : Reported
+    abbrev b : AccessView
     b = reported_by bench state (record log1 { end = Some (stop.Cut r); came = lines; lines = lines; skipped = skipped }) sent got
 
     few : r.accesses ≤ length entries
@@ -139,22 +139,35 @@ module _ (p : Planner) (forgive : Bool) (bench : BenchReported) (state : Option 
       passes_but_last (target_of m0.probe) count journal (s.made ++ fly) (ab ∷ []) are (passes_both (target_of m0.probe) s.made fly s.on.passes forgiven)
       (let l = length-append s.made fly in let c = s.confirmed_is in omega (arith, l, c, high))
 
+  -- ABORT alone was handed over after those that are confirmed
+  alone : (many sure : ℕ) → many ≡ log.confirmed + length fly + 1 → sure ≡ log.confirmed + length fly → AreTogether (drop sure (take many journal))
+  alone many sure many_is sure_is =
+      let made_are : length (s.made ++ fly) ≡ sure = (let l = length-append s.made fly in let c = s.confirmed_is in omega (arith, l, c, sure_is)) in
+      let all : length (s.made ++ fly) + 1 ≡ many = omega (arith, made_are, many_is, sure_is) in
+      inr ((λ j. length (drop (sym made_are j) (take (sym all j) journal))) ∙ ap length (between journal (s.made ++ fly) (ab ∷ []) [] (s.on.are ∙ sym (append_assoc s.made fly (ab ∷ [])))))
+
   -- so far it was performed
-  performed_ends : (many : ℕ) → many ≡ log.confirmed + length fly + 1 → (count : ℕ) → log.confirmed ≤ count → count ≤ log.confirmed + length fly + 1 → ((w : Option ℕ) → HasPerformed journal count (began m0 w) q) → (entries : List Issued) →
-      IsEnded p (stop.BenchFault many log.confirmed) (reported_by bench state (record log { entries = entries; end = Some (stop.BenchFault many log.confirmed) }) sent got) (take log.known log.results) m0 q
-  performed_ends many is count low high part_is entries = record {
-    stands = λ w left. bench_fault p log.calls many log.confirmed w m0 q s.fresh s.askable (record {
+  performed_ends : (many sure : ℕ) → many ≡ log.confirmed + length fly + 1 → sure ≡ log.confirmed + length fly → (count : ℕ) → log.confirmed + length fly ≤ count → count ≤ log.confirmed + length fly + 1 → ((w : Option ℕ) → HasPerformed journal count (began m0 w) q) → (entries : List Issued) →
+      IsEnded p (stop.BenchFault many sure) (reported_by bench state (record log { entries = entries; confirmed = sure; end = Some (stop.BenchFault many sure) }) sent got) (take log.known log.results) m0 q
+  performed_ends many sure is sure_is count low high part_is entries = record {
+    stands = λ w left. bench_fault p log.calls many sure w m0 q s.fresh s.askable (record {
       count = count;
       begun = count;
       count_is = (part_is w).count_is;
-      low = low;
+      no_more = (part_is w).no_more;
+      low = omega (arith, low, sure_is);
       high = (omega (arith, high, is));
       within = (let l = long in omega (arith, l, is));
+      together = alone many sure is sure_is;
       good = all_good count high;
       target = inl (refl, (part_is w).target);
     });
     results_are = λ w left. ap (λ (k : ℕ). take k (results (world_from m0 w) log.calls)) s.length_is ∙ s.results_are w left.so;
   }
+
+  -- all entries before ABORT were performed
+  all_there : part.performed ≡ length fly
+  all_there = all_performed journal s.made fly (ab ∷ []) leads last m0 m o part s.on flies answer (none_there p forgive log asked k t made leads last for_end rest more m0 m h n few bounded)
 
   whole_done : (word : ℕ) → HasDone (Commands forgives) word o q → (w : Option ℕ) → HasPerformed journal (log.confirmed + length fly + 1) (began m0 w) q
   whole_done word d w =
@@ -167,6 +180,7 @@ module _ (p : Planner) (forgive : Bool) (bench : BenchReported) (state : Option 
       let work : work_of q.probe ≡ work_of o.probe = (let a = d.work_is (abort_room p forgive log asked k t made leads last for_end rest more m0 m h n few bounded o part flies) in let b : d.work < 1 = d.less in omega (arith, a, b)) in
       record {
         count_is = part_is.count_is ∙ ap (λ (x : ℕ). performed (target_of m0.probe) journal (x - work_of m0.probe)) (sym work);
+        no_more = (let n = part_is.no_more in omega (arith, n, work));
         within = part_is.within;
         target = agrees d.target;
       }
@@ -185,21 +199,21 @@ module _ (p : Planner) (forgive : Bool) (bench : BenchReported) (state : Option 
       agrees (inl same) = subst (Agree (target_of q.probe)) there same
       agrees (inr part) = absurd part
 
-  pub not_cleared : (entries : List Issued) → length entries ≡ log.confirmed + length fly + 1 → (end : FlightEnd) (z : Stop) (new : LogState) → ClearedOff end o q → IsStopped end (record log { entries = entries }) new z → IsBrokenOff p z (reported_by bench state new sent got) new log.calls m0 q
-  not_cleared entries count (ends.Cut cut) z new left is = absurd left
-  not_cleared entries count ends.ReplyBad z new left is = absurd left
-  not_cleared entries count ends.BenchFault z new left is =
-      let low : log.confirmed ≤ length s.made + part.performed = (let c = s.confirmed_is in omega (arith, c)) in
+  pub not_cleared : (entries : List Issued) → length entries ≡ log.confirmed + length fly + 1 → (sure : ℕ) → sure ≡ log.confirmed + length fly → (end : FlightEnd) (z : Stop) (new : LogState) → ClearedOff end o q → IsStopped end (record log { entries = entries; confirmed = sure }) new z → IsBrokenOff p z (reported_by bench state new sent got) new log.calls m0 q
+  not_cleared entries count sure sure_is (ends.Cut cut) z new left is = absurd left
+  not_cleared entries count sure sure_is ends.ReplyBad z new left is = absurd left
+  not_cleared entries count sure sure_is ends.BenchFault z new left is =
+      let low : log.confirmed + length fly ≤ length s.made + part.performed = (let c = s.confirmed_is in let all = all_there in omega (arith, c, all)) in
       let high : length s.made + part.performed ≤ log.confirmed + length fly + 1 = (let c = s.confirmed_is in let most = flies.made.most in let l = same_length in omega (arith, c, most, l)) in
-      let here : IsEnded p (stop.BenchFault (length entries) log.confirmed) (reported_by bench state (record log { entries = entries; end = Some (stop.BenchFault (length entries) log.confirmed) }) sent got) (take log.known log.results) m0 q =
+      let here : IsEnded p (stop.BenchFault (length entries) sure) (reported_by bench state (record log { entries = entries; confirmed = sure; end = Some (stop.BenchFault (length entries) sure) }) sent got) (take log.known log.results) m0 q =
       by_left left low high in
-      let at_s : IsBrokenOff p (stop.BenchFault (length entries) log.confirmed) (reported_by bench state (record log { entries = entries; end = Some (stop.BenchFault (length entries) log.confirmed) }) sent got) (record log { entries = entries; end = Some (stop.BenchFault (length entries) log.confirmed) }) log.calls m0 q =
+      let at_s : IsBrokenOff p (stop.BenchFault (length entries) sure) (reported_by bench state (record log { entries = entries; confirmed = sure; end = Some (stop.BenchFault (length entries) sure) }) sent got) (record log { entries = entries; confirmed = sure; end = Some (stop.BenchFault (length entries) sure) }) log.calls m0 q =
       record { ended = here; stops = λ n left. record { so = tt } } in
-      let at_z : IsBrokenOff p z (reported_by bench state (record log { entries = entries; end = Some z }) sent got) (record log { entries = entries; end = Some z }) log.calls m0 q =
-      subst (λ (x : Stop). IsBrokenOff p x (reported_by bench state (record log { entries = entries; end = Some x }) sent got) (record log { entries = entries; end = Some x }) log.calls m0 q) (sym is.0) at_s in
+      let at_z : IsBrokenOff p z (reported_by bench state (record log { entries = entries; confirmed = sure; end = Some z }) sent got) (record log { entries = entries; confirmed = sure; end = Some z }) log.calls m0 q =
+      subst (λ (x : Stop). IsBrokenOff p x (reported_by bench state (record log { entries = entries; confirmed = sure; end = Some x }) sent got) (record log { entries = entries; confirmed = sure; end = Some x }) log.calls m0 q) (sym is.0) at_s in
       subst (λ (x : LogState). IsBrokenOff p z (reported_by bench state x sent got) x log.calls m0 q) (sym is.1) at_z
     where
-      by_left : HasDone (Commands forgives) 0 o q ⊎ DidLess (Commands forgives) o q → log.confirmed ≤ length s.made + part.performed → length s.made + part.performed ≤ log.confirmed + length fly + 1 →
-          IsEnded p (stop.BenchFault (length entries) log.confirmed) (reported_by bench state (record log { entries = entries; end = Some (stop.BenchFault (length entries) log.confirmed) }) sent got) (take log.known log.results) m0 q
-      by_left (inl d) low high = performed_ends (length entries) count (log.confirmed + length fly + 1) (omega arith) (omega arith) (whole_done 0 d) entries
-      by_left (inr d) low high = performed_ends (length entries) count (length s.made + part.performed) low high (none_done d) entries
+      by_left : HasDone (Commands forgives) 0 o q ⊎ DidLess (Commands forgives) o q → log.confirmed + length fly ≤ length s.made + part.performed → length s.made + part.performed ≤ log.confirmed + length fly + 1 →
+          IsEnded p (stop.BenchFault (length entries) sure) (reported_by bench state (record log { entries = entries; confirmed = sure; end = Some (stop.BenchFault (length entries) sure) }) sent got) (take log.known log.results) m0 q
+      by_left (inl d) low high = performed_ends (length entries) sure count sure_is (log.confirmed + length fly + 1) (omega arith) (omega arith) (whole_done 0 d) entries
+      by_left (inr d) low high = performed_ends (length entries) sure count sure_is (length s.made + part.performed) low high (none_done d) entries

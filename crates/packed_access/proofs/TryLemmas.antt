@@ -14,9 +14,9 @@ use Rattle.dap_transfer.specs.Laws.{one_at_a_time}
 use Rattle.flight_forms.specs.Flights.{AreClear, Part}
 use Rattle.probe_core.specs.Bench.{BenchState}
 use Rattle.probe_core.specs.Probe.{target_of, work_of}
-use Rattle.call_terms.specs.Journal.{Entry, actions_in, settles, target_after}
-use Rattle.call_terms.specs.declared.journal.Part.{Part as EntryPart}
-use Rattle.call_terms.specs.declared.journal.Part.TheVariants.{Ends, Leads, Skips}
+use Rattle.target_calls.specs.Journal.{Entry, actions_in, settles, target_after}
+use Rattle.target_calls.specs.declared.journal.Part.{Part as EntryPart}
+use Rattle.target_calls.specs.declared.journal.Part.TheVariants.{Ends, Leads, Skips}
 use Rattle.access_regs.specs.Entries.{NoneFault}
 use Rattle.access_regs.specs.Journal.{Step, is_early, issued, is_last, making, numbered}
 use Rattle.access_regs.specs.Kept.{Kept}
@@ -25,12 +25,12 @@ use Rattle.access_regs.proofs.Select.{making_append}
 use Rattle.access_calls.specs.Issued.{AreKeptOf, kept_of}
 use Rattle.batch_packer.specs.Flying.{CanFly}
 use Rattle.batch_packer.specs.SlotList.{slot_at}
-use Rattle.calls_in_flight.specs.Flights.{Flies}
-use Rattle.calls_in_flight.specs.Forgiving.{abort_after, steps_of_unit}
-use Rattle.calls_in_flight.specs.Sending.{IsSending}
-use Rattle.calls_in_flight.proofs.CutLemmas.{Cutting, cut, faults, work_is}
-use Rattle.calls_in_flight.proofs.FlightLemmas.{flight_length, makes_after}
-use Rattle.calls_in_flight.proofs.SendLemmas.{forgiven_sends, whole_sends}
+use Rattle.batch_packer.specs.Flying.{Flies}
+use Rattle.flight_laws.specs.Forgiving.{abort_after, steps_of_unit}
+use Rattle.flight_laws.specs.Sending.{IsSending}
+use Rattle.flight_laws.proofs.CutLemmas.{Cutting, cut, faults, work_is}
+use Rattle.flight_laws.proofs.FlightLemmas.{flight_length, makes_after}
+use Rattle.flight_laws.proofs.SendLemmas.{forgiven_sends, whole_sends}
 use Rattle.packed_access.specs.Begun.{IsIssuing}
 use Rattle.bench_flights.specs.Flown.{HasCome, HasDone}
 use Rattle.packed_access.specs.Forgiving.{IsForgiven, IsNext, IsTrying}
@@ -39,8 +39,8 @@ use Rattle.packed_access.proofs.ActionLemmas.{at_rest, at_rest_count}
 use Rattle.packed_access.proofs.SlotLemmas.{slot_gives}
 use Rattle.packed_access.proofs.TryStepLemmas.{IsSplit, after_making, none_at, none_both, none_clear, none_last, none_with, numbered_both, split_steps, steps_both, unit_actions_in, unit_forgiving}
 use Rattle.access_regs.specs.declared.planner.Planner.{Planner}
-use Rattle.calls_in_flight.specs.Actions.{AreForgiving}
-use Rattle.calls_in_flight.specs.Forgiving.{after_fault}
+use Rattle.flight_laws.specs.Actions.{AreForgiving}
+use Rattle.flight_laws.specs.Forgiving.{after_fault}
 
 clash : (b : Bool) → b ≡ true → b ≡ false → ⊥
 clash true e f = cc
@@ -79,6 +79,7 @@ flying_is p forgive log accesses flying more m0 m h flight few bounded =
         room = (let f = h.few in let l = flight_length flying accesses flight in omega (arith, f, l, few, bounded));
         retries = s.on.retries;
         few = s.on.few;
+        setting = s.on.setting;
         number = s.on.number;
       };
       confirmed_is = s.confirmed_is;
@@ -159,7 +160,7 @@ module _ (p : Planner) (forgive : Bool) (log : LogState) (asked : AccessUnit) (k
   pub sending : IsSending p log.calls log.confirmed log.came flying later xs (take log.known log.results) m0 m
   sending = flying_is p forgive log xs flying later m0 m issuing flight few bounded
 
-  none_there : NoneFault (target_of m.probe) leads
+  pub none_there : NoneFault (target_of m.probe) leads
   none_there = subst (λ (u : TargetState). NoneFault u leads) (sym h.target) n.good
 
   joined : making (made ++ leads) ≡ making made ++ making leads

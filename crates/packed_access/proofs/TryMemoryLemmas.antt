@@ -12,15 +12,15 @@ use Rattle.target_machine.specs.declared.access.RegAccess.{RegAccess}
 use Rattle.target_machine.specs.declared.unit.Unit.{Unit as AccessUnit}
 use Rattle.target_machine.specs.declared.unit.Unit.TheVariants as unit
 use Rattle.probe_core.specs.Bench.{BenchState}
-use Rattle.call_terms.specs.declared.calls.Ask.{Ask}
+use Rattle.target_calls.specs.declared.calls.Ask.{Ask}
 use Rattle.access_regs.specs.Entries.{NoneFault}
 use Rattle.access_regs.specs.Journal.{is_early, is_end, making}
 use Rattle.access_regs.specs.Kept.{Kept}
 use Rattle.access_regs.proofs.LeadLemmas.{leads_are_good, select_is_good}
 use Rattle.access_regs.proofs.Select.{making_append}
-use Rattle.access_calls.specs.Reported.{Reported}
+use Rattle.access_calls.specs.Reported.{AccessView}
 use Rattle.access_calls.specs.declared.stop.Stop.{Stop}
-use Rattle.calls_in_flight.proofs.PushLemmas.{plan_gives}
+use Rattle.flight_laws.proofs.PushLemmas.{plan_gives}
 use Rattle.packed_access.specs.Forgiving.{CameTo, HasBroken, HasTried, IsNext, IsTrying, WentTo}
 use Rattle.packed_access.specs.Logs.{LogState}
 use Rattle.packed_access.proofs.BegunLemmas.{fact_of}
@@ -148,5 +148,5 @@ on_err (Ok a) P Q f h = tt
 on_err (Err e) P Q f h = f e h
 
 -- the calls by another name
-pub broken_calls : (p : Planner) (s : Stop) (a : Reported) (log : LogState) (calls calls' : List Ask) (m0 : BenchState) → calls ≡ calls' → HasBroken p s a log calls m0 → HasBroken p s a log calls' m0
+pub broken_calls : (p : Planner) (s : Stop) (a : AccessView) (log : LogState) (calls calls' : List Ask) (m0 : BenchState) → calls ≡ calls' → HasBroken p s a log calls m0 → HasBroken p s a log calls' m0
 broken_calls p s a log calls calls' m0 same h = subst (λ (l : List Ask). HasBroken p s a log l m0) same h

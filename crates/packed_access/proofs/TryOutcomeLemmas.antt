@@ -11,15 +11,15 @@ use Rattle.target_machine.specs.declared.unit.Call.TheVariants.{Access}
 use Rattle.target_machine.specs.declared.unit.Unit.{Unit as AccessUnit}
 use Rattle.target_machine.specs.declared.unit.Unit.TheVariants as unit
 use Rattle.target_machine.specs.Plain.{may_forgive}
-use Rattle.call_terms.specs.Asks.{IsUnitInRange, unit_ask}
+use Rattle.target_calls.specs.Asks.{IsUnitInRange, unit_ask}
 use Rattle.target_machine.specs.Counts.{one_if}
-use Rattle.call_terms.specs.Journal.{Entry, settles, target_after}
-use Rattle.call_terms.specs.NeedPoints.{asked}
-use Rattle.call_terms.specs.World.{is_small_end, results, skips, small_now, start_world}
-use Rattle.call_terms.specs.declared.calls.Ask.{Ask}
-use Rattle.call_terms.specs.declared.journal.Part.{Part}
-use Rattle.call_terms.specs.declared.journal.Part.TheVariants.{Ends, Leads, Settles}
-use Rattle.call_terms.proofs.OneCall.{one_small}
+use Rattle.target_calls.specs.Journal.{Entry, settles, target_after}
+use Rattle.target_calls.specs.NeedPoints.{asked}
+use Rattle.target_calls.specs.World.{is_small_end, results, skips, small_now, start_world}
+use Rattle.target_calls.specs.declared.calls.Ask.{Ask}
+use Rattle.target_calls.specs.declared.journal.Part.{Part}
+use Rattle.target_calls.specs.declared.journal.Part.TheVariants.{Ends, Leads, Settles}
+use Rattle.target_calls.proofs.OneCall.{one_small}
 use Rattle.access_regs.specs.Alone.{alone_after, large_of_all}
 use Rattle.access_regs.specs.Costs.{is_leading_read, leading_reads}
 use Rattle.access_regs.specs.Entries.{NoneFault, kept_by, target_by}
@@ -30,11 +30,11 @@ use Rattle.access_regs.specs.Skips.{own_steps}
 use Rattle.access_regs.proofs.EntryLemmas.{journal_grows}
 use Rattle.access_regs.proofs.Seams.{after_split}
 use Rattle.access_regs.proofs.SkipLemmas.{fault_skips}
-use Rattle.calls_in_flight.specs.Forgiving.{abort_after, steps_of_unit}
-use Rattle.calls_in_flight.proofs.CfgLemmas.{small_alone}
-use Rattle.calls_in_flight.proofs.ComeLemmas.{alone_is, never, pass_comes, pass_given, skip_comes, small_given}
-use Rattle.calls_in_flight.proofs.PushLemmas.{pass_makes}
-use Rattle.calls_in_flight.proofs.SmallLemmas.{not_small}
+use Rattle.flight_laws.specs.Forgiving.{abort_after, steps_of_unit}
+use Rattle.flight_laws.proofs.CfgLemmas.{small_alone}
+use Rattle.flight_laws.proofs.ComeLemmas.{alone_is, never, pass_comes, pass_given, skip_comes, small_given}
+use Rattle.flight_laws.proofs.PushLemmas.{pass_makes}
+use Rattle.flight_laws.proofs.SmallLemmas.{not_small}
 use Rattle.packed_access.specs.Begun.{entries_of}
 use Rattle.packed_access.specs.Forgiving.{CfgShows}
 use Rattle.packed_access.proofs.TryBeginLemmas.{IsBefore, IsCalm, alone_issue, askable_front, askable_last, entries_are, is_calm, issue_is, settles_in, target_settled}

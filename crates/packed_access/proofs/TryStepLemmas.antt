@@ -9,21 +9,21 @@ use Rattle.target_machine.specs.declared.access.RegAccess.{RegAccess}
 use Rattle.target_machine.specs.declared.unit.Call.TheVariants.{Access}
 use Rattle.target_machine.specs.declared.unit.Unit.{Unit as AccessUnit}
 use Rattle.flight_forms.specs.Flights.{AreClear}
-use Rattle.call_terms.specs.Journal.{Entry, actions_in}
-use Rattle.call_terms.specs.declared.journal.Part.TheVariants.{Leads}
+use Rattle.target_calls.specs.Journal.{Entry, actions_in}
+use Rattle.target_calls.specs.declared.journal.Part.TheVariants.{Leads}
 use Rattle.access_regs.specs.Entries.{NoneFault}
 use Rattle.access_regs.specs.Journal.{Step, alone_at, is_last, large_of, making, numbered, steps_of}
 use Rattle.access_regs.specs.Kept.{Kept}
 use Rattle.access_regs.proofs.Select.{making_append}
 use Rattle.access_calls.specs.Issued.{kept_of}
 use Rattle.access_calls.specs.declared.issued.Issued.{Issued}
-use Rattle.calls_in_flight.specs.Actions.{AreForgiving}
-use Rattle.calls_in_flight.specs.Forgiving.{BeginsWith, abort_after, steps_of_unit}
-use Rattle.calls_in_flight.proofs.FlightLemmas.{clear_good, clear_head, head_makes}
-use Rattle.calls_in_flight.proofs.ForgivingLemmas.{alone_flight}
+use Rattle.flight_laws.specs.Actions.{AreForgiving}
+use Rattle.flight_laws.specs.Forgiving.{BeginsWith, abort_after, steps_of_unit}
+use Rattle.flight_laws.proofs.FlightLemmas.{clear_good, clear_head, head_makes}
+use Rattle.flight_laws.proofs.ForgivingLemmas.{alone_flight}
 use Rattle.packed_access.specs.Forgiving.{IsNext, last_part}
-use Rattle.calls_in_flight.specs.Flights.{AreStrict}
-use Rattle.calls_in_flight.specs.Forgiving.{after_fault}
+use Rattle.flight_laws.specs.Flights.{AreStrict}
+use Rattle.flight_laws.specs.Forgiving.{after_fault}
 
 -- ---- accesses that do not fault
 

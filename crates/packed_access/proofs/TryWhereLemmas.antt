@@ -10,9 +10,9 @@ use Rattle.target_machine.specs.declared.unit.Unit.{Unit as AccessUnit}
 use Rattle.probe_core.specs.Bench.{BenchState, StepsTo}
 use Rattle.probe_core.specs.Bench.{Reported as BenchReported}
 use Rattle.probe_core.specs.Probe.{work_of}
-use Rattle.call_terms.specs.Journal.{Entry}
-use Rattle.call_terms.specs.declared.journal.Part.{Part}
-use Rattle.call_terms.specs.declared.journal.Part.TheVariants.{Leads, Skips}
+use Rattle.target_calls.specs.Journal.{Entry}
+use Rattle.target_calls.specs.declared.journal.Part.{Part}
+use Rattle.target_calls.specs.declared.journal.Part.TheVariants.{Leads, Skips}
 use Rattle.access_regs.specs.Journal.{is_early, making, numbered, steps_of}
 use Rattle.access_regs.specs.Kept.{Kept}
 use Rattle.access_calls.specs.Issued.{kept_of}
@@ -23,11 +23,11 @@ use Rattle.batch_packer.specs.Flying.{CanFly}
 use Rattle.batch_packer.specs.SlotList.{slot_at}
 use Rattle.batch_packer.specs.declared.ends.FlightEnd.{FlightEnd}
 use Rattle.batch_packer.specs.declared.ends.FlightEnd.TheVariants as ends
-use Rattle.calls_in_flight.specs.Forgiving.{steps_of_unit}
+use Rattle.flight_laws.specs.Forgiving.{steps_of_unit}
 use Rattle.bench_flights.specs.Clearing.{CanClear, ClearedOff, IsOneTransfer, is_fault_end}
 use Rattle.bench_flights.specs.Flown.{BrokeOff, HasCome, HasDone, IsCutResponse, WasCut}
 use Rattle.packed_access.specs.Forgiving.{HasBroken, HasForgiven, HasTried, IsForgiven, IsNext, IsTrying, last_part, with_accesses}
-use Rattle.packed_access.specs.Logs.{IsStopped, LogState, all_confirmed, reported_by, with_entry}
+use Rattle.packed_access.specs.Logs.{IsStopped, LogState, all_confirmed, entries_confirmed, reported_by, with_entry}
 use Rattle.packed_access.proofs.ActionLemmas.{at_rest_count}
 use Rattle.packed_access.proofs.EndLemmas.{IsBrokenOff, ended_in, stops_in}
 use Rattle.packed_access.proofs.TryEndLemmas.{not_cleared, not_forgiven}
@@ -36,7 +36,7 @@ use Rattle.packed_access.proofs.TryStepLemmas.{flight_kept}
 use Rattle.access_regs.specs.declared.planner.Planner.{Planner}
 use Rattle.std.proofs.Common.{◌⊎◌, inl, inr, refl}
 use Rattle.packed_access.proofs.TryStepLemmas.{unit_strict}
-use Rattle.calls_in_flight.specs.Flights.{AreStrict}
+use Rattle.flight_laws.specs.Flights.{AreStrict}
 
 -- ---- what is kept of the calls
 
@@ -52,6 +52,10 @@ abort_entry log asked accesses = record { unit = (length log.calls - 1) + 1; par
 abbrev pub with_flight : LogState → List Entry → LogState
 with_flight log entries = record log { entries = log.entries ++ map kept_of entries }
 
+-- and ABORT after them, when they were confirmed
+abbrev pub with_abort : LogState → List Entry → Entry → LogState
+with_abort log entries abort = record log { entries = log.entries ++ map kept_of (entries ++ abort ∷ []); confirmed = length (log.entries ++ map kept_of entries) }
+
 pub flight_log : (forgive : Bool) (old mid new : LogState) (asked : AccessUnit) (leads : List RegAccess) (last : RegAccess) (b : Bool) (unit : ℕ) (part : Part) → mid ≡ with_accesses old unit Leads leads → new ≡ with_entry mid (record { unit = unit; part = part }) → unit ≡ length old.calls → 0 < length old.calls →
     part ≡ last_part b → steps_of_unit asked (leads ++ last ∷ []) ≡ steps_of Leads leads ++ record { part = last_part b; action = Makes last } ∷ [] → new ≡ with_flight old (flight_entries forgive old asked (leads ++ last ∷ []))
 flight_log forgive old mid new asked leads last b unit part mid_is new_is at some part_is parts =
@@ -62,13 +66,13 @@ flight_log forgive old mid new asked leads last b unit part mid_is new_is at som
     (append_assoc old.entries (map (λ (a : RegAccess). record { unit = (length old.calls - 1) + 1; part = Leads }) leads) (record { unit = (length old.calls - 1) + 1; part = last_part b } ∷ [])
     ∙ ap (λ (l : List Issued). old.entries ++ l) (sym (flight_kept forgive (length old.calls - 1) asked leads last b parts)))
 
-pub abort_log : (forgive : Bool) (old mid new : LogState) (asked : AccessUnit) (made accesses : List RegAccess) (b : Bool) (unit : ℕ) → mid ≡ with_flight old (flight_entries forgive old asked accesses) → new ≡ with_entry mid (record { unit = unit; part = Skips (not b) }) → unit ≡ length old.calls → 0 < length old.calls →
-    is_early asked (making (made ++ accesses)) ≡ not b → new ≡ with_flight old (flight_entries forgive old asked accesses ++ abort_entry old asked (made ++ accesses) ∷ [])
-abort_log forgive old mid new asked made accesses b unit mid_is new_is at some early =
+pub abort_log : (forgive : Bool) (old mid sure new : LogState) (asked : AccessUnit) (made accesses : List RegAccess) (b : Bool) (unit : ℕ) → mid ≡ with_flight old (flight_entries forgive old asked accesses) → sure ≡ entries_confirmed mid → new ≡ with_entry sure (record { unit = unit; part = Skips (not b) }) → unit ≡ length old.calls → 0 < length old.calls →
+    is_early asked (making (made ++ accesses)) ≡ not b → new ≡ with_abort old (flight_entries forgive old asked accesses) (abort_entry old asked (made ++ accesses))
+abort_log forgive old mid sure new asked made accesses b unit mid_is sure_is new_is at some early =
     let n : unit ≡ (length old.calls - 1) + 1 = omega (arith, at, some) in
-    new_is ∙ ap (λ (l : LogState). with_entry l (record { unit = unit; part = Skips (not b) })) mid_is
-    ∙ (λ j. record old { entries = (old.entries ++ map kept_of (flight_entries forgive old asked accesses)) ++ record { unit = n j; part = Skips (sym early j) } ∷ [] })
-    ∙ ap (λ (l : List Issued). record old { entries = l })
+    new_is ∙ ap (λ (l : LogState). with_entry l (record { unit = unit; part = Skips (not b) })) (sure_is ∙ ap entries_confirmed mid_is)
+    ∙ (λ j. record old { entries = (old.entries ++ map kept_of (flight_entries forgive old asked accesses)) ++ record { unit = n j; part = Skips (sym early j) } ∷ []; confirmed = length (old.entries ++ map kept_of (flight_entries forgive old asked accesses)) })
+    ∙ ap (λ (l : List Issued). record old { entries = l; confirmed = length (old.entries ++ map kept_of (flight_entries forgive old asked accesses)) })
     (append_assoc old.entries (map kept_of (flight_entries forgive old asked accesses)) (kept_of (abort_entry old asked (made ++ accesses)) ∷ [])
     ∙ ap (λ (l : List Issued). old.entries ++ l) (sym (map-append kept_of (flight_entries forgive old asked accesses) (abort_entry old asked (made ++ accesses) ∷ []))))
 
@@ -124,7 +128,7 @@ module _ (p : Planner) (forgive : Bool) (log : LogState) (asked : AccessUnit) (k
       (entries_more p log (flight_entries forgive log asked xs) _ m0 m i) count end z new (broke h.issuing.flies) (free_or (forgive ≡ false) (is_fault_end end ≡ false) _ fault (λ none. subst (λ (c : Bool). AreStrict (numbered (length log.calls - 1) c (steps_of_unit asked xs))) (sym none) (unit_strict (length log.calls - 1) asked xs))) either is
 
   uncleared_where : (x y u : Option BenchState) (bench : BenchReported) (sent got : List ℕ) (end end' : FlightEnd) (z : Stop) (new : LogState) → forgive ≡ true → WhereObservable x (λ m. IsTrying p forgive log asked k t made rest m0 m) → StepsTo (λ m o. CanFly m → BrokeOff end xs m o) x y → is_fault_end end ≡ true →
-      StepsTo (λ m o. CanFly m → CanClear o) x y → StepsTo (λ m o. CanClear m → work_of m.probe + 1 < 2 ^ 64 → ClearedOff end' m o) y u → IsStopped end' (with_flight log (flight_entries forgive log asked xs ++ abort_entry log asked (made ++ xs) ∷ [])) new z →
+      StepsTo (λ m o. CanFly m → CanClear o) x y → StepsTo (λ m o. CanClear m → work_of m.probe + 1 < 2 ^ 64 → ClearedOff end' m o) y u → IsStopped end' (with_abort log (flight_entries forgive log asked xs) (abort_entry log asked (made ++ xs))) new z →
       WhereObservable u (λ q. IsBrokenOff p z (reported_by bench u new sent got) new log.calls m0 q)
   uncleared_where None y u bench sent got end end' z new it h broke fault clear left is = absurd h
   uncleared_where (Some m) None u bench sent got end end' z new it h broke fault clear left is = absurd broke
@@ -137,8 +141,10 @@ module _ (p : Planner) (forgive : Bool) (log : LogState) (asked : AccessUnit) (k
       (let a = length-append log.entries (map kept_of (flight_entries forgive log asked xs ++ abort_entry log asked (made ++ xs) ∷ [])) in
       let b : length (map kept_of (flight_entries forgive log asked xs ++ abort_entry log asked (made ++ xs) ∷ [])) ≡ length (flight_entries forgive log asked xs ++ abort_entry log asked (made ++ xs) ∷ []) = length-map (flight_entries forgive log asked xs ++ abort_entry log asked (made ++ xs) ∷ []) kept_of in
       let c = length-append (flight_entries forgive log asked xs) (abort_entry log asked (made ++ xs) ∷ []) in let r = at_rest_count p log _ m0 m i in omega (arith, a, b, c, r)) in
+      let sure : length (log.entries ++ map kept_of (flight_entries forgive log asked xs)) ≡ log.confirmed + length (flight_entries forgive log asked xs) =
+      (let a = length-append log.entries (map kept_of (flight_entries forgive log asked xs)) in let b : length (map kept_of (flight_entries forgive log asked xs)) ≡ length (flight_entries forgive log asked xs) = length-map (flight_entries forgive log asked xs) kept_of in let r = at_rest_count p log _ m0 m i in omega (arith, a, b, r)) in
       not_cleared p forgive bench (Some q) sent got log asked k t made leads last b rest more m0 m h n few bounded o w.part w.flies (w.fault (not_two cut.response fault)) it q
-      (log.entries ++ map kept_of (flight_entries forgive log asked xs ++ abort_entry log asked (made ++ xs) ∷ [])) count end' z new (left (clear h.issuing.flies) (abort_room p forgive log asked k t made leads last b rest more m0 m h n few bounded o w.part w.flies)) is
+      (log.entries ++ map kept_of (flight_entries forgive log asked xs ++ abort_entry log asked (made ++ xs) ∷ [])) count (length (log.entries ++ map kept_of (flight_entries forgive log asked xs))) sure end' z new (left (clear h.issuing.flies) (abort_room p forgive log asked k t made leads last b rest more m0 m h n few bounded o w.part w.flies)) is
   uncleared_where (Some m) (Some o) (Some q) bench sent got ends.BenchFault end' z new it h broke fault clear left is = absurd (cc)
   uncleared_where (Some m) (Some o) (Some q) bench sent got ends.ReplyBad end' z new it h broke fault clear left is = absurd (cc)
 
@@ -162,7 +168,7 @@ module _ (p : Planner) (forgive : Bool) (x x' y : Option BenchState) (log log1 :
       (subst (λ (l : LogState). HasTried p forgive y l asked k t (made ++ (leads ++ last ∷ [])) more m0) (sym (new_is ∙ ap all_confirmed log_is)) (record { so = r.0 }), value_is ∙ r.1)
 
   pub flight_skipped : (z y' : Option BenchState) (log2 new : LogState) (end : FlightEnd) (word : ℕ) → forgive ≡ true → StepsTo (λ m o. CanFly m → BrokeOff end accesses m o) x' y → is_fault_end end ≡ true → StepsTo (λ m o. CanFly m → CanClear o) x' y → y' ≡ y → StepsTo (λ m o. CanClear m → work_of m.probe + 1 < 2 ^ 64 → HasDone (Commands forgives) word m o) y' z →
-      log.came ≡ log.whole → log2 ≡ with_flight log (flight_entries forgive log asked (leads ++ last ∷ []) ++ abort_entry log asked (made ++ (leads ++ last ∷ [])) ∷ []) → new ≡ all_confirmed log2 → HasForgiven p forgive z new asked k t (made ++ leads) last m0
+      log.came ≡ log.whole → log2 ≡ with_abort log (flight_entries forgive log asked (leads ++ last ∷ [])) (abort_entry log asked (made ++ (leads ++ last ∷ []))) → new ≡ all_confirmed log2 → HasForgiven p forgive z new asked k t (made ++ leads) last m0
   flight_skipped z y' log2 new end word it broke fault clear same' d came log2_is new_is =
       subst (λ (l : LogState). HasForgiven p forgive z l asked k t (made ++ leads) last m0) (sym (new_is ∙ ap all_confirmed log2_is))
       (record {
@@ -177,7 +183,7 @@ module _ (p : Planner) (forgive : Bool) (x x' y : Option BenchState) (log log1 :
       record { ended = ended_in p y z (reported_by bench y new sent got) new log.calls m0 w; stops = λ n left. stops_in p y z (reported_by bench y new sent got) new log.calls m0 n w left }
 
   pub abort_broke : (u y' : Option BenchState) (bench : BenchReported) (sent got : List ℕ) (log2 : LogState) (end end' : FlightEnd) (z : Stop) (new : LogState) → forgive ≡ true → StepsTo (λ m o. CanFly m → BrokeOff end accesses m o) x' y → is_fault_end end ≡ true → StepsTo (λ m o. CanFly m → CanClear o) x' y → y' ≡ y →
-      StepsTo (λ m o. CanClear m → work_of m.probe + 1 < 2 ^ 64 → ClearedOff end' m o) y' u → log2 ≡ with_flight log (flight_entries forgive log asked (leads ++ last ∷ []) ++ abort_entry log asked (made ++ (leads ++ last ∷ [])) ∷ []) → IsStopped end' log2 new z → HasBroken p z (reported_by bench u new sent got) new log.calls m0
+      StepsTo (λ m o. CanClear m → work_of m.probe + 1 < 2 ^ 64 → ClearedOff end' m o) y' u → log2 ≡ with_abort log (flight_entries forgive log asked (leads ++ last ∷ [])) (abort_entry log asked (made ++ (leads ++ last ∷ []))) → IsStopped end' log2 new z → HasBroken p z (reported_by bench u new sent got) new log.calls m0
   abort_broke u y' bench sent got log2 end end' z new it broke fault clear same' left log2_is is =
       let w = uncleared_where p forgive log asked k t made leads last b rest more m0 n few bounded x y u bench sent got end end' z new it h.so (steps_same (λ l m o. CanFly m → BrokeOff end l m o) x x' y (leads ++ last ∷ []) accesses same are broke) fault
       (subst (λ (w : Option BenchState). StepsTo (λ m o. CanFly m → CanClear o) w y) same clear) (subst (λ (w : Option BenchState). StepsTo (λ m o. CanClear m → work_of m.probe + 1 < 2 ^ 64 → ClearedOff end' m o) w u) same' left)

@@ -24,7 +24,7 @@ use Rattle.access_regs.proofs.CostLemmas.{alone_reads, port_reads}
 use Rattle.access_regs.proofs.Forgiving.{contains_one}
 use Rattle.access_regs.proofs.KeptLemmas.{alone_kept, kept_after_cfg, kept_by_cfg, port_kept}
 use Rattle.access_regs.proofs.LeadLemmas.{select_is_good}
-use Rattle.calls_in_flight.proofs.PushLemmas.{pass_makes}
+use Rattle.flight_laws.proofs.PushLemmas.{pass_makes}
 use Rattle.packed_access.specs.Forgiving.{CameTo, CfgShows, HasForgiven, HasTried, IsDoneBy, IsForgiven, IsNext, IsSmallBy, IsTrying, WentTo}
 use Rattle.packed_access.specs.Logs.{LogState}
 use Rattle.packed_access.proofs.BegunLemmas.{fact_of}

@@ -11,16 +11,16 @@ use Rattle.target_machine.specs.declared.unit.Unit.TheVariants as unit
 use Rattle.probe_core.specs.Bench.{BenchState}
 use Rattle.probe_core.specs.Bench.{Reported as BenchReported}
 use Rattle.probe_core.specs.Probe.{target_of}
-use Rattle.call_terms.specs.Asks.{is_forgiving, is_settled}
-use Rattle.call_terms.specs.World.{results, skips, small_now, start_world}
-use Rattle.call_terms.specs.declared.calls.Ask.{Ask}
+use Rattle.target_calls.specs.Asks.{is_forgiving, is_settled}
+use Rattle.target_calls.specs.World.{results, skips, small_now, start_world}
+use Rattle.target_calls.specs.declared.calls.Ask.{Ask}
 use Rattle.access_regs.specs.Entries.{kept_by, target_by}
 use Rattle.access_regs.specs.Journal.{issue_of}
 use Rattle.access_regs.specs.Kept.{Kept}
 use Rattle.access_regs.proofs.EntryLemmas.{journal_grows}
 use Rattle.access_calls.specs.Standing.{WhereObservable}
 use Rattle.access_calls.specs.declared.stop.Stop.{Stop}
-use Rattle.calls_in_flight.proofs.ComeLemmas.{small_given}
+use Rattle.flight_laws.proofs.ComeLemmas.{small_given}
 use Rattle.packed_access.specs.Marks.{unmarked_append, unmarked_last}
 use Rattle.packed_access.specs.Begun.{HasAsked, HasBegun, HasIssued, IsIssuing, IsOpenAt, IsSince}
 use Rattle.packed_access.specs.Logs.{LogState, all_confirmed, all_issued, reported_by, result_for, with_result}

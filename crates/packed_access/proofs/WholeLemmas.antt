@@ -9,12 +9,12 @@ use Rattle.target_machine.specs.State.{TargetState}
 use Rattle.target_machine.specs.declared.access.RegAccess.{RegAccess}
 use Rattle.probe_core.specs.Bench.{BenchState, StepsTo}
 use Rattle.probe_core.specs.Probe.{target_of, work_of}
-use Rattle.call_terms.specs.Asks.{AreAskable, ForgiveNothing}
-use Rattle.call_terms.specs.Journal.{Entry, target_after}
-use Rattle.call_terms.specs.World.{World, results, skips, start_world, stop, world_after}
-use Rattle.call_terms.specs.declared.calls.Ask.{Ask}
-use Rattle.call_terms.proofs.CallLists.{append_skips}
-use Rattle.call_terms.proofs.EndLemmas.{none_skipped}
+use Rattle.target_calls.specs.Asks.{AreAskable, ForgiveNothing}
+use Rattle.target_calls.specs.Journal.{Entry, target_after}
+use Rattle.target_calls.specs.World.{World, results, skips, start_world, stop, world_after}
+use Rattle.target_calls.specs.declared.calls.Ask.{Ask}
+use Rattle.target_calls.proofs.CallLists.{append_skips}
+use Rattle.target_calls.proofs.EndLemmas.{none_skipped}
 use Rattle.access_regs.specs.Entries.{kept_by, target_by}
 use Rattle.access_regs.specs.Journal.{issue_of, issued, issued_from, kept_from}
 use Rattle.access_regs.specs.Kept.{Kept, nothing_kept}
@@ -23,15 +23,15 @@ use Rattle.access_regs.proofs.StopLists.{passing_stops}
 use Rattle.access_calls.specs.Standing.{WhereObservable}
 use Rattle.batch_packer.specs.SlotList.{slot_at}
 use Rattle.batch_packer.specs.Flying.{CanFly}
-use Rattle.calls_in_flight.specs.Sending.{IsSending}
-use Rattle.calls_in_flight.proofs.ComeLemmas.{result_given}
-use Rattle.calls_in_flight.proofs.CutLemmas.{Cutting, cut_list}
-use Rattle.calls_in_flight.proofs.FlightLemmas.{room_grown}
-use Rattle.calls_in_flight.proofs.OpenLemmas.{askable_first}
-use Rattle.calls_in_flight.proofs.SendLemmas.{whole_sends}
+use Rattle.flight_laws.specs.Sending.{IsSending}
+use Rattle.flight_laws.proofs.ComeLemmas.{result_given}
+use Rattle.flight_laws.proofs.CutLemmas.{Cutting, cut_list}
+use Rattle.flight_laws.proofs.FlightLemmas.{room_grown}
+use Rattle.flight_laws.proofs.OpenLemmas.{askable_first}
+use Rattle.flight_laws.proofs.SendLemmas.{whole_sends}
 use Rattle.packed_access.specs.Begun.{HasIssued, IsGivenAt, IsIssuing, most_weight}
 use Rattle.bench_flights.specs.Flown.{HasCome}
-use Rattle.packed_access.specs.Logs.{LogState, all_confirmed, all_taken, filled, place_of, result_by, result_for}
+use Rattle.packed_access.specs.Logs.{LogState, all_confirmed, all_taken, filled, pending_place, result_by, result_for}
 use Rattle.packed_access.specs.Stands.{IsMildAt, mild_from}
 use Rattle.packed_access.proofs.CameLemmas.{HaveCome, have_come_own, place_within, take_through}
 use Rattle.packed_access.proofs.FillLemmas.{filled_is, filled_length}
@@ -110,9 +110,9 @@ module _ (p : Planner) (log : LogState) (accesses : List RegAccess) (rest : List
         ∙ ap (λ (l : List Entry). l ++ issued_from p (0 + length first) (kept_from p nothing_kept t0 first) (target_after t0 (issued p t0 first)) (drop log.whole log.calls)) (ap (issued p t0) first_is ∙ cut.is)
         ∙ append_assoc cut.front (cut.entry ∷ cut.back) (issued_from p (0 + length first) (kept_from p nothing_kept t0 first) (target_after t0 (issued p t0 first)) (drop log.whole log.calls))
 
-    slot_there : unwrap_or (slot_at values (place_of log index)) 0 ≡ word
+    slot_there : unwrap_or (slot_at values (pending_place log index)) 0 ≡ word
     slot_there =
-        slot_gives (issued p t0 log.calls) h.sending.made h.flying rest accesses m0 m o c.part values cut.front cut.entry (cut.back ++ issued_from p (0 + length first) (kept_from p nothing_kept t0 first) (target_after t0 (issued p t0 first)) (drop log.whole log.calls)) (place_of log index)
+        slot_gives (issued p t0 log.calls) h.sending.made h.flying rest accesses m0 m o c.part values cut.front cut.entry (cut.back ++ issued_from p (0 + length first) (kept_from p nothing_kept t0 first) (target_after t0 (issued p t0 first)) (drop log.whole log.calls)) (pending_place log index)
         h.sending.on c.flies c.good c.values_are journal_is
         (let a = cut.at in let k = h.sending.confirmed_is in let i = h.given_in index low high in let i0 = i.0 in omega (arith, a, k, i0))
         (let n = h.count in let i = h.given_in index low high in let i0 = i.0 in let i1 = i.1 in omega (arith, n, i0, i1))
@@ -121,7 +121,7 @@ module _ (p : Planner) (log : LogState) (accesses : List RegAccess) (rest : List
     result_there =
         given_there
         ∙ sym (ap (result_of g.ask.call) slot_there)
-        ∙ ap (λ (x : Option Ask). result_for x (unwrap_or (slot_at values (place_of log index)) 0)) (sym ((λ j. slice_get (g.are j) (sym g.at j)) ∙ get_there g.asks g.ask g.more))
+        ∙ ap (λ (x : Option Ask). result_for x (unwrap_or (slot_at values (pending_place log index)) 0)) (sym ((λ j. slice_get (g.are j) (sym g.at j)) ∙ get_there g.asks g.ask g.more))
 
   -- ---- all results
 

@@ -1,9 +1,9 @@
 -- A call that is one action: a poll, or a command of the probe.
 use Rattle.std.specs.Prelude.{ℕ, ◌+◌, false, List, length}
 use Rattle.target_machine.specs.Plain.{Action}
-use Rattle.call_terms.specs.Journal.{Entry}
-use Rattle.call_terms.specs.declared.calls.Ask.{Ask}
-use Rattle.call_terms.specs.declared.journal.Part.TheVariants.{Ends}
+use Rattle.target_calls.specs.Journal.{Entry}
+use Rattle.target_calls.specs.declared.calls.Ask.{Ask}
+use Rattle.target_calls.specs.declared.journal.Part.TheVariants.{Ends}
 use Rattle.access_calls.specs.declared.issued.Issued.{Issued}
 use Rattle.packed_access.specs.Logs.{LogState, all_confirmed, all_issued, with_entry, with_result}
 

@@ -9,24 +9,24 @@ use Rattle.target_machine.specs.declared.unit.Unit.TheVariants as unit
 use Rattle.probe_core.specs.Bench.{BenchState}
 use Rattle.probe_core.specs.Bench.{Reported as BenchReported}
 use Rattle.probe_core.specs.Probe.{target_of, work_of}
-use Rattle.call_terms.specs.Asks.{ForgiveNothing, is_forgiving, is_settled}
-use Rattle.call_terms.specs.Journal.{Entry, target_after}
-use Rattle.call_terms.specs.World.{results, skips, small_now, start_world}
-use Rattle.call_terms.specs.declared.calls.Ask.{Ask}
-use Rattle.call_terms.specs.declared.journal.Part.{Part}
+use Rattle.target_calls.specs.Asks.{ForgiveNothing, is_forgiving, is_settled}
+use Rattle.target_calls.specs.Journal.{Entry, target_after}
+use Rattle.target_calls.specs.World.{results, skips, small_now, start_world}
+use Rattle.target_calls.specs.declared.calls.Ask.{Ask}
+use Rattle.target_calls.specs.declared.journal.Part.{Part}
 use Rattle.access_regs.specs.Entries.{kept_by, target_by}
 use Rattle.access_regs.specs.Journal.{Step, issue_of, issued, numbered}
 use Rattle.access_regs.specs.Kept.{Kept}
 use Rattle.access_calls.specs.Answers.{AtCut}
 use Rattle.access_calls.specs.Issued.{AreKeptOf}
 use Rattle.access_calls.specs.Left.{IsLeft}
-use Rattle.access_calls.specs.Reported.{Reported, began, world_from}
+use Rattle.access_calls.specs.Reported.{AccessView, began, world_from}
 use Rattle.access_calls.specs.Standing.{Stands, WhereObservable}
 use Rattle.access_calls.specs.declared.stop.Stop.{Stop}
 use Rattle.batch_packer.specs.Flying.{CanFly}
-use Rattle.calls_in_flight.specs.Ending.{IsEnded, StopsBy}
-use Rattle.calls_in_flight.specs.Flights.{AreStrict}
-use Rattle.calls_in_flight.specs.Sending.{IsSending}
+use Rattle.flight_laws.specs.Ending.{IsEnded, StopsBy}
+use Rattle.flight_laws.specs.Flights.{AreStrict}
+use Rattle.flight_laws.specs.Sending.{IsSending}
 use Rattle.packed_access.specs.Logs.{LogState, reported_by}
 use Rattle.packed_access.specs.Marks.{unmarked_last}
 use Rattle.access_regs.specs.declared.planner.Planner.{Planner}
@@ -101,7 +101,7 @@ pub record IsOpenAt (p : Planner) (log : LogState) (kept : Kept) (accesses : Lis
   pub calm : is_settled log.calls ≡ true → (log.came ≡ length log.calls) × (accesses ≡ [])
 
 -- by its end
-abbrev pub IsSince : Planner → Option Stop → Reported → LogState → Kept → List RegAccess → BenchState → BenchState → Type 0
+abbrev pub IsSince : Planner → Option Stop → AccessView → LogState → Kept → List RegAccess → BenchState → BenchState → Type 0
 IsSince p None a log kept accesses m0 m = IsOpenAt p log kept accesses m0 m
 IsSince p (Some s) a log kept accesses m0 m = IsEnded p s a (take log.known log.results) m0 m
 
@@ -110,7 +110,7 @@ pub record HasBegun (p : Planner) (bench : BenchReported) (state : Option BenchS
   pub so : WhereObservable state (λ m. IsSince p log.end (reported_by bench state log sent got) log kept accesses m0 m)
 
 -- It has ended.
-pub record HasEnded (p : Planner) (s : Stop) (a : Reported) (log : LogState) (m0 : BenchState) : Type 0 where
+pub record HasEnded (p : Planner) (s : Stop) (a : AccessView) (log : LogState) (m0 : BenchState) : Type 0 where
   pub so : WhereObservable a.state (λ m. IsEnded p s a (take log.known log.results) m0 m)
 
 -- At a cut the calls stop right after those that have their lines before it, or in the settling of a `finish`.

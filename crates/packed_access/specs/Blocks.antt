@@ -3,10 +3,10 @@ use Rattle.std.specs.Prelude.{◌≡◌, ℕ, ◌+◌, ◌-◌, ◌*◌, ◌/◌
 use Rattle.target_machine.specs.declared.access.RegAccess.{RegAccess}
 use Rattle.probe_core.specs.declared.job.Limits.{Limits}
 use Rattle.target_machine.specs.Counts.{one_if}
-use Rattle.call_terms.specs.Journal.{Entry}
+use Rattle.target_calls.specs.Journal.{Entry}
 use Rattle.access_calls.specs.Bounds.{block_words, capacity}
 use Rattle.bench_flights.specs.Full.{transfer_accesses}
-use Rattle.calls_in_flight.specs.Packets.{drw_writes_in, is_drw_write}
+use Rattle.flight_laws.specs.Packets.{drw_writes_in, is_drw_write}
 
 -- how many of these entries are something else than writes of DRW
 abbrev pub others_in : List Entry → ℕ

@@ -8,20 +8,20 @@ use Rattle.target_machine.specs.declared.unit.Call.TheVariants.{Access}
 use Rattle.target_machine.specs.declared.unit.Unit.{Unit as AccessUnit}
 use Rattle.probe_core.specs.Bench.{BenchState}
 use Rattle.probe_core.specs.Probe.{target_of}
-use Rattle.call_terms.specs.declared.calls.Ask.{Ask}
-use Rattle.call_terms.specs.declared.journal.Part.{Part}
-use Rattle.call_terms.specs.declared.journal.Part.TheVariants.{Ends, Leads}
+use Rattle.target_calls.specs.declared.calls.Ask.{Ask}
+use Rattle.target_calls.specs.declared.journal.Part.{Part}
+use Rattle.target_calls.specs.declared.journal.Part.TheVariants.{Ends, Leads}
 use Rattle.access_regs.specs.Entries.{NoneFault}
 use Rattle.access_regs.specs.Journal.{Step, alone_at, is_early, large_of, making, numbered, port_of, steps_of}
 use Rattle.access_regs.specs.Costs.{leading_reads}
 use Rattle.access_regs.specs.Kept.{Kept, forget}
 use Rattle.access_regs.specs.Plan.{needs_cfg}
 use Rattle.access_calls.specs.Left.{IsLeft}
-use Rattle.access_calls.specs.Reported.{Reported}
+use Rattle.access_calls.specs.Reported.{AccessView}
 use Rattle.access_calls.specs.Standing.{WhereObservable}
 use Rattle.access_calls.specs.declared.stop.Stop.{Stop}
-use Rattle.calls_in_flight.specs.Ending.{IsEnded}
-use Rattle.calls_in_flight.specs.Forgiving.{abort_after, steps_of_unit}
+use Rattle.flight_laws.specs.Ending.{IsEnded}
+use Rattle.flight_laws.specs.Forgiving.{abort_after, steps_of_unit}
 use Rattle.packed_access.specs.Begun.{IsIssuing, StopsThere}
 use Rattle.packed_access.specs.Logs.{LogState, all_confirmed, all_issued, result_for, with_result}
 use Rattle.access_regs.specs.declared.planner.Planner.{Planner}
@@ -54,7 +54,7 @@ pub record HasForgiven (p : Planner) (forgive : Bool) (state : Option BenchState
   pub so : WhereObservable state (λ m. IsForgiven p forgive log asked k t made access m0 m)
 
 -- The access has ended so, and there the calls stop.
-pub record HasBroken (p : Planner) (s : Stop) (a : Reported) (log : LogState) (calls : List Ask) (m0 : BenchState) : Type 0 where
+pub record HasBroken (p : Planner) (s : Stop) (a : AccessView) (log : LogState) (calls : List Ask) (m0 : BenchState) : Type 0 where
   pub ended : WhereObservable a.state (λ m. IsEnded p s a (take log.known log.results) m0 m)
   pub stops : (n : Option ℕ) → IsLeft a n → StopsThere m0 n calls log.lines s
 

@@ -4,9 +4,9 @@ use Rattle.std.specs.List.{AllByRecursion}
 use Rattle.std.proofs.Common.{subst, arith}
 use Rattle.target_machine.specs.State.{TargetState}
 use Rattle.target_machine.specs.declared.access.RegAccess.{RegAccess}
-use Rattle.call_terms.specs.Journal.{Entry, target_after}
-use Rattle.call_terms.specs.declared.calls.Ask.{Ask}
-use Rattle.call_terms.specs.declared.journal.Part.TheVariants.{Settles}
+use Rattle.target_calls.specs.Journal.{Entry, target_after}
+use Rattle.target_calls.specs.declared.calls.Ask.{Ask}
+use Rattle.target_calls.specs.declared.journal.Part.TheVariants.{Settles}
 use Rattle.access_regs.specs.Entries.{kept_by}
 use Rattle.access_regs.specs.Journal.{issued, issued_from, kept_from, numbered, steps_of}
 use Rattle.access_regs.specs.Kept.{nothing_kept}

@@ -6,13 +6,13 @@ use Rattle.target_machine.specs.Plain.{result_of}
 use Rattle.target_machine.specs.Sound.{IsSoundCall}
 use Rattle.probe_core.specs.Bench.{BenchState}
 use Rattle.probe_core.specs.Bench.{Reported as BenchReported}
-use Rattle.call_terms.specs.Journal.{Entry}
-use Rattle.call_terms.specs.NeedPoints.{Asks, capped_sum}
-use Rattle.call_terms.specs.declared.calls.Ask.{Ask}
+use Rattle.target_calls.specs.Journal.{Entry}
+use Rattle.target_calls.specs.NeedPoints.{Asks, capped_sum}
+use Rattle.target_calls.specs.declared.calls.Ask.{Ask}
 use Rattle.access_calls.specs.Causes.{KeepsReplyAt}
 use Rattle.access_calls.specs.Issued.{AreKeptOf, lines_before_kept}
 use Rattle.access_calls.specs.Numbers.{HasNumbers}
-use Rattle.access_calls.specs.Reported.{Reported}
+use Rattle.access_calls.specs.Reported.{AccessView}
 use Rattle.access_calls.specs.declared.issued.Issued.{Issued}
 use Rattle.access_calls.specs.declared.stop.Report.{Report}
 use Rattle.access_calls.specs.declared.stop.Stop.{Stop}
@@ -120,7 +120,7 @@ asks_of log = record { calls = log.calls; needs = log.needs; fence = log.fence }
 
 -- What an access reports by what its bench reports, the state of its bench, what it keeps, and the packet and the reply of the exchange
 -- that ended its flights.
-abbrev pub reported_by : BenchReported → Option BenchState → LogState → List ℕ → List ℕ → Reported
+abbrev pub reported_by : BenchReported → Option BenchState → LogState → List ℕ → List ℕ → AccessView
 reported_by bench state log sent got = record {
   bench = bench;
   state = state;
@@ -169,12 +169,12 @@ result_for None word = 0
 result_for (Some ask) word = result_of ask.call word
 
 -- the place of the entry that gives the result of a call, among those that are not confirmed
-abbrev pub place_of : LogState → ℕ → ℕ
-place_of log index = slice_index log.places index - log.confirmed
+abbrev pub pending_place : LogState → ℕ → ℕ
+pending_place log index = slice_index log.places index - log.confirmed
 
 -- what the flight's values give as the result of a call
 abbrev pub result_by : List (Option ℕ) → LogState → ℕ → ℕ
-result_by values log index = result_for (slice_get log.calls index) (unwrap_or (slot_at values (place_of log index)) 0)
+result_by values log index = result_for (slice_get log.calls index) (unwrap_or (slot_at values (pending_place log index)) 0)
 
 -- The results of so many calls from this one on are taken from the values of the flight.
 abbrev pub filled : List (Option ℕ) → LogState → ℕ → ℕ → List ℕ → List ℕ
@@ -188,6 +188,10 @@ all_taken values log = record log { results = filled values log log.came (log.wh
 -- all entries are confirmed, and the calls that were issued whole have come
 abbrev pub all_confirmed : LogState → LogState
 all_confirmed log = record log { confirmed = length log.entries; came = log.whole; known = log.whole }
+
+-- all entries are confirmed, while the last call has not come
+abbrev pub entries_confirmed : LogState → LogState
+entries_confirmed log = record log { confirmed = length log.entries }
 
 -- the result at this place, where it has come
 abbrev pub result_at : LogState → ℕ → ℕ
@@ -235,7 +239,7 @@ IsStopped ends.ReplyBad old new s = (s ≡ ReplyBad) × (new ≡ record old { en
 
 -- ---- a packet and a reply are kept only where one was the end
 
-keeps_at : (end : Option Stop) (a : Reported) (sent got : List ℕ) → a.sent ≡ kept_at end sent → a.got ≡ kept_at end got → KeepsReplyAt end a
+keeps_at : (end : Option Stop) (a : AccessView) (sent got : List ℕ) → a.sent ≡ kept_at end sent → a.got ≡ kept_at end got → KeepsReplyAt end a
 keeps_at None a sent got s g = record { sent = s; got = g }
 keeps_at (Some (Cut r)) a sent got s g = tt
 keeps_at (Some (BenchFault issued confirmed)) a sent got s g = record { sent = s; got = g }

@@ -1,9 +1,9 @@
 -- The mark of a `finish` after the last call, and the calls without it.
 use Rattle.std.specs.Prelude.{◌≡◌, ℕ, zero, suc, ◌<◌, false, List, [], ◌∷◌, ◌++◌, length, take, refl}
 use Rattle.std.proofs.Common.{◌∙◌, sym, ap, arith}
-use Rattle.call_terms.specs.Asks.{is_settled, settled_last}
-use Rattle.call_terms.specs.declared.calls.Ask.{Ask}
-use Rattle.call_terms.proofs.MarkLemmas.{settled_append}
+use Rattle.target_calls.specs.Asks.{is_settled, settled_last}
+use Rattle.target_calls.specs.declared.calls.Ask.{Ask}
+use Rattle.target_calls.proofs.MarkLemmas.{settled_append}
 
 -- The last call has no mark: its own entries are all that it has.
 abbrev pub unmarked_last : List Ask → List Ask

@@ -12,12 +12,12 @@ use Rattle.target_machine.specs.declared.access.RegAccess.{RegAccess}
 use Rattle.target_machine.specs.declared.unit.Call.TheVariants.{Access}
 use Rattle.target_machine.specs.declared.unit.Unit.{Unit as AccessUnit}
 use Rattle.target_machine.specs.declared.unit.Unit.TheVariants as unit
-use Rattle.call_terms.specs.Asks.{is_forgiving}
+use Rattle.target_calls.specs.Asks.{is_forgiving}
 use Rattle.target_machine.specs.Counts.{one_if}
-use Rattle.call_terms.specs.Journal.{Entry, settles}
-use Rattle.call_terms.specs.declared.calls.Ask.{Ask}
-use Rattle.call_terms.specs.declared.journal.Part.{Part}
-use Rattle.call_terms.specs.declared.journal.Part.TheVariants.{Ends, Leads, Settles}
+use Rattle.target_calls.specs.Journal.{Entry, settles}
+use Rattle.target_calls.specs.declared.calls.Ask.{Ask}
+use Rattle.target_calls.specs.declared.journal.Part.{Part}
+use Rattle.target_calls.specs.declared.journal.Part.TheVariants.{Ends, Leads, Settles}
 use Rattle.access_regs.specs.Journal.{Issue, Step, actions_of, after_settling, before, by_cfg, by_cfg_read, by_csw, by_plan, entries_at, finish, gives, issued, issued_from, kept_at, making, numbered, planned, steps_of, target_at}
 use Rattle.access_regs.specs.Kept.{Kept, csw_of, is_known, known, nothing_kept, unknown}
 use Rattle.access_regs.specs.Plan.{cfg_plan, csw_needed, first_plan, high_needed, leads, learned, made, needs_settle, planned_csw, port_writes, select_needed, select_value, settle, settled, tar_needed, unless}
@@ -27,7 +27,7 @@ use Rattle.access_regs.proofs.AllCalls.{known_nothing}
 use Rattle.access_regs.proofs.Few.{Ready, few_unless, made_large, made_ready, ready_leads, ready_plan, settled_large, unit_here}
 use Rattle.access_regs.proofs.PortFacts.{known_same, table_kept}
 use Rattle.access_calls.specs.Bounds.{AreNextWrites, IsWriteAt}
-use Rattle.calls_in_flight.specs.Packets.{is_drw_write}
+use Rattle.flight_laws.specs.Packets.{is_drw_write}
 use Rattle.packed_access.specs.Blocks.{changes_after, changes_in, differs, others_in}
 use Rattle.packed_access.specs.Sparing.{marks_in}
 

@@ -8,8 +8,8 @@ use Rattle.target_machine.specs.State.{TargetState}
 use Rattle.target_machine.specs.declared.access.RegAccess.{RegAccess}
 use Rattle.target_machine.specs.declared.unit.Unit.{Unit as AccessUnit}
 use Rattle.target_machine.specs.Counts.{one_if}
-use Rattle.call_terms.specs.World.{start_world, stop}
-use Rattle.call_terms.specs.declared.calls.Ask.{Ask}
+use Rattle.target_calls.specs.World.{start_world, stop}
+use Rattle.target_calls.specs.declared.calls.Ask.{Ask}
 use Rattle.access_regs.specs.Journal.{gives, making, port_of}
 use Rattle.access_regs.specs.Kept.{Kept}
 use Rattle.access_regs.specs.Plan.{cfg_plan, learned_cfg, needs_cfg, needs_csw, needs_settle, settle, settled}

@@ -5,18 +5,21 @@ use Rattle.target_machine.specs.declared.unit.Call.TheVariants.{Access}
 use Rattle.target_machine.specs.declared.unit.Unit.TheVariants as unit
 use Rattle.probe_core.specs.Bench.{BenchState}
 use Rattle.probe_core.specs.Probe.{target_of}
-use Rattle.call_terms.specs.declared.calls.Ask.{Ask}
+use Rattle.target_calls.specs.declared.calls.Ask.{Ask}
 use Rattle.access_regs.specs.Entries.{kept_by}
 use Rattle.access_regs.specs.Kept.{Kept}
+use Rattle.access_calls.specs.Standing.{setting_of}
 use Rattle.packed_access.specs.Actions.{entry_of}
 use Rattle.packed_access.specs.Begun.{HasIssued}
 use Rattle.packed_access.specs.Logs.{LogState}
 use Rattle.access_regs.specs.declared.planner.Planner.{Planner}
 
--- The last call is this poll, asked after these; all entries before its own are confirmed, and this is known of the registers.
-pub record HasPoll (p : Planner) (state : Option BenchState) (log : LogState) (kept : Kept) (calls : List Ask) (ask : Ask) (mask requested turns : ℕ) (m0 : BenchState) : Type 0 where
+-- The last call is this poll, asked after these; all entries before its own are confirmed, and this is known of the registers. The
+-- access began with this retry number.
+pub record HasPoll (p : Planner) (state : Option BenchState) (log : LogState) (kept : Kept) (calls : List Ask) (ask : Ask) (mask requested turns retry : ℕ) (m0 : BenchState) : Type 0 where
   pub are : log.calls ≡ calls ++ ask ∷ []
   pub call : ask.call ≡ Access (unit.Poll mask requested turns)
   pub unmarked : ask.settled ≡ false
   pub kept_is : kept_by p (target_of m0.probe) calls ≡ kept
   pub issued : HasIssued p state log [] (entry_of calls (Polls mask requested turns) ∷ []) m0
+  pub set : (setting_of m0).retry ≡ retry

@@ -19,11 +19,11 @@ use Rattle.probe_core.specs.Bench.{Reported as BenchReported}
 use Rattle.probe_core.specs.Probe.{target_of}
 use Rattle.probe_core.specs.Ranges.{AreLimits}
 use Rattle.probe_core.specs.declared.job.Limits.{Limits}
-use Rattle.call_terms.specs.Asks.{AreAskable, IsCallInRange, is_forgiving}
+use Rattle.target_calls.specs.Asks.{AreAskable, IsCallInRange, is_forgiving}
 use Rattle.target_machine.specs.Counts.{one_if}
-use Rattle.call_terms.specs.Journal.{Entry}
-use Rattle.call_terms.specs.Weights.{registers_in}
-use Rattle.call_terms.specs.declared.calls.Ask.{Ask}
+use Rattle.target_calls.specs.Journal.{Entry}
+use Rattle.target_calls.specs.Weights.{registers_in}
+use Rattle.target_calls.specs.declared.calls.Ask.{Ask}
 use Rattle.access_regs.specs.Costs.{cost_by, leading_reads}
 use Rattle.access_regs.specs.Journal.{gives, issued, planned}
 use Rattle.access_regs.specs.Kept.{Kept, known, nothing_kept}
@@ -37,9 +37,9 @@ use Rattle.access_calls.specs.Bounds.{AreNextWrites, KeepsBounds, KeepsBoundsIf,
 use Rattle.access_calls.specs.Reported.{Beginning, began}
 use Rattle.access_calls.specs.Standing.{WhereObservable}
 use Rattle.access_calls.specs.declared.stop.Stop.{Stop}
-use Rattle.calls_in_flight.proofs.ActionLemmas.{few_packets}
-use Rattle.calls_in_flight.proofs.WriteLemmas.{writes_are_few}
-use Rattle.calls_in_flight.specs.Packets.{drw_writes_in, is_drw_write}
+use Rattle.flight_laws.proofs.ActionLemmas.{few_packets}
+use Rattle.flight_laws.proofs.WriteLemmas.{writes_are_few}
+use Rattle.flight_laws.specs.Packets.{drw_writes_in, is_drw_write}
 use Rattle.packed_access.specs.Begun.{IsOpenAt, IsSince}
 use Rattle.bench_flights.specs.Full.{transfer_accesses}
 use Rattle.packed_access.specs.Blocks.{AreBlocks, changes_after, changes_in, others_in}

@@ -8,14 +8,14 @@ use Rattle.probe_core.specs.Probe.{target_of}
 use Rattle.probe_core.specs.Ranges.{AreLimits}
 use Rattle.probe_core.specs.declared.job.Limits.{Limits}
 use Rattle.target_machine.specs.Counts.{one_if}
-use Rattle.call_terms.specs.NeedPoints.{Asks, capped_sum}
-use Rattle.call_terms.specs.Weights.{registers_in}
-use Rattle.call_terms.specs.declared.calls.Ask.{Ask}
+use Rattle.target_calls.specs.NeedPoints.{Asks, capped_sum}
+use Rattle.target_calls.specs.Weights.{registers_in}
+use Rattle.target_calls.specs.declared.calls.Ask.{Ask}
 use Rattle.access_regs.specs.Costs.{cost_by}
 use Rattle.access_regs.specs.Journal.{is_alone, issued}
 use Rattle.access_regs.specs.Kept.{Kept}
 use Rattle.access_calls.specs.Bounds.{capacity}
-use Rattle.access_calls.specs.Standing.{WhereObservable}
+use Rattle.access_calls.specs.Standing.{WhereObservable, setting_of}
 use Rattle.batch_packer.specs.Flying.{CanFly}
 use Rattle.bench_flights.specs.Flown.{SendsFew}
 use Rattle.packed_access.specs.Begun.{HasBegun}
@@ -79,6 +79,12 @@ pub record HasBegunSparing (p : Planner) (limits : Limits) (bench : BenchReporte
   pub begun : HasBegun p bench state log sent got kept accesses m0
   pub paid : log.end ≡ None → HasPaid p limits bench.limits state log (left_of log) m0
   pub needed : log.end ≡ None → AreNeeded p (target_of m0.probe) (asks_of log)
+
+-- So it is, and the access began with this retry number, which polls set again.
+pub record HasBegunSet (retry : ℕ) (p : Planner) (limits : Limits) (bench : BenchReported) (state : Option BenchState) (log : LogState) (sent got : List ℕ) (kept : Kept)
+    (accesses : List RegAccess) (m0 : BenchState) : Type 0 where
+  pub sparing : HasBegunSparing p limits bench state log sent got kept accesses m0
+  pub set : (setting_of m0).retry ≡ retry
 
 -- a flight of a unit that is made alone: it came, and another may follow; or it faulted, and ABORT was written
 abbrev pub WentFew : Option ℕ → BenchState → BenchState → Type 0

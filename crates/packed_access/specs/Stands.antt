@@ -10,22 +10,22 @@ use Rattle.target_machine.specs.declared.access.RegAccess.{RegAccess}
 use Rattle.probe_core.specs.Bench.{BenchState}
 use Rattle.probe_core.specs.Bench.{Reported as BenchReported}
 use Rattle.probe_core.specs.Probe.{target_of}
-use Rattle.call_terms.specs.Asks.{ForgiveNothing, is_forgiving, is_settled}
-use Rattle.call_terms.specs.Journal.{Entry, actions_in, target_after}
-use Rattle.call_terms.specs.declared.calls.Ask.{Ask}
+use Rattle.target_calls.specs.Asks.{ForgiveNothing, is_forgiving, is_settled}
+use Rattle.target_calls.specs.Journal.{Entry, actions_in, target_after}
+use Rattle.target_calls.specs.declared.calls.Ask.{Ask}
 use Rattle.access_regs.specs.Entries.{kept_by}
 use Rattle.access_regs.specs.Journal.{issued, issued_from, kept_from, making}
 use Rattle.access_regs.specs.Kept.{Kept, nothing_kept}
 use Rattle.access_regs.proofs.Joins.{journal_joins}
 use Rattle.access_calls.specs.Issued.{kept_of}
 use Rattle.access_calls.specs.Left.{IsLeft}
-use Rattle.access_calls.specs.Reported.{Reported, began}
+use Rattle.access_calls.specs.Reported.{AccessView, began}
 use Rattle.access_calls.specs.Standing.{Stands, WhereObservable}
 use Rattle.access_calls.specs.declared.issued.Issued.{Issued}
 use Rattle.access_calls.specs.declared.stop.Stop.{Stop}
-use Rattle.calls_in_flight.specs.Ending.{BegunAt, IsBegun}
-use Rattle.calls_in_flight.specs.Flying.{IsFlying}
-use Rattle.calls_in_flight.proofs.EndLemmas.{begun_stands}
+use Rattle.flight_laws.specs.Ending.{BegunAt, IsBegun}
+use Rattle.flight_laws.specs.Flying.{IsFlying}
+use Rattle.flight_laws.proofs.EndLemmas.{begun_stands}
 use Rattle.packed_access.specs.Begun.{HasBegun, IsGivenAt, IsIssuing, IsOpenAt, IsSince}
 use Rattle.packed_access.specs.Logs.{LogState, reported_by}
 use Rattle.packed_access.specs.Marks.{unmarked_same}

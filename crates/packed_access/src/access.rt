@@ -4,11 +4,14 @@ ghost use Rattle.packed_access.specs.Settling.{CanSettle};
 
 use crate::sender::Sender;
 use bench_flights::{Alone, Flights, Wire};
+use probe_core::Config;
 
 /// An access that collects register accesses in flights.
 #[derive(Drop)]
 pub struct PackedAccess<F: Flights> {
     pub(crate) sender: Sender<F>,
+    // what the probe is set to, which polls set again
+    pub(crate) config: Config,
     // All calls were issued whole.
     ghost whole: { sender.log.end ≡ None → sender.log.whole ≡ length sender.log.calls },
     // There is room for a settling after them.

@@ -7,24 +7,26 @@ ghost use Rattle.probe_core.specs.Bench.{BenchState};
 ghost use Rattle.access_calls.specs.Answers.{HasSlot, IsSmallWhere, NoMemory};
 ghost use Rattle.access_calls.specs.GoesOn.{GoesOn};
 ghost use Rattle.access_calls.specs.Left.{IsLeft};
+ghost use Rattle.access_calls.specs.Standing.{setting_of};
 ghost use Rattle.packed_access.specs.Settling.{CanSettle};
 ghost use Rattle.packed_access.specs.Begun.{HasAsked, HasBegun, HasEnded, StopsThere};
 ghost use Rattle.packed_access.specs.Sparing.{HasPaid};
 ghost use Rattle.packed_access.specs.Logs.{asks_of, most_entries, reported_by};
 ghost use Rattle.packed_access.specs.Settling.{CanSettle};
-ghost use Rattle.call_terms.specs.World.{small_now, start_world};
-ghost use Rattle.call_terms.specs.declared.calls.Ask.{Ask};
-ghost use Rattle.call_terms.specs.NeedPoints.{asked};
-ghost use Rattle.call_terms.specs.Asks.{IsProbeInRange, IsUnitInRange, is_wide, unit_ask};
+ghost use Rattle.target_calls.specs.World.{small_now, start_world};
+ghost use Rattle.target_calls.specs.declared.calls.Ask.{Ask};
+ghost use Rattle.target_calls.specs.NeedPoints.{asked};
+ghost use Rattle.target_calls.specs.Asks.{IsProbeInRange, IsUnitInRange, is_wide, unit_ask};
 ghost use Rattle.probe_core.specs.Probe.{target_of};
 ghost use Rattle.access_regs.specs.Costs.{command_cost, cost_by};
 ghost use Rattle.access_regs.specs.Journal.{is_alone};
 
 use crate::access::PackedAccess;
-use crate::sender::{Sender, counted};
+use crate::sender::{Sender, count_points};
 use access_calls::{Access, Stop};
 use bench_flights::Flights;
-use call_terms::{Ask, Asked, Slot};
+use probe_core::Config;
+use target_calls::{Ask, Asked, Slot};
 use target_machine::{Call, ProbeCall, Unit};
 
 // Whether a fault of the unit is forgiven: error control counts for memory and AP units alone.
@@ -90,24 +92,29 @@ fn makes_alone<F: Flights>(unit: &Unit, forgive: bool) -> bool
 
 impl<F: Flights> Sender<F> {
     // Issues the unit of the last call. Answers whether its access port has no large addresses.
-    pub(crate) fn issue_asked(&mut self, unit: &Unit, forgive: bool) -> Result<bool, Stop>
+    pub(crate) fn issue_asked(
+        &mut self,
+        config: Config,
+        unit: &Unit,
+        forgive: bool,
+    ) -> Result<bool, Stop>
         requires open { self.old.log.end ≡ None }
         requires sound { IsSound unit.now }
         requires whole { self.old.log.whole + 1 ≡ length self.old.log.calls }
         requires room { length self.old.log.entries + most_entries ≤ self.old.log.room }
         requires bounded { length self.old.log.entries + most_entries ≤ most_entries * length self.old.log.calls }
-        ensures on { (m0 : BenchState) (calls : List Ask) (ask : Ask) → ask ≡ unit_ask unit.now forgive → HasAsked F.planner (F.state self.old.flights) self.old.log (F.accesses self.old.flights) self.old.managed calls ask m0
+        ensures on { (m0 : BenchState) (calls : List Ask) (ask : Ask) → (setting_of m0).retry ≡ config.retry → ask ≡ unit_ask unit.now forgive → HasAsked F.planner (F.state self.old.flights) self.old.log (F.accesses self.old.flights) self.old.managed calls ask m0
             → OnOk result (HasBegun F.planner (F.reported self.new.flights) (F.state self.new.flights) self.new.log (F.packet self.new.flights) (F.reply self.new.flights) self.new.managed (F.accesses self.new.flights) m0) }
-        ensures spare { (m0 : BenchState) (calls : List Ask) (ask : Ask) (left : ℕ) → ask ≡ unit_ask unit.now forgive → HasAsked F.planner (F.state self.old.flights) self.old.log (F.accesses self.old.flights) self.old.managed calls ask m0
+        ensures spare { (m0 : BenchState) (calls : List Ask) (ask : Ask) (left : ℕ) → (setting_of m0).retry ≡ config.retry → ask ≡ unit_ask unit.now forgive → HasAsked F.planner (F.state self.old.flights) self.old.log (F.accesses self.old.flights) self.old.managed calls ask m0
             → HasPaid F.planner (F.limits self.old.flights) (F.reported self.old.flights).limits (F.state self.old.flights) self.old.log left m0
             → OnOk result (HasPaid F.planner (F.limits self.new.flights) (F.reported self.new.flights).limits (F.state self.new.flights) self.new.log left m0) }
-        ensures small { (m0 : BenchState) (calls : List Ask) (ask : Ask) → ask ≡ unit_ask unit.now forgive → HasAsked F.planner (F.state self.old.flights) self.old.log (F.accesses self.old.flights) self.old.managed calls ask m0
+        ensures small { (m0 : BenchState) (calls : List Ask) (ask : Ask) → (setting_of m0).retry ≡ config.retry → ask ≡ unit_ask unit.now forgive → HasAsked F.planner (F.state self.old.flights) self.old.log (F.accesses self.old.flights) self.old.managed calls ask m0
             → IfOk result (λ small. small ≡ small_now (start_world (target_of m0.probe) None) calls ask) }
-        ensures needs { (m0 : BenchState) (calls : List Ask) (ask : Ask) → ask ≡ unit_ask unit.now forgive → HasAsked F.planner (F.state self.old.flights) self.old.log (F.accesses self.old.flights) self.old.managed calls ask m0
+        ensures needs { (m0 : BenchState) (calls : List Ask) (ask : Ask) → (setting_of m0).retry ≡ config.retry → ask ≡ unit_ask unit.now forgive → HasAsked F.planner (F.state self.old.flights) self.old.log (F.accesses self.old.flights) self.old.managed calls ask m0
             → OnOk result (asks_of self.new.log ≡ asked (cost_by F.planner (target_of m0.probe) calls ask) ask (record { calls = calls; needs = self.old.log.needs; fence = self.old.log.fence })) }
-        ensures broke { (m0 : BenchState) (calls : List Ask) (ask : Ask) → ask ≡ unit_ask unit.now forgive → HasAsked F.planner (F.state self.old.flights) self.old.log (F.accesses self.old.flights) self.old.managed calls ask m0
+        ensures broke { (m0 : BenchState) (calls : List Ask) (ask : Ask) → (setting_of m0).retry ≡ config.retry → ask ≡ unit_ask unit.now forgive → HasAsked F.planner (F.state self.old.flights) self.old.log (F.accesses self.old.flights) self.old.managed calls ask m0
             → IfErr result (λ s. HasEnded F.planner s (reported_by (F.reported self.new.flights) (F.state self.new.flights) self.new.log (F.packet self.new.flights) (F.reply self.new.flights)) self.new.log m0) }
-        ensures stops { (m0 : BenchState) (calls : List Ask) (ask : Ask) (answered : Option ℕ) → ask ≡ unit_ask unit.now forgive → HasAsked F.planner (F.state self.old.flights) self.old.log (F.accesses self.old.flights) self.old.managed calls ask m0
+        ensures stops { (m0 : BenchState) (calls : List Ask) (ask : Ask) (answered : Option ℕ) → (setting_of m0).retry ≡ config.retry → ask ≡ unit_ask unit.now forgive → HasAsked F.planner (F.state self.old.flights) self.old.log (F.accesses self.old.flights) self.old.managed calls ask m0
             → IsLeft (reported_by (F.reported self.new.flights) (F.state self.new.flights) self.new.log (F.packet self.new.flights) (F.reply self.new.flights)) answered
             → IfErr result (StopsThere m0 answered self.old.log.calls self.new.log.lines) }
         ensures goes { GoesOn (reported_by (F.reported self.old.flights) (F.state self.old.flights) self.old.log (F.packet self.old.flights) (F.reply self.old.flights))
@@ -122,7 +129,7 @@ impl<F: Flights> Sender<F> {
         ensures identity { F.identity self.new.flights ≡ F.identity self.old.flights }
     {
         match *unit {
-            Unit::Poll { mask, value, turns } => match self.ask_poll(mask, value, turns) {
+            Unit::Poll { mask, value, turns } => match self.ask_poll(config, mask, value, turns) {
                 Ok(()) => Ok(false),
                 Err(stop) => Err(stop),
             },
@@ -139,7 +146,7 @@ impl<F: Flights> Sender<F> {
 
 impl<F: Flights> Access for PackedAccess<F> {
     ghost use Rattle.access_regs.specs.Journal.{issued};
-    ghost use Rattle.packed_access.specs.Sparing.{HasBegunSparing, keeps_bounds};
+    ghost use Rattle.packed_access.specs.Sparing.{HasBegunSet, keeps_bounds};
     ghost use Rattle.access_regs.specs.Costs.{cost_by};
     ghost use Rattle.packed_access.specs.Logs.{keeps_by, reported_by};
     ghost use Rattle.packed_access.specs.Grows.{grows_packed, settles_packed};
@@ -150,7 +157,7 @@ impl<F: Flights> Access for PackedAccess<F> {
 
     ghost identity = { λ s. F.identity s.sender.flights };
 
-    ghost begun = { λ s m. HasBegunSparing F.planner (F.limits s.sender.flights) (F.reported s.sender.flights) (F.state s.sender.flights) s.sender.log (F.packet s.sender.flights) (F.reply s.sender.flights) s.sender.managed (F.accesses s.sender.flights) m };
+    ghost begun = { λ s m. HasBegunSet s.config.retry F.planner (F.limits s.sender.flights) (F.reported s.sender.flights) (F.state s.sender.flights) s.sender.log (F.packet s.sender.flights) (F.reply s.sender.flights) s.sender.managed (F.accesses s.sender.flights) m };
 
     ghost journal = { issued F.planner };
 
@@ -164,9 +171,9 @@ impl<F: Flights> Access for PackedAccess<F> {
 
     ghost keeps = { λ s. keeps_by (F.reported s.sender.flights) (F.state s.sender.flights) s.sender.log (F.packet s.sender.flights) (F.reply s.sender.flights) };
 
-    ghost stands = { λ s m answered is left. stands_packed F.planner _ _ _ _ _ _ _ m answered is.begun left };
+    ghost stands = { λ s m answered is left. stands_packed F.planner _ _ _ _ _ _ _ m answered is.sparing.begun left };
 
-    ghost spares = { λ s m answered is left. spares_by F.planner _ _ _ _ _ _ _ _ m answered is };
+    ghost spares = { λ s m answered is left. spares_by F.planner _ _ _ _ _ _ _ _ m answered is.sparing };
 
     fn ask(&mut self, unit: Unit, forgive: bool) -> Result<Asked, Stop> {
         if let Some(stop) = self.sender.log.end() {
@@ -177,7 +184,7 @@ impl<F: Flights> Access for PackedAccess<F> {
         if self.sender.log.ask(ask).is_err() {
             return Err(Stop::OutOfMemory);
         }
-        match self.sender.issue_asked(&unit, forgive) {
+        match self.sender.issue_asked(self.config, &unit, forgive) {
             Ok(small) => Ok(answer(small && is_wide(&unit), index)),
             Err(stop) => Err(stop),
         }
@@ -204,7 +211,7 @@ impl<F: Flights> Access for PackedAccess<F> {
             Err(stop) => Err(stop),
             Ok(word) => {
                 let count = self.sender.log.count();
-                self.sender.log.need(counted::<F>(points), count);
+                self.sender.log.need(count_points::<F>(points), count);
                 Ok(u64::from(word))
             }
         }
@@ -212,13 +219,13 @@ impl<F: Flights> Access for PackedAccess<F> {
 
     fn value(&mut self, slot: Slot) -> Result<u64, Stop> {
         if self.sender.log.is_known(slot.index) {
-            return Ok(self.sender.log.used(slot));
+            return Ok(self.sender.log.use_slot(slot));
         }
         if let Some(stop) = self.sender.log.end() {
             return Err(stop);
         }
         match self.sender.send() {
-            Ok(()) => Ok(self.sender.log.used(slot)),
+            Ok(()) => Ok(self.sender.log.use_slot(slot)),
             Err(stop) => Err(stop),
         }
     }

@@ -19,10 +19,10 @@ ghost use Rattle.bench_flights.specs.Flown.{SendsFew};
 ghost use Rattle.packed_access.specs.Sparing.{HasPaid};
 ghost use Rattle.batch_packer.specs.Flying.{CanFly};
 ghost use Rattle.packed_access.specs.Logs.{IsFurther, IsSoundState, asks_of, most_entries, reported_by};
-ghost use Rattle.call_terms.specs.World.{small_now, start_world};
-ghost use Rattle.call_terms.specs.declared.calls.Ask.{Ask};
-ghost use Rattle.call_terms.specs.NeedPoints.{asked};
-ghost use Rattle.call_terms.specs.Asks.{unit_ask};
+ghost use Rattle.target_calls.specs.World.{small_now, start_world};
+ghost use Rattle.target_calls.specs.declared.calls.Ask.{Ask};
+ghost use Rattle.target_calls.specs.NeedPoints.{asked};
+ghost use Rattle.target_calls.specs.Asks.{unit_ask};
 ghost use Rattle.probe_core.specs.Probe.{target_of};
 ghost use Rattle.target_machine.specs.declared.unit.Call.TheVariants.{Access};
 ghost use Rattle.access_regs.specs.Costs.{cost_by};
@@ -33,16 +33,16 @@ ghost use Rattle.access_regs.specs.declared.planner.Planner.TheVariants.{Managed
 
 use crate::log::CallLog;
 use crate::planned::port_of;
-use crate::sender::{Sender, counted};
+use crate::sender::{Sender, count_points};
 use access_calls::Stop;
 use bench_flights::Flights;
-use call_terms::accesses::{access_ap, access_drw, high_of, low_of};
+use target_calls::accesses::{access_ap, access_drw, high_of, low_of};
 use target_machine::registers::{CFG, CSW, TAR, TAR_HIGH};
 use target_machine::{RegAccess, Unit, plain_csw};
 
 // How a unit went.
 #[derive(Drop)]
-struct Tried {
+struct Attempt {
     // its access port has no large addresses
     small: bool,
     // what its last access gave; none where it was skipped
@@ -52,12 +52,12 @@ struct Tried {
 }
 
 // The unit was made, or skipped, after so many reads.
-fn went(word: Option<u32>, reads: u64) -> Tried
+fn made(word: Option<u32>, reads: u64) -> Attempt
     ensures small { result.small ≡ false }
     ensures word { result.word ≡ word }
     ensures reads { result.reads ≡ reads }
 {
-    Tried {
+    Attempt {
         small: false,
         word,
         reads,
@@ -65,7 +65,7 @@ fn went(word: Option<u32>, reads: u64) -> Tried
 }
 
 // All that the last call issues was made: it came, and its last access gave this word, or it was skipped.
-fn close(log: &mut CallLog, word: Option<u32>)
+fn close_call(log: &mut CallLog, word: Option<u32>)
     requires open { log.old.end ≡ None }
     requires some { 0 < length log.old.calls }
     ensures answer { log.new ≡ closed word log.old }
@@ -168,7 +168,7 @@ impl<F: Flights> Sender<F> {
         address: u64,
         value: u32,
         forgive: bool,
-    ) -> Result<Tried, Stop>
+    ) -> Result<Attempt, Stop>
         requires open { self.old.log.end ≡ None }
         requires whole { self.old.log.whole + 1 ≡ length self.old.log.calls }
         requires came { self.old.log.came ≡ self.old.log.whole }
@@ -203,24 +203,24 @@ impl<F: Flights> Sender<F> {
     {
         let cfg = match self.try_port(ap, CFG / 16, access_ap(true, CFG % 16, 0), false, forgive) {
             Ok(Some(cfg)) => cfg,
-            Ok(None) => return Ok(went(None, 1)),
+            Ok(None) => return Ok(made(None, 1)),
             Err(stop) => return Err(stop),
         };
         if !self.managed.learn_cfg(ap, cfg) {
-            return Ok(Tried {
+            return Ok(Attempt {
                 small: true,
                 word: Some(0),
                 reads: 1,
             });
         }
         match self.try_memory(true, size, read, ap, address, value, forgive) {
-            Ok(word) => Ok(went(word, 2)),
+            Ok(word) => Ok(made(word, 2)),
             Err(stop) => Err(stop),
         }
     }
 
     // Makes the accesses of a unit.
-    fn try_unit(&mut self, unit: &Unit, forgive: bool) -> Result<Tried, Stop>
+    fn try_unit(&mut self, unit: &Unit, forgive: bool) -> Result<Attempt, Stop>
         requires open { self.old.log.end ≡ None }
         requires whole { self.old.log.whole + 1 ≡ length self.old.log.calls }
         requires came { self.old.log.came ≡ self.old.log.whole }
@@ -265,7 +265,7 @@ impl<F: Flights> Sender<F> {
                 }
                 let large = self.is_large(ap);
                 match self.try_memory(large, size, read, ap, address, value, forgive) {
-                    Ok(word) => Ok(went(word, 1)),
+                    Ok(word) => Ok(made(word, 1)),
                     Err(stop) => Err(stop),
                 }
             }
@@ -277,11 +277,11 @@ impl<F: Flights> Sender<F> {
             } => {
                 let access = access_ap(read, addr % 16, value);
                 match self.try_port(ap, addr / 16, access, true, forgive) {
-                    Ok(word) => Ok(went(word, 0)),
+                    Ok(word) => Ok(made(word, 0)),
                     Err(stop) => Err(stop),
                 }
             }
-            Unit::Dp { .. } | Unit::Poll { .. } => Ok(went(Some(0), 0)),
+            Unit::Dp { .. } | Unit::Poll { .. } => Ok(made(Some(0), 0)),
         }
     }
 
@@ -333,8 +333,8 @@ impl<F: Flights> Sender<F> {
             Err(stop) => Err(stop),
             Ok(tried) => {
                 self.managed.forget(port_of(unit));
-                close(&mut self.log, tried.word);
-                self.log.need(counted::<F>(5 + tried.reads), count);
+                close_call(&mut self.log, tried.word);
+                self.log.need(count_points::<F>(5 + tried.reads), count);
                 Ok(tried.small)
             }
         }

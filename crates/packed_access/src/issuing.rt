@@ -9,11 +9,11 @@ ghost use Rattle.batch_packer.specs.SlotList.{slot_at};
 ghost use Rattle.access_regs.specs.Costs.{command_cost};
 ghost use Rattle.access_regs.specs.Journal.{gives, issued};
 ghost use Rattle.target_machine.specs.Sound.{IsSoundProbe};
-ghost use Rattle.call_terms.specs.Asks.{probe_ask};
-ghost use Rattle.call_terms.specs.declared.calls.Ask.{Ask};
+ghost use Rattle.target_calls.specs.Asks.{probe_ask};
+ghost use Rattle.target_calls.specs.declared.calls.Ask.{Ask};
 ghost use Rattle.flight_forms.specs.Packing.{IsTaken};
 ghost use Rattle.probe_core.specs.Bench.{BenchState};
-ghost use Rattle.call_terms.specs.Journal.{Entry, target_after};
+ghost use Rattle.target_calls.specs.Journal.{Entry, target_after};
 ghost use Rattle.access_calls.specs.Answers.{AtCut, NoMemory};
 ghost use Rattle.bench_flights.specs.Full.{IsFull};
 ghost use Rattle.packed_access.specs.Sparing.{HasSpared};
@@ -22,7 +22,7 @@ ghost use Rattle.access_calls.specs.Issued.{kept_of, lines_before_kept};
 ghost use Rattle.access_calls.specs.Left.{IsLeft};
 ghost use Rattle.access_regs.specs.Plan.{settle, settled};
 ghost use Rattle.access_regs.specs.Plans.{accesses_of};
-ghost use Rattle.call_terms.specs.declared.journal.Part.TheVariants.{Ends, Leads, Settles};
+ghost use Rattle.target_calls.specs.declared.journal.Part.TheVariants.{Ends, Leads, Settles};
 ghost use Rattle.access_regs.specs.declared.planner.Planner.TheVariants.{Managed};
 ghost use Rattle.packed_access.specs.Begun.{HasEnded, HasIssued, StopsThere, entries_of, target_issued};
 ghost use Rattle.packed_access.specs.Actions.{entry_of, log_done};
@@ -33,7 +33,7 @@ use crate::sender::Sender;
 use access_calls::Stop;
 use access_regs::Plan;
 use bench_flights::Flights;
-use call_terms::Part;
+use target_calls::Part;
 use target_machine::{ProbeCall, RegAccess};
 
 // Takes the results of the calls whose entries lie in the flight that came.
@@ -44,13 +44,13 @@ pub(crate) fn take_values<F: Flights>(log: &mut CallLog, flights: &F)
     ensures sound { IsSoundState log.new }
 {
     for index in log.came()..log.whole() {
-        let word = flights.value(log.place_of(index));
+        let word = flights.value(log.pending_place(index));
         log.take(index, word);
     }
 }
 
 // The accesses of a plan.
-pub(crate) fn listed(plan: &Plan) -> &[RegAccess]
+pub(crate) fn list_accesses(plan: &Plan) -> &[RegAccess]
     ensures { result.now ≡ accesses_of plan.now }
 {
     let accesses = &plan.accesses[..];
@@ -262,7 +262,7 @@ impl<F: Flights> Sender<F> {
     {
         let plan = self.managed.settle();
         self.managed.settled();
-        self.issue_all(unit, Part::Settles, listed(&plan))
+        self.issue_all(unit, Part::Settles, list_accesses(&plan))
     }
 
     // Makes the last call, which is a command of the probe, where all calls before it came.

@@ -1,20 +1,20 @@
 //! What an access keeps of its calls: what was asked, the results, the journal, and the end.
 ghost use Rattle.std.specs.Prelude.{◌≡◌, ℕ, ◌+◌, ◌-◌, ◌<◌, ◌≤◌, ◌++◌, ◌∷◌, [], Some, None, length, take, slice_get, ◌^◌, ◌*◌, min, nat_lt, IfSome, OnOk, OnErr};
 ghost use Rattle.target_machine.specs.Sound.{IsSoundCall};
-ghost use Rattle.call_terms.specs.Asks.{settled_last};
-ghost use Rattle.call_terms.specs.NeedPoints.{used};
+ghost use Rattle.target_calls.specs.Asks.{settled_last};
+ghost use Rattle.target_calls.specs.NeedPoints.{used};
 ghost use Rattle.access_calls.specs.Issued.{lines_before_kept};
 ghost use Rattle.access_calls.specs.declared.stop.Stop.TheVariants as Stop;
 ghost use Rattle.batch_packer.specs.FlightEnds.{IsShort};
-ghost use Rattle.packed_access.specs.Logs.{IsLogCut, IsOfCall, IsSoundState, IsStopped, all_confirmed, asks_of, most_entries, nothing_logged, pending, place_of, result_at, result_for, all_issued, with_asks, with_call, with_entry, with_needs, with_result};
+ghost use Rattle.packed_access.specs.Logs.{IsLogCut, IsOfCall, IsSoundState, IsStopped, all_confirmed, asks_of, entries_confirmed, most_entries, nothing_logged, pending, pending_place, result_at, result_for, all_issued, with_asks, with_call, with_entry, with_needs, with_result};
 
 use crate::results::result_of;
 use access_calls::{Issued, Report, Stop, StopCause, mark_last, stop_report};
 use batch_packer::{Cut, FlightEnd};
-use call_terms::{Ask, Part, Slot};
 use dap_base::OutOfMemory;
 use std::alloc::Global;
 use std::marker::Model;
+use target_calls::{Ask, Part, Slot};
 
 // How many entries of the journal a call has at most, with a settling after it.
 const MOST_ENTRIES: usize = 13;
@@ -216,9 +216,9 @@ impl CallLog {
     }
 
     // The place of the entry that gives the result of a call, among those that are not confirmed.
-    pub(crate) fn place_of(&self, index: u32) -> u32
+    pub(crate) fn pending_place(&self, index: u32) -> u32
         requires { index < length self.now.calls }
-        ensures { result ≡ place_of self.now index }
+        ensures { result ≡ pending_place self.now index }
     {
         self.places[index as usize].saturating_sub(self.confirmed)
     }
@@ -243,6 +243,14 @@ impl CallLog {
         self.known = self.whole;
     }
 
+    // All entries are confirmed: their replies were received. The last call has not come.
+    pub(crate) fn confirm_entries(&mut self)
+        ensures answer { self.new ≡ entries_confirmed self.old }
+        ensures sound { IsSoundState self.new }
+    {
+        self.confirmed = self.issued;
+    }
+
     // So many need points come, where so many calls have been asked.
     pub(crate) fn need(&mut self, points: u64, calls: u32)
         requires within { calls ≤ length self.old.calls }
@@ -256,7 +264,7 @@ impl CallLog {
     }
 
     // The value of a slot is used: the result of its call where it is known, and else 0.
-    pub(crate) fn used(&mut self, slot: Slot) -> u64
+    pub(crate) fn use_slot(&mut self, slot: Slot) -> u64
         ensures answer { self.new ≡ with_asks self.old (used slot (asks_of self.old)) }
         ensures value { result ≡ result_at self.old slot.index }
         ensures bound { result < 2 ^ 32 }

@@ -5,16 +5,17 @@ ghost use Rattle.probe_core.specs.Bench.{StepsTo};
 ghost use Rattle.batch_packer.specs.Exchanges.{IsOpen};
 ghost use Rattle.batch_packer.specs.Flying.{IsWithin};
 ghost use Rattle.bench_flights.specs.Flown.{BenchGoesOn};
-ghost use Rattle.bench_flights.specs.Opening.{HasOpened, HasTried, IsRefusal, MayBegin};
+ghost use Rattle.access_calls.specs.Opening.{HasOpened, HasTried, MayBegin, opened_bench};
+ghost use Rattle.bench_flights.specs.Opening.{IsRefusal};
 ghost use Rattle.packed_access.specs.Logs.{nothing_logged};
-ghost use Rattle.packed_access.specs.Sparing.{HasBegunSparing};
+ghost use Rattle.packed_access.specs.Sparing.{HasBegunSet};
 
 use crate::access::PackedAccess;
 use crate::log::CallLog;
 use crate::sender::Sender;
 use access_calls::NotBegun;
 use access_regs::Managed;
-use bench_flights::{FlightsOver, refused};
+use bench_flights::{FlightsOver, refuse_begin};
 use probe_core::{Bench, Config, Limits};
 use std::alloc::Global;
 
@@ -30,10 +31,10 @@ pub(crate) fn begin_over<B: Bench, F: FlightsOver<B>>(
     requires open { IsOpen (B.reported bench) }
     // Where the bench is observable, only the settings have changed, and three starting packets were received.
     ensures on { IfOk result (λ a. StepsTo (λ m o. MayBegin m → HasOpened config m o) (B.state bench) (F.Flights.state a.sender.flights)) }
-    // The access began there, before these exchanges.
-    ensures begun { IfOk result (λ a. StepsTo (λ m o. MayBegin m → HasBegunSparing F.Flights.planner (F.Flights.limits a.sender.flights) (F.Flights.reported a.sender.flights) (F.Flights.state a.sender.flights) a.sender.log
+    // The access began there, before these exchanges, with their settings.
+    ensures begun { IfOk result (λ a. StepsTo (λ m o. MayBegin m → HasBegunSet a.config.retry F.Flights.planner (F.Flights.limits a.sender.flights) (F.Flights.reported a.sender.flights) (F.Flights.state a.sender.flights) a.sender.log
         (F.Flights.packet a.sender.flights) (F.Flights.reply a.sender.flights)
-        a.sender.managed (F.Flights.accesses a.sender.flights) m) (B.state bench) (F.Flights.state a.sender.flights)) }
+        a.sender.managed (F.Flights.accesses a.sender.flights) (opened_bench config m)) (B.state bench) (F.Flights.state a.sender.flights)) }
     // Nothing is asked yet, and there is no end.
     ensures asked { IfOk result (λ a. a.sender.log ≡ nothing_logged) }
     // Its packets are within the limits; an observable bench answers just these.
@@ -51,7 +52,7 @@ pub(crate) fn begin_over<B: Bench, F: FlightsOver<B>>(
     ensures back_identity { IfErr result (λ n. B.identity n.bench ≡ B.identity bench) }
 {
     let Ok(managed) = Managed::new(alloc) else {
-        return Err(refused(bench));
+        return Err(refuse_begin(bench));
     };
     match F::begin(alloc, bench, config, limits) {
         Err(refusal) => Err(refusal),
@@ -61,6 +62,7 @@ pub(crate) fn begin_over<B: Bench, F: FlightsOver<B>>(
                 managed,
                 log: CallLog::new(alloc),
             },
+            config,
         }),
     }
 }

@@ -2,8 +2,7 @@
 use crate::access::PackedAccess;
 use crate::opening::begin_over;
 use crate::sender::Sender;
-use access_calls::NotBegun;
-use bench_access::OverBench;
+use access_calls::{NotBegun, OverBench};
 use bench_flights::FlightsOver;
 use probe_core::{Bench, Config, Limits};
 use std::alloc::Global;
@@ -19,7 +18,7 @@ impl<B: Bench, F: FlightsOver<B>> OverBench<B> for PackedAccess<F> {
     }
 
     fn into_bench(self) -> B {
-        let PackedAccess { sender } = self;
+        let PackedAccess { sender, config: _ } = self;
         let Sender {
             flights,
             managed: _,

@@ -4,31 +4,33 @@ ghost use Rattle.dap_base.specs.Bits.{has_bit};
 ghost use Rattle.target_machine.specs.Registers.{cfg_la};
 ghost use Rattle.target_machine.specs.Sound.{IsSound};
 ghost use Rattle.probe_core.specs.Bench.{BenchState};
-ghost use Rattle.call_terms.specs.Journal.{Entry};
-ghost use Rattle.call_terms.specs.declared.journal.Part.TheVariants.{Ends, Leads};
-ghost use Rattle.call_terms.specs.NeedPoints.{capped_sum};
+ghost use Rattle.target_calls.specs.Journal.{Entry};
+ghost use Rattle.target_calls.specs.declared.journal.Part.TheVariants.{Ends, Leads};
+ghost use Rattle.target_calls.specs.NeedPoints.{capped_sum};
 ghost use Rattle.target_machine.specs.Counts.{one_if};
 ghost use Rattle.access_regs.specs.Journal.{by_csw, gives, port_of};
 ghost use Rattle.access_regs.specs.Plan.{cfg_plan, first_plan, last_access, leads, learned, learned_cfg, made, needs_cfg, needs_csw};
 ghost use Rattle.access_calls.specs.Answers.{NoMemory};
 ghost use Rattle.access_calls.specs.GoesOn.{GoesOn};
 ghost use Rattle.access_calls.specs.Left.{IsLeft};
+ghost use Rattle.access_calls.specs.Standing.{setting_of};
 ghost use Rattle.packed_access.specs.Begun.{HasAsked, HasBegun, HasEnded, HasIssued, IsNoPoll, StopsThere, entries_of, steps_left, target_issued};
 ghost use Rattle.packed_access.specs.Logs.{IsFurther, asks_of, most_entries, reported_by, with_needs};
 ghost use Rattle.packed_access.specs.Settling.{CanSettle};
 ghost use Rattle.packed_access.specs.Sparing.{HasPaid, HasSpared};
-ghost use Rattle.call_terms.specs.declared.calls.Ask.{Ask};
-ghost use Rattle.call_terms.specs.NeedPoints.{asked};
+ghost use Rattle.target_calls.specs.declared.calls.Ask.{Ask};
+ghost use Rattle.target_calls.specs.NeedPoints.{asked};
 ghost use Rattle.probe_core.specs.Probe.{target_of};
 ghost use Rattle.target_machine.specs.declared.unit.Call.TheVariants.{Access};
 ghost use Rattle.access_regs.specs.Costs.{cost_by};
 ghost use Rattle.target_machine.specs.declared.unit.Unit.TheVariants as unit;
 
-use crate::issuing::listed;
-use crate::sender::{Sender, counted};
+use crate::issuing::list_accesses;
+use crate::sender::{Sender, count_points};
 use access_calls::Stop;
 use bench_flights::Flights;
-use call_terms::Part;
+use probe_core::Config;
+use target_calls::Part;
 use target_machine::Unit;
 
 // The access port of a memory or AP unit.
@@ -87,7 +89,7 @@ impl<F: Flights> Sender<F> {
     {
         let plan = self.managed.cfg_plan(unit);
         let number = self.log.count();
-        match self.read_by(number, listed(&plan)) {
+        match self.read_by(number, list_accesses(&plan)) {
             Err(stop) => Err(stop),
             Ok(cfg) => {
                 self.log.need(1, number - 1);
@@ -138,7 +140,7 @@ impl<F: Flights> Sender<F> {
     {
         let plan = self.managed.first_plan(unit);
         let number = self.log.count();
-        match self.read_by(number, listed(&plan)) {
+        match self.read_by(number, list_accesses(&plan)) {
             Err(stop) => Err(stop),
             Ok(csw) => {
                 self.log.need(1, number - 1);
@@ -183,7 +185,7 @@ impl<F: Flights> Sender<F> {
     {
         let plan = self.managed.plan(unit);
         self.managed.made(unit);
-        let accesses = listed(&plan);
+        let accesses = list_accesses(&plan);
         let last = accesses.len() - 1;
         let number = self.log.count();
         match self.issue_all(number, Part::Leads, &accesses[..last]) {
@@ -244,22 +246,28 @@ impl<F: Flights> Sender<F> {
 
     // Asks a poll.
     #[tactic(auto, using(access_calls::proofs::KeepLemmas::goes_trans, crate::proofs::GoesLemmas::goes_still))]
-    pub(crate) fn ask_poll(&mut self, mask: u32, requested: u32, turns: u32) -> Result<(), Stop>
+    pub(crate) fn ask_poll(
+        &mut self,
+        config: Config,
+        mask: u32,
+        requested: u32,
+        turns: u32,
+    ) -> Result<(), Stop>
         requires open { self.old.log.end ≡ None }
         requires sound { IsSound (unit.Poll mask requested turns) }
         requires whole { self.old.log.whole + 1 ≡ length self.old.log.calls }
         requires room { length self.old.log.entries + most_entries ≤ self.old.log.room }
         requires bounded { length self.old.log.entries + most_entries ≤ most_entries * length self.old.log.calls }
-        ensures on { (m0 : BenchState) (calls : List Ask) (ask : Ask) → ask.call ≡ Access (unit.Poll mask requested turns) → HasAsked F.planner (F.state self.old.flights) self.old.log (F.accesses self.old.flights) self.old.managed calls ask m0
+        ensures on { (m0 : BenchState) (calls : List Ask) (ask : Ask) → (setting_of m0).retry ≡ config.retry → ask.call ≡ Access (unit.Poll mask requested turns) → HasAsked F.planner (F.state self.old.flights) self.old.log (F.accesses self.old.flights) self.old.managed calls ask m0
             → OnOk result (HasBegun F.planner (F.reported self.new.flights) (F.state self.new.flights) self.new.log (F.packet self.new.flights) (F.reply self.new.flights) self.new.managed (F.accesses self.new.flights) m0) }
-        ensures spare { (m0 : BenchState) (calls : List Ask) (ask : Ask) (left : ℕ) → ask.call ≡ Access (unit.Poll mask requested turns) → HasAsked F.planner (F.state self.old.flights) self.old.log (F.accesses self.old.flights) self.old.managed calls ask m0
+        ensures spare { (m0 : BenchState) (calls : List Ask) (ask : Ask) (left : ℕ) → (setting_of m0).retry ≡ config.retry → ask.call ≡ Access (unit.Poll mask requested turns) → HasAsked F.planner (F.state self.old.flights) self.old.log (F.accesses self.old.flights) self.old.managed calls ask m0
             → HasPaid F.planner (F.limits self.old.flights) (F.reported self.old.flights).limits (F.state self.old.flights) self.old.log left m0
             → OnOk result (HasPaid F.planner (F.limits self.new.flights) (F.reported self.new.flights).limits (F.state self.new.flights) self.new.log left m0) }
-        ensures needs { (m0 : BenchState) (calls : List Ask) (ask : Ask) → ask.call ≡ Access (unit.Poll mask requested turns) → HasAsked F.planner (F.state self.old.flights) self.old.log (F.accesses self.old.flights) self.old.managed calls ask m0
+        ensures needs { (m0 : BenchState) (calls : List Ask) (ask : Ask) → (setting_of m0).retry ≡ config.retry → ask.call ≡ Access (unit.Poll mask requested turns) → HasAsked F.planner (F.state self.old.flights) self.old.log (F.accesses self.old.flights) self.old.managed calls ask m0
             → OnOk result (asks_of self.new.log ≡ asked (cost_by F.planner (target_of m0.probe) calls ask) ask (record { calls = calls; needs = self.old.log.needs; fence = self.old.log.fence })) }
-        ensures broke { (m0 : BenchState) (calls : List Ask) (ask : Ask) → ask.call ≡ Access (unit.Poll mask requested turns) → HasAsked F.planner (F.state self.old.flights) self.old.log (F.accesses self.old.flights) self.old.managed calls ask m0
+        ensures broke { (m0 : BenchState) (calls : List Ask) (ask : Ask) → (setting_of m0).retry ≡ config.retry → ask.call ≡ Access (unit.Poll mask requested turns) → HasAsked F.planner (F.state self.old.flights) self.old.log (F.accesses self.old.flights) self.old.managed calls ask m0
             → IfErr result (λ s. HasEnded F.planner s (reported_by (F.reported self.new.flights) (F.state self.new.flights) self.new.log (F.packet self.new.flights) (F.reply self.new.flights)) self.new.log m0) }
-        ensures stops { (m0 : BenchState) (calls : List Ask) (ask : Ask) (answered : Option ℕ) → ask.call ≡ Access (unit.Poll mask requested turns) → HasAsked F.planner (F.state self.old.flights) self.old.log (F.accesses self.old.flights) self.old.managed calls ask m0
+        ensures stops { (m0 : BenchState) (calls : List Ask) (ask : Ask) (answered : Option ℕ) → (setting_of m0).retry ≡ config.retry → ask.call ≡ Access (unit.Poll mask requested turns) → HasAsked F.planner (F.state self.old.flights) self.old.log (F.accesses self.old.flights) self.old.managed calls ask m0
             → IsLeft (reported_by (F.reported self.new.flights) (F.state self.new.flights) self.new.log (F.packet self.new.flights) (F.reply self.new.flights)) answered
             → IfErr result (StopsThere m0 answered self.old.log.calls self.new.log.lines) }
         ensures goes { GoesOn (reported_by (F.reported self.old.flights) (F.state self.old.flights) self.old.log (F.packet self.old.flights) (F.reply self.old.flights))
@@ -277,10 +285,10 @@ impl<F: Flights> Sender<F> {
             Ok(()) => {}
             Err(stop) => return Err(stop),
         }
-        match self.poll_last(mask, requested, turns) {
+        match self.poll_last(config, mask, requested, turns) {
             Ok(points) => {
                 let count = self.log.count();
-                self.log.need(counted::<F>(points), count);
+                self.log.need(count_points::<F>(points), count);
                 Ok(())
             }
             Err(stop) => Err(stop),

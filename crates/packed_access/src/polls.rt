@@ -1,12 +1,11 @@
 //! Polls of CTRL/STAT.
 ghost use Rattle.std.specs.Prelude.{◌≡◌, ◌<◌, ◌≤◌, ◌+◌, ◌-◌, ◌*◌, [], ℕ, List, Option, None, Some, true, length, if◌then◌else◌, IfErr, IfOk, OnOk};
-ghost use Rattle.target_machine.specs.Attempt.{bank};
 ghost use Rattle.target_machine.specs.Plain.{Polls, polled};
 ghost use Rattle.target_machine.specs.Sound.{IsSound};
 ghost use Rattle.target_machine.specs.declared.unit.Unit.TheVariants as unit;
 ghost use Rattle.probe_core.specs.Bench.{BenchState, StepsTo};
 ghost use Rattle.probe_core.specs.Probe.{target_of};
-ghost use Rattle.call_terms.specs.declared.calls.Ask.{Ask};
+ghost use Rattle.target_calls.specs.declared.calls.Ask.{Ask};
 ghost use Rattle.access_regs.specs.Costs.{poll_cost, portions};
 ghost use Rattle.access_regs.specs.Entries.{target_by};
 ghost use Rattle.access_regs.specs.Plan.{bank_zero};
@@ -16,7 +15,7 @@ ghost use Rattle.access_calls.specs.GoesOn.{GoesOn};
 ghost use Rattle.access_calls.specs.Left.{IsLeft};
 ghost use Rattle.batch_packer.specs.Flying.{CanFly};
 ghost use Rattle.packed_access.specs.Begun.{HasEnded, HasIssued, StopsThere};
-ghost use Rattle.bench_flights.specs.Flown.{BenchGoesOn, HasDone, HasEndCause, IsCutResponse, LeftOff, NamesNone, SendsFew, matched_word};
+ghost use Rattle.bench_flights.specs.Flown.{BenchGoesOn, CanMatch, HasDone, HasEndCause, IsCutResponse, LeftOff, NamesNone, SendsFew, matched_word};
 ghost use Rattle.packed_access.specs.Logs.{asks_of, most_entries, reported_by};
 ghost use Rattle.packed_access.specs.Polls.{HasPoll};
 ghost use Rattle.packed_access.specs.Sparing.{HasSpared};
@@ -25,11 +24,12 @@ use crate::sender::Sender;
 use access_calls::Stop;
 use batch_packer::FlightEnd;
 use bench_flights::Flights;
-use call_terms::Part;
+use probe_core::Config;
+use target_calls::Part;
 
 // What a poll came to: whether the value matched, and how many need points it makes.
 #[derive(Clone, Copy)]
-struct Found {
+struct MadePoll {
     matched: bool,
     points: u64,
 }
@@ -38,19 +38,20 @@ struct Found {
 // portions, and else read by read, a need point for each read. One more comes for the send before it.
 fn make_poll<F: Flights>(
     flights: &mut F,
+    config: Config,
     zero: bool,
     mask: u32,
     requested: u32,
     turns: u32,
-) -> Result<Found, FlightEnd>
+) -> Result<MadePoll, FlightEnd>
     requires usable { F.ended flights.old ≡ None }
     requires empty { F.accesses flights.old ≡ [] }
     requires turns { 1 ≤ turns }
-    ensures done { IfOk result (λ found. StepsTo (λ m o. CanFly m → (zero ≡ true → bank (target_of m.probe) ≡ 0) → HasDone (Polls mask requested turns) (matched_word found.matched) m o) (F.state flights.old) (F.state flights.new)) }
-    ensures packets { IfOk result (λ found. StepsTo (λ m o. CanFly m → (zero ≡ true → bank (target_of m.probe) ≡ 0) → SendsFew (found.points - 1) m o) (F.state flights.old) (F.state flights.new)) }
+    ensures done { IfOk result (λ found. StepsTo (λ m o. CanFly m → (zero ≡ true → CanMatch config.retry m) → HasDone (Polls mask requested turns) (matched_word found.matched) m o) (F.state flights.old) (F.state flights.new)) }
+    ensures packets { IfOk result (λ found. StepsTo (λ m o. CanFly m → (zero ≡ true → CanMatch config.retry m) → SendsFew (found.points - 1) m o) (F.state flights.old) (F.state flights.new)) }
     ensures some { IfOk result (λ found. 1 ≤ found.points) }
     ensures points { IfOk result (λ found. StepsTo (λ m o. CanFly m → found.points ≡ 1 + (if zero then portions turns else (polled turns mask requested (target_of m.probe)).reads)) (F.state flights.old) (F.state flights.new)) }
-    ensures left { IfErr result (λ end. StepsTo (λ m o. CanFly m → (zero ≡ true → bank (target_of m.probe) ≡ 0) → LeftOff (Polls mask requested turns) end m o) (F.state flights.old) (F.state flights.new)) }
+    ensures left { IfErr result (λ end. StepsTo (λ m o. CanFly m → (zero ≡ true → CanMatch config.retry m) → LeftOff (Polls mask requested turns) end m o) (F.state flights.old) (F.state flights.new)) }
     ensures none { IfErr result NamesNone }
     ensures response { IfErr result IsCutResponse }
     ensures empty { F.accesses flights.new ≡ [] }
@@ -62,8 +63,8 @@ fn make_poll<F: Flights>(
     ensures identity { F.identity flights.new ≡ F.identity flights.old }
 {
     if zero {
-        match flights.poll(mask, requested, turns) {
-            Ok(matched) => Ok(Found {
+        match flights.poll(config, mask, requested, turns) {
+            Ok(matched) => Ok(MadePoll {
                 matched,
                 points: 1 + (turns as u64 + 0xFFFF) / 0x1_0000,
             }),
@@ -71,7 +72,7 @@ fn make_poll<F: Flights>(
         }
     } else {
         match flights.poll_by_reads(mask, requested, turns) {
-            Ok(polled) => Ok(Found {
+            Ok(polled) => Ok(MadePoll {
                 matched: polled.matched,
                 points: 1 + polled.reads as u64,
             }),
@@ -82,7 +83,7 @@ fn make_poll<F: Flights>(
 
 impl<F: Flights> Sender<F> {
     // Whether polls are made by value matches: where DPBANKSEL is known to be 0, unless each unit is made alone.
-    fn by_matches(&self) -> bool
+    fn polls_by_matches(&self) -> bool
         ensures zero { result ≡ true → bank_zero self.now.managed ≡ true }
         ensures managed { F.planner ≡ Managed → result ≡ bank_zero self.now.managed }
     {
@@ -91,23 +92,29 @@ impl<F: Flights> Sender<F> {
 
     // Makes the last call, which is a poll, where all calls before it came. Answers how many need points it makes.
     #[tactic(auto, using(access_calls::proofs::KeepLemmas::goes_trans, crate::proofs::GoesLemmas::goes_still))]
-    pub(crate) fn poll_last(&mut self, mask: u32, requested: u32, turns: u32) -> Result<u64, Stop>
+    pub(crate) fn poll_last(
+        &mut self,
+        config: Config,
+        mask: u32,
+        requested: u32,
+        turns: u32,
+    ) -> Result<u64, Stop>
         requires open { self.old.log.end ≡ None }
         requires sound { IsSound (unit.Poll mask requested turns) }
         requires rest { F.accesses self.old.flights ≡ [] }
         requires last { self.old.log.came + 1 ≡ length self.old.log.calls }
         requires room { length self.old.log.entries < self.old.log.room }
         requires bounded { length self.old.log.entries < most_entries * length self.old.log.calls }
-        ensures on { (m0 : BenchState) (calls : List Ask) (ask : Ask) → HasPoll F.planner (F.state self.old.flights) self.old.log self.old.managed calls ask mask requested turns m0
+        ensures on { (m0 : BenchState) (calls : List Ask) (ask : Ask) → HasPoll F.planner (F.state self.old.flights) self.old.log self.old.managed calls ask mask requested turns config.retry m0
             → OnOk result (HasIssued F.planner (F.state self.new.flights) self.new.log [] [] m0) }
-        ensures spare { (m0 : BenchState) (calls : List Ask) (ask : Ask) (paid : ℕ) → HasPoll F.planner (F.state self.old.flights) self.old.log self.old.managed calls ask mask requested turns m0
+        ensures spare { (m0 : BenchState) (calls : List Ask) (ask : Ask) (paid : ℕ) → HasPoll F.planner (F.state self.old.flights) self.old.log self.old.managed calls ask mask requested turns config.retry m0
             → HasSpared F.planner (F.limits self.old.flights) (F.reported self.old.flights).limits (F.state self.old.flights) self.old.log (paid + 1) m0
             → IfOk result (λ points. HasSpared F.planner (F.limits self.new.flights) (F.reported self.new.flights).limits (F.state self.new.flights) self.new.log (paid + points) m0) }
-        ensures points { F.planner ≡ Managed → (m0 : BenchState) (calls : List Ask) (ask : Ask) → HasPoll F.planner (F.state self.old.flights) self.old.log self.old.managed calls ask mask requested turns m0
+        ensures points { F.planner ≡ Managed → (m0 : BenchState) (calls : List Ask) (ask : Ask) → HasPoll F.planner (F.state self.old.flights) self.old.log self.old.managed calls ask mask requested turns config.retry m0
             → IfOk result (λ points. points ≡ poll_cost self.old.managed (target_by F.planner (target_of m0.probe) calls) mask requested turns) }
-        ensures broke { (m0 : BenchState) (calls : List Ask) (ask : Ask) → HasPoll F.planner (F.state self.old.flights) self.old.log self.old.managed calls ask mask requested turns m0
+        ensures broke { (m0 : BenchState) (calls : List Ask) (ask : Ask) → HasPoll F.planner (F.state self.old.flights) self.old.log self.old.managed calls ask mask requested turns config.retry m0
             → IfErr result (λ s. HasEnded F.planner s (reported_by (F.reported self.new.flights) (F.state self.new.flights) self.new.log (F.packet self.new.flights) (F.reply self.new.flights)) self.new.log m0) }
-        ensures stops { (m0 : BenchState) (calls : List Ask) (ask : Ask) (answered : Option ℕ) → HasPoll F.planner (F.state self.old.flights) self.old.log self.old.managed calls ask mask requested turns m0
+        ensures stops { (m0 : BenchState) (calls : List Ask) (ask : Ask) (answered : Option ℕ) → HasPoll F.planner (F.state self.old.flights) self.old.log self.old.managed calls ask mask requested turns config.retry m0
             → IsLeft (reported_by (F.reported self.new.flights) (F.state self.new.flights) self.new.log (F.packet self.new.flights) (F.reply self.new.flights)) answered
             → IfErr result (StopsThere m0 answered self.old.log.calls self.new.log.lines) }
         ensures goes { GoesOn (reported_by (F.reported self.old.flights) (F.state self.old.flights) self.old.log (F.packet self.old.flights) (F.reply self.old.flights))
@@ -125,9 +132,9 @@ impl<F: Flights> Sender<F> {
         ensures identity { F.identity self.new.flights ≡ F.identity self.old.flights }
     {
         let unit = self.log.count();
-        let zero = self.by_matches();
+        let zero = self.polls_by_matches();
         self.log.issue(unit, Part::Ends);
-        match make_poll(&mut self.flights, zero, mask, requested, turns) {
+        match make_poll(&mut self.flights, config, zero, mask, requested, turns) {
             Ok(found) => {
                 self.log.complete();
                 self.log.take(unit - 1, found.matched as u32);

@@ -3,7 +3,7 @@ ghost use Rattle.std.specs.Prelude.{◌≡◌};
 ghost use Rattle.target_machine.specs.Plain.{result_of};
 ghost use Rattle.target_machine.specs.Sound.{IsSoundCall};
 
-use call_terms::accesses::from_lanes;
+use target_calls::accesses::from_lanes;
 use target_machine::{Call, Unit};
 
 // The result of a call from what its last action gave.

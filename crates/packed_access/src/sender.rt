@@ -22,7 +22,7 @@ pub(crate) struct Sender<F: Flights> {
 }
 
 // So many need points, which an access counts unless it makes each unit alone.
-pub(crate) fn counted<F: Flights>(points: u64) -> u64
+pub(crate) fn count_points<F: Flights>(points: u64) -> u64
     ensures { result ≡ counted F.planner points }
 {
     if F::plans_alone() { 0 } else { points }

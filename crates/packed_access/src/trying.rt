@@ -15,7 +15,7 @@ ghost use Rattle.packed_access.specs.Forgiving.{HasBroken, HasTried, IsNext, Lea
 ghost use Rattle.packed_access.specs.Sparing.{WentFew};
 ghost use Rattle.batch_packer.specs.Flying.{CanFly};
 ghost use Rattle.packed_access.specs.Logs.{IsFurther, IsOfCall, asks_of, most_entries, reported_by};
-ghost use Rattle.call_terms.specs.declared.journal.Part.TheVariants.{Leads};
+ghost use Rattle.target_calls.specs.declared.journal.Part.TheVariants.{Leads};
 ghost use Rattle.access_regs.specs.Kept.{Kept, selected};
 ghost use Rattle.access_regs.specs.Plan.{select_value};
 ghost use Rattle.access_regs.specs.declared.planner.Planner.TheVariants.{Managed};
@@ -23,8 +23,8 @@ ghost use Rattle.access_regs.specs.declared.planner.Planner.TheVariants.{Managed
 use crate::sender::Sender;
 use access_calls::Stop;
 use bench_flights::Flights;
-use call_terms::Part;
-use call_terms::accesses::select;
+use target_calls::Part;
+use target_calls::accesses::select;
 use target_machine::registers::CLEAR_ALL;
 use target_machine::{ProbeCall, RegAccess};
 
@@ -117,6 +117,7 @@ impl<F: Flights> Sender<F> {
             }
         }
         self.flights.resume();
+        self.log.confirm_entries();
         self.log.issue(unit, Part::Skips { attempted: !ends });
         match self.flights.command(ProbeCall::Abort(CLEAR_ALL)) {
             Ok(_) => {

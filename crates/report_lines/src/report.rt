@@ -1,5 +1,5 @@
 //! The report of a run.
-ghost use Rattle.std.specs.Prelude.{◌≡◌, Ok, false, IfSome};
+ghost use Rattle.std.specs.Prelude.{◌≡◌, ◌≢◌, Ok, false, IfErr, IfSome};
 ghost use Rattle.std.specs.List.{All};
 ghost use Rattle.dap_base.specs.Streams.{PutAppends};
 ghost use Rattle.probe_core.specs.Bench.{IsAsBefore, seen};
@@ -82,6 +82,7 @@ pub fn report_text<K: Sink, B: Bench>(
     requires watch { AreWatched job.now.bench.target.memory job.now.watch }
     ensures text { IfSome (B.state bench.old) (λ m. PutAppends (K.written sink.old) (K.written sink.new) result (report ended.now sent.now got.now job.now (target_of m.probe))) }
     ensures alone { shows_target ended.now.ending ≡ false → PutAppends (K.written sink.old) (K.written sink.new) result (ending_lines ended.now.ending ended.now sent.now got.now) }
+    ensures unasked { shows_target ended.now.ending ≡ false → IfErr result (λ e. e ≢ TextEnd.BenchFault) }
     ensures same { IsAsBefore (seen B.reported B.state bench.old) (seen B.reported B.state bench.new) }
     ensures identity { B.identity bench.new ≡ B.identity bench.old }
     ensures bench { NamesFault TextEnd.BenchFault (B.reported bench.old).faults (B.reported bench.new).faults result }

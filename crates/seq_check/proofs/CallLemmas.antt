@@ -4,8 +4,8 @@ use Rattle.std.proofs.lemmas.List.{take_more, map-append, append-nil}
 use Rattle.expr_grammar.specs.declared.code.Arg.{Arg}
 use Rattle.expr_grammar.specs.declared.code.Stmt.{Stmt}
 use Rattle.expr_grammar.specs.Tree.{ArgTree, args_of, arg_tree, arg_trees, StmtTree, stmt_tree, code_trees}
-use Rattle.sequence_code.specs.declared.steps.CheckedStep.{CheckedStep}
-use Rattle.sequence_code.specs.Trees.{CodeStep, steps_of, step_tree, steps_tree}
+use Rattle.sequence_trees.specs.declared.steps.CheckedStep.{CheckedStep}
+use Rattle.sequence_trees.specs.Trees.{CodeStep, steps_of, step_tree, steps_tree}
 use Rattle.code_check.proofs.ArgLemmas.{arg_trees-take}
 use Rattle.seq_check.specs.Calls.{arg_calls, args_calls, statement_calls, block_calls, step_calls, steps_calls}
 use Rattle.seq_check.proofs.StepLemmas.{steps_tree-take, fronts, fronts-length}

@@ -6,10 +6,10 @@ use Rattle.dap_base.specs.declared.text.OutOfMemory.{OutOfMemory}
 use Rattle.expr_grammar.specs.Tree.{StmtTree}
 use Rattle.sequence_resolve.specs.declared.entry.SeqEntry.{SeqEntry}
 use Rattle.sequence_resolve.specs.declared.entry.SeqSet.{SeqSet}
-use Rattle.sequence_code.specs.declared.spot.Part.TheVariants as parts
-use Rattle.sequence_code.specs.declared.spot.Spot.{Spot}
-use Rattle.sequence_code.specs.Trees.{SequenceTrees, SetTrees}
-use Rattle.sequence_code.specs.Reading.{ReadsEntries, ReadsSet}
+use Rattle.sequence_trees.specs.declared.spot.Part.TheVariants as parts
+use Rattle.sequence_trees.specs.declared.spot.Spot.{Spot}
+use Rattle.sequence_trees.specs.Trees.{SequenceTrees, SetTrees}
+use Rattle.sequence_trees.specs.Reading.{ReadsEntries, ReadsSet}
 use Rattle.call_graph.specs.declared.graph.CallSpot.{CallSpot}
 use Rattle.call_graph.specs.Spots as graph
 use Rattle.code_check.specs.declared.fault.FaultKind.{FaultKind}

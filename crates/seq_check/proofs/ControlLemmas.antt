@@ -3,8 +3,8 @@ use Rattle.std.proofs.Common.{◌≡◌, ◌∙◌, sym, ap, subst, ℕ, ◌<◌
 use Rattle.std.proofs.lemmas.Bool.Decides.{nat_tests}
 use Rattle.std.specs.Option.{option_or}
 use Rattle.expr_grammar.specs.Tree.{Tree}
-use Rattle.sequence_code.specs.declared.spot.Part.{Part}
-use Rattle.sequence_code.specs.declared.spot.Part.TheVariants as parts
+use Rattle.sequence_trees.specs.declared.spot.Part.{Part}
+use Rattle.sequence_trees.specs.declared.spot.Part.TheVariants as parts
 use Rattle.code_check.specs.declared.fault.FaultKind.{FaultKind}
 use Rattle.code_check.specs.declared.fault.FaultKind.TheVariants as k
 use Rattle.code_check.specs.declared.fault.CodeFault.{CodeFault}

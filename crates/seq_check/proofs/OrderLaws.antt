@@ -1,8 +1,8 @@
 -- Two faults of a set are in order or the same.
 use Rattle.std.proofs.Common.{◌≡◌, ◌∙◌, sym, ap, subst, ℕ, ◌==◌, nat_lt, ◌&&◌, ◌||◌, not, Bool, true, false, List, [], ◌∷◌, get_or, refl, arith, true≢false}
 use Rattle.std.proofs.lemmas.Bool.Decides.{nat_tests}
-use Rattle.sequence_code.specs.declared.spot.Part.{Part}
-use Rattle.sequence_code.specs.declared.spot.Part.TheVariants as parts
+use Rattle.sequence_trees.specs.declared.spot.Part.{Part}
+use Rattle.sequence_trees.specs.declared.spot.Part.TheVariants as parts
 use Rattle.code_check.specs.declared.fault.CodeFault.{CodeFault}
 use Rattle.code_check.specs.Order.{is_before}
 use Rattle.code_check.proofs.OneFirst.{is_before-total}

@@ -6,8 +6,8 @@ use Rattle.std.proofs.lemmas.List.Folds.{list_any-append}
 use Rattle.std.proofs.lemmas.List.{append-nil}
 use Rattle.std.specs.List.{IsDistinct, AllByRecursion}
 use Rattle.dap_base.specs.declared.text.OutOfMemory.{OutOfMemory}
-use Rattle.sequence_code.specs.declared.spot.Part.TheVariants as parts
-use Rattle.sequence_code.specs.Trees.{CodeSteps, SetTrees}
+use Rattle.sequence_trees.specs.declared.spot.Part.TheVariants as parts
+use Rattle.sequence_trees.specs.Trees.{CodeSteps, SetTrees}
 use Rattle.code_check.specs.Names.{has_name, with_name}
 use Rattle.code_check.specs.First.{IsFirst, InEither, here, there}
 use Rattle.code_check.specs.ExprFaults.{Scope}

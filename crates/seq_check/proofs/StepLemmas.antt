@@ -5,12 +5,12 @@ use Rattle.std.proofs.lemmas.List.{take_more, map-append, length-map, length-tak
 use Rattle.expr_grammar.specs.Tree.{Tree, tree, code_trees}
 use Rattle.expr_grammar.specs.declared.code.Stmt.{Stmt}
 use Rattle.expr_grammar.specs.declared.code.Expr.{Expr}
-use Rattle.sequence_code.specs.declared.spot.Part.{Part}
-use Rattle.sequence_code.specs.declared.steps.CheckedStep.{CheckedStep}
-use Rattle.sequence_code.specs.declared.steps.CheckedStep.TheVariants as c
-use Rattle.sequence_code.specs.declared.steps.CheckedStep.TheOpen.{CheckedStep-F}
-use Rattle.sequence_code.specs.declared.steps.CheckedStep.TheFolds.{fold-roll-CheckedStep}
-use Rattle.sequence_code.specs.Trees.{CodeStep, Block, Control, CodeSteps, NoSteps, MoreSteps, steps_of, checked_step, step_tree, steps_tree}
+use Rattle.sequence_trees.specs.declared.spot.Part.{Part}
+use Rattle.sequence_trees.specs.declared.steps.CheckedStep.{CheckedStep}
+use Rattle.sequence_trees.specs.declared.steps.CheckedStep.TheVariants as c
+use Rattle.sequence_trees.specs.declared.steps.CheckedStep.TheOpen.{CheckedStep-F}
+use Rattle.sequence_trees.specs.declared.steps.CheckedStep.TheFolds.{fold-roll-CheckedStep}
+use Rattle.sequence_trees.specs.Trees.{CodeStep, Block, Control, CodeSteps, NoSteps, MoreSteps, steps_of, checked_step, step_tree, steps_tree}
 use Rattle.code_check.specs.declared.fault.CodeFault.{CodeFault}
 use Rattle.code_check.specs.First.{IsFirst, InEither, here, there}
 use Rattle.code_check.specs.ExprFaults.{Scope}

@@ -1,10 +1,10 @@
 -- What `check` answers.
 use Rattle.std.specs.Prelude.{◌≡◌, Result, Ok, Err}
 use Rattle.sequence_resolve.specs.declared.entry.SeqSet.{SeqSet}
-use Rattle.sequence_code.specs.declared.spot.Spot.{Spot}
-use Rattle.sequence_code.specs.Trees.{SetTrees}
-use Rattle.sequence_code.specs.Reading.{ReadsSet}
-use Rattle.sequence_code.specs.SetView.{set_trees}
+use Rattle.sequence_trees.specs.declared.spot.Spot.{Spot}
+use Rattle.sequence_trees.specs.Trees.{SetTrees}
+use Rattle.sequence_trees.specs.Reading.{ReadsSet}
+use Rattle.sequence_trees.specs.SetView.{set_trees}
 use Rattle.code_check.specs.declared.fault.FaultKind.{FaultKind}
 use Rattle.seq_check.specs.declared.checked.Checked.{Checked}
 use Rattle.seq_check.specs.declared.checked.CheckFault.{CheckFault}

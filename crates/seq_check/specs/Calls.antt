@@ -4,9 +4,9 @@ use Rattle.std.specs.Str.{bytes_eq}
 use Rattle.expr_grammar.specs.declared.code.Name.{Name}
 use Rattle.expr_grammar.specs.declared.code.TextArg as string
 use Rattle.expr_grammar.specs.Tree.{Tree, Number, Named, Group, Unary, Binary, Cond, Assign, Call, ArgTree, ExprArg, TextArg, ArgTrees, NoArgs, MoreArgs, StmtTree, Empty, Declare, Plain}
-use Rattle.sequence_code.specs.declared.spot.Part.{Part}
-use Rattle.sequence_code.specs.declared.spot.Part.TheVariants as parts
-use Rattle.sequence_code.specs.Trees.{CodeStep, Block, Control, CodeSteps, NoSteps, MoreSteps, SetTrees}
+use Rattle.sequence_trees.specs.declared.spot.Part.{Part}
+use Rattle.sequence_trees.specs.declared.spot.Part.TheVariants as parts
+use Rattle.sequence_trees.specs.Trees.{CodeStep, Block, Control, CodeSteps, NoSteps, MoreSteps, SetTrees}
 use Rattle.code_check.specs.ExprFaults.{text_at}
 use Rattle.seq_check.specs.declared.calls.TextCall.{TextCall}
 use Rattle.seq_check.specs.declared.step_calls.StepCall.{StepCall}

@@ -1,7 +1,7 @@
 -- The faults that stand in the texts and the controls of a set.
 use Rattle.std.specs.Prelude.{◌≡◌, ℕ, suc, nat_lt, ◌&&◌, ◌||◌, not, Bool, true, false, List, [], ◌∷◌, map}
-use Rattle.sequence_code.specs.declared.spot.Part.TheVariants as parts
-use Rattle.sequence_code.specs.Trees.{CodeSteps, SetTrees}
+use Rattle.sequence_trees.specs.declared.spot.Part.TheVariants as parts
+use Rattle.sequence_trees.specs.Trees.{CodeSteps, SetTrees}
 use Rattle.function_table.specs.Variables.{predefined}
 use Rattle.code_check.specs.First.{Nowhere, InEither}
 use Rattle.code_check.specs.ExprFaults.{Scope}

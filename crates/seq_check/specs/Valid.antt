@@ -1,10 +1,10 @@
 -- Valid sets, and the first fault of one that is not valid.
 use Rattle.std.specs.Prelude.{◌≡◌, ℕ, List, Option, Some, None, slice_get}
 use Rattle.sequence_resolve.specs.declared.entry.SeqSet.{SeqSet}
-use Rattle.sequence_code.specs.declared.spot.Spot.{Spot}
-use Rattle.sequence_code.specs.Trees.{SetTrees}
-use Rattle.sequence_code.specs.Reading.{ReadsSet}
-use Rattle.sequence_code.specs.Order.{IsFirstFault}
+use Rattle.sequence_trees.specs.declared.spot.Spot.{Spot}
+use Rattle.sequence_trees.specs.Trees.{SetTrees}
+use Rattle.sequence_trees.specs.Reading.{ReadsSet}
+use Rattle.sequence_trees.specs.Order.{IsFirstFault}
 use Rattle.call_graph.specs.declared.graph.CallSpot.{CallSpot}
 use Rattle.call_graph.specs.Spots as graph
 use Rattle.code_check.specs.declared.fault.FaultKind.{FaultKind}

@@ -1,14 +1,14 @@
 //! A checked set, and why a set is not valid.
 ghost use Rattle.std.specs.Prelude.{◌≡◌, is_some, option_map};
 ghost use Rattle.expr_grammar.specs.Tree.{code_trees};
-ghost use Rattle.sequence_code.specs.Trees.{steps_tree, steps_named};
-ghost use Rattle.sequence_code.specs.SetView.{set_trees};
+ghost use Rattle.sequence_trees.specs.Trees.{steps_tree, steps_named};
+ghost use Rattle.sequence_trees.specs.SetView.{set_trees};
 ghost use Rattle.seq_check.specs.Valid.{IsSound};
 
 use code_check::FaultKind;
 use dap_base::OutOfMemory;
 use expr_grammar::Code;
-use sequence_code::{CheckedSteps, ReadSet, Spot};
+use sequence_trees::{CheckedSteps, ReadSet, Spot};
 
 /// Why a set has no `Checked`.
 #[derive(Debug, Drop)]

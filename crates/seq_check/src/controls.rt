@@ -4,7 +4,7 @@ ghost use Rattle.expr_grammar.specs.Tree.{tree};
 ghost use Rattle.code_check.specs.Order.{is_before};
 ghost use Rattle.code_check.specs.First.{IsFirst, FaultWhere};
 ghost use Rattle.code_check.specs.Views.{scope_view};
-ghost use Rattle.sequence_code.specs.declared.spot.Part.TheVariants as parts;
+ghost use Rattle.sequence_trees.specs.declared.spot.Part.TheVariants as parts;
 ghost use Rattle.seq_check.specs.StepFaults.{no_place, fault_before, is_step_before, ConditionFault, TimeoutFault, LoopFault, ControlFault, OwnFault};
 ghost use Rattle.seq_check.specs.Views.{own_view};
 
@@ -12,7 +12,7 @@ use crate::faulty::{PartFault, in_part};
 use code_check::{CodeFault, FaultKind, Scope, expr_fault};
 use dap_base::Place;
 use expr_grammar::Expr;
-use sequence_code::Part;
+use sequence_trees::Part;
 
 /// How many controls may stand around a control.
 pub const MOST_AROUND: u64 = 32;

@@ -5,7 +5,7 @@ ghost use Rattle.seq_check.specs.Views.{own_view, faulty_view};
 
 use code_check::CodeFault;
 use dap_base::OutOfMemory;
-use sequence_code::{OutwardPath, Part};
+use sequence_trees::{OutwardPath, Part};
 use std::alloc::Global;
 
 /// A fault, and the part of a step that has it.

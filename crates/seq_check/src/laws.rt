@@ -2,7 +2,7 @@
 
 ghost use Rattle.std.specs.Prelude.{◌≡◌};
 ghost use Rattle.sequence_resolve.specs.declared.entry.SeqSet.{SeqSet};
-ghost use Rattle.sequence_code.specs.declared.spot.Spot.{Spot};
+ghost use Rattle.sequence_trees.specs.declared.spot.Spot.{Spot};
 ghost use Rattle.code_check.specs.declared.fault.FaultKind.{FaultKind};
 ghost use Rattle.seq_check.specs.Valid.{IsValid, IsFirstFaultOf};
 

@@ -1,7 +1,7 @@
 //! The calls among the sequences of a set.
 ghost use Rattle.std.specs.Prelude.{◌≡◌, ◌<◌, ℕ, IfOk, Some, map, option_map, length, slice_get, List};
-ghost use Rattle.sequence_code.specs.Trees.{steps_tree};
-ghost use Rattle.sequence_code.specs.SetView.{set_trees};
+ghost use Rattle.sequence_trees.specs.Trees.{steps_tree};
+ghost use Rattle.sequence_trees.specs.SetView.{set_trees};
 ghost use Rattle.call_graph.specs.Spots.{IsCallOf};
 ghost use Rattle.seq_check.specs.SetFaults.{names_of};
 ghost use Rattle.seq_check.specs.Calls.{sequence_calls, set_calls, call_graph};
@@ -12,7 +12,7 @@ use crate::step_calls::{StepCall, copy_path, push_steps};
 use call_graph::{CallGraph, CallSpot};
 use code_check::Names;
 use dap_base::{ItemList, NameText, OutOfMemory};
-use sequence_code::{CheckedStep, ReadSet, Spot};
+use sequence_trees::{CheckedStep, ReadSet, Spot};
 use std::alloc::Global;
 
 /// The calls of one sequence, in the order of the text.

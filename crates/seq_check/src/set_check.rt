@@ -2,10 +2,10 @@
 ghost use Rattle.std.specs.Prelude.{◌≡◌, ℕ, IfOk, map, MatchOption};
 ghost use Rattle.std.specs.List.{IsDistinct};
 ghost use Rattle.std.specs.Str.{bytes_eq};
-ghost use Rattle.sequence_code.specs.declared.spot.Spot.{Spot};
-ghost use Rattle.sequence_code.specs.Trees.{SetTrees};
-ghost use Rattle.sequence_code.specs.Reading.{ReadsSet};
-ghost use Rattle.sequence_code.specs.SetView.{set_trees};
+ghost use Rattle.sequence_trees.specs.declared.spot.Spot.{Spot};
+ghost use Rattle.sequence_trees.specs.Trees.{SetTrees};
+ghost use Rattle.sequence_trees.specs.Reading.{ReadsSet};
+ghost use Rattle.sequence_trees.specs.SetView.{set_trees};
 ghost use Rattle.code_check.specs.declared.fault.FaultKind.{FaultKind};
 ghost use Rattle.seq_check.specs.SetFaults.{names_of};
 ghost use Rattle.seq_check.specs.Views.{held_view};
@@ -19,8 +19,8 @@ use crate::sets::{sequence_names, set_fault};
 use call_graph::{first_cycle, first_deep};
 use code_check::{FaultKind, Names};
 use dap_base::{NameText, OutOfMemory};
-use sequence_code::{ReadSet, SetFault, Spot, read_set};
 use sequence_resolve::SeqSet;
+use sequence_trees::{ReadSet, SetFault, Spot, read_set};
 use std::alloc::Global;
 
 /// What is wrong, and where.

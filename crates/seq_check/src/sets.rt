@@ -5,9 +5,9 @@ ghost use Rattle.std.specs.Str.{bytes_eq};
 ghost use Rattle.expr_grammar.specs.Tree.{code_trees};
 ghost use Rattle.code_check.specs.First.{IsFirst};
 ghost use Rattle.code_check.specs.BlockFaults.{names_after_all, BlockFault};
-ghost use Rattle.sequence_code.specs.declared.spot.Part.TheVariants as parts;
-ghost use Rattle.sequence_code.specs.Trees.{steps_tree};
-ghost use Rattle.sequence_code.specs.SetView.{set_trees};
+ghost use Rattle.sequence_trees.specs.declared.spot.Part.TheVariants as parts;
+ghost use Rattle.sequence_trees.specs.Trees.{steps_tree};
+ghost use Rattle.sequence_trees.specs.SetView.{set_trees};
 ghost use Rattle.seq_check.specs.declared.faulty.Holder.TheVariants as holders;
 ghost use Rattle.seq_check.specs.StepFaults.{At};
 ghost use Rattle.seq_check.specs.SetFaults.{is_set_before, Of, names_of, FaultInSequences, FaultInSet};
@@ -18,7 +18,7 @@ use crate::steps::inner_fault;
 use code_check::{Names, block_fault};
 use dap_base::OutOfMemory;
 use expr_grammar::Stmt;
-use sequence_code::{CheckedSteps, Part, ReadSet};
+use sequence_trees::{CheckedSteps, Part, ReadSet};
 use std::alloc::Global;
 
 pub fn name_of(set: &ReadSet, index: usize) -> &str

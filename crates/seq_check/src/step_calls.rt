@@ -1,15 +1,15 @@
 //! The calls of sequences in steps.
 ghost use Rattle.std.specs.Prelude.{◌≡◌, ◌++◌, ◌∷◌, [], IfOk, OnOk, option_map};
 ghost use Rattle.expr_grammar.specs.Tree.{tree, code_trees};
-ghost use Rattle.sequence_code.specs.declared.spot.Part.TheVariants as parts;
-ghost use Rattle.sequence_code.specs.Trees.{step_tree, steps_tree};
+ghost use Rattle.sequence_trees.specs.declared.spot.Part.TheVariants as parts;
+ghost use Rattle.sequence_trees.specs.Trees.{step_tree, steps_tree};
 ghost use Rattle.seq_check.specs.Calls.{block_calls, condition_calls, calls_at, step_calls, steps_calls};
 
 use crate::calls::{TextCall, push_block, push_condition};
 use code_check::Names;
 use dap_base::{ItemList, OutOfMemory, Place};
 use expr_grammar::{Expr, Stmt};
-use sequence_code::{CheckedStep, Part, StepPath};
+use sequence_trees::{CheckedStep, Part, StepPath};
 use std::alloc::Global;
 
 /// A call of a sequence, and where it stands in the sequence that calls.

@@ -2,9 +2,9 @@
 ghost use Rattle.std.specs.Prelude.{◌≡◌, ◌≤◌, false, IfOk, OnOk, IfNone, option_map};
 ghost use Rattle.expr_grammar.specs.Tree.{code_trees};
 ghost use Rattle.code_check.specs.BlockFaults.{names_after_all, BlockFault};
-ghost use Rattle.sequence_code.specs.declared.spot.Part.TheVariants as parts;
+ghost use Rattle.sequence_trees.specs.declared.spot.Part.TheVariants as parts;
 ghost use Rattle.code_check.specs.First.{IsFirst};
-ghost use Rattle.sequence_code.specs.Trees.{step_tree, steps_tree};
+ghost use Rattle.sequence_trees.specs.Trees.{step_tree, steps_tree};
 ghost use Rattle.seq_check.specs.StepFaults.{is_step_before, names_after_step, names_after_steps, At, FaultInStep, FaultInSteps};
 ghost use Rattle.seq_check.specs.Views.{faulty_view};
 
@@ -13,7 +13,7 @@ use crate::faulty::{FaultyStep, at_own_step, from_list, in_part};
 use code_check::{Names, Scope, block_fault};
 use dap_base::OutOfMemory;
 use expr_grammar::Stmt;
-use sequence_code::{CheckedStep, Part};
+use sequence_trees::{CheckedStep, Part};
 use std::alloc::Global;
 
 fn block_step_fault(

@@ -14,7 +14,7 @@ use Rattle.code_check.specs.First as first
 use Rattle.code_check.specs.ExprFaults.{Scope, CallFault, OfText, SequenceFault, text_at, KnownFault, KindFault, KindsFault, NamesNone, arg_count}
 use Rattle.code_check.specs.declared.fault.CodeFault.{CodeFault}
 use Rattle.code_check.specs.declared.fault.FaultKind.TheVariants as kinds
-use Rattle.sequence_terms.specs.Values.{count_of, is_count, is_kind, are_kinds, is_call}
+use Rattle.sequence_rules.specs.Values.{count_of, is_count, is_kind, are_kinds, is_call}
 
 -- ---- the function
 

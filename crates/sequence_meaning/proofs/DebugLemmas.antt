@@ -6,19 +6,19 @@ use Rattle.expr_grammar.specs.declared.code.Stmt as statement
 use Rattle.expr_grammar.specs.Tree as t
 use Rattle.expr_grammar.specs.declared.code.Name.{Name}
 use Rattle.expr_grammar.specs.Tree.{Tree, StmtTree, stmt_tree, code_trees}
-use Rattle.sequence_code.specs.Trees.{CodeSteps, SetTrees, NoSteps, steps_named}
-use Rattle.sequence_terms.specs.Direct.{Now, direct}
-use Rattle.sequence_terms.specs.Machine.{State, Out}
-use Rattle.sequence_terms.specs.Steps.{done, steps_at, sequence_at, debugged, run_of}
-use Rattle.sequence_terms.specs.Values.{value, stored}
-use Rattle.sequence_meaning.specs.declared.end.End.{End}
+use Rattle.sequence_trees.specs.Trees.{CodeSteps, SetTrees, NoSteps, steps_named}
+use Rattle.sequence_rules.specs.Direct.{Now, direct}
+use Rattle.sequence_rules.specs.Machine.{State, Out}
+use Rattle.sequence_rules.specs.Steps.{steps_result, steps_at, sequence_at, debugged, run_of}
+use Rattle.sequence_rules.specs.Values.{value, stored}
+use Rattle.sequence_meaning.specs.declared.end.DirectEnd.{DirectEnd}
 use Rattle.sequence_meaning.specs.declared.end.Stopped.{Stopped}
-use Rattle.sequence_meaning.specs.Held.{Ends, Gives}
+use Rattle.sequence_meaning.specs.Held.{EndsDirect, MeansDirect}
 use Rattle.sequence_meaning.specs.Starting.{debugged_one, defined}
-use Rattle.sequence_terms.specs.Laws.{Adds}
-use Rattle.sequence_terms.proofs.Adding.{adds_direct}
-use Rattle.sequence_terms.proofs.Goes as g
-use Rattle.sequence_terms.proofs.LoopLemmas.{tail_two}
+use Rattle.sequence_rules.specs.Laws.{Adds}
+use Rattle.sequence_rules.proofs.Adding.{adds_direct}
+use Rattle.sequence_rules.proofs.Goes as g
+use Rattle.sequence_rules.proofs.LoopLemmas.{tail_two}
 use Rattle.sequence_meaning.proofs.StopLemmas.{ends_on}
 use Rattle.sequence_meaning.proofs.Loops.{steps_found}
 
@@ -45,17 +45,17 @@ module _ (turn_us : ℕ) (set : SetTrees) where
       → debugged_one turn_us set (stmt_tree (get_or xs i d)) s ≡ Ok (tt, r) → total ≡ debugged (direct false) turn_us set (code_trees (drop (i + 1) xs)) r
   debug_on total xs i d s r same h is = same ∙ debug_more xs i d s h ∙ ap (λ o. o >>= λ y. debugged (direct false) turn_us set (code_trees (drop (i + 1) xs)) y.1) is
 
-  pub debug_fail : (total : O (Unit {0})) (xs : List statement.Stmt) (i : ℕ) (d : statement.Stmt) (s r : S) (end : End) → total ≡ debugged (direct false) turn_us set (code_trees (drop i xs)) s → i < length xs
-      → Ends end r (debugged_one turn_us set (stmt_tree (get_or xs i d)) s) → Ends end r total
+  pub debug_fail : (total : O (Unit {0})) (xs : List statement.Stmt) (i : ℕ) (d : statement.Stmt) (s r : S) (end : DirectEnd) → total ≡ debugged (direct false) turn_us set (code_trees (drop i xs)) s → i < length xs
+      → EndsDirect end r (debugged_one turn_us set (stmt_tree (get_or xs i d)) s) → EndsDirect end r total
   debug_fail total xs i d s r end same h is = rw (same ∙ debug_more xs i d s h) (ends_on end r (debugged_one turn_us set (stmt_tree (get_or xs i d)) s) _ (λ x. g.goes_debugged (direct false) Adds (adds_direct false) turn_us set (code_trees (drop (i + 1) xs)) x.1) is)
 
   -- the value of a debug variable is not come to
-  pub defines_on : (end : End) (s r : S) (name : Name) (e : Tree) → Ends end r (value (direct false) (λ n q. sequence_at (direct false) turn_us set 0 n q) e s) → Ends end r (defined turn_us set name e s)
+  pub defines_on : (end : DirectEnd) (s r : S) (name : Name) (e : Tree) → EndsDirect end r (value (direct false) (λ n q. sequence_at (direct false) turn_us set 0 n q) e s) → EndsDirect end r (defined turn_us set name e s)
   defines_on end s r name e h =
       ends_on end r _ _ (λ x. g.goes_bind (direct false) Adds (adds_direct false) x.1 _ _ (g.goes_stored (direct false) Adds (adds_direct false) name x.0 x.1) (λ y. g.goes_ok (direct false) Adds (adds_direct false) y.1 _)) h
 
   -- the debug variables are not come to
-  pub run_first : (end : End) (start : List ℕ) (s r : S) → Ends end r (debugged (direct false) turn_us set set.debugvars s) → Ends end r (run_of (direct false) turn_us set start s)
+  pub run_first : (end : DirectEnd) (start : List ℕ) (s r : S) → EndsDirect end r (debugged (direct false) turn_us set set.debugvars s) → EndsDirect end r (run_of (direct false) turn_us set start s)
   unfolding run_of
   run_first end start s r h =
       ends_on end r _ _ (λ x. g.goes_bind (direct false) Adds (adds_direct false) x.1 _ _ (g.goes_steps_at (direct false) Adds (adds_direct false) turn_us set start x.1)
@@ -67,13 +67,13 @@ module _ (turn_us : ℕ) (set : SetTrees) where
 
   -- ---- the run
 
-  pub run_on : (start : List ℕ) (s r now : S) (e : End) (result : Result (Unit {0}) Stopped) (steps : CodeSteps) → debugged (direct false) turn_us set set.debugvars s ≡ Ok (tt, r) → steps ≡ unwrap_or (steps_named start set.sequences) NoSteps
-      → Gives e result now (done (direct false) turn_us (λ n q. sequence_at (direct false) turn_us set 31 n q) steps r) → Gives e result now (run_of (direct false) turn_us set start s)
+  pub run_on : (start : List ℕ) (s r now : S) (e : DirectEnd) (result : Result (Unit {0}) Stopped) (steps : CodeSteps) → debugged (direct false) turn_us set set.debugvars s ≡ Ok (tt, r) → steps ≡ unwrap_or (steps_named start set.sequences) NoSteps
+      → MeansDirect e result now (steps_result (direct false) turn_us (λ n q. sequence_at (direct false) turn_us set 31 n q) steps r) → MeansDirect e result now (run_of (direct false) turn_us set start s)
   unfolding run_of
   run_on start s r now e result steps debug is h =
-      let f : CodeSteps × S → O (Unit {0}) = λ y. done (direct false) turn_us (λ n q. sequence_at (direct false) turn_us set 31 n q) y.0 y.1 in
-      let found : (steps_at (direct false) turn_us set start r >>= f) ≡ done (direct false) turn_us (λ n q. sequence_at (direct false) turn_us set 31 n q) steps r =
-      ap (λ o. o >>= f) (steps_found turn_us set start r) ∙ ap (λ k. done (direct false) turn_us (λ n q. sequence_at (direct false) turn_us set 31 n q) k r) (sym is) in
-      subst (λ o. Gives e result now o) (sym (ap (λ o. o >>= λ x. steps_at (direct false) turn_us set start x.1 >>= f) debug ∙ found)) h
+      let f : CodeSteps × S → O (Unit {0}) = λ y. steps_result (direct false) turn_us (λ n q. sequence_at (direct false) turn_us set 31 n q) y.0 y.1 in
+      let found : (steps_at (direct false) turn_us set start r >>= f) ≡ steps_result (direct false) turn_us (λ n q. sequence_at (direct false) turn_us set 31 n q) steps r =
+      ap (λ o. o >>= f) (steps_found turn_us set start r) ∙ ap (λ k. steps_result (direct false) turn_us (λ n q. sequence_at (direct false) turn_us set 31 n q) k r) (sym is) in
+      subst (λ o. MeansDirect e result now o) (sym (ap (λ o. o >>= λ x. steps_at (direct false) turn_us set start x.1 >>= f) debug ∙ found)) h
 
 pub ruleset debugging = (debug_on, debug_fail, debug_over)

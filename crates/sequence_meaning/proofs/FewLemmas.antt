@@ -4,23 +4,23 @@ use Rattle.dap_base.specs.declared.text.Place.{Place}
 use Rattle.expr_grammar.specs.declared.code.Name.{Name}
 use Rattle.expr_grammar.specs.Tree.{Tree, ArgTrees, ExprArg, NoArgs, MoreArgs}
 use Rattle.function_table.specs.Lookup.{function_named}
-use Rattle.sequence_terms.specs.Calls.{guarded, use_now}
-use Rattle.sequence_terms.specs.Direct.{Now, direct}
-use Rattle.sequence_terms.specs.Laws.{Adds}
-use Rattle.sequence_terms.specs.Machine.{State, Out}
-use Rattle.sequence_terms.specs.Values.{all_used, appended, argument, arguments, call_of, called, chained, numbers_of, value}
-use Rattle.sequence_terms.proofs.Adding.{adds_direct}
-use Rattle.sequence_terms.proofs.Goes as g
-use Rattle.sequence_meaning.specs.declared.end.End.{End}
-use Rattle.sequence_meaning.specs.declared.runner.Runner.{Runner}
+use Rattle.sequence_rules.specs.Calls.{guarded, use_now}
+use Rattle.sequence_rules.specs.Direct.{Now, direct}
+use Rattle.sequence_rules.specs.Laws.{Adds}
+use Rattle.sequence_rules.specs.Machine.{State, Out}
+use Rattle.sequence_rules.specs.Values.{all_used, appended, argument, arguments, call_of, call_result, chained, numbers_of, value}
+use Rattle.sequence_rules.proofs.Adding.{adds_direct}
+use Rattle.sequence_rules.proofs.Goes as g
+use Rattle.sequence_meaning.specs.declared.end.DirectEnd.{DirectEnd}
+use Rattle.sequence_meaning.specs.declared.runner.DirectRunner.{DirectRunner}
 use Rattle.sequence_meaning.specs.Few.{one_number, two_numbers}
-use Rattle.sequence_meaning.specs.Held.{Ends, calls_of}
+use Rattle.sequence_meaning.specs.Held.{EndsDirect, calls_of}
 use Rattle.sequence_meaning.proofs.StopLemmas.{adds_ok, adds_sequence, ends_appended, ends_call, ends_on}
 
 abbrev S : Type 0
 S = State ℕ Now
 
-module _ (runner : Runner) (depth : ℕ) (name : Name) where
+module _ (runner : DirectRunner) (depth : ℕ) (name : Name) where
   abbrev val : Tree → S → Out ℕ Now ℕ
   val a s = value (direct false) (calls_of runner depth) a s
 
@@ -28,27 +28,27 @@ module _ (runner : Runner) (depth : ℕ) (name : Name) where
   abbrev pub call_on : ArgTrees → S → Out ℕ Now ℕ
   call_on args s = call_of (direct false) (calls_of runner depth) name args (arguments (direct false) (calls_of runner depth) args [] s)
 
-  pub one_is : (at : Place) (a : Tree) (s r : S) (n : ℕ) → val a s ≡ Ok (n, r) → call_on (one_number at a) s ≡ called (direct false) (calls_of runner depth) (function_named name.text) [] (n ∷ []) r
+  pub one_is : (at : Place) (a : Tree) (s r : S) (n : ℕ) → val a s ≡ Ok (n, r) → call_on (one_number at a) s ≡ call_result (direct false) (calls_of runner depth) (function_named name.text) [] (n ∷ []) r
   unfolding call_of guarded numbers_of arguments argument chained appended all_used use_now direct
   one_is at a s r n is = rw is refl
 
-  pub ends_one : (e : End) (now s : S) (at : Place) (a : Tree) → Ends e now (val a s) → Ends e now (call_on (one_number at a) s)
+  pub ends_one : (e : DirectEnd) (now s : S) (at : Place) (a : Tree) → EndsDirect e now (val a s) → EndsDirect e now (call_on (one_number at a) s)
   unfolding arguments argument chained
   ends_one e now s at a h =
       ends_call runner depth e now name (one_number at a) _ (ends_on e now _ _ (λ x. adds_ok x.1 _) (ends_appended e now [] _ h))
 
   pub two_is : (at later : Place) (a b : Tree) (s r q : S) (n k : ℕ) → val a s ≡ Ok (n, r) → val b r ≡ Ok (k, q)
-      → call_on (two_numbers at a later b) s ≡ called (direct false) (calls_of runner depth) (function_named name.text) [] (n ∷ k ∷ []) q
+      → call_on (two_numbers at a later b) s ≡ call_result (direct false) (calls_of runner depth) (function_named name.text) [] (n ∷ k ∷ []) q
   unfolding call_of guarded numbers_of arguments argument chained appended all_used use_now direct
   two_is at later a b s r q n k is next = rw (is, next) refl
 
-  pub ends_first : (e : End) (now s : S) (at later : Place) (a b : Tree) → Ends e now (val a s) → Ends e now (call_on (two_numbers at a later b) s)
+  pub ends_first : (e : DirectEnd) (now s : S) (at later : Place) (a b : Tree) → EndsDirect e now (val a s) → EndsDirect e now (call_on (two_numbers at a later b) s)
   unfolding arguments argument chained
   ends_first e now s at later a b h =
       ends_call runner depth e now name (two_numbers at a later b) _
       (ends_on e now _ _ (λ x. g.goes_arguments (direct false) Adds (adds_direct false) (calls_of runner depth) (adds_sequence runner depth) (MoreArgs (ExprArg later b) NoArgs) x.0 x.1) (ends_appended e now [] _ h))
 
-  pub ends_second : (e : End) (now s r : S) (at later : Place) (a b : Tree) (n : ℕ) → val a s ≡ Ok (n, r) → Ends e now (val b r) → Ends e now (call_on (two_numbers at a later b) s)
+  pub ends_second : (e : DirectEnd) (now s r : S) (at later : Place) (a b : Tree) (n : ℕ) → val a s ≡ Ok (n, r) → EndsDirect e now (val b r) → EndsDirect e now (call_on (two_numbers at a later b) s)
   unfolding arguments argument chained appended
   ends_second e now s r at later a b n is h =
       rw is (ends_call runner depth e now name (two_numbers at a later b) _ (ends_on e now _ _ (λ x. adds_ok x.1 _) (ends_appended e now (n ∷ []) _ h)))

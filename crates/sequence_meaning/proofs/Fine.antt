@@ -3,11 +3,11 @@ use Rattle.std.proofs.Common.{◌≡◌, ℕ, Bool, true, false, cond, not, ◌&
 use Rattle.std.specs.Option.{option_or}
 use Rattle.code_check.specs.Names.{has_name}
 use Rattle.dap_base.specs.Outcome.{◌>>=◌}
-use Rattle.sequence_terms.specs.declared.bindings.Binding.{Binding}
-use Rattle.sequence_terms.specs.Calls.{given, guarded}
-use Rattle.sequence_terms.specs.Machine as machine
-use Rattle.sequence_terms.specs.Machine.{Over, Machine, State, Out}
-use Rattle.sequence_terms.specs.Variables.{bound, has_in, value_in, set_in, newest_in, set_newest, is_visible, visible, set_visible}
+use Rattle.sequence_rules.specs.declared.bindings.Binding.{Binding}
+use Rattle.sequence_rules.specs.Calls.{given, guarded}
+use Rattle.sequence_rules.specs.Machine as machine
+use Rattle.sequence_rules.specs.Machine.{Over, Machine, State, Out}
+use Rattle.sequence_rules.specs.Variables.{bound, has_in, value_named, set_in, newest_in, set_newest, is_visible, visible, set_visible}
 
 -- ---- outcomes
 
@@ -73,9 +73,9 @@ module _ {V : Type 0} where
   value_one true q v o k h = (v, refl)
   value_one false q v o k h = k h
 
-  pub value_found : (bs : List (Binding V)) (n : List ℕ) → has_in bs n ≡ true → (v : V) × (value_in bs n ≡ Some v)
+  pub value_found : (bs : List (Binding V)) (n : List ℕ) → has_in bs n ≡ true → (v : V) × (value_named bs n ≡ Some v)
   value_found [] n h = absurd cc
-  value_found (x ∷ bs) n h = value_one (bytes_eq n x.name) (has_in bs n) x.value (value_in bs n) (value_found bs n) h
+  value_found (x ∷ bs) n h = value_one (bytes_eq n x.name) (has_in bs n) x.value (value_named bs n) (value_found bs n) h
 
   newest_one : (c q : Bool) (v : V) (o : Option V) → (q ≡ true → (w : V) × (o ≡ Some w)) → cond c true q ≡ true → (w : V) × (option_or o (cond c (Some v) None) ≡ Some w)
   newest_one c q v (Some w) k h = (w, refl)
@@ -127,7 +127,7 @@ module _ {V T : Type 0} where
 
   pub visible_by : (gs ls : List (List ℕ)) (s : State V T) (n : List ℕ) → Has gs ls s → (has_name ls n || has_name gs n) ≡ true → (v : V) × (visible n s ≡ Some v)
   visible_by gs ls s n h there =
-      either_found (has_in s.locals n) (has_in s.globals n) (newest_in s.locals n) (value_in s.globals n) (newest_found s.locals n) (value_found s.globals n) (is_visible_by gs ls s n h there)
+      either_found (has_in s.locals n) (has_in s.globals n) (newest_in s.locals n) (value_named s.globals n) (newest_found s.locals n) (value_found s.globals n) (is_visible_by gs ls s n h there)
 
   store_one : (c : Bool) (gs ls : List (List ℕ)) (r q : State V T) → Has gs ls r → Has gs ls q → Has gs ls (cond c r q)
   store_one true gs ls r q h k = h

@@ -6,10 +6,10 @@ use Rattle.function_table.specs.declared.function.Function.TheVariants as f
 use Rattle.target_machine.specs.declared.unit.HaltCause.{HaltCause}
 use Rattle.target_machine.specs.declared.unit.ProbeCall.{ProbeCall}
 use Rattle.target_machine.specs.declared.unit.Unit.{Unit as AccessUnit}
-use Rattle.sequence_terms.specs.Calls.{Port, or_halt, use_now, global, port, port_from, port_with, answered, ask, numbered, command, zero_of, if_read, low_and_high, second_half, two_units, one_unit, memory_port, memory_at, memory, ap_unit, ap_at, ap_register, dp_unit, dp_at, dp_register, pins_command, abort, abort_at, delay, clock, pins, line_bits, lined, performed}
-use Rattle.sequence_terms.specs.Machine.{Over, Machine, State, Out, with_rest}
-use Rattle.sequence_terms.specs.Values.{all_used}
-use Rattle.sequence_terms.specs.Variables.{value_in}
+use Rattle.sequence_rules.specs.Calls.{Port, or_halt, use_now, global, port, port_from, port_with, answered, ask, numbered, command, zero_of, if_read, low_and_high, second_half, two_units, one_unit, memory_port, memory_at, memory, ap_unit, ap_at, ap_register, dp_unit, dp_at, dp_register, pins_command, abort, abort_at, delay, clock, pins, line_bits, line_result, function_result}
+use Rattle.sequence_rules.specs.Machine.{Over, Machine, State, Out, with_rest}
+use Rattle.sequence_rules.specs.Values.{all_used}
+use Rattle.sequence_rules.specs.Variables.{value_named}
 use Rattle.sequence_meaning.proofs.Fine.{IsMet, Fine, fine_bind, fine_cond, fine_given, value_found, has_names, Has}
 
 -- no operation of the machine lacks anything
@@ -41,7 +41,7 @@ module _ {V T : Type 0} (m : Machine V T) (safe : LacksNothing m) (gs ls : List 
   unfolding global
   fine_global n s there h =
       let v = value_found s.globals n (has_names s.globals n ∙ ap (λ k. has_name k n) h.globals ∙ there) in
-      fine_bind Now Now _ _ (fine_given m Now (m.number 0) (value_in s.globals n) v.0 s v.1 h) (λ x p. fine_use x.0 x.1 p)
+      fine_bind Now Now _ _ (fine_given m Now (m.number 0) (value_named s.globals n) v.0 s v.1 h) (λ x p. fine_use x.0 x.1 p)
 
   module _ (dp_there : has_name gs (codes "__dp") ≡ true) (ap_there : has_name gs (codes "__ap") ≡ true) (control_there : has_name gs (codes "__errorcontrol") ≡ true) where
     fine_port : (s : S) → Has gs ls s → Fine (Has gs ls) (port m s)
@@ -116,12 +116,12 @@ module _ {V T : Type 0} (m : Machine V T) (safe : LacksNothing m) (gs ls : List 
     unfolding abort abort_at
     fine_abort value s h = fine_bind Now Now (global m (codes "__dp") s) _ (fine_global (codes "__dp") s dp_there h) (λ d q. fine_cond Now (nat_eq d.0 0) _ _ (fine_command _ d.1 q) tt)
 
-    fine_lined : (line : List ℕ) (n : ℕ) (s : S) → Has gs ls s → Fine (Has gs ls) (lined m line n s)
-    unfolding lined
+    fine_lined : (line : List ℕ) (n : ℕ) (s : S) → Has gs ls s → Fine (Has gs ls) (line_result m line n s)
+    unfolding line_result
     fine_lined line n s h = fine_cond Now (nat_lt s.lines 100000) _ _ (record { globals = h.globals; locals = h.locals }) tt
 
-    pub fine_performed : (function : Function) (text numbers : List ℕ) (s : S) → Has gs ls s → Fine (Has gs ls) (performed m function text numbers s)
-    unfolding performed delay clock pins line_bits
+    pub fine_performed : (function : Function) (text numbers : List ℕ) (s : S) → Has gs ls s → Fine (Has gs ls) (function_result m function text numbers s)
+    unfolding function_result delay clock pins line_bits
     fine_performed f.Read8 text n s h = fine_memory 1 true _ 0 s h
     fine_performed f.Read16 text n s h = fine_memory 2 true _ 0 s h
     fine_performed f.Read32 text n s h = fine_memory 4 true _ 0 s h

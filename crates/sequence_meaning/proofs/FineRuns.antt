@@ -14,9 +14,9 @@ use Rattle.code_check.specs.ExprFaults.{Scope, ExprFault}
 use Rattle.code_check.specs.BlockFaults.{names_after, names_after_all, seeing, BlockFault}
 use Rattle.code_check.specs.declared.fault.CodeFault.{CodeFault}
 use Rattle.code_check.specs.declared.fault.FaultKind.TheVariants as kinds
-use Rattle.sequence_code.specs.Trees as c
-use Rattle.sequence_code.specs.Trees.{CodeSteps, SequenceTrees, SetTrees, steps_named}
-use Rattle.sequence_code.specs.declared.spot.Part.TheVariants as parts
+use Rattle.sequence_trees.specs.Trees as c
+use Rattle.sequence_trees.specs.Trees.{CodeSteps, SequenceTrees, SetTrees, steps_named}
+use Rattle.sequence_trees.specs.declared.spot.Part.TheVariants as parts
 use Rattle.seq_check.specs.Calls.{number_of, expr_calls, sequence_calls, call_graph}
 use Rattle.seq_check.specs.SetFaults.{SetFault, names_of, debugvars_scope, sequences_scope, FaultInSequences}
 use Rattle.seq_check.specs.StepFaults.{StepFault, FaultInSteps}
@@ -24,10 +24,10 @@ use Rattle.seq_check.specs.Valid.{IsSound}
 use Rattle.seq_check.specs.declared.calls.TextCall.{TextCall}
 use Rattle.seq_check.specs.declared.faulty.Holder.TheVariants as holders
 use Rattle.seq_check.specs.declared.step_calls.StepCall.{StepCall}
-use Rattle.sequence_terms.specs.declared.bindings.Binding.{Binding}
-use Rattle.sequence_terms.specs.Machine.{Machine, State, Out, with_locals}
-use Rattle.sequence_terms.specs.Steps.{declared_names, given_back, entered, steps_at, sequence_at, debugged, run_of, done}
-use Rattle.sequence_terms.specs.Variables.{bound, has_in, with_new, with_all_new}
+use Rattle.sequence_rules.specs.declared.bindings.Binding.{Binding}
+use Rattle.sequence_rules.specs.Machine.{Machine, State, Out, with_locals}
+use Rattle.sequence_rules.specs.Steps.{declared_names, given_back, sequence_result, steps_at, sequence_at, debugged, run_of, steps_result}
+use Rattle.sequence_rules.specs.Variables.{bound, has_in, with_new, with_all_new}
 use Rattle.sequence_meaning.proofs.Fine.{Fine, fine_bind, given_some, fine_weak, names_in, has_names, set_names, Has}
 use Rattle.sequence_meaning.proofs.FineCalls.{LacksNothing}
 use Rattle.sequence_meaning.proofs.FineValues.{Runs, fine_stored, fine_value}
@@ -252,22 +252,22 @@ module _ {V T : Type 0} (m : Machine V T) (safe : LacksNothing m) (turn_us : ℕ
 
   steps_fine : (d : ℕ) → ((name : List ℕ) → has_name names name ≡ true → Good d (number_of names name) → Runs gs (λ n q. sequence_at m turn_us set d n q) name)
       → (name : List ℕ) (found : Found names (sequences_scope set) set.sequences name) → AreGoodCalls (Good d) (sequence_calls names found.steps)
-      → (s : S) → Has gs [] s → Fine (Has gs (own_steps [] found.steps)) (done m turn_us (λ n q. sequence_at m turn_us set d n q) found.steps s)
+      → (s : S) → Has gs [] s → Fine (Has gs (own_steps [] found.steps)) (steps_result m turn_us (λ n q. sequence_at m turn_us set d n q) found.steps s)
   steps_fine d runs name found good s h =
       fine_steps m safe gs turn_us (λ n q. sequence_at m turn_us set d n q) names (Good d) runs dp_there ap_there control_there [] (sequences_scope set) (append_none gs) refl 0 0 [] found.steps found.sound good s h
 
   back_names : (before now : List (Binding V)) → names_in (given_back m before now) ≡ names_in now
   back_names before now = set_names _ _ _ ∙ set_names _ _ _ ∙ set_names _ _ _
 
-  entered_fine : (ls ks : List (List ℕ)) (body : S → Out V T (Unit {0})) → ((s : S) → Has gs [] s → Fine (Has gs ks) (body s)) → (s : S) → Has gs ls s → Fine (Has gs ls) (entered m body s)
-  unfolding entered
+  entered_fine : (ls ks : List (List ℕ)) (body : S → Out V T (Unit {0})) → ((s : S) → Has gs [] s → Fine (Has gs ks) (body s)) → (s : S) → Has gs ls s → Fine (Has gs ls) (sequence_result m body s)
+  unfolding sequence_result
   entered_fine ls ks body k s h =
       fine_bind (Has gs ks) (Has gs ls) (body (with_locals s [])) _ (k _ (record { globals = h.globals; locals = refl })) (λ x p.
       record { globals = back_names s.globals x.1.globals ∙ p.globals; locals = h.locals })
 
   body_fine : (d : ℕ) (name : List ℕ) (found : Found names (sequences_scope set) set.sequences name)
-      → ((s : S) → Has gs [] s → Fine (Has gs (own_steps [] found.steps)) (done m turn_us (λ n q. sequence_at m turn_us set d n q) found.steps s))
-      → (s : S) → Has gs [] s → Fine (Has gs (own_steps [] found.steps)) (steps_at m turn_us set name s >>= λ x. done m turn_us (λ n q. sequence_at m turn_us set d n q) x.0 x.1)
+      → ((s : S) → Has gs [] s → Fine (Has gs (own_steps [] found.steps)) (steps_result m turn_us (λ n q. sequence_at m turn_us set d n q) found.steps s))
+      → (s : S) → Has gs [] s → Fine (Has gs (own_steps [] found.steps)) (steps_at m turn_us set name s >>= λ x. steps_result m turn_us (λ n q. sequence_at m turn_us set d n q) x.0 x.1)
   unfolding steps_at
   body_fine d name found k s h = rw (given_some m c.NoSteps (steps_named name set.sequences) found.steps s found.named) (k s h)
 

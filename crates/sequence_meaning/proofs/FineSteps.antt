@@ -10,20 +10,20 @@ use Rattle.code_check.specs.ExprFaults.{Scope, ExprFault}
 use Rattle.code_check.specs.BlockFaults.{names_after, names_after_all, seeing, StmtFault, BlockFault}
 use Rattle.code_check.specs.declared.fault.CodeFault.{CodeFault}
 use Rattle.code_check.specs.declared.fault.FaultKind.TheVariants as kinds
-use Rattle.sequence_code.specs.Trees as c
-use Rattle.sequence_code.specs.Trees.{CodeStep, CodeSteps}
-use Rattle.sequence_code.specs.declared.spot.Part.{Part}
-use Rattle.sequence_code.specs.declared.spot.Part.TheVariants as parts
+use Rattle.sequence_trees.specs.Trees as c
+use Rattle.sequence_trees.specs.Trees.{CodeStep, CodeSteps}
+use Rattle.sequence_trees.specs.declared.spot.Part.{Part}
+use Rattle.sequence_trees.specs.declared.spot.Part.TheVariants as parts
 use Rattle.seq_check.specs.Calls.{number_of, expr_calls, statement_calls, block_calls, condition_calls, calls_at, step_calls, steps_calls}
 use Rattle.seq_check.specs.StepFaults.{StepFault, under, no_place, ConditionFault, TimeoutFault, LoopFault, OwnFault, names_after_step, FaultInStep, FaultInSteps}
 use Rattle.seq_check.specs.declared.calls.TextCall.{TextCall}
 use Rattle.seq_check.specs.declared.step_calls.StepCall.{StepCall}
-use Rattle.sequence_terms.specs.declared.bindings.Binding.{Binding}
-use Rattle.sequence_terms.specs.Calls.{global}
-use Rattle.sequence_terms.specs.Machine.{Machine, State, Out}
-use Rattle.sequence_terms.specs.Polls.{poll_of}
-use Rattle.sequence_terms.specs.Steps.{is_timeout, timeout_of, turn_count, counted, after_counted, declared, dropped, in_order, inside, turn, turns, polled_at, polled, statement, block, condition, looped, repeated, controlled, step, done}
-use Rattle.sequence_terms.specs.Values.{used_now, value}
+use Rattle.sequence_rules.specs.declared.bindings.Binding.{Binding}
+use Rattle.sequence_rules.specs.Calls.{global}
+use Rattle.sequence_rules.specs.Machine.{Machine, State, Out}
+use Rattle.sequence_rules.specs.Polls.{poll_of}
+use Rattle.sequence_rules.specs.Steps.{is_timeout, timeout_of, turn_count, counted, after_counted, declared, dropped, in_order, inside, turn, turns, poll_result_at, poll_result, statement, block, condition, loop_result, repeat_result, controlled, step, steps_result}
+use Rattle.sequence_rules.specs.Values.{used_now, value}
 use Rattle.sequence_meaning.proofs.Fine.{Fine, fine_bind, fine_cond, fine_given, names_in, Has}
 use Rattle.sequence_meaning.proofs.FineCalls.{LacksNothing, fine_global, fine_ask}
 use Rattle.sequence_meaning.proofs.FineValues.{Runs, AreGood, good_left, good_right, fine_used, fine_value}
@@ -243,23 +243,23 @@ module _ {V T : Type 0} (m : Machine V T) (safe : LacksNothing m) (gs : List (Li
   fine_turns ls test body k l (suc n) s h =
       fine_bind (Has gs ls) (Has gs ls) (turn m test body s) _ (fine_turn ls test body k l s h) (λ x p. fine_cond (Has gs ls) x.0 _ _ (fine_turns ls test body k l n x.1 p) p)
 
-  fine_polled : (ls : List (List ℕ)) (form : ℕ × ℕ) (n : ℕ) (s : S) → Has gs ls s → Fine (Has gs ls) (polled m form n s)
-  unfolding polled polled_at dropped
+  fine_polled : (ls : List (List ℕ)) (form : ℕ × ℕ) (n : ℕ) (s : S) → Has gs ls s → Fine (Has gs ls) (poll_result m form n s)
+  unfolding poll_result poll_result_at dropped
   fine_polled ls form n s h =
       fine_bind (Has gs ls) (Has gs ls) (counted m s) _ (fine_counted ls s h) (λ k p.
       fine_bind (Has gs ls) (Has gs ls) (global m (codes "__dp") k.1) _ (fine_global m safe gs ls (codes "__dp") k.1 dp_there p) (λ d q.
       fine_cond (Has gs ls) (nat_eq d.0 0) _ _ (fine_bind (Has gs ls) (Has gs ls) _ _ (fine_ask m safe gs ls dp_there ap_there control_there _ false d.1 q) (λ x r. r)) tt))
 
   fine_looped : (ls : List (List ℕ)) (form : Option (ℕ × ℕ)) (e : Tree) (n : ℕ) (body : S → Out V T (Unit {0})) → ((s : S) → Has gs ls s → Fine (Has gs ls) (used_now m (value m seq e s)))
-      → ((s : S) → Has gs ls s → Fine (Has gs ls) (inside m body s)) → (s : S) → Has gs ls s → Fine (Has gs ls) (looped m turn_us seq form e n body s)
-  unfolding looped
+      → ((s : S) → Has gs ls s → Fine (Has gs ls) (inside m body s)) → (s : S) → Has gs ls s → Fine (Has gs ls) (loop_result m turn_us seq form e n body s)
+  unfolding loop_result
   fine_looped ls (Some form) e n body k l s h = fine_polled ls form n s h
   fine_looped ls None e n body k l s h = fine_turns ls (λ r. value m seq e r) (λ r. inside m body r) k l n s h
 
   fine_repeated : (ls : List (List ℕ)) (sc : Scope) → sc.visible ≡ gs ++ ls → sc.sequences ≡ names → (repeat : Option Tree) (timeout : Option ℕ) (steps : CodeSteps) (body : S → Out V T (Unit {0}))
       → ((g : CodeFault) → TimeoutFault timeout g → ⊥) → ((g : CodeFault) → LoopFault repeat timeout g → ⊥) → ((g : CodeFault) → ConditionFault sc repeat g → ⊥) → AreGood Good (condition_calls names repeat)
-      → ((s : S) → Has gs ls s → Fine (Has gs ls) (inside m body s)) → (s : S) → Has gs ls s → Fine (Has gs ls) (repeated m turn_us seq repeat timeout steps body s)
-  unfolding repeated
+      → ((s : S) → Has gs ls s → Fine (Has gs ls) (inside m body s)) → (s : S) → Has gs ls s → Fine (Has gs ls) (repeat_result m turn_us seq repeat timeout steps body s)
+  unfolding repeat_result
   fine_repeated ls sc same seqs None timeout steps body few bad no' good k s h = k s h
   fine_repeated ls sc same seqs (Some e) timeout steps body few bad no' good k s h =
       let w = loop_fine e timeout few bad in
@@ -281,7 +281,7 @@ module _ {V T : Type 0} (m : Machine V T) (safe : LacksNothing m) (gs : List (Li
       (λ g f. no' (record { path = []; part = parts.While; fault = g }) (first.there (first.there (record { own = refl; part_is = refl; holds = f })))) good2 k x.1 p) p)
 
   mutual
-    unfolding step done in_order
+    unfolding step steps_result in_order
 
     pub fine_step : (ls : List (List ℕ)) (sc : Scope) → sc.visible ≡ gs ++ ls → sc.sequences ≡ names → (around : ℕ) (path : List ℕ) (one : CodeStep) → ((g : StepFault) → FaultInStep sc around one g → ⊥)
         → AreGoodCalls Good (step_calls names path one) → (s : S) → Has gs ls s → Fine (Has gs (own_step ls one)) (step m turn_us seq one s)
@@ -295,11 +295,11 @@ module _ {V T : Type 0} (m : Machine V T) (safe : LacksNothing m) (gs : List (Li
         fine_control ls sc same seqs around cond' repeat timeout steps _ (λ g x. no' g (first.here x))
         (calls_of_text Good path parts.If (condition_calls names cond') (calls_left Good conds (loops ++ steps_calls names path 0 steps) good))
         (calls_of_text Good path parts.While (condition_calls names repeat) (calls_left Good loops (steps_calls names path 0 steps) rest))
-        (λ r p. fine_inside ls own.0 _ (λ q k. subst (λ ks. Fine (Has gs ks) (done m turn_us seq steps q)) own.1
+        (λ r p. fine_inside ls own.0 _ (λ q k. subst (λ ks. Fine (Has gs ks) (steps_result m turn_us seq steps q)) own.1
         (fine_steps ls sc same seqs (suc around) 0 path steps (λ g x. no' g (first.there x)) (calls_right Good loops (steps_calls names path 0 steps) rest) q k)) r p) s h
 
     pub fine_steps : (ls : List (List ℕ)) (sc : Scope) → sc.visible ≡ gs ++ ls → sc.sequences ≡ names → (around number : ℕ) (path : List ℕ) (steps : CodeSteps) → ((g : StepFault) → FaultInSteps sc around number steps g → ⊥)
-        → AreGoodCalls Good (steps_calls names path number steps) → (s : S) → Has gs ls s → Fine (Has gs (own_steps ls steps)) (done m turn_us seq steps s)
+        → AreGoodCalls Good (steps_calls names path number steps) → (s : S) → Has gs ls s → Fine (Has gs (own_steps ls steps)) (steps_result m turn_us seq steps s)
     fine_steps ls sc same seqs around number path c.NoSteps no' good s h = h
     fine_steps ls sc same seqs around number path (c.MoreSteps one more) no' good s h =
         let here = step_calls names (path ++ number ∷ []) one in

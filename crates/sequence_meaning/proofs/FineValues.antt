@@ -20,10 +20,10 @@ use Rattle.code_check.specs.declared.fault.CodeFault.{CodeFault}
 use Rattle.code_check.specs.declared.fault.FaultKind.TheVariants as kinds
 use Rattle.seq_check.specs.Calls.{number_of, text_calls, own_calls, expr_calls, arg_calls, args_calls}
 use Rattle.seq_check.specs.declared.calls.TextCall.{TextCall}
-use Rattle.sequence_terms.specs.Calls.{use_now, guarded}
-use Rattle.sequence_terms.specs.Machine.{Machine, State, Out}
-use Rattle.sequence_terms.specs.Variables.{visible, is_visible}
-use Rattle.sequence_terms.specs.Values.{text_of, named, stored, assigned, used_now, of_unary, both, operands, result_of, strict_binary, truth_of, conjunction, disjunction, of_binary, choice, appended, chained, numbers_of, is_call, count_of, called, call_of, value, argument, arguments}
+use Rattle.sequence_rules.specs.Calls.{use_now, guarded}
+use Rattle.sequence_rules.specs.Machine.{Machine, State, Out}
+use Rattle.sequence_rules.specs.Variables.{visible, is_visible}
+use Rattle.sequence_rules.specs.Values.{text_of, named, stored, assigned, used_now, of_unary, both, operands, result_of, strict_binary, truth_of, conjunction, disjunction, of_binary, choice, appended, chained, numbers_of, is_call, count_of, call_result, call_of, value, argument, arguments}
 use Rattle.sequence_meaning.proofs.CallLemmas.{call_is, call_has}
 use Rattle.sequence_meaning.proofs.Fine.{Fine, fine_bind, fine_cond, fine_given, fine_guarded, Has, is_visible_by, visible_by, store_keeps}
 use Rattle.sequence_meaning.proofs.FineCalls.{LacksNothing, fine_use, fine_all, fine_performed}
@@ -145,8 +145,8 @@ module _ {V T : Type 0} (m : Machine V T) (safe : LacksNothing m) (gs ls : List 
       Sequences : Function → List ℕ → Type 0
       Sequences function text = function ≡ f.Sequence → (has_name names text ≡ true) × Good (number_of names text)
 
-      fine_called : (function : Function) (text numbers : List ℕ) → (function ≡ f.Sequence → (has_name names text ≡ true) × Good (number_of names text)) → (s : S) → Has gs ls s → Fine (Has gs ls) (called m seq (Some function) text numbers s)
-      unfolding called
+      fine_called : (function : Function) (text numbers : List ℕ) → (function ≡ f.Sequence → (has_name names text ≡ true) × Good (number_of names text)) → (s : S) → Has gs ls s → Fine (Has gs ls) (call_result m seq (Some function) text numbers s)
+      unfolding call_result
       fine_called f.Sequence text numbers k s h = let r = k refl in fine_bind Now Now (seq text s) _ (runs text r.0 r.1 ls s h) (λ x p. p)
       fine_called function text numbers k s h = fine_performed m safe gs ls dp_there ap_there control_there function text numbers s h
 
@@ -172,9 +172,9 @@ module _ {V T : Type 0} (m : Machine V T) (safe : LacksNothing m) (gs ls : List 
 
       fine_done : (o : Option Function) (function : Function) (args : ArgTrees) (numbers : List ℕ) (s : S) → o ≡ Some function → is_call o args ≡ true
           → (function ≡ f.Sequence → (has_name names (text_of args) ≡ true) × Good (number_of names (text_of args))) → Has gs ls s
-          → Fine (Has gs ls) (guarded m (is_call o args) (λ r. called m seq o (text_of args) numbers r) s)
+          → Fine (Has gs ls) (guarded m (is_call o args) (λ r. call_result m seq o (text_of args) numbers r) s)
       fine_done o function args numbers s same is k h =
-          fine_guarded m Now (is_call o args) _ s is (subst (λ w. Fine (Has gs ls) (called m seq w (text_of args) numbers s)) (sym same) (fine_called function (text_of args) numbers k s h))
+          fine_guarded m Now (is_call o args) _ s is (subst (λ w. Fine (Has gs ls) (call_result m seq w (text_of args) numbers s)) (sym same) (fine_called function (text_of args) numbers k s h))
 
       fine_call : (name : Name) (args : ArgTrees) → ((g : CodeFault) → CallFault sc name args g → ⊥) → AreGood Good (own_calls names name args) → (out : Out V T (List V)) → Fine (Has gs ls) out → Fine (Has gs ls) (call_of m seq name args out)
       unfolding call_of numbers_of

@@ -1,18 +1,18 @@
 -- The run of a checked set is never lost.
 use Rattle.std.proofs.Common.{◌≡◌, ◌⊎◌, inl, inr, ℕ, Bool, true, false, cond, ◌||◌, List, [], ◌∷◌, map, Option, Some, is_some, Result, Ok, Err, refl, sym, ap, ◌∙◌, bytes_eq}
-use Rattle.call_terms.specs.World.{World, is_over, done_now, next_world}
-use Rattle.call_terms.specs.declared.calls.Ask.{Ask}
+use Rattle.target_calls.specs.World.{World, is_over, done_now, next_world}
+use Rattle.target_calls.specs.declared.calls.Ask.{Ask}
 use Rattle.target_machine.specs.Plain.{CallEnd, Answered, Skipped, Faulted, Small}
 use Rattle.code_check.specs.BlockFaults.{names_after_all}
 use Rattle.code_check.specs.Names.{has_name}
-use Rattle.sequence_code.specs.Trees.{CodeSteps, SequenceTrees, steps_named}
-use Rattle.sequence_terms.specs.declared.bindings.Binding.{Binding}
-use Rattle.sequence_terms.specs.Direct.{Now, with_call, answers, made, direct}
-use Rattle.sequence_terms.specs.Machine as machine
-use Rattle.sequence_terms.specs.Machine.{Over, State, Out}
-use Rattle.sequence_terms.specs.Runs as ending
-use Rattle.sequence_terms.specs.Runs.{Program, Ending, as_values, outcome_over, outcome_of, meaning, watched}
-use Rattle.sequence_terms.proofs.Watching.{watched_same}
+use Rattle.sequence_trees.specs.Trees.{CodeSteps, SequenceTrees, steps_named}
+use Rattle.sequence_rules.specs.declared.bindings.Binding.{Binding}
+use Rattle.sequence_rules.specs.Direct.{Now, with_call, answers, made, direct}
+use Rattle.sequence_rules.specs.Machine as machine
+use Rattle.sequence_rules.specs.Machine.{Over, State, Out}
+use Rattle.sequence_rules.specs.Runs as ending
+use Rattle.sequence_rules.specs.Runs.{Program, Ending, as_values, outcome_over, outcome_of, meaning, watched}
+use Rattle.sequence_rules.proofs.Watching.{watched_same}
 use Rattle.sequence_meaning.specs.Valid.{IsChecked}
 use Rattle.sequence_meaning.proofs.Fine.{IsMet, Fine, names_in}
 use Rattle.sequence_meaning.proofs.FineCalls.{IsMetBy, LacksNothing}

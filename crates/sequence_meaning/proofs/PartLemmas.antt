@@ -1,25 +1,25 @@
 -- What a run leaves, however it ends.
 use Rattle.std.proofs.Common.{◌≡◌, ℕ, suc, ◌+◌, Bool, true, false, cond, ◌⊎◌, inl, inr, List, [], ◌∷◌, ◌++◌, length, Option, None, Some, Result, Ok, Err, refl, sym, ap, subst, ◌∙◌, arith}
-use Rattle.call_terms.specs.World.{World, is_over, later_by, next_world, one_fewer, start_world, stop, stops_here, world_after}
-use Rattle.call_terms.specs.declared.calls.Ask.{Ask}
+use Rattle.target_calls.specs.World.{World, is_over, later_by, next_world, one_fewer, start_world, stop, stops_here, world_after}
+use Rattle.target_calls.specs.declared.calls.Ask.{Ask}
 use Rattle.target_machine.specs.State.{TargetState}
-use Rattle.sequence_terms.specs.declared.bindings.Binding.{Binding}
-use Rattle.sequence_terms.specs.Direct.{Now, direct, now_at}
-use Rattle.sequence_terms.specs.Late.{Grows}
-use Rattle.sequence_terms.specs.Laws.{Adds, IsMadeIn, StopBy}
-use Rattle.sequence_terms.specs.Machine.{State, Out, end_state}
-use Rattle.sequence_terms.specs.Runs as ending
-use Rattle.sequence_terms.specs.Runs.{Ending, Outcome, Program, as_values, meaning, outcome, outcome_of}
-use Rattle.sequence_terms.specs.Steps.{start_state}
-use Rattle.sequence_terms.proofs.Adding.{adds_direct}
-use Rattle.sequence_terms.proofs.Goes as g
-use Rattle.sequence_terms.proofs.OutcomeLemmas.{over_calls, over_written}
-use Rattle.sequence_meaning.specs.declared.end.End.{End}
-use Rattle.sequence_meaning.specs.declared.end.End.TheVariants as end
-use Rattle.sequence_meaning.specs.declared.held.Held.{Held}
+use Rattle.sequence_rules.specs.declared.bindings.Binding.{Binding}
+use Rattle.sequence_rules.specs.Direct.{Now, direct, now_at}
+use Rattle.sequence_rules.specs.Late.{Grows}
+use Rattle.sequence_rules.specs.Laws.{Adds, IsMadeIn, StopBy}
+use Rattle.sequence_rules.specs.Machine.{State, Out, end_state}
+use Rattle.sequence_rules.specs.Runs as ending
+use Rattle.sequence_rules.specs.Runs.{Ending, Outcome, Program, as_values, meaning, outcome, outcome_of}
+use Rattle.sequence_rules.specs.Steps.{start_state}
+use Rattle.sequence_rules.proofs.Adding.{adds_direct}
+use Rattle.sequence_rules.proofs.Goes as g
+use Rattle.sequence_rules.proofs.OutcomeLemmas.{over_calls, over_written}
+use Rattle.sequence_meaning.specs.declared.end.DirectEnd.{DirectEnd}
+use Rattle.sequence_meaning.specs.declared.end.DirectEnd.TheVariants as end
+use Rattle.sequence_meaning.specs.declared.held.DirectHeld.{DirectHeld}
 use Rattle.sequence_meaning.specs.Answers.{IsFirstPart}
 use Rattle.sequence_meaning.specs.declared.end.Stopped.{Stopped}
-use Rattle.sequence_meaning.specs.Held.{Ends, Gives, IsMade, made_all, state_of, world_at}
+use Rattle.sequence_meaning.specs.Held.{EndsDirect, IsMade, MeansDirect, made_all, state_of, world_at}
 use Rattle.sequence_meaning.proofs.StopLemmas.{nothing_added}
 
 abbrev O : Type 0
@@ -84,17 +84,17 @@ written_at_end (Err e) = over_written e.0 e.1
 
 -- ---- where the code is, the meaning adds to it
 
-adds_end : (e : End) (now : State ℕ Now) (out : O) → Ends e now out → Adds now.rest (end_state out).rest
+adds_end : (e : DirectEnd) (now : State ℕ Now) (out : O) → EndsDirect e now out → Adds now.rest (end_state out).rest
 adds_end (end.Halted cause) now out h = rw h (nothing_added now.rest)
 adds_end (end.Faulted u) now out h = rw h (nothing_added now.rest)
 adds_end end.WriteFault now out h = h
 adds_end end.OutOfMemory now out h = h
 
-adds_all : (e : End) (ended : Result (Unit {0}) Stopped) (now : State ℕ Now) (out : O) → Gives e ended now out → Adds now.rest (end_state out).rest
+adds_all : (e : DirectEnd) (ended : Result (Unit {0}) Stopped) (now : State ℕ Now) (out : O) → MeansDirect e ended now out → Adds now.rest (end_state out).rest
 adds_all e (Ok x) now out h = rw h (nothing_added now.rest)
 adds_all e (Err stopped) now out h = adds_end e now out h
 
-pub first_part : (ended : Result (Unit {0}) Stopped) (held : Held) (start target : TargetState) (written : Option (List ℕ)) (out : O) → Gives held.end ended (state_of held target written) out
+pub first_part : (ended : Result (Unit {0}) Stopped) (held : DirectHeld) (start target : TargetState) (written : Option (List ℕ)) (out : O) → MeansDirect held.end ended (state_of held target written) out
     → IsMadeIn (start_world start None) (outcome_of out) → IsMade (start_world start None) held target → IsFirstPart start (outcome_of out) held.calls target written
 first_part ended held start target written out h law made =
     let adds = adds_all held.end ended (state_of held target written) out h in
@@ -120,7 +120,7 @@ no_part p t written =
     }
 
 -- no call was made yet
-pub start_made : (held : Held) (t : TargetState) (written : Option (List ℕ)) (globals : List (Binding ℕ))
+pub start_made : (held : DirectHeld) (t : TargetState) (written : Option (List ℕ)) (globals : List (Binding ℕ))
     → state_of held t written ≡ record { globals = globals; locals = []; units = 0; lines = 0; steps = 0; rest = now_at (start_world t None) written } → IsMade (start_world t None) held t
 start_made held t written globals h = record {
   world = ap (λ (s : State ℕ Now). made_all (start_world t None) s.rest.calls) h ∙ sym (ap (λ (s : State ℕ Now). world_at t s.rest.world.large) h);

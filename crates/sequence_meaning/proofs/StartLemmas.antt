@@ -4,19 +4,18 @@ use Rattle.std.proofs.lemmas.List.{drop_all, drop_more, take_more, map-append}
 use Rattle.expr_grammar.specs.Tree as t
 use Rattle.expr_grammar.specs.Tree.{StmtTree, stmt_tree, code_trees}
 use Rattle.expr_grammar.specs.declared.code.Stmt as statement
-use Rattle.call_terms.specs.World.{start_world}
+use Rattle.target_calls.specs.World.{start_world}
 use Rattle.function_table.specs.Variables.{predefined}
-use Rattle.sequence_code.specs.Trees.{SetTrees}
+use Rattle.sequence_trees.specs.Trees.{SetTrees}
 use Rattle.target_machine.specs.State.{TargetState}
 use Rattle.target_machine.specs.declared.unit.Variable.{Variable}
-use Rattle.sequence_terms.proofs.PredefinedNames.{name_at, names_length}
-use Rattle.sequence_terms.specs.declared.bindings.Binding.{Binding}
-use Rattle.sequence_terms.specs.Direct.{Now, now_at, direct}
-use Rattle.sequence_terms.specs.Machine.{State}
-use Rattle.sequence_terms.specs.Runs.{as_values}
-use Rattle.sequence_terms.specs.Steps.{declared_names, start_state}
-use Rattle.sequence_terms.specs.Variables.{bound, has_in, with_new, with_all_new}
-use Rattle.sequence_meaning.specs.Starting.{variables_of}
+use Rattle.sequence_rules.proofs.PredefinedNames.{name_at, names_length}
+use Rattle.sequence_rules.specs.declared.bindings.Binding.{Binding}
+use Rattle.sequence_rules.specs.Direct.{Now, now_at, direct}
+use Rattle.sequence_rules.specs.Machine.{State}
+use Rattle.sequence_rules.specs.Runs.{as_values, variables_of}
+use Rattle.sequence_rules.specs.Steps.{declared_names, start_state}
+use Rattle.sequence_rules.specs.Variables.{bound, has_in, with_new, with_all_new}
 
 -- ---- the predefined variables have names of their own
 

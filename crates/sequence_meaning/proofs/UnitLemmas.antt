@@ -1,16 +1,16 @@
 -- A command of the probe as a unit.
 use Rattle.std.proofs.Common.{◌≡◌, ◌∙◌, ℕ, ◌<◌, ◌+◌, false, true, nat_lt, Option, None, Ok, List, [], ◌∷◌, ◌++◌, arith, ap}
-use Rattle.call_terms.specs.Asks.{probe_ask}
-use Rattle.call_terms.specs.declared.calls.Ask.{Ask}
-use Rattle.calls_at_once.specs.Made.{IsDone}
+use Rattle.target_calls.specs.Asks.{probe_ask}
+use Rattle.target_calls.specs.declared.calls.Ask.{Ask}
+use Rattle.direct_calls.specs.Made.{IsDone}
 use Rattle.target_machine.specs.Plain.{CallEnd, Answered, call_done}
 use Rattle.target_machine.specs.State.{TargetState}
 use Rattle.target_machine.specs.declared.unit.Call.TheVariants.{Probe}
 use Rattle.target_machine.specs.declared.unit.ProbeCall.{ProbeCall}
-use Rattle.sequence_terms.specs.declared.bindings.Binding.{Binding}
-use Rattle.sequence_terms.specs.Calls.{numbered, command}
-use Rattle.sequence_terms.specs.Direct.{Now, with_call, answers, made, direct}
-use Rattle.sequence_terms.specs.Machine.{State}
+use Rattle.sequence_rules.specs.declared.bindings.Binding.{Binding}
+use Rattle.sequence_rules.specs.Calls.{numbered, command}
+use Rattle.sequence_rules.specs.Direct.{Now, with_call, answers, made, direct}
+use Rattle.sequence_rules.specs.Machine.{State}
 
 module _ (globals locals : List (Binding ℕ)) (units lines steps : ℕ) (t : TargetState) (large : List ℕ) (calls : List Ask) (skipped : ℕ) (written : Option (List ℕ)) where
   at : ℕ → TargetState → List ℕ → List Ask → State ℕ Now

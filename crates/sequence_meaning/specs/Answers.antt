@@ -1,16 +1,15 @@
 -- What the direct runner answers.
 use Rattle.std.specs.Prelude.{◌≡◌, ℕ, List, [], ◌++◌, Option, None, Result, Ok, Err}
-use Rattle.call_terms.specs.World.{start_world, world_after}
+use Rattle.target_calls.specs.World.{start_world, world_after}
 use Rattle.dap_base.specs.Causes.{Rose}
-use Rattle.sequence_terms.specs.Late.{Grows}
-use Rattle.call_terms.specs.declared.calls.Ask.{Ask}
+use Rattle.sequence_rules.specs.Late.{Grows}
+use Rattle.target_calls.specs.declared.calls.Ask.{Ask}
 use Rattle.dap_base.specs.declared.text.OutOfMemory.{OutOfMemory}
 use Rattle.target_machine.specs.State.{TargetState}
 use Rattle.target_machine.specs.declared.unit.Call.TheVariants.{Access}
-use Rattle.sequence_terms.specs.Runs as ending
-use Rattle.sequence_terms.specs.Runs.{Ending, Outcome, units_of}
-use Rattle.sequence_terms.specs.declared.bindings.Binding.{Binding}
-use Rattle.sequence_meaning.specs.Starting.{variables_of}
+use Rattle.sequence_rules.specs.Runs as ending
+use Rattle.sequence_rules.specs.Runs.{Ending, Outcome, units_of, variables_of}
+use Rattle.sequence_rules.specs.declared.bindings.Binding.{Binding}
 use Rattle.sequence_meaning.specs.declared.ended.Direct.{Direct}
 use Rattle.sequence_meaning.specs.declared.ended.Direct.TheVariants as d
 use Rattle.sequence_meaning.specs.declared.ended.Recorded.{Recorded}

@@ -1,11 +1,11 @@
 -- What the run of a checked set never meets.
 use Rattle.std.specs.Prelude.{◌≡◌, ℕ, true, List, map, is_some, Option}
-use Rattle.call_terms.specs.World.{World}
+use Rattle.target_calls.specs.World.{World}
 use Rattle.function_table.specs.Variables.{predefined}
 use Rattle.seq_check.specs.Valid.{IsSound}
-use Rattle.sequence_code.specs.Trees.{steps_named}
-use Rattle.sequence_terms.specs.Runs as ending
-use Rattle.sequence_terms.specs.Runs.{Program, outcome_of, meaning, watched}
+use Rattle.sequence_trees.specs.Trees.{steps_named}
+use Rattle.sequence_rules.specs.Runs as ending
+use Rattle.sequence_rules.specs.Runs.{Program, outcome_of, meaning, watched}
 
 -- A program of a set in which nothing is wrong, which has the sequence that the run starts with, and of the predefined variables.
 pub record IsChecked (p : Program) : Type 0 where

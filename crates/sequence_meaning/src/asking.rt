@@ -1,29 +1,22 @@
 //! Units, asked one at a time, and the predefined variables that they use.
 ghost use Rattle.std.specs.Prelude.{◌≡◌, ℕ, ◌<◌, ◌^◌, List, Option, IfOk, Ok, codes, false};
 ghost use Rattle.target_machine.specs.Sound.{IsSound, IsSoundProbe};
-ghost use Rattle.call_terms.specs.World.{World};
-ghost use Rattle.sequence_terms.specs.Calls as c;
-ghost use Rattle.sequence_terms.specs.Direct.{Now, direct};
-ghost use Rattle.sequence_terms.specs.Machine.{State};
-ghost use Rattle.sequence_terms.specs.Shared.{bindings_of};
-ghost use Rattle.sequence_meaning.specs.Held.{IsCaused, IsMade, Gives, state_of};
+ghost use Rattle.target_calls.specs.World.{World};
+ghost use Rattle.sequence_rules.specs.Calls as c;
+ghost use Rattle.sequence_rules.specs.Direct.{Now, direct};
+ghost use Rattle.sequence_rules.specs.Machine.{State};
+ghost use Rattle.sequence_rules.specs.Shared.{bindings_of};
+ghost use Rattle.sequence_meaning.specs.Held.{IsCaused, IsMade, MeansDirect, state_of};
 
-use crate::end::{End, Stopped};
-use crate::held::Held;
-use call_terms::Ask;
-use calls_at_once::{Made, call_at_once, command_at_once};
+use crate::end::{DirectEnd, Stopped};
+use crate::held::DirectHeld;
+use direct_calls::{Made, call_at_once, command_at_once};
+use sequence_rules::{MOST_UNITS, Port};
+use target_calls::Ask;
 use target_machine::{Call, HaltCause, ProbeCall, Target, Unit};
 
-// The predefined variables that calls use: the AP, whether a fault is forgiven, and the debug port.
-#[derive(Clone, Copy)]
-pub(crate) struct Port {
-    pub ap: u64,
-    pub forgive: bool,
-    pub dp: u64,
-}
-
 // The variables that a memory or AP call uses.
-pub(crate) fn port_of(held: &Held) -> Port
+pub(crate) fn port_of(held: &DirectHeld) -> Port
     ensures { (s : State ℕ Now) → s.globals ≡ bindings_of held.now.globals.variables
         → c.port (direct false) s ≡ Ok (record { ap = result.ap; forgive = result.forgive; dp = result.dp }, s) }
 {
@@ -35,7 +28,7 @@ pub(crate) fn port_of(held: &Held) -> Port
 }
 
 // `__dp`.
-pub(crate) fn debug_port(held: &Held) -> u64
+pub(crate) fn debug_port(held: &DirectHeld) -> u64
     ensures { (s : State ℕ Now) → s.globals ≡ bindings_of held.now.globals.variables → c.global (direct false) (codes "__dp") s ≡ Ok (result, s) }
 {
     held.globals.dp()
@@ -44,32 +37,32 @@ pub(crate) fn debug_port(held: &Held) -> u64
 // An access as a unit, made at once, unless it would be number 1,000,001. It is inlined, so that no access is put together in memory
 // and taken apart again.
 #[inline(always)]
-#[tactic(auto, unfolding(sequence_terms::specs::Calls::ask, sequence_terms::specs::Calls::answered, sequence_terms::specs::Direct::direct, sequence_terms::specs::Direct::made))]
+#[tactic(auto, unfolding(sequence_rules::specs::Calls::ask, sequence_rules::specs::Calls::answered, sequence_rules::specs::Direct::direct, sequence_rules::specs::Direct::made))]
 pub(crate) fn ask(
     unit: Unit,
     forgive: bool,
-    held: &mut Held,
+    held: &mut DirectHeld,
     target: &mut Target,
 ) -> Result<u64, Stopped>
     requires { IsSound unit }
-    ensures gives { (written : Option (List ℕ)) → Gives held.new.end result (state_of held.new target.new written) (c.ask (direct false) unit forgive (state_of held.old target.old written)) }
+    ensures gives { (written : Option (List ℕ)) → MeansDirect held.new.end result (state_of held.new target.new written) (c.ask (direct false) unit forgive (state_of held.old target.old written)) }
     ensures made { (w : World) → IsMade w held.old target.old → IsMade w held.new target.new }
     ensures cause { (faults : ℕ) → IsCaused held.new.end result faults faults }
     ensures word { IfOk result (λ value. value < 2 ^ 32) }
 {
-    if held.units >= 1_000_000 {
-        held.end = End::Halted(HaltCause::AccessLimit);
+    if held.units >= MOST_UNITS {
+        held.end = DirectEnd::Halted(HaltCause::AccessLimit);
         return Err(Stopped);
     }
     // The call is listed first, so that it was not made where memory is refused.
     let before = held.calls.len();
     let Ok(()) = held.calls.push_access(unit, forgive) else {
-        held.end = End::OutOfMemory;
+        held.end = DirectEnd::OutOfMemory;
         return Err(Stopped);
     };
     let Ok(made) = call_at_once(target, Call::Access(unit), forgive, &mut held.large) else {
         held.calls.truncate(before);
-        held.end = End::OutOfMemory;
+        held.end = DirectEnd::OutOfMemory;
         return Err(Stopped);
     };
     held.units += 1;
@@ -80,11 +73,11 @@ pub(crate) fn ask(
             Ok(0)
         }
         Made::Faulted => {
-            held.end = End::Faulted(unit);
+            held.end = DirectEnd::Faulted(unit);
             Err(Stopped)
         }
         Made::Small => {
-            held.end = End::Halted(HaltCause::AddressTooLarge);
+            held.end = DirectEnd::Halted(HaltCause::AddressTooLarge);
             Err(Stopped)
         }
     }
@@ -92,16 +85,16 @@ pub(crate) fn ask(
 
 // A read has its value, and a write 0.
 #[inline(always)]
-#[tactic(auto, unfolding(sequence_terms::specs::Calls::if_read, sequence_terms::specs::Calls::zero_of, sequence_terms::specs::Direct::direct), using(crate::proofs::StopLemmas::ends_if_read))]
-pub(crate) fn asked(
+#[tactic(auto, unfolding(sequence_rules::specs::Calls::if_read, sequence_rules::specs::Calls::zero_of, sequence_rules::specs::Direct::direct), using(crate::proofs::StopLemmas::ends_if_read))]
+pub(crate) fn ask_for_result(
     read: bool,
     unit: Unit,
     forgive: bool,
-    held: &mut Held,
+    held: &mut DirectHeld,
     target: &mut Target,
 ) -> Result<u64, Stopped>
     requires { IsSound unit }
-    ensures gives { (written : Option (List ℕ)) → Gives held.new.end result (state_of held.new target.new written) (c.if_read (direct false) read (c.ask (direct false) unit forgive (state_of held.old target.old written))) }
+    ensures gives { (written : Option (List ℕ)) → MeansDirect held.new.end result (state_of held.new target.new written) (c.if_read (direct false) read (c.ask (direct false) unit forgive (state_of held.old target.old written))) }
     ensures made { (w : World) → IsMade w held.old target.old → IsMade w held.new target.new }
     ensures cause { (faults : ℕ) → IsCaused held.new.end result faults faults }
 {
@@ -110,15 +103,19 @@ pub(crate) fn asked(
 }
 
 // A command of the probe as a unit, made at once, unless it would be number 1,000,001.
-#[tactic(auto, unfolding(sequence_terms::specs::Calls::command, sequence_terms::specs::Calls::numbered, sequence_terms::specs::Direct::direct, sequence_terms::specs::Direct::made))]
-pub(crate) fn command(call: ProbeCall, held: &mut Held, target: &mut Target) -> Result<u64, Stopped>
+#[tactic(auto, unfolding(sequence_rules::specs::Calls::command, sequence_rules::specs::Calls::numbered, sequence_rules::specs::Direct::direct, sequence_rules::specs::Direct::made))]
+pub(crate) fn command(
+    call: ProbeCall,
+    held: &mut DirectHeld,
+    target: &mut Target,
+) -> Result<u64, Stopped>
     requires { IsSoundProbe call }
-    ensures gives { (written : Option (List ℕ)) → Gives held.new.end result (state_of held.new target.new written) (c.command (direct false) call (state_of held.old target.old written)) }
+    ensures gives { (written : Option (List ℕ)) → MeansDirect held.new.end result (state_of held.new target.new written) (c.command (direct false) call (state_of held.old target.old written)) }
     ensures made { (w : World) → IsMade w held.old target.old → IsMade w held.new target.new }
     ensures cause { (faults : ℕ) → IsCaused held.new.end result faults faults }
 {
-    if held.units >= 1_000_000 {
-        held.end = End::Halted(HaltCause::AccessLimit);
+    if held.units >= MOST_UNITS {
+        held.end = DirectEnd::Halted(HaltCause::AccessLimit);
         return Err(Stopped);
     }
     let asked = Ask {
@@ -127,7 +124,7 @@ pub(crate) fn command(call: ProbeCall, held: &mut Held, target: &mut Target) -> 
         settled: false,
     };
     let Ok(()) = held.calls.push(asked) else {
-        held.end = End::OutOfMemory;
+        held.end = DirectEnd::OutOfMemory;
         return Err(Stopped);
     };
     held.units += 1;

@@ -3,41 +3,41 @@ ghost use Rattle.std.specs.Prelude.{◌≡◌, [], ◌∷◌, ◌++◌, Bool, fa
 ghost use Rattle.expr_grammar.specs.Tree.{tree, arg_tree, arg_trees, stmt_tree, code_trees};
 ghost use Rattle.dap_base.specs.declared.text.Place.{Place};
 ghost use Rattle.seq_check.specs.Answers.{checked_trees};
-ghost use Rattle.call_terms.specs.World.{World};
-ghost use Rattle.sequence_code.specs.Trees.{NoSteps, steps_named, steps_tree};
+ghost use Rattle.target_calls.specs.World.{World};
+ghost use Rattle.sequence_trees.specs.Trees.{NoSteps, steps_named, steps_tree};
 ghost use Rattle.function_table.specs.declared.function.Function.{Function};
-ghost use Rattle.sequence_terms.specs.Direct.{direct};
-ghost use Rattle.sequence_terms.specs.Steps as m;
-ghost use Rattle.sequence_terms.specs.Values as v;
-ghost use Rattle.sequence_terms.specs.Known.{Knows};
+ghost use Rattle.sequence_rules.specs.Direct.{direct};
+ghost use Rattle.sequence_rules.specs.Steps as m;
+ghost use Rattle.sequence_rules.specs.Values as v;
+ghost use Rattle.sequence_rules.specs.Known.{Knows};
 ghost use Rattle.sequence_meaning.specs.Few.{one_number, two_numbers};
-ghost use Rattle.sequence_meaning.specs.Held.{IsCaused, IsMade, Gives, GivesAs, calls_of, seen, state_of};
+ghost use Rattle.sequence_meaning.specs.Held.{IsCaused, IsMade, MeansDirect, MeansDirectAs, calls_of, seen, state_of};
 
-use crate::end::{End, Stopped};
-use crate::functions::performed;
-use crate::held::Held;
-use crate::runner::Runner;
+use crate::end::{DirectEnd, Stopped};
+use crate::functions::make_call;
+use crate::held::DirectHeld;
+use crate::runner::DirectRunner;
 use dap_base::Sink;
 use expr_grammar::{Arg, CalledName, Expr};
 use function_table::Function;
-use sequence_code::CheckedStep;
-use sequence_terms::text_of;
+use sequence_rules::text_of;
+use sequence_trees::CheckedStep;
 use target_machine::Target;
 
-impl Runner<'_> {
+impl DirectRunner<'_> {
     // An argument is evaluated; a text is none.
     #[cycle(eval)]
-    #[tactic(auto, unfolding(sequence_terms::specs::Values::argument))]
-    fn argument<K: Sink>(
+    #[tactic(auto, unfolding(sequence_rules::specs::Values::argument))]
+    fn evaluate_argument<K: Sink>(
         &self,
         arg: &Arg,
         numbers: &mut Vec<u64>,
         depth: u32,
-        held: &mut Held,
+        held: &mut DirectHeld,
         target: &mut Target,
         sink: &mut K,
     ) -> Result<(), Stopped>
-        ensures gives { (known : Bool) → Knows known (K.written sink.old) → GivesAs held.new.end numbers.new.items result (seen known held.new target.new (K.written sink.new)) (v.argument (direct false) (calls_of self.now depth) (arg_tree arg.now) numbers.old.items (seen known held.old target.old (K.written sink.old))) }
+        ensures gives { (known : Bool) → Knows known (K.written sink.old) → MeansDirectAs held.new.end numbers.new.items result (seen known held.new target.new (K.written sink.new)) (v.argument (direct false) (calls_of self.now depth) (arg_tree arg.now) numbers.old.items (seen known held.old target.old (K.written sink.old))) }
         ensures knows { (known : Bool) → Knows known (K.written sink.old) → Knows known (K.written sink.new) }
         ensures made { (w : World) → IsMade w held.old target.old → IsMade w held.new target.new }
         ensures cause { IsCaused held.new.end result (K.faults sink.old) (K.faults sink.new) }
@@ -50,26 +50,26 @@ impl Runner<'_> {
 
     // A value after others.
     #[cycle(eval)]
-    #[tactic(auto, unfolding(sequence_terms::specs::Values::appended), using(crate::proofs::StopLemmas::ends_appended, crate::proofs::StopLemmas::append_refused, crate::proofs::StopLemmas::cause_on))]
+    #[tactic(auto, unfolding(sequence_rules::specs::Values::appended), using(crate::proofs::StopLemmas::ends_appended, crate::proofs::StopLemmas::append_refused, crate::proofs::StopLemmas::cause_on))]
     fn push_value<K: Sink>(
         &self,
         expr: &Expr,
         numbers: &mut Vec<u64>,
         depth: u32,
-        held: &mut Held,
+        held: &mut DirectHeld,
         target: &mut Target,
         sink: &mut K,
     ) -> Result<(), Stopped>
-        ensures gives { (known : Bool) → Knows known (K.written sink.old) → GivesAs held.new.end numbers.new.items result (seen known held.new target.new (K.written sink.new)) (v.appended (direct false) numbers.old.items (v.value (direct false) (calls_of self.now depth) (tree expr.now) (seen known held.old target.old (K.written sink.old)))) }
+        ensures gives { (known : Bool) → Knows known (K.written sink.old) → MeansDirectAs held.new.end numbers.new.items result (seen known held.new target.new (K.written sink.new)) (v.appended (direct false) numbers.old.items (v.value (direct false) (calls_of self.now depth) (tree expr.now) (seen known held.old target.old (K.written sink.old)))) }
         ensures knows { (known : Bool) → Knows known (K.written sink.old) → Knows known (K.written sink.new) }
         ensures made { (w : World) → IsMade w held.old target.old → IsMade w held.new target.new }
         ensures cause { IsCaused held.new.end result (K.faults sink.old) (K.faults sink.new) }
     {
-        let number = self.operand(expr, depth, held, target, sink)?;
+        let number = self.evaluate_operand(expr, depth, held, target, sink)?;
         match numbers.push(number) {
             Ok(()) => Ok(()),
             Err(_) => {
-                held.end = End::OutOfMemory;
+                held.end = DirectEnd::OutOfMemory;
                 Err(Stopped)
             }
         }
@@ -77,23 +77,23 @@ impl Runner<'_> {
 
     // The arguments of a call, in order.
     #[cycle(eval)]
-    #[tactic(auto, unfolding(sequence_terms::specs::Values::arguments), using(crate::proofs::Loops::loops, crate::proofs::StopLemmas::cause_on))]
-    fn arguments<K: Sink>(
+    #[tactic(auto, unfolding(sequence_rules::specs::Values::arguments), using(crate::proofs::Loops::loops, crate::proofs::StopLemmas::cause_on))]
+    fn evaluate_arguments<K: Sink>(
         &self,
         args: &[Arg],
         numbers: &mut Vec<u64>,
         depth: u32,
-        held: &mut Held,
+        held: &mut DirectHeld,
         target: &mut Target,
         sink: &mut K,
     ) -> Result<(), Stopped>
-        ensures gives { (known : Bool) → Knows known (K.written sink.old) → GivesAs held.new.end numbers.new.items result (seen known held.new target.new (K.written sink.new)) (v.arguments (direct false) (calls_of self.now depth) (arg_trees args.now) numbers.old.items (seen known held.old target.old (K.written sink.old))) }
+        ensures gives { (known : Bool) → Knows known (K.written sink.old) → MeansDirectAs held.new.end numbers.new.items result (seen known held.new target.new (K.written sink.new)) (v.arguments (direct false) (calls_of self.now depth) (arg_trees args.now) numbers.old.items (seen known held.old target.old (K.written sink.old))) }
         ensures knows { (known : Bool) → Knows known (K.written sink.old) → Knows known (K.written sink.new) }
         ensures made { (w : World) → IsMade w held.old target.old → IsMade w held.new target.new }
         ensures cause { IsCaused held.new.end result (K.faults sink.old) (K.faults sink.new) }
     {
         for arg in args {
-            match self.argument(arg, numbers, depth, held, target, sink) {
+            match self.evaluate_argument(arg, numbers, depth, held, target, sink) {
                 Ok(()) => {}
                 Err(stopped) => return Err(stopped),
             }
@@ -103,25 +103,25 @@ impl Runner<'_> {
 
     // A call: its arguments, and then the function. The numbers among them go into an empty list.
     #[cycle(eval)]
-    #[tactic(auto, unfolding(sequence_terms::specs::Values::call_of, sequence_terms::specs::Calls::guarded, sequence_terms::specs::Values::numbers_of, sequence_terms::specs::Direct::direct), using(crate::proofs::StopLemmas::ends_call, crate::proofs::DirectLemmas::numbers_used, crate::proofs::StopLemmas::cause_on))]
+    #[tactic(auto, unfolding(sequence_rules::specs::Values::call_of, sequence_rules::specs::Calls::guarded, sequence_rules::specs::Values::numbers_of, sequence_rules::specs::Direct::direct), using(crate::proofs::StopLemmas::ends_call, crate::proofs::DirectLemmas::numbers_used, crate::proofs::StopLemmas::cause_on))]
     fn call_with<K: Sink>(
         &self,
         called: &CalledName,
         args: &[Arg],
         numbers: &mut Vec<u64>,
         depth: u32,
-        held: &mut Held,
+        held: &mut DirectHeld,
         target: &mut Target,
         sink: &mut K,
     ) -> Result<u64, Stopped>
         requires { numbers.old.items ≡ [] }
-        ensures gives { (known : Bool) → Knows known (K.written sink.old) → Gives held.new.end result (seen known held.new target.new (K.written sink.new)) (v.call_of (direct false) (calls_of self.now depth) called.now.name (arg_trees args.now) (v.arguments (direct false) (calls_of self.now depth) (arg_trees args.now) [] (seen known held.old target.old (K.written sink.old)))) }
+        ensures gives { (known : Bool) → Knows known (K.written sink.old) → MeansDirect held.new.end result (seen known held.new target.new (K.written sink.new)) (v.call_of (direct false) (calls_of self.now depth) called.now.name (arg_trees args.now) (v.arguments (direct false) (calls_of self.now depth) (arg_trees args.now) [] (seen known held.old target.old (K.written sink.old)))) }
         ensures knows { (known : Bool) → Knows known (K.written sink.old) → Knows known (K.written sink.new) }
         ensures made { (w : World) → IsMade w held.old target.old → IsMade w held.new target.new }
         ensures cause { IsCaused held.new.end result (K.faults sink.old) (K.faults sink.new) }
     {
-        self.arguments(args, numbers, depth, held, target, sink)?;
-        self.called(
+        self.evaluate_arguments(args, numbers, depth, held, target, sink)?;
+        self.call_function(
             called.function,
             text_of(args),
             numbers.as_slice(),
@@ -140,11 +140,11 @@ impl Runner<'_> {
         called: &CalledName,
         args: &[Arg],
         depth: u32,
-        held: &mut Held,
+        held: &mut DirectHeld,
         target: &mut Target,
         sink: &mut K,
     ) -> Result<u64, Stopped>
-        ensures gives { (known : Bool) → Knows known (K.written sink.old) → Gives held.new.end result (seen known held.new target.new (K.written sink.new)) (v.call_of (direct false) (calls_of self.now depth) called.now.name (arg_trees args.now) (v.arguments (direct false) (calls_of self.now depth) (arg_trees args.now) [] (seen known held.old target.old (K.written sink.old)))) }
+        ensures gives { (known : Bool) → Knows known (K.written sink.old) → MeansDirect held.new.end result (seen known held.new target.new (K.written sink.new)) (v.call_of (direct false) (calls_of self.now depth) called.now.name (arg_trees args.now) (v.arguments (direct false) (calls_of self.now depth) (arg_trees args.now) [] (seen known held.old target.old (K.written sink.old)))) }
         ensures knows { (known : Bool) → Knows known (K.written sink.old) → Knows known (K.written sink.new) }
         ensures made { (w : World) → IsMade w held.old target.old → IsMade w held.new target.new }
         ensures cause { IsCaused held.new.end result (K.faults sink.old) (K.faults sink.new) }
@@ -163,17 +163,17 @@ impl Runner<'_> {
         called: &CalledName,
         only: &Expr,
         depth: u32,
-        held: &mut Held,
+        held: &mut DirectHeld,
         target: &mut Target,
         sink: &mut K,
     ) -> Result<u64, Stopped>
-        ensures gives { (known : Bool) (at : Place) → Knows known (K.written sink.old) → Gives held.new.end result (seen known held.new target.new (K.written sink.new)) (v.call_of (direct false) (calls_of self.now depth) called.now.name (one_number at (tree only.now)) (v.arguments (direct false) (calls_of self.now depth) (one_number at (tree only.now)) [] (seen known held.old target.old (K.written sink.old)))) }
+        ensures gives { (known : Bool) (at : Place) → Knows known (K.written sink.old) → MeansDirect held.new.end result (seen known held.new target.new (K.written sink.new)) (v.call_of (direct false) (calls_of self.now depth) called.now.name (one_number at (tree only.now)) (v.arguments (direct false) (calls_of self.now depth) (one_number at (tree only.now)) [] (seen known held.old target.old (K.written sink.old)))) }
         ensures knows { (known : Bool) → Knows known (K.written sink.old) → Knows known (K.written sink.new) }
         ensures made { (w : World) → IsMade w held.old target.old → IsMade w held.new target.new }
         ensures cause { IsCaused held.new.end result (K.faults sink.old) (K.faults sink.new) }
     {
-        let number = self.operand(only, depth, held, target, sink)?;
-        self.called(called.function, "", &[number], depth, held, target, sink)
+        let number = self.evaluate_operand(only, depth, held, target, sink)?;
+        self.call_function(called.function, "", &[number], depth, held, target, sink)
     }
 
     // A call whose arguments are two numbers.
@@ -185,18 +185,18 @@ impl Runner<'_> {
         first: &Expr,
         second: &Expr,
         depth: u32,
-        held: &mut Held,
+        held: &mut DirectHeld,
         target: &mut Target,
         sink: &mut K,
     ) -> Result<u64, Stopped>
-        ensures gives { (known : Bool) (at later : Place) → Knows known (K.written sink.old) → Gives held.new.end result (seen known held.new target.new (K.written sink.new)) (v.call_of (direct false) (calls_of self.now depth) called.now.name (two_numbers at (tree first.now) later (tree second.now)) (v.arguments (direct false) (calls_of self.now depth) (two_numbers at (tree first.now) later (tree second.now)) [] (seen known held.old target.old (K.written sink.old)))) }
+        ensures gives { (known : Bool) (at later : Place) → Knows known (K.written sink.old) → MeansDirect held.new.end result (seen known held.new target.new (K.written sink.new)) (v.call_of (direct false) (calls_of self.now depth) called.now.name (two_numbers at (tree first.now) later (tree second.now)) (v.arguments (direct false) (calls_of self.now depth) (two_numbers at (tree first.now) later (tree second.now)) [] (seen known held.old target.old (K.written sink.old)))) }
         ensures knows { (known : Bool) → Knows known (K.written sink.old) → Knows known (K.written sink.new) }
         ensures made { (w : World) → IsMade w held.old target.old → IsMade w held.new target.new }
         ensures cause { IsCaused held.new.end result (K.faults sink.old) (K.faults sink.new) }
     {
-        let first = self.operand(first, depth, held, target, sink)?;
-        let second = self.operand(second, depth, held, target, sink)?;
-        self.called(
+        let first = self.evaluate_operand(first, depth, held, target, sink)?;
+        let second = self.evaluate_operand(second, depth, held, target, sink)?;
+        self.call_function(
             called.function,
             "",
             &[first, second],
@@ -214,11 +214,11 @@ impl Runner<'_> {
         called: &CalledName,
         args: &[Arg],
         depth: u32,
-        held: &mut Held,
+        held: &mut DirectHeld,
         target: &mut Target,
         sink: &mut K,
     ) -> Result<u64, Stopped>
-        ensures gives { (known : Bool) → Knows known (K.written sink.old) → Gives held.new.end result (seen known held.new target.new (K.written sink.new)) (v.call_of (direct false) (calls_of self.now depth) called.now.name (arg_trees args.now) (v.arguments (direct false) (calls_of self.now depth) (arg_trees args.now) [] (seen known held.old target.old (K.written sink.old)))) }
+        ensures gives { (known : Bool) → Knows known (K.written sink.old) → MeansDirect held.new.end result (seen known held.new target.new (K.written sink.new)) (v.call_of (direct false) (calls_of self.now depth) called.now.name (arg_trees args.now) (v.arguments (direct false) (calls_of self.now depth) (arg_trees args.now) [] (seen known held.old target.old (K.written sink.old)))) }
         ensures knows { (known : Bool) → Knows known (K.written sink.old) → Knows known (K.written sink.new) }
         ensures made { (w : World) → IsMade w held.old target.old → IsMade w held.new target.new }
         ensures cause { IsCaused held.new.end result (K.faults sink.old) (K.faults sink.new) }
@@ -234,61 +234,61 @@ impl Runner<'_> {
 
     // The function of a call.
     #[cycle(eval)]
-    #[tactic(auto, unfolding(sequence_terms::specs::Values::called, sequence_terms::specs::Calls::missing, sequence_terms::specs::Direct::direct))]
-    fn called<K: Sink>(
+    #[tactic(auto, unfolding(sequence_rules::specs::Values::call_result, sequence_rules::specs::Calls::missing, sequence_rules::specs::Direct::direct))]
+    fn call_function<K: Sink>(
         &self,
         function: Option<Function>,
         text: &str,
         numbers: &[u64],
         depth: u32,
-        held: &mut Held,
+        held: &mut DirectHeld,
         target: &mut Target,
         sink: &mut K,
     ) -> Result<u64, Stopped>
-        ensures gives { (known : Bool) → Knows known (K.written sink.old) → Gives held.new.end result (seen known held.new target.new (K.written sink.new)) (v.called (direct false) (calls_of self.now depth) function text.now numbers.now (seen known held.old target.old (K.written sink.old))) }
+        ensures gives { (known : Bool) → Knows known (K.written sink.old) → MeansDirect held.new.end result (seen known held.new target.new (K.written sink.new)) (v.call_result (direct false) (calls_of self.now depth) function text.now numbers.now (seen known held.old target.old (K.written sink.old))) }
         ensures knows { (known : Bool) → Knows known (K.written sink.old) → Knows known (K.written sink.new) }
         ensures made { (w : World) → IsMade w held.old target.old → IsMade w held.new target.new }
         ensures cause { IsCaused held.new.end result (K.faults sink.old) (K.faults sink.new) }
     {
         match function {
             None => Ok(0),
-            Some(Function::Sequence) => self.sequence_call(text, depth, held, target, sink),
-            Some(function) => performed(function, text, numbers, self.alloc, held, target, sink),
+            Some(Function::Sequence) => self.call_sequence(text, depth, held, target, sink),
+            Some(function) => make_call(function, text, numbers, self.alloc, held, target, sink),
         }
     }
 
     // A call of a sequence.
     #[cycle(eval)]
-    #[tactic(auto, unfolding(sequence_terms::specs::Values::called, sequence_terms::specs::Direct::direct), using(crate::proofs::StopLemmas::ends_sequence, crate::proofs::StopLemmas::cause_on))]
-    fn sequence_call<K: Sink>(
+    #[tactic(auto, unfolding(sequence_rules::specs::Values::call_result, sequence_rules::specs::Direct::direct), using(crate::proofs::StopLemmas::ends_sequence, crate::proofs::StopLemmas::cause_on))]
+    fn call_sequence<K: Sink>(
         &self,
         name: &str,
         depth: u32,
-        held: &mut Held,
+        held: &mut DirectHeld,
         target: &mut Target,
         sink: &mut K,
     ) -> Result<u64, Stopped>
-        ensures gives { (known : Bool) → Knows known (K.written sink.old) → Gives held.new.end result (seen known held.new target.new (K.written sink.new)) (v.called (direct false) (calls_of self.now depth) (Some Function.Sequence) name.now [] (seen known held.old target.old (K.written sink.old))) }
+        ensures gives { (known : Bool) → Knows known (K.written sink.old) → MeansDirect held.new.end result (seen known held.new target.new (K.written sink.new)) (v.call_result (direct false) (calls_of self.now depth) (Some Function.Sequence) name.now [] (seen known held.old target.old (K.written sink.old))) }
         ensures knows { (known : Bool) → Knows known (K.written sink.old) → Knows known (K.written sink.new) }
         ensures made { (w : World) → IsMade w held.old target.old → IsMade w held.new target.new }
         ensures cause { IsCaused held.new.end result (K.faults sink.old) (K.faults sink.new) }
     {
-        self.sequence(name, depth, held, target, sink)?;
+        self.run_named(name, depth, held, target, sink)?;
         Ok(0)
     }
 
     // The sequence of the name.
     #[cycle(eval)]
-    #[tactic(auto, unfolding(sequence_terms::specs::Steps::sequence_at, sequence_terms::specs::Calls::missing, sequence_terms::specs::Direct::direct), using(crate::proofs::Loops::sequence_on))]
-    pub(crate) fn sequence<K: Sink>(
+    #[tactic(auto, unfolding(sequence_rules::specs::Steps::sequence_at, sequence_rules::specs::Calls::missing, sequence_rules::specs::Direct::direct), using(crate::proofs::Loops::sequence_on))]
+    pub(crate) fn run_named<K: Sink>(
         &self,
         name: &str,
         depth: u32,
-        held: &mut Held,
+        held: &mut DirectHeld,
         target: &mut Target,
         sink: &mut K,
     ) -> Result<(), Stopped>
-        ensures gives { (known : Bool) → Knows known (K.written sink.old) → Gives held.new.end result (seen known held.new target.new (K.written sink.new)) ((calls_of self.now depth) name.now (seen known held.old target.old (K.written sink.old))) }
+        ensures gives { (known : Bool) → Knows known (K.written sink.old) → MeansDirect held.new.end result (seen known held.new target.new (K.written sink.new)) ((calls_of self.now depth) name.now (seen known held.old target.old (K.written sink.old))) }
         ensures knows { (known : Bool) → Knows known (K.written sink.old) → Knows known (K.written sink.new) }
         ensures made { (w : World) → IsMade w held.old target.old → IsMade w held.new target.new }
         ensures cause { IsCaused held.new.end result (K.faults sink.old) (K.faults sink.new) }
@@ -296,7 +296,7 @@ impl Runner<'_> {
         if depth == 0 {
             return Ok(());
         }
-        self.entered(self.steps_of(name), depth - 1, held, target, sink)
+        self.run_sequence(self.steps_of(name), depth - 1, held, target, sink)
     }
 
     // The steps of the sequence of the name, none where the set does not have it.
@@ -311,16 +311,16 @@ impl Runner<'_> {
 
     // The steps of a called sequence. After them the caller has its variables again, and its `__dp`, `__ap` and `__errorcontrol`.
     #[cycle(eval)]
-    #[tactic(auto, unfolding(sequence_terms::specs::Steps::entered), using(crate::proofs::Loops::entering, crate::proofs::StopLemmas::cause_on))]
-    fn entered<K: Sink>(
+    #[tactic(auto, unfolding(sequence_rules::specs::Steps::sequence_result), using(crate::proofs::Loops::entering, crate::proofs::StopLemmas::cause_on))]
+    fn run_sequence<K: Sink>(
         &self,
         steps: &[CheckedStep],
         depth: u32,
-        held: &mut Held,
+        held: &mut DirectHeld,
         target: &mut Target,
         sink: &mut K,
     ) -> Result<(), Stopped>
-        ensures gives { (known : Bool) → Knows known (K.written sink.old) → Gives held.new.end result (seen known held.new target.new (K.written sink.new)) (m.entered (direct false) (m.done (direct false) self.now.turn_us (calls_of self.now depth) (steps_tree steps.now)) (seen known held.old target.old (K.written sink.old))) }
+        ensures gives { (known : Bool) → Knows known (K.written sink.old) → MeansDirect held.new.end result (seen known held.new target.new (K.written sink.new)) (m.sequence_result (direct false) (m.steps_result (direct false) self.now.turn_us (calls_of self.now depth) (steps_tree steps.now)) (seen known held.old target.old (K.written sink.old))) }
         ensures knows { (known : Bool) → Knows known (K.written sink.old) → Knows known (K.written sink.new) }
         ensures made { (w : World) → IsMade w held.old target.old → IsMade w held.new target.new }
         ensures cause { IsCaused held.new.end result (K.faults sink.old) (K.faults sink.new) }
@@ -329,7 +329,7 @@ impl Runner<'_> {
         let ap = held.globals.ap();
         let control = held.globals.control();
         let locals = held.take_locals(self.alloc);
-        match self.done(steps, depth, held, target, sink) {
+        match self.run_steps(steps, depth, held, target, sink) {
             Ok(()) => {
                 held.give_back(dp, ap, control, locals);
                 Ok(())

@@ -1,55 +1,66 @@
 //! The direct runner.
 ghost use Rattle.std.specs.Prelude.{◌≡◌, ◌<◌, ℕ, Bool, IfOk, List, None, Option, map};
-ghost use Rattle.call_terms.specs.World.{start_world};
+ghost use Rattle.target_calls.specs.World.{start_world};
 ghost use Rattle.function_table.specs.Variables.{predefined};
 ghost use Rattle.target_machine.specs.State.{TargetState};
-ghost use Rattle.sequence_terms.specs.Direct.{Now};
-ghost use Rattle.sequence_terms.specs.Laws.{IsMadeIn};
-ghost use Rattle.sequence_terms.specs.Machine.{Out, end_state};
-ghost use Rattle.sequence_terms.specs.Runs.{outcome, outcome_of, units_of};
+ghost use Rattle.seq_check.specs.Answers.{checked_trees};
+ghost use Rattle.sequence_rules.specs.Direct.{Now};
+ghost use Rattle.sequence_rules.specs.Laws.{IsMadeIn};
+ghost use Rattle.sequence_rules.specs.Machine.{Out, end_state};
+ghost use Rattle.sequence_rules.specs.Runs.{outcome, outcome_of, program_of, units_of};
 ghost use Rattle.sequence_meaning.specs.Answers.{Answers, AnswersDirect, IsDirectCaused, IsRecordedCaused, Leaves, LeavesSome, Records};
-ghost use Rattle.sequence_terms.specs.Known.{Knows, known_part};
-ghost use Rattle.sequence_meaning.specs.Held.{Gives, IsCaused, IsMade, state_of};
-ghost use Rattle.sequence_meaning.specs.Starting.{program_of};
+ghost use Rattle.sequence_rules.specs.Known.{Knows, known_part};
+ghost use Rattle.sequence_meaning.specs.Held.{IsCaused, IsMade, MeansDirect, state_of};
 
-use crate::end::{End, Stopped};
+use crate::end::{DirectEnd, Stopped};
 use crate::ended::{Direct, Recorded};
-use crate::held::Held;
-use crate::runner::Runner;
-use crate::start::{add_declared, answered, starting};
+use crate::held::DirectHeld;
+use crate::runner::DirectRunner;
+use crate::start::{add_declared, copy_variables, make_globals};
 use dap_base::{OutOfMemory, Sink};
 use seq_check::Checked;
 use std::alloc::Global;
 use target_machine::{Settings, Target};
 
 // How a run ended, with the variables of that moment where it is done or halted.
-fn ending_of(alloc: Global, ended: Result<(), Stopped>, held: &Held) -> Result<Direct, OutOfMemory>
-    ensures answer { (target : TargetState) (written : Option (List ℕ)) (out : Out ℕ Now (Unit {0})) → Gives held.now.end ended (state_of held.now target written) out
+fn ending_of(
+    alloc: Global,
+    ended: Result<(), Stopped>,
+    held: &DirectHeld,
+) -> Result<Direct, OutOfMemory>
+    ensures answer { (target : TargetState) (written : Option (List ℕ)) (out : Out ℕ Now (Unit {0})) → MeansDirect held.now.end ended (state_of held.now target written) out
         → (end_state out).units ≡ units_of (outcome_of out) → AnswersDirect (outcome_of out) result target written }
-    ensures records { (target : TargetState) (written : Option (List ℕ)) (out : Out ℕ Now (Unit {0})) → Gives held.now.end ended (state_of held.now target written) out
+    ensures records { (target : TargetState) (written : Option (List ℕ)) (out : Out ℕ Now (Unit {0})) → MeansDirect held.now.end ended (state_of held.now target written) out
         → (end_state out).units ≡ units_of (outcome_of out) → IfOk result (λ ending. Records (outcome_of out) ending held.now.calls held.now.skipped target written) }
     ensures cause { (before now : ℕ) → IsCaused held.now.end ended before now → IsDirectCaused result before now }
 {
     let Err(Stopped) = ended else {
-        return Ok(Direct::Done(answered(alloc, held.globals.all())?));
+        return Ok(Direct::Done(copy_variables(alloc, held.globals.all())?));
     };
     match held.end {
-        End::Halted(cause) => Ok(Direct::Halted(cause, answered(alloc, held.globals.all())?)),
-        End::Faulted(what) => Ok(Direct::Faulted {
+        DirectEnd::Halted(cause) => Ok(Direct::Halted(
+            cause,
+            copy_variables(alloc, held.globals.all())?,
+        )),
+        DirectEnd::Faulted(what) => Ok(Direct::Faulted {
             unit: held.units,
             what,
         }),
-        End::WriteFault => Ok(Direct::WriteFault),
-        End::OutOfMemory => Err(OutOfMemory),
+        DirectEnd::WriteFault => Ok(Direct::WriteFault),
+        DirectEnd::OutOfMemory => Err(OutOfMemory),
     }
 }
 
 // What is answered at the end of a run.
-fn recorded(alloc: Global, ended: Result<(), Stopped>, held: Held) -> Result<Recorded, OutOfMemory>
-    ensures answer { (target : TargetState) (written : Option (List ℕ)) (out : Out ℕ Now (Unit {0})) → Gives held.end ended (state_of held target written) out
+fn record_run(
+    alloc: Global,
+    ended: Result<(), Stopped>,
+    held: DirectHeld,
+) -> Result<Recorded, OutOfMemory>
+    ensures answer { (target : TargetState) (written : Option (List ℕ)) (out : Out ℕ Now (Unit {0})) → MeansDirect held.end ended (state_of held target written) out
         → (end_state out).units ≡ units_of (outcome_of out) → Answers (outcome_of out) result target written }
     ensures cause { (before now : ℕ) → IsCaused held.end ended before now → IsRecordedCaused result before now }
-    ensures part { (start target : TargetState) (written : Option (List ℕ)) (out : Out ℕ Now (Unit {0})) → Gives held.end ended (state_of held target written) out
+    ensures part { (start target : TargetState) (written : Option (List ℕ)) (out : Out ℕ Now (Unit {0})) → MeansDirect held.end ended (state_of held target written) out
         → IsMadeIn (start_world start None) (outcome_of out) → IsMade (start_world start None) held target → Leaves start (outcome_of out) result target written }
 {
     let ending = match ending_of(alloc, ended, &held) {
@@ -81,14 +92,14 @@ pub fn run_recorded<K: Sink>(
     requires names { map (λ variable. variable.name) settings.now.start ≡ predefined }
     // What is answered, the target and the lines are those of the outcome: Done, Halted or Faulted, the variables, the calls and the skips.
     ensures answer { (known : Bool) → Knows known (K.written sink.old)
-        → Answers (outcome (program_of checked.now start.now settings.now) target.old (known_part known (K.written sink.old))) result target.new (known_part known (K.written sink.new)) }
+        → Answers (outcome (program_of (checked_trees checked.now) start.now settings.now) target.old (known_part known (K.written sink.old))) result target.new (known_part known (K.written sink.new)) }
     // `WriteFault` comes only where the sink's count of faults rose, or stands at its last value, and any other answer leaves the count.
     ensures cause { IsRecordedCaused result (K.faults sink.old) (K.faults sink.new) }
     // However it ends, a first part of the run was made and written, and the target is as these calls leave it.
     ensures part { (known : Bool) → Knows known (K.written sink.old)
-        → Leaves target.old (outcome (program_of checked.now start.now settings.now) target.old (known_part known (K.written sink.old))) result target.new (known_part known (K.written sink.new)) }
+        → Leaves target.old (outcome (program_of (checked_trees checked.now) start.now settings.now) target.old (known_part known (K.written sink.old))) result target.new (known_part known (K.written sink.new)) }
 {
-    let mut globals = match starting(alloc, settings.start.as_slice()) {
+    let mut globals = match make_globals(alloc, settings.start.as_slice()) {
         Ok(globals) => globals,
         Err(refused) => return Err(refused),
     };
@@ -96,14 +107,14 @@ pub fn run_recorded<K: Sink>(
         Ok(()) => {}
         Err(refused) => return Err(refused),
     }
-    let mut held = Held::new(alloc, globals);
-    let runner = Runner {
+    let mut held = DirectHeld::new(alloc, globals);
+    let runner = DirectRunner {
         alloc,
         set: checked,
         turn_us: settings.turn_us,
     };
-    let ended = runner.run(start, &mut held, target, sink);
-    recorded(alloc, ended, held)
+    let ended = runner.run_all(start, &mut held, target, sink);
+    record_run(alloc, ended, held)
 }
 
 /// Runs the sequence `start` of a checked set over a target, as [`run_recorded`] does, and answers how the run ended.
@@ -119,12 +130,12 @@ pub fn run_direct<K: Sink>(
     requires names { map (λ variable. variable.name) settings.now.start ≡ predefined }
     // How it ended, the target and the lines are those of the outcome.
     ensures answer { (known : Bool) → Knows known (K.written sink.old)
-        → AnswersDirect (outcome (program_of checked.now start.now settings.now) target.old (known_part known (K.written sink.old))) result target.new (known_part known (K.written sink.new)) }
+        → AnswersDirect (outcome (program_of (checked_trees checked.now) start.now settings.now) target.old (known_part known (K.written sink.old))) result target.new (known_part known (K.written sink.new)) }
     // `WriteFault` comes only where the sink's count of faults rose, or stands at its last value, and any other answer leaves the count.
     ensures cause { IsDirectCaused result (K.faults sink.old) (K.faults sink.new) }
     // However it ends, a first part of the run was made and written, and the target is as its calls leave it.
     ensures part { (known : Bool) → Knows known (K.written sink.old)
-        → LeavesSome target.old (outcome (program_of checked.now start.now settings.now) target.old (known_part known (K.written sink.old))) target.new (known_part known (K.written sink.new)) }
+        → LeavesSome target.old (outcome (program_of (checked_trees checked.now) start.now settings.now) target.old (known_part known (K.written sink.old))) target.new (known_part known (K.written sink.new)) }
 {
     match run_recorded(alloc, checked, start, settings, target, sink) {
         Ok(run) => Ok(run.ending),

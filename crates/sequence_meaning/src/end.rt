@@ -7,7 +7,7 @@ pub(crate) struct Stopped;
 
 // Why a run goes no further.
 #[derive(Clone, Copy, Debug, PartialEq, Eq)]
-pub(crate) enum End {
+pub(crate) enum DirectEnd {
     /// It halts.
     Halted(HaltCause),
     /// Its last access met a fault that it does not forgive.

@@ -1,5 +1,5 @@
 //! How a direct run ends.
-use calls_at_once::CallList;
+use direct_calls::CallList;
 use target_machine::{HaltCause, Unit, Variables};
 
 /// How a direct run ended.

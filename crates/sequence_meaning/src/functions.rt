@@ -1,21 +1,21 @@
 //! What calls of functions do, once their arguments are numbers.
 ghost use Rattle.std.specs.Prelude.{◌≡◌, ℕ, Bool, List, IfOk, drop, slice_index, false};
 ghost use Rattle.target_machine.specs.State.{TargetState};
-ghost use Rattle.call_terms.specs.World.{World};
-ghost use Rattle.sequence_terms.specs.Calls as c;
-ghost use Rattle.sequence_terms.specs.Lines.{load_line, message_line, query_line, value_line};
-ghost use Rattle.sequence_terms.specs.Direct.{direct};
-ghost use Rattle.sequence_terms.specs.Known.{Knows};
-ghost use Rattle.sequence_meaning.specs.Held.{IsCaused, IsMade, Gives, seen};
+ghost use Rattle.target_calls.specs.World.{World};
+ghost use Rattle.sequence_rules.specs.Calls as c;
+ghost use Rattle.sequence_rules.specs.Lines.{load_line, message_line, query_line, value_line};
+ghost use Rattle.sequence_rules.specs.Direct.{direct};
+ghost use Rattle.sequence_rules.specs.Known.{Knows};
+ghost use Rattle.sequence_meaning.specs.Held.{IsCaused, IsMade, MeansDirect, seen};
 
-use crate::end::{End, Stopped};
-use crate::held::Held;
-use crate::memory::{memory, word};
-use crate::probe::{abort, clock, delay, line_bits, pins};
-use crate::registers::{ap_register, dp_register};
+use crate::end::{DirectEnd, Stopped};
+use crate::held::DirectHeld;
+use crate::memory::{access_memory, access_word};
+use crate::probe::{abort, delay, send_bits, set_clock, set_pins};
+use crate::registers::{access_ap, access_dp};
 use dap_base::{OutOfMemory, Sink};
 use function_table::Function;
-use sequence_terms::{load_line, message_line, query_line, value_line};
+use sequence_rules::{MOST_LINES, load_line, message_line, query_line, value_line};
 use std::alloc::Global;
 use target_machine::{HaltCause, Target};
 use text_lines::{Line, TextError, put_text};
@@ -23,25 +23,25 @@ use text_lines::{Line, TextError, put_text};
 // Writes a line, and then this is the value, unless it would be line 100,001. Functions that write lines are not inlined: few calls
 // write lines, and all would pay for the room of these.
 #[inline(never)]
-#[tactic(auto, unfolding(sequence_terms::specs::Calls::lined, sequence_terms::specs::Direct::direct), using(sequence_terms::proofs::KnownLemmas::known_more, sequence_terms::proofs::KnownLemmas::knows_more, sequence_terms::proofs::KnownLemmas::knows_part))]
-fn lined<K: Sink>(
+#[tactic(auto, unfolding(sequence_rules::specs::Calls::line_result, sequence_rules::specs::Direct::direct), using(sequence_rules::proofs::KnownLemmas::known_more, sequence_rules::proofs::KnownLemmas::knows_more, sequence_rules::proofs::KnownLemmas::knows_part))]
+fn write_line<K: Sink>(
     line: Result<Line, OutOfMemory>,
     value: u64,
-    held: &mut Held,
+    held: &mut DirectHeld,
     sink: &mut K,
 ) -> Result<u64, Stopped>
     ensures gives { (known : Bool) (target : TargetState) (text : List ℕ) → IfOk line (λ l. l ≡ text) → Knows known (K.written sink.old)
-        → Gives held.new.end result (seen known held.new target (K.written sink.new)) (c.lined (direct false) text value (seen known held.old target (K.written sink.old))) }
+        → MeansDirect held.new.end result (seen known held.new target (K.written sink.new)) (c.line_result (direct false) text value (seen known held.old target (K.written sink.old))) }
     ensures knows { (known : Bool) → Knows known (K.written sink.old) → Knows known (K.written sink.new) }
     ensures made { (w : World) (target : TargetState) → IsMade w held.old target → IsMade w held.new target }
     ensures cause { IsCaused held.new.end result (K.faults sink.old) (K.faults sink.new) }
 {
-    if held.lines >= 100_000 {
-        held.end = End::Halted(HaltCause::MessageLimit);
+    if held.lines >= MOST_LINES {
+        held.end = DirectEnd::Halted(HaltCause::MessageLimit);
         return Err(Stopped);
     }
     let Ok(line) = line else {
-        held.end = End::OutOfMemory;
+        held.end = DirectEnd::OutOfMemory;
         return Err(Stopped);
     };
     match put_text(line.as_bytes(), sink) {
@@ -50,11 +50,11 @@ fn lined<K: Sink>(
             Ok(value)
         }
         Err(TextError::Failed) => {
-            held.end = End::WriteFault;
+            held.end = DirectEnd::WriteFault;
             Err(Stopped)
         }
         Err(TextError::OutOfMemory) => {
-            held.end = End::OutOfMemory;
+            held.end = DirectEnd::OutOfMemory;
             Err(Stopped)
         }
     }
@@ -72,15 +72,15 @@ fn number_at(numbers: &[u64], index: usize) -> u64
 
 // `Message`.
 #[inline(never)]
-fn message<K: Sink>(
+fn write_message<K: Sink>(
     text: &str,
     numbers: &[u64],
     alloc: Global,
-    held: &mut Held,
+    held: &mut DirectHeld,
     sink: &mut K,
 ) -> Result<u64, Stopped>
     ensures gives { (known : Bool) (target : TargetState) → Knows known (K.written sink.old)
-        → Gives held.new.end result (seen known held.new target (K.written sink.new)) (c.lined (direct false) (message_line (slice_index numbers.now 0) text.now (drop 1 numbers.now)) 0 (seen known held.old target (K.written sink.old))) }
+        → MeansDirect held.new.end result (seen known held.new target (K.written sink.new)) (c.line_result (direct false) (message_line (slice_index numbers.now 0) text.now (drop 1 numbers.now)) 0 (seen known held.old target (K.written sink.old))) }
     ensures knows { (known : Bool) → Knows known (K.written sink.old) → Knows known (K.written sink.new) }
     ensures made { (w : World) (target : TargetState) → IsMade w held.old target → IsMade w held.new target }
     ensures cause { IsCaused held.new.end result (K.faults sink.old) (K.faults sink.new) }
@@ -90,7 +90,7 @@ fn message<K: Sink>(
     } else {
         &numbers[1..]
     };
-    lined(
+    write_line(
         message_line(alloc, number_at(numbers, 0), text, more),
         0,
         held,
@@ -100,21 +100,21 @@ fn message<K: Sink>(
 
 // `Query`.
 #[inline(never)]
-fn query<K: Sink>(
+fn write_query<K: Sink>(
     text: &str,
     numbers: &[u64],
     alloc: Global,
-    held: &mut Held,
+    held: &mut DirectHeld,
     sink: &mut K,
 ) -> Result<u64, Stopped>
     ensures gives { (known : Bool) (target : TargetState) → Knows known (K.written sink.old)
-        → Gives held.new.end result (seen known held.new target (K.written sink.new)) (c.lined (direct false) (query_line (slice_index numbers.now 0) text.now (slice_index numbers.now 1)) (slice_index numbers.now 1) (seen known held.old target (K.written sink.old))) }
+        → MeansDirect held.new.end result (seen known held.new target (K.written sink.new)) (c.line_result (direct false) (query_line (slice_index numbers.now 0) text.now (slice_index numbers.now 1)) (slice_index numbers.now 1) (seen known held.old target (K.written sink.old))) }
     ensures knows { (known : Bool) → Knows known (K.written sink.old) → Knows known (K.written sink.new) }
     ensures made { (w : World) (target : TargetState) → IsMade w held.old target → IsMade w held.new target }
     ensures cause { IsCaused held.new.end result (K.faults sink.old) (K.faults sink.new) }
 {
     let default = number_at(numbers, 1);
-    lined(
+    write_line(
         query_line(alloc, number_at(numbers, 0), text, default),
         default,
         held,
@@ -124,55 +124,60 @@ fn query<K: Sink>(
 
 // `QueryValue`.
 #[inline(never)]
-fn query_value<K: Sink>(
+fn write_query_value<K: Sink>(
     text: &str,
     numbers: &[u64],
     alloc: Global,
-    held: &mut Held,
+    held: &mut DirectHeld,
     sink: &mut K,
 ) -> Result<u64, Stopped>
     ensures gives { (known : Bool) (target : TargetState) → Knows known (K.written sink.old)
-        → Gives held.new.end result (seen known held.new target (K.written sink.new)) (c.lined (direct false) (value_line text.now (slice_index numbers.now 0)) (slice_index numbers.now 0) (seen known held.old target (K.written sink.old))) }
+        → MeansDirect held.new.end result (seen known held.new target (K.written sink.new)) (c.line_result (direct false) (value_line text.now (slice_index numbers.now 0)) (slice_index numbers.now 0) (seen known held.old target (K.written sink.old))) }
     ensures knows { (known : Bool) → Knows known (K.written sink.old) → Knows known (K.written sink.new) }
     ensures made { (w : World) (target : TargetState) → IsMade w held.old target → IsMade w held.new target }
     ensures cause { IsCaused held.new.end result (K.faults sink.old) (K.faults sink.new) }
 {
     let default = number_at(numbers, 0);
-    lined(value_line(alloc, text, default), default, held, sink)
+    write_line(value_line(alloc, text, default), default, held, sink)
 }
 
 // `LoadDebugInfo`.
 #[inline(never)]
-fn load<K: Sink>(text: &str, alloc: Global, held: &mut Held, sink: &mut K) -> Result<u64, Stopped>
+fn write_load<K: Sink>(
+    text: &str,
+    alloc: Global,
+    held: &mut DirectHeld,
+    sink: &mut K,
+) -> Result<u64, Stopped>
     ensures gives { (known : Bool) (target : TargetState) → Knows known (K.written sink.old)
-        → Gives held.new.end result (seen known held.new target (K.written sink.new)) (c.lined (direct false) (load_line text.now) 0 (seen known held.old target (K.written sink.old))) }
+        → MeansDirect held.new.end result (seen known held.new target (K.written sink.new)) (c.line_result (direct false) (load_line text.now) 0 (seen known held.old target (K.written sink.old))) }
     ensures knows { (known : Bool) → Knows known (K.written sink.old) → Knows known (K.written sink.new) }
     ensures made { (w : World) (target : TargetState) → IsMade w held.old target → IsMade w held.new target }
     ensures cause { IsCaused held.new.end result (K.faults sink.old) (K.faults sink.new) }
 {
-    lined(load_line(alloc, text), 0, held, sink)
+    write_line(load_line(alloc, text), 0, held, sink)
 }
 
 // A call of a function, but for `Sequence`, with its text and the numbers among its arguments.
-#[tactic(auto, unfolding(sequence_terms::specs::Calls::performed, sequence_terms::specs::Direct::direct))]
-pub(crate) fn performed<K: Sink>(
+#[tactic(auto, unfolding(sequence_rules::specs::Calls::function_result, sequence_rules::specs::Direct::direct))]
+pub(crate) fn make_call<K: Sink>(
     function: Function,
     text: &str,
     numbers: &[u64],
     alloc: Global,
-    held: &mut Held,
+    held: &mut DirectHeld,
     target: &mut Target,
     sink: &mut K,
 ) -> Result<u64, Stopped>
     ensures gives { (known : Bool) → Knows known (K.written sink.old)
-        → Gives held.new.end result (seen known held.new target.new (K.written sink.new)) (c.performed (direct false) function text.now numbers.now (seen known held.old target.old (K.written sink.old))) }
+        → MeansDirect held.new.end result (seen known held.new target.new (K.written sink.new)) (c.function_result (direct false) function text.now numbers.now (seen known held.old target.old (K.written sink.old))) }
     ensures knows { (known : Bool) → Knows known (K.written sink.old) → Knows known (K.written sink.new) }
     ensures made { (w : World) → IsMade w held.old target.old → IsMade w held.new target.new }
     ensures cause { IsCaused held.new.end result (K.faults sink.old) (K.faults sink.new) }
 {
     match function {
-        Function::Read8 => memory(1, true, number_at(numbers, 0), 0, held, target),
-        Function::Write8 => memory(
+        Function::Read8 => access_memory(1, true, number_at(numbers, 0), 0, held, target),
+        Function::Write8 => access_memory(
             1,
             false,
             number_at(numbers, 0),
@@ -180,8 +185,8 @@ pub(crate) fn performed<K: Sink>(
             held,
             target,
         ),
-        Function::Read16 => memory(2, true, number_at(numbers, 0), 0, held, target),
-        Function::Write16 => memory(
+        Function::Read16 => access_memory(2, true, number_at(numbers, 0), 0, held, target),
+        Function::Write16 => access_memory(
             2,
             false,
             number_at(numbers, 0),
@@ -189,16 +194,16 @@ pub(crate) fn performed<K: Sink>(
             held,
             target,
         ),
-        Function::Read32 => word(true, number_at(numbers, 0), 0, held, target),
-        Function::Write32 => word(
+        Function::Read32 => access_word(true, number_at(numbers, 0), 0, held, target),
+        Function::Write32 => access_word(
             false,
             number_at(numbers, 0),
             number_at(numbers, 1),
             held,
             target,
         ),
-        Function::Read64 => memory(8, true, number_at(numbers, 0), 0, held, target),
-        Function::Write64 => memory(
+        Function::Read64 => access_memory(8, true, number_at(numbers, 0), 0, held, target),
+        Function::Write64 => access_memory(
             8,
             false,
             number_at(numbers, 0),
@@ -206,16 +211,16 @@ pub(crate) fn performed<K: Sink>(
             held,
             target,
         ),
-        Function::ReadAp => ap_register(true, number_at(numbers, 0), 0, held, target),
-        Function::WriteAp => ap_register(
+        Function::ReadAp => access_ap(true, number_at(numbers, 0), 0, held, target),
+        Function::WriteAp => access_ap(
             false,
             number_at(numbers, 0),
             number_at(numbers, 1),
             held,
             target,
         ),
-        Function::ReadDp => dp_register(true, number_at(numbers, 0), 0, held, target),
-        Function::WriteDp => dp_register(
+        Function::ReadDp => access_dp(true, number_at(numbers, 0), 0, held, target),
+        Function::WriteDp => access_dp(
             false,
             number_at(numbers, 0),
             number_at(numbers, 1),
@@ -223,29 +228,29 @@ pub(crate) fn performed<K: Sink>(
             target,
         ),
         Function::DapDelay => delay(number_at(numbers, 0), held, target),
-        Function::DapSwjClock => clock(number_at(numbers, 0), held, target),
+        Function::DapSwjClock => set_clock(number_at(numbers, 0), held, target),
         Function::DapWriteAbort => abort(number_at(numbers, 0), held, target),
-        Function::DapSwjPins => pins(
+        Function::DapSwjPins => set_pins(
             number_at(numbers, 0),
             number_at(numbers, 1),
             number_at(numbers, 2),
             held,
             target,
         ),
-        Function::DapSwjSequence => line_bits(
+        Function::DapSwjSequence => send_bits(
             number_at(numbers, 0),
             number_at(numbers, 1),
             held,
             target,
         ),
         Function::DapJtagSequence => {
-            held.end = End::Halted(HaltCause::Unsupported);
+            held.end = DirectEnd::Halted(HaltCause::Unsupported);
             Err(Stopped)
         }
         Function::Sequence => Ok(0),
-        Function::Message => message(text, numbers, alloc, held, sink),
-        Function::Query => query(text, numbers, alloc, held, sink),
-        Function::QueryValue => query_value(text, numbers, alloc, held, sink),
-        Function::LoadDebugInfo => load(text, alloc, held, sink),
+        Function::Message => write_message(text, numbers, alloc, held, sink),
+        Function::Query => write_query(text, numbers, alloc, held, sink),
+        Function::QueryValue => write_query_value(text, numbers, alloc, held, sink),
+        Function::LoadDebugInfo => write_load(text, alloc, held, sink),
     }
 }

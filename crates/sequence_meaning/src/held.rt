@@ -1,24 +1,24 @@
 //! What the direct runner holds.
 ghost use Rattle.std.specs.Prelude.{◌≡◌, ◌++◌, [], ◌∷◌, ℕ, List, Option, None, OnErr, OnOk, length, take, unwrap_or, codes};
 ghost use Rattle.target_machine.specs.State.{TargetState};
-ghost use Rattle.call_terms.specs.World.{World, start_world};
-ghost use Rattle.sequence_terms.specs.Direct.{Now, now_at};
-ghost use Rattle.sequence_terms.specs.Machine.{State, with_locals, with_variables};
-ghost use Rattle.sequence_terms.specs.Variables.{bound, set_in, set_visible, value_in, visible};
-ghost use Rattle.sequence_terms.specs.Shared.{bindings_of};
+ghost use Rattle.target_calls.specs.World.{World, start_world};
+ghost use Rattle.sequence_rules.specs.Direct.{Now, now_at};
+ghost use Rattle.sequence_rules.specs.Machine.{State, with_locals, with_variables};
+ghost use Rattle.sequence_rules.specs.Variables.{bound, set_in, set_visible, value_named, visible};
+ghost use Rattle.sequence_rules.specs.Shared.{bindings_of};
 ghost use Rattle.sequence_meaning.specs.Held.{IsMade, state_of};
 
-use crate::end::End;
+use crate::end::DirectEnd;
 use crate::shared::SharedVariables;
-use calls_at_once::CallList;
 use dap_base::{NameText, OutOfMemory};
-use sequence_terms::{Binding, Globals, has_in, newest_in, set_newest};
+use direct_calls::CallList;
+use sequence_rules::{Binding, Globals, has_in, newest_in, set_newest};
 use std::alloc::Global;
 use std::mem;
 
 // The variables, the counts, the calls that were made, and the access ports that are known to have large addresses.
 #[derive(Drop)]
-pub(crate) struct Held {
+pub(crate) struct DirectHeld {
     pub globals: SharedVariables,
     pub locals: Vec<Binding<u64>>,
     pub units: u32,
@@ -30,16 +30,16 @@ pub(crate) struct Held {
     /// Where the numbers among the arguments of a call may stand: its content counts for nothing.
     pub numbers: Vec<u64>,
     /// Why the run goes no further. It counts only where the run has stopped.
-    pub end: End,
+    pub end: DirectEnd,
 }
 
-impl Held {
+impl DirectHeld {
     /// What a run starts with: these variables, and nothing else.
-    pub fn new(alloc: Global, globals: Globals<u64>) -> Held
+    pub fn new(alloc: Global, globals: Globals<u64>) -> DirectHeld
         ensures { (target : TargetState) (written : Option (List ℕ)) → state_of result target written
             ≡ record { globals = bindings_of globals; locals = []; units = 0; lines = 0; steps = 0; rest = now_at (start_world target None) written } }
     {
-        Held {
+        DirectHeld {
             globals: SharedVariables::new(globals),
             locals: Vec::new(alloc),
             units: 0,
@@ -49,12 +49,12 @@ impl Held {
             large: Vec::new(alloc),
             skipped: 0,
             numbers: Vec::new(alloc),
-            end: End::OutOfMemory,
+            end: DirectEnd::OutOfMemory,
         }
     }
 
     /// The value of a visible variable, 0 where there is none.
-    pub fn visible(&self, name: &str) -> u64
+    pub fn get_visible(&self, name: &str) -> u64
         ensures { (s : State ℕ Now) → s.globals ≡ bindings_of self.now.globals.variables → s.locals ≡ self.now.locals.items
             → result ≡ unwrap_or (visible name.now s) 0 }
     {

@@ -1,20 +1,20 @@
 //! Calls that access memory.
 ghost use Rattle.std.specs.Prelude.{◌≡◌, ◌⊎◌, ℕ, ◌<◌, ◌^◌, ◌%◌, ◌≤◌, List, Option, false};
-ghost use Rattle.call_terms.specs.World.{World};
-ghost use Rattle.sequence_terms.specs.Calls as c;
-ghost use Rattle.sequence_terms.specs.Direct.{Now, direct};
-ghost use Rattle.sequence_terms.specs.Machine.{State};
-ghost use Rattle.sequence_meaning.specs.Held.{IsCaused, IsMade, Gives, state_of};
+ghost use Rattle.target_calls.specs.World.{World};
+ghost use Rattle.sequence_rules.specs.Calls as c;
+ghost use Rattle.sequence_rules.specs.Direct.{Now, direct};
+ghost use Rattle.sequence_rules.specs.Machine.{State};
+ghost use Rattle.sequence_meaning.specs.Held.{IsCaused, IsMade, MeansDirect, state_of};
 
-use crate::asking::{Port, ask, asked, port_of};
-use crate::end::{End, Stopped};
-use crate::held::Held;
-use sequence_terms::{memory_port, memory_unit};
+use crate::asking::{ask, ask_for_result, port_of};
+use crate::end::{DirectEnd, Stopped};
+use crate::held::DirectHeld;
+use sequence_rules::{Port, memory_port, memory_unit};
 use target_machine::Target;
 
 // The value of `Read64`.
-#[tactic(auto, unfolding(sequence_terms::specs::Calls::low_and_high, sequence_terms::specs::Calls::use_now, sequence_terms::specs::Direct::direct))]
-fn low_and_high(low: u64, high: u64) -> u64
+#[tactic(auto, unfolding(sequence_rules::specs::Calls::low_and_high, sequence_rules::specs::Calls::use_now, sequence_rules::specs::Direct::direct))]
+fn join_words(low: u64, high: u64) -> u64
     requires low { low < 2 ^ 32 }
     requires high { high < 2 ^ 32 }
     ensures { (s : State ℕ Now) → c.low_and_high (direct false) low high s ≡ Ok (result, s) }
@@ -23,20 +23,20 @@ fn low_and_high(low: u64, high: u64) -> u64
 }
 
 // The second unit of a 64-bit call, at the higher address.
-#[tactic(auto, unfolding(sequence_terms::specs::Calls::second_half, sequence_terms::specs::Direct::direct), using(crate::proofs::StopLemmas::ends_second_half))]
-fn second_half(
+#[tactic(auto, unfolding(sequence_rules::specs::Calls::second_half, sequence_rules::specs::Direct::direct), using(crate::proofs::StopLemmas::ends_second_half))]
+fn ask_second_half(
     read: bool,
     ap: u8,
     forgive: bool,
     address: u64,
     value: u64,
     low: u64,
-    held: &mut Held,
+    held: &mut DirectHeld,
     target: &mut Target,
 ) -> Result<u64, Stopped>
     requires aligned { address % 8 ≡ 0 }
     requires low { low < 2 ^ 32 }
-    ensures gives { (written : Option (List ℕ)) → Gives held.new.end result (state_of held.new target.new written) (c.second_half (direct false) read (record { ap = ap; forgive = forgive; dp = 0 }) address value low (state_of held.old target.old written)) }
+    ensures gives { (written : Option (List ℕ)) → MeansDirect held.new.end result (state_of held.new target.new written) (c.second_half (direct false) read (record { ap = ap; forgive = forgive; dp = 0 }) address value low (state_of held.old target.old written)) }
     ensures made { (w : World) → IsMade w held.old target.old → IsMade w held.new target.new }
     ensures cause { (faults : ℕ) → IsCaused held.new.end result faults faults }
 {
@@ -45,22 +45,22 @@ fn second_half(
         Ok(high) => high,
         Err(stopped) => return Err(stopped),
     };
-    Ok(if read { low_and_high(low, high) } else { 0 })
+    Ok(if read { join_words(low, high) } else { 0 })
 }
 
 // `Read64` and `Write64` are two units, the one at the lower address first.
-#[tactic(auto, unfolding(sequence_terms::specs::Calls::two_units), using(crate::proofs::StopLemmas::ends_two_units))]
-fn two_units(
+#[tactic(auto, unfolding(sequence_rules::specs::Calls::two_units), using(crate::proofs::StopLemmas::ends_two_units))]
+fn ask_two_units(
     read: bool,
     ap: u8,
     forgive: bool,
     address: u64,
     value: u64,
-    held: &mut Held,
+    held: &mut DirectHeld,
     target: &mut Target,
 ) -> Result<u64, Stopped>
     requires aligned { address % 8 ≡ 0 }
-    ensures gives { (written : Option (List ℕ)) → Gives held.new.end result (state_of held.new target.new written) (c.two_units (direct false) read (record { ap = ap; forgive = forgive; dp = 0 }) address value (state_of held.old target.old written)) }
+    ensures gives { (written : Option (List ℕ)) → MeansDirect held.new.end result (state_of held.new target.new written) (c.two_units (direct false) read (record { ap = ap; forgive = forgive; dp = 0 }) address value (state_of held.old target.old written)) }
     ensures made { (w : World) → IsMade w held.old target.old → IsMade w held.new target.new }
     ensures cause { (faults : ℕ) → IsCaused held.new.end result faults faults }
 {
@@ -69,37 +69,37 @@ fn two_units(
         Ok(low) => low,
         Err(stopped) => return Err(stopped),
     };
-    second_half(read, ap, forgive, address, value, low, held, target)
+    ask_second_half(read, ap, forgive, address, value, low, held, target)
 }
 
 // A memory call, once the port is known.
 #[inline(always)]
-#[tactic(auto, unfolding(sequence_terms::specs::Calls::memory_at, sequence_terms::specs::Calls::one_unit, sequence_terms::specs::Calls::or_halt))]
-fn memory_at(
+#[tactic(auto, unfolding(sequence_rules::specs::Calls::memory_at, sequence_rules::specs::Calls::one_unit, sequence_rules::specs::Calls::or_halt))]
+fn access_memory_at(
     size: u8,
     read: bool,
     address: u64,
     value: u64,
     port: Port,
-    held: &mut Held,
+    held: &mut DirectHeld,
     target: &mut Target,
 ) -> Result<u64, Stopped>
     requires { (size ≡ 1) ⊎ ((size ≡ 2) ⊎ ((size ≡ 4) ⊎ (size ≡ 8))) }
-    ensures gives { (written : Option (List ℕ)) → Gives held.new.end result (state_of held.new target.new written) (c.memory_at (direct false) size read address value (record { ap = port.ap; forgive = port.forgive; dp = port.dp }) (state_of held.old target.old written)) }
+    ensures gives { (written : Option (List ℕ)) → MeansDirect held.new.end result (state_of held.new target.new written) (c.memory_at (direct false) size read address value (record { ap = port.ap; forgive = port.forgive; dp = port.dp }) (state_of held.old target.old written)) }
     ensures made { (w : World) → IsMade w held.old target.old → IsMade w held.new target.new }
     ensures cause { (faults : ℕ) → IsCaused held.new.end result faults faults }
 {
     let ap = match memory_port(size, address, port.ap, port.dp) {
         Ok(ap) => ap,
         Err(cause) => {
-            held.end = End::Halted(cause);
+            held.end = DirectEnd::Halted(cause);
             return Err(Stopped);
         }
     };
     if size == 8 {
-        two_units(read, ap, port.forgive, address, value, held, target)
+        ask_two_units(read, ap, port.forgive, address, value, held, target)
     } else {
-        asked(
+        ask_for_result(
             read,
             memory_unit(size, read, ap, address, value),
             port.forgive,
@@ -110,35 +110,35 @@ fn memory_at(
 }
 
 // A memory call of `size` bytes, 1, 2, 4 or 8.
-#[tactic(auto, unfolding(sequence_terms::specs::Calls::memory))]
-pub(crate) fn memory(
+#[tactic(auto, unfolding(sequence_rules::specs::Calls::memory))]
+pub(crate) fn access_memory(
     size: u8,
     read: bool,
     address: u64,
     value: u64,
-    held: &mut Held,
+    held: &mut DirectHeld,
     target: &mut Target,
 ) -> Result<u64, Stopped>
     requires { (size ≡ 1) ⊎ ((size ≡ 2) ⊎ ((size ≡ 4) ⊎ (size ≡ 8))) }
-    ensures gives { (written : Option (List ℕ)) → Gives held.new.end result (state_of held.new target.new written) (c.memory (direct false) size read address value (state_of held.old target.old written)) }
+    ensures gives { (written : Option (List ℕ)) → MeansDirect held.new.end result (state_of held.new target.new written) (c.memory (direct false) size read address value (state_of held.old target.old written)) }
     ensures made { (w : World) → IsMade w held.old target.old → IsMade w held.new target.new }
     ensures cause { (faults : ℕ) → IsCaused held.new.end result faults faults }
 {
-    memory_at(size, read, address, value, port_of(held), held, target)
+    access_memory_at(size, read, address, value, port_of(held), held, target)
 }
 
 // A memory call of 4 bytes, which most are: as the size is known, its code is shorter.
-#[tactic(auto, unfolding(sequence_terms::specs::Calls::memory))]
-pub(crate) fn word(
+#[tactic(auto, unfolding(sequence_rules::specs::Calls::memory))]
+pub(crate) fn access_word(
     read: bool,
     address: u64,
     value: u64,
-    held: &mut Held,
+    held: &mut DirectHeld,
     target: &mut Target,
 ) -> Result<u64, Stopped>
-    ensures gives { (written : Option (List ℕ)) → Gives held.new.end result (state_of held.new target.new written) (c.memory (direct false) 4 read address value (state_of held.old target.old written)) }
+    ensures gives { (written : Option (List ℕ)) → MeansDirect held.new.end result (state_of held.new target.new written) (c.memory (direct false) 4 read address value (state_of held.old target.old written)) }
     ensures made { (w : World) → IsMade w held.old target.old → IsMade w held.new target.new }
     ensures cause { (faults : ℕ) → IsCaused held.new.end result faults faults }
 {
-    memory_at(4, read, address, value, port_of(held), held, target)
+    access_memory_at(4, read, address, value, port_of(held), held, target)
 }

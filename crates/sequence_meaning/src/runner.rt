@@ -6,7 +6,7 @@ use std::alloc::Global;
 
 // What is run, and how.
 #[derive(Clone, Copy)]
-pub(crate) struct Runner<'a> {
+pub(crate) struct DirectRunner<'a> {
     pub alloc: Global,
     pub set: &'a Checked,
     /// How many microseconds a turn counts as.

@@ -2,50 +2,51 @@
 ghost use Rattle.std.specs.Prelude.{◌≡◌, ℕ, Bool, List, false};
 ghost use Rattle.expr_grammar.specs.Tree.{code_trees, stmt_tree, tree};
 ghost use Rattle.seq_check.specs.Answers.{checked_trees};
-ghost use Rattle.call_terms.specs.World.{World};
-ghost use Rattle.sequence_terms.specs.Direct.{direct};
-ghost use Rattle.sequence_terms.specs.Steps as m;
-ghost use Rattle.sequence_terms.specs.Known.{Knows};
-ghost use Rattle.sequence_meaning.specs.Held.{IsCaused, IsMade, Gives, seen};
+ghost use Rattle.target_calls.specs.World.{World};
+ghost use Rattle.sequence_rules.specs.Direct.{direct};
+ghost use Rattle.sequence_rules.specs.Steps as m;
+ghost use Rattle.sequence_rules.specs.Known.{Knows};
+ghost use Rattle.sequence_meaning.specs.Held.{IsCaused, IsMade, MeansDirect, seen};
 ghost use Rattle.sequence_meaning.specs.Starting.{debugged_one, defined};
 
-use crate::end::{End, Stopped};
-use crate::held::Held;
-use crate::runner::Runner;
+use crate::end::{DirectEnd, Stopped};
+use crate::held::DirectHeld;
+use crate::runner::DirectRunner;
 use dap_base::Sink;
 use expr_grammar::{Expr, Name, Stmt};
+use sequence_rules::MOST_CALLS_DEEP;
 use target_machine::Target;
 
-impl Runner<'_> {
+impl DirectRunner<'_> {
     // A debug variable gets its value.
-    #[tactic(auto, unfolding(sequence_terms::specs::Values::stored, sequence_terms::specs::Calls::guarded, sequence_terms::specs::Direct::direct), using(crate::proofs::DebugLemmas::defines_on, crate::proofs::StopLemmas::cause_on))]
+    #[tactic(auto, unfolding(sequence_rules::specs::Values::stored, sequence_rules::specs::Calls::guarded, sequence_rules::specs::Direct::direct), using(crate::proofs::DebugLemmas::defines_on, crate::proofs::StopLemmas::cause_on))]
     fn define<K: Sink>(
         &self,
         name: &Name,
         expr: &Expr,
-        held: &mut Held,
+        held: &mut DirectHeld,
         target: &mut Target,
         sink: &mut K,
     ) -> Result<(), Stopped>
-        ensures gives { (known : Bool) → Knows known (K.written sink.old) → Gives held.new.end result (seen known held.new target.new (K.written sink.new)) (defined self.now.turn_us (checked_trees self.now.set.now) name.now (tree expr.now) (seen known held.old target.old (K.written sink.old))) }
+        ensures gives { (known : Bool) → Knows known (K.written sink.old) → MeansDirect held.new.end result (seen known held.new target.new (K.written sink.new)) (defined self.now.turn_us (checked_trees self.now.set.now) name.now (tree expr.now) (seen known held.old target.old (K.written sink.old))) }
         ensures knows { (known : Bool) → Knows known (K.written sink.old) → Knows known (K.written sink.new) }
         ensures made { (w : World) → IsMade w held.old target.old → IsMade w held.new target.new }
         ensures cause { IsCaused held.new.end result (K.faults sink.old) (K.faults sink.new) }
     {
-        let number = self.value(expr, 0, held, target, sink)?;
+        let number = self.evaluate(expr, 0, held, target, sink)?;
         held.store(name.text.as_str(), number);
         Ok(())
     }
 
     // A statement of the debug variables.
-    fn debug_one<K: Sink>(
+    fn define_one<K: Sink>(
         &self,
         one: &Stmt,
-        held: &mut Held,
+        held: &mut DirectHeld,
         target: &mut Target,
         sink: &mut K,
     ) -> Result<(), Stopped>
-        ensures gives { (known : Bool) → Knows known (K.written sink.old) → Gives held.new.end result (seen known held.new target.new (K.written sink.new)) (debugged_one self.now.turn_us (checked_trees self.now.set.now) (stmt_tree one.now) (seen known held.old target.old (K.written sink.old))) }
+        ensures gives { (known : Bool) → Knows known (K.written sink.old) → MeansDirect held.new.end result (seen known held.new target.new (K.written sink.new)) (debugged_one self.now.turn_us (checked_trees self.now.set.now) (stmt_tree one.now) (seen known held.old target.old (K.written sink.old))) }
         ensures knows { (known : Bool) → Knows known (K.written sink.old) → Knows known (K.written sink.new) }
         ensures made { (w : World) → IsMade w held.old target.old → IsMade w held.new target.new }
         ensures cause { IsCaused held.new.end result (K.faults sink.old) (K.faults sink.new) }
@@ -58,20 +59,20 @@ impl Runner<'_> {
 
     // The debug variables get their values, in order.
     #[tactic(auto, using(crate::proofs::DebugLemmas::debugging, crate::proofs::StopLemmas::cause_on))]
-    fn debug<K: Sink>(
+    fn define_all<K: Sink>(
         &self,
         code: &[Stmt],
-        held: &mut Held,
+        held: &mut DirectHeld,
         target: &mut Target,
         sink: &mut K,
     ) -> Result<(), Stopped>
-        ensures gives { (known : Bool) → Knows known (K.written sink.old) → Gives held.new.end result (seen known held.new target.new (K.written sink.new)) (m.debugged (direct false) self.now.turn_us (checked_trees self.now.set.now) (code_trees code.now) (seen known held.old target.old (K.written sink.old))) }
+        ensures gives { (known : Bool) → Knows known (K.written sink.old) → MeansDirect held.new.end result (seen known held.new target.new (K.written sink.new)) (m.debugged (direct false) self.now.turn_us (checked_trees self.now.set.now) (code_trees code.now) (seen known held.old target.old (K.written sink.old))) }
         ensures knows { (known : Bool) → Knows known (K.written sink.old) → Knows known (K.written sink.new) }
         ensures made { (w : World) → IsMade w held.old target.old → IsMade w held.new target.new }
         ensures cause { IsCaused held.new.end result (K.faults sink.old) (K.faults sink.new) }
     {
         for one in code {
-            match self.debug_one(one, held, target, sink) {
+            match self.define_one(one, held, target, sink) {
                 Ok(()) => {}
                 Err(stopped) => return Err(stopped),
             }
@@ -80,23 +81,23 @@ impl Runner<'_> {
     }
 
     // A run: the debug variables, and then the sequence of the name, in a chain of at most 32 sequences.
-    #[tactic(auto, unfolding(sequence_terms::specs::Steps::run_of), using(crate::proofs::DebugLemmas::run_first, crate::proofs::DebugLemmas::run_on, crate::proofs::StopLemmas::cause_on))]
-    pub(crate) fn run<K: Sink>(
+    #[tactic(auto, unfolding(sequence_rules::specs::Steps::run_of), using(crate::proofs::DebugLemmas::run_first, crate::proofs::DebugLemmas::run_on, crate::proofs::StopLemmas::cause_on))]
+    pub(crate) fn run_all<K: Sink>(
         &self,
         start: &str,
-        held: &mut Held,
+        held: &mut DirectHeld,
         target: &mut Target,
         sink: &mut K,
     ) -> Result<(), Stopped>
-        ensures gives { (known : Bool) → Knows known (K.written sink.old) → Gives held.new.end result (seen known held.new target.new (K.written sink.new)) (m.run_of (direct false) self.now.turn_us (checked_trees self.now.set.now) start.now (seen known held.old target.old (K.written sink.old))) }
+        ensures gives { (known : Bool) → Knows known (K.written sink.old) → MeansDirect held.new.end result (seen known held.new target.new (K.written sink.new)) (m.run_of (direct false) self.now.turn_us (checked_trees self.now.set.now) start.now (seen known held.old target.old (K.written sink.old))) }
         ensures knows { (known : Bool) → Knows known (K.written sink.old) → Knows known (K.written sink.new) }
         ensures made { (w : World) → IsMade w held.old target.old → IsMade w held.new target.new }
         ensures cause { IsCaused held.new.end result (K.faults sink.old) (K.faults sink.new) }
     {
-        match self.debug(self.set.debugvars().as_slice(), held, target, sink) {
+        match self.define_all(self.set.debugvars().as_slice(), held, target, sink) {
             Ok(()) => {}
             Err(stopped) => return Err(stopped),
         }
-        self.done(self.steps_of(start), 31, held, target, sink)
+        self.run_steps(self.steps_of(start), MOST_CALLS_DEEP, held, target, sink)
     }
 }

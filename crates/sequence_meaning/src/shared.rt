@@ -1,9 +1,9 @@
 //! The variables that all sequences share.
 ghost use Rattle.std.specs.Prelude.{◌≡◌, Some, false, slice_get, unwrap_or, codes};
-ghost use Rattle.sequence_terms.specs.Shared.{bindings_of};
-ghost use Rattle.sequence_terms.specs.Variables.{value_in, set_in};
+ghost use Rattle.sequence_rules.specs.Shared.{bindings_of};
+ghost use Rattle.sequence_rules.specs.Variables.{value_named, set_in};
 
-use sequence_terms::Globals;
+use sequence_rules::Globals;
 
 // The variables that all sequences share. The values of the three that nearly every call uses lie beside them, so that no name is
 // compared for these.
@@ -13,14 +13,14 @@ pub(crate) struct SharedVariables {
     dp: u64,
     ap: u64,
     control: u64,
-    ghost dp_is: { dp ≡ unwrap_or (value_in (bindings_of variables) (codes "__dp")) 0 },
-    ghost ap_is: { ap ≡ unwrap_or (value_in (bindings_of variables) (codes "__ap")) 0 },
-    ghost control_is: { control ≡ unwrap_or (value_in (bindings_of variables) (codes "__errorcontrol")) 0 },
+    ghost dp_is: { dp ≡ unwrap_or (value_named (bindings_of variables) (codes "__dp")) 0 },
+    ghost ap_is: { ap ≡ unwrap_or (value_named (bindings_of variables) (codes "__ap")) 0 },
+    ghost control_is: { control ≡ unwrap_or (value_named (bindings_of variables) (codes "__errorcontrol")) 0 },
 }
 
 // The value of a variable, 0 where there is none.
 fn value_of(variables: &Globals<u64>, name: &str) -> u64
-    ensures { result ≡ unwrap_or (value_in (bindings_of variables.now) name.now) 0 }
+    ensures { result ≡ unwrap_or (value_named (bindings_of variables.now) name.now) 0 }
 {
     match variables.get(name) {
         Some(value) => value,
@@ -60,28 +60,28 @@ impl SharedVariables {
 
     /// `__dp`, 0 where there is none.
     pub fn dp(&self) -> u64
-        ensures { result ≡ unwrap_or (value_in (bindings_of self.now.variables) (codes "__dp")) 0 }
+        ensures { result ≡ unwrap_or (value_named (bindings_of self.now.variables) (codes "__dp")) 0 }
     {
         self.dp
     }
 
     /// `__ap`, 0 where there is none.
     pub fn ap(&self) -> u64
-        ensures { result ≡ unwrap_or (value_in (bindings_of self.now.variables) (codes "__ap")) 0 }
+        ensures { result ≡ unwrap_or (value_named (bindings_of self.now.variables) (codes "__ap")) 0 }
     {
         self.ap
     }
 
     /// `__errorcontrol`, 0 where there is none.
     pub fn control(&self) -> u64
-        ensures { result ≡ unwrap_or (value_in (bindings_of self.now.variables) (codes "__errorcontrol")) 0 }
+        ensures { result ≡ unwrap_or (value_named (bindings_of self.now.variables) (codes "__errorcontrol")) 0 }
     {
         self.control
     }
 
     /// The value of a variable, 0 where there is none.
     pub fn get(&self, name: &str) -> u64
-        ensures { result ≡ unwrap_or (value_in (bindings_of self.now.variables) name.now) 0 }
+        ensures { result ≡ unwrap_or (value_named (bindings_of self.now.variables) name.now) 0 }
     {
         value_of(&self.variables, name)
     }

@@ -2,19 +2,19 @@
 ghost use Rattle.std.specs.Prelude.{◌≡◌, [], ◌∷◌, IfOk, OnOk, map};
 ghost use Rattle.expr_grammar.specs.Tree.{code_trees, stmt_tree};
 ghost use Rattle.function_table.specs.Variables.{predefined};
-ghost use Rattle.sequence_terms.specs.Shared.{bindings_of};
-ghost use Rattle.sequence_terms.specs.Steps.{declared_names};
-ghost use Rattle.sequence_terms.specs.Variables.{with_all_new};
-ghost use Rattle.sequence_meaning.specs.Starting.{variables_of};
+ghost use Rattle.sequence_rules.specs.Shared.{bindings_of};
+ghost use Rattle.sequence_rules.specs.Steps.{declared_names};
+ghost use Rattle.sequence_rules.specs.Variables.{with_all_new};
+ghost use Rattle.sequence_rules.specs.Runs.{variables_of};
 
 use dap_base::{NameText, OutOfMemory};
 use expr_grammar::Stmt;
-use sequence_terms::Globals;
+use sequence_rules::Globals;
 use std::alloc::Global;
 use target_machine::{Variable, Variables};
 
 // The predefined variables with their starting values.
-pub(crate) fn starting(alloc: Global, start: &[Variable]) -> Result<Globals<u64>, OutOfMemory>
+pub(crate) fn make_globals(alloc: Global, start: &[Variable]) -> Result<Globals<u64>, OutOfMemory>
     requires { map (λ variable. variable.name) start.now ≡ predefined }
     ensures { IfOk result (λ globals. bindings_of globals ≡ variables_of start.now) }
 {
@@ -53,7 +53,10 @@ pub(crate) fn add_declared(
 }
 
 // The variables that all sequences share, as an answer has them.
-pub(crate) fn answered(alloc: Global, globals: &Globals<u64>) -> Result<Variables, OutOfMemory>
+pub(crate) fn copy_variables(
+    alloc: Global,
+    globals: &Globals<u64>,
+) -> Result<Variables, OutOfMemory>
     ensures { IfOk result (λ variables. variables_of variables ≡ bindings_of globals.now) }
 {
     let mut variables = Variables::new(alloc);

@@ -2,8 +2,8 @@
 ghost use Rattle.std.specs.Prelude.{◌≡◌, ◌<◌, ◌^◌, ◌%◌, ◌++◌, ◌∷◌, [], ℕ, Option, None, Some, false, length, slice_index, OnOk, IfOk, IfErr};
 ghost use Rattle.target_machine.specs.Sound.{IsSound};
 ghost use Rattle.probe_core.specs.Bench.{BenchState};
-ghost use Rattle.call_terms.specs.Asks.{is_wide, unit_ask};
-ghost use Rattle.call_terms.specs.NeedPoints.{nothing_asked};
+ghost use Rattle.target_calls.specs.Asks.{is_wide, unit_ask};
+ghost use Rattle.target_calls.specs.NeedPoints.{nothing_asked};
 ghost use Rattle.access_calls.specs.Answers.{IsEnd, StopsCalls};
 ghost use Rattle.access_calls.specs.Copy.{AccessEndsAs, HasSinkCause, IsCopyEnd, copied, read_word, write_word};
 ghost use Rattle.access_calls.specs.GoesOn.{GoesOn};
@@ -11,8 +11,8 @@ ghost use Rattle.access_calls.specs.Left.{IsLeft, answered_by};
 ghost use Rattle.access_calls.specs.Reported.{world_from};
 
 use crate::{Access, Stop};
-use call_terms::{Asked, Slot};
 use dap_base::{Failed, Sink};
+use target_calls::{Asked, Slot};
 use target_machine::Unit;
 
 /// How the copy of a word ends.

@@ -1,6 +1,6 @@
 //! A struct that owns an access, which may be lent.
 ghost use Rattle.std.specs.Prelude.{◌≡◌, OnOk, IfErr, IfSome, Err};
-ghost use Rattle.call_terms.specs.NeedPoints.{needed};
+ghost use Rattle.target_calls.specs.NeedPoints.{needed};
 ghost use Rattle.access_calls.specs.Answers.{IsEnd, NoMemory};
 ghost use Rattle.access_calls.specs.GoesOn.{GoesOn};
 
@@ -8,16 +8,16 @@ use crate::{Access, Stop};
 
 /// Owns an access.
 #[derive(Drop)]
-pub struct Held<A: Access> {
+pub struct AccessOwner<A: Access> {
     access: A,
 }
 
-impl<A: Access> Held<A> {
+impl<A: Access> AccessOwner<A> {
     /// Takes the access.
-    pub fn new(access: A) -> Held<A>
+    pub fn new(access: A) -> AccessOwner<A>
         ensures answer { result.access ≡ access }
     {
-        Held { access }
+        AccessOwner { access }
     }
 
     /// Makes all that was asked. Takes no memory. At an error the access has ended with it, and an access
@@ -41,7 +41,7 @@ impl<A: Access> Held<A> {
     }
 }
 
-/// Lends an access to a `Held`, lets that make all that was asked, and takes it back. Takes no memory. At an
+/// Lends an access to an `AccessOwner`, lets that make all that was asked, and takes it back. Takes no memory. At an
 /// error the access has ended with it, and an access that had ended answers its end again.
 pub fn flush_lent<A: Access>(access: &mut A) -> Result<(), Stop>
     ensures asks { OnOk result ((A.reported access.new).asks ≡ needed (A.reported access.old).asks) }
@@ -50,7 +50,7 @@ pub fn flush_lent<A: Access>(access: &mut A) -> Result<(), Stop>
     ensures ended { IfSome (A.reported access.old).end (λ s. result ≡ Err s) }
     ensures goes { GoesOn (A.reported access.old) (A.reported access.new) }
 {
-    let mut held = Held::new(&mut *access);
+    let mut held = AccessOwner::new(&mut *access);
     let answer = held.flush();
     let _ = held.into_access();
     answer

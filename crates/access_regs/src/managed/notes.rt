@@ -8,7 +8,7 @@ ghost use Rattle.access_regs.specs.Plan.{learned, learned_cfg, made, settled};
 use super::Managed;
 use crate::values::{increment_off, planned_csw, predicted, select_value};
 use crate::{Known, Unsettled};
-use call_terms::accesses::{high_of, low_of};
+use target_calls::accesses::{high_of, low_of};
 use target_machine::Unit;
 use target_machine::registers::{CFG, CFG_LA, SELECT};
 

@@ -9,7 +9,7 @@ ghost use Rattle.access_regs.specs.Plans.{accesses_of};
 use super::Managed;
 use crate::Plan;
 use crate::values::{increment_off, is_known, planned_csw, select_value, write_select};
-use call_terms::accesses::{access_ap, access_drw, high_of, low_of};
+use target_calls::accesses::{access_ap, access_drw, high_of, low_of};
 use target_machine::registers::{CFG, CSW, CTRL_STAT, TAR, TAR_HIGH};
 use target_machine::{RegAccess, Unit};
 
@@ -56,7 +56,7 @@ impl Managed {
     }
 
     // The plan of a memory unit.
-    #[tactic(auto, using(call_terms::proofs::CallRanges::lanes_fit, crate::proofs::PlanLemmas::memory_listed))]
+    #[tactic(auto, using(target_calls::proofs::CallRanges::lanes_fit, crate::proofs::PlanLemmas::memory_listed))]
     fn plan_memory(&self, size: u8, read: bool, ap: u8, address: u64, value: u32) -> Plan
         requires sound { IsSoundMemory size read address value }
         ensures { accesses_of result ≡ plan self.now (Memory size read ap address value) }

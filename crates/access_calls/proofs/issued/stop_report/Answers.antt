@@ -8,5 +8,5 @@ pub returns-clause-numbers : goal.returns-clause-numbers
 returns-clause-numbers c = λ all are.
     let there = slice_get-get_or c.args.entries.now c.args.confirmed _ c.requires.named in
     kept_numbers all c.args.entries.now c.args.calls.now _ _ _ _ are there refl
-    (c.attempted_by.ensures ∙ ap (attempted_by c.args.cause _) c.attempted.ensures) c.skipped.ensures c.lines_before.ensures
+    (c.attempted_by.ensures ∙ ap (attempted_by c.args.cause _) c.count_attempted.ensures) c.count_skipped.ensures c.lines_before.ensures
     (what_is c.args.calls.now _ _ (unit_within c.args.entries.now c.args.calls.now c.args.confirmed _ there c.requires.unit))

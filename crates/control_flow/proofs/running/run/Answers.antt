@@ -2,11 +2,12 @@ use Rattle.std.proofs.Common.{◌≡◌, ◌∙◌, refl, sym, ap, subst}
 use Rattle.access_calls.specs.Left.{answered_by}
 use Rattle.access_calls.specs.Reported.{world_from}
 use Rattle.access_calls.proofs.KeepLemmas.{left_by}
-use Rattle.sequence_terms.specs.Runs.{late_meaning, meaning, outcome_of}
-use Rattle.sequence_terms.proofs.Made.{late_pair}
-use Rattle.sequence_terms.specs.Known.{known_part}
-use Rattle.late_calls.specs.Held.{state_of}
-use Rattle.control_flow.specs.Answers.{EndsAs, program_of, ran}
+use Rattle.seq_check.specs.Answers.{checked_trees}
+use Rattle.sequence_rules.specs.Runs.{late_meaning, meaning, outcome_of, program_of}
+use Rattle.sequence_rules.proofs.Made.{late_pair}
+use Rattle.sequence_rules.specs.Known.{known_part}
+use Rattle.function_calls.specs.Held.{state_of}
+use Rattle.control_flow.specs.Answers.{EndsAs, ran}
 use Rattle.access_calls.specs.declared.ended.Ending.TheVariants as ending
 use Rattle.control_flow.proofs.EndRules.{answered_as, quiet_ending}
 use Rattle.control_flow.proofs.RunLemmas.{at_end, at_start, is_broken, later_end, left_end, not_begun, stopped_ends}
@@ -16,92 +17,92 @@ pub returns-in_default-clause-answer : goal.returns-in_default-clause-answer
 returns-in_default-clause-answer g c = λ m known b knows.
     let a = g.A.Access.reported c.args.access.now in
     let w = world_from m (answered_by a) in
-    let p = program_of c.args.checked.now c.args.start.now c.args.settings.now in
+    let p = program_of (checked_trees c.args.checked.now) c.args.start.now c.args.settings.now in
     let before = known_part known (g.K.Sink.written c.args.sink.now) in
-    let r = ran c.left.result a.asks before in
-    subst (λ x. EndsAs x a.lines (outcome_of (meaning w p before)) r) (sym c.left.ensures.ending) (not_begun w p before r c.requires.fresh refl)
+    let r = ran c.ended_early.result a.asks before in
+    subst (λ x. EndsAs x a.lines (outcome_of (meaning w p before)) r) (sym c.ended_early.ensures.ending) (not_begun w p before r c.requires.fresh refl)
 
-pub returns-in-Ok-evaluate-clause-answer : goal.returns-in-Ok-evaluate-clause-answer
-returns-in-Ok-evaluate-clause-answer g c = λ m known b knows.
-    let last = g.A.Access.reported c.finished.new.access in
+pub returns-in-Ok-run_all-clause-answer : goal.returns-in-Ok-run_all-clause-answer
+returns-in-Ok-run_all-clause-answer g c = λ m known b knows.
+    let last = g.A.Access.reported c.ended_whole.new.access in
     let n = answered_by last in
     let w = world_from m n in
-    let p = program_of c.args.checked.now c.args.start.now c.args.settings.now in
+    let p = program_of (checked_trees c.args.checked.now) c.args.start.now c.args.settings.now in
     let before = known_part known (g.K.Sink.written c.args.sink.now) in
-    let after = known_part known (g.K.Sink.written c.evaluate.new.sink) in
-    let now = state_of c.evaluate.new.held (g.A.Access.reported c.evaluate.new.access).asks after in
+    let after = known_part known (g.K.Sink.written c.run_all.new.sink) in
+    let now = state_of c.run_all.new.held (g.A.Access.reported c.run_all.new.access).asks after in
     let same = at_start g.A.Access.cost w p c.in-Ok.held (g.A.Access.reported c.args.access.now).asks before c.requires.fresh (c.in-Ok.ensures.state g.A.Access.cost w before) in
-    (c.finished.ensures.answer m after (late_meaning g.A.Access.cost w p before) (meaning w p before) (c.evaluate.ensures.on m b) (at_end (ending.Done) now _ _ same (c.in-Ok-evaluate.ensures.gives m n known b (c.finished.ensures.goes.left n (left_by last)) knows)) (late_pair g.A.Access.cost w p before)).0
+    (c.ended_whole.ensures.answer m after (late_meaning g.A.Access.cost w p before) (meaning w p before) (c.run_all.ensures.on m b) (at_end (ending.Done) now _ _ same (c.in-Ok-run_all.ensures.gives m n known b (c.ended_whole.ensures.goes.left n (left_by last)) knows)) (late_pair g.A.Access.cost w p before)).0
 
-pub returns-in-Ok-evaluate-clause-needs : goal.returns-in-Ok-evaluate-clause-needs
-returns-in-Ok-evaluate-clause-needs g c = λ m known b knows.
-    let last = g.A.Access.reported c.finished.new.access in
+pub returns-in-Ok-run_all-clause-needs : goal.returns-in-Ok-run_all-clause-needs
+returns-in-Ok-run_all-clause-needs g c = λ m known b knows.
+    let last = g.A.Access.reported c.ended_whole.new.access in
     let n = answered_by last in
     let w = world_from m n in
-    let p = program_of c.args.checked.now c.args.start.now c.args.settings.now in
+    let p = program_of (checked_trees c.args.checked.now) c.args.start.now c.args.settings.now in
     let before = known_part known (g.K.Sink.written c.args.sink.now) in
-    let after = known_part known (g.K.Sink.written c.evaluate.new.sink) in
-    let now = state_of c.evaluate.new.held (g.A.Access.reported c.evaluate.new.access).asks after in
+    let after = known_part known (g.K.Sink.written c.run_all.new.sink) in
+    let now = state_of c.run_all.new.held (g.A.Access.reported c.run_all.new.access).asks after in
     let same = at_start g.A.Access.cost w p c.in-Ok.held (g.A.Access.reported c.args.access.now).asks before c.requires.fresh (c.in-Ok.ensures.state g.A.Access.cost w before) in
-    (c.finished.ensures.answer m after (late_meaning g.A.Access.cost w p before) (meaning w p before) (c.evaluate.ensures.on m b) (at_end (ending.Done) now _ _ same (c.in-Ok-evaluate.ensures.gives m n known b (c.finished.ensures.goes.left n (left_by last)) knows)) (late_pair g.A.Access.cost w p before)).1
+    (c.ended_whole.ensures.answer m after (late_meaning g.A.Access.cost w p before) (meaning w p before) (c.run_all.ensures.on m b) (at_end (ending.Done) now _ _ same (c.in-Ok-run_all.ensures.gives m n known b (c.ended_whole.ensures.goes.left n (left_by last)) knows)) (late_pair g.A.Access.cost w p before)).1
 
-pub returns-in-Ok-evaluate-clause-cause : goal.returns-in-Ok-evaluate-clause-cause
-returns-in-Ok-evaluate-clause-cause g c = quiet_ending _ _ _ c.in-Ok-evaluate.ensures.cause c.finished.ensures.cause
+pub returns-in-Ok-run_all-clause-cause : goal.returns-in-Ok-run_all-clause-cause
+returns-in-Ok-run_all-clause-cause g c = quiet_ending _ _ _ c.in-Ok-run_all.ensures.cause c.ended_whole.ensures.cause
 
 pub returns-in-Err-Halted-clause-answer : goal.returns-in-Err-Halted-clause-answer
 returns-in-Err-Halted-clause-answer g c = λ m known b knows.
-    let last = g.A.Access.reported c.finished-in-Err-Halted.new.access in
+    let last = g.A.Access.reported c.ended_whole-in-Err-Halted.new.access in
     let n = answered_by last in
     let w = world_from m n in
-    let p = program_of c.args.checked.now c.args.start.now c.args.settings.now in
+    let p = program_of (checked_trees c.args.checked.now) c.args.start.now c.args.settings.now in
     let before = known_part known (g.K.Sink.written c.args.sink.now) in
-    let after = known_part known (g.K.Sink.written c.evaluate.new.sink) in
-    let now = state_of c.evaluate.new.held (g.A.Access.reported c.evaluate.new.access).asks after in
+    let after = known_part known (g.K.Sink.written c.run_all.new.sink) in
+    let now = state_of c.run_all.new.held (g.A.Access.reported c.run_all.new.access).asks after in
     let same = at_start g.A.Access.cost w p c.in-Ok.held (g.A.Access.reported c.args.access.now).asks before c.requires.fresh (c.in-Ok.ensures.state g.A.Access.cost w before) in
-    (c.finished-in-Err-Halted.ensures.answer m after (late_meaning g.A.Access.cost w p before) (meaning w p before) (c.evaluate.ensures.on m b) (at_end (ending.Halted c.in-Err-Halted.cause) now _ _ same (rw c.in-Err-Halted.field-0-is at (c.in-Err-Halted.ensures.gives m n known b (c.finished-in-Err-Halted.ensures.goes.left n (left_by last)) knows))) (late_pair g.A.Access.cost w p before)).0
+    (c.ended_whole-in-Err-Halted.ensures.answer m after (late_meaning g.A.Access.cost w p before) (meaning w p before) (c.run_all.ensures.on m b) (at_end (ending.Halted c.in-Err-Halted.cause) now _ _ same (rw c.in-Err-Halted.field-0-is at (c.in-Err-Halted.ensures.gives m n known b (c.ended_whole-in-Err-Halted.ensures.goes.left n (left_by last)) knows))) (late_pair g.A.Access.cost w p before)).0
 
 pub returns-in-Err-Halted-clause-needs : goal.returns-in-Err-Halted-clause-needs
 returns-in-Err-Halted-clause-needs g c = λ m known b knows.
-    let last = g.A.Access.reported c.finished-in-Err-Halted.new.access in
+    let last = g.A.Access.reported c.ended_whole-in-Err-Halted.new.access in
     let n = answered_by last in
     let w = world_from m n in
-    let p = program_of c.args.checked.now c.args.start.now c.args.settings.now in
+    let p = program_of (checked_trees c.args.checked.now) c.args.start.now c.args.settings.now in
     let before = known_part known (g.K.Sink.written c.args.sink.now) in
-    let after = known_part known (g.K.Sink.written c.evaluate.new.sink) in
-    let now = state_of c.evaluate.new.held (g.A.Access.reported c.evaluate.new.access).asks after in
+    let after = known_part known (g.K.Sink.written c.run_all.new.sink) in
+    let now = state_of c.run_all.new.held (g.A.Access.reported c.run_all.new.access).asks after in
     let same = at_start g.A.Access.cost w p c.in-Ok.held (g.A.Access.reported c.args.access.now).asks before c.requires.fresh (c.in-Ok.ensures.state g.A.Access.cost w before) in
-    (c.finished-in-Err-Halted.ensures.answer m after (late_meaning g.A.Access.cost w p before) (meaning w p before) (c.evaluate.ensures.on m b) (at_end (ending.Halted c.in-Err-Halted.cause) now _ _ same (rw c.in-Err-Halted.field-0-is at (c.in-Err-Halted.ensures.gives m n known b (c.finished-in-Err-Halted.ensures.goes.left n (left_by last)) knows))) (late_pair g.A.Access.cost w p before)).1
+    (c.ended_whole-in-Err-Halted.ensures.answer m after (late_meaning g.A.Access.cost w p before) (meaning w p before) (c.run_all.ensures.on m b) (at_end (ending.Halted c.in-Err-Halted.cause) now _ _ same (rw c.in-Err-Halted.field-0-is at (c.in-Err-Halted.ensures.gives m n known b (c.ended_whole-in-Err-Halted.ensures.goes.left n (left_by last)) knows))) (late_pair g.A.Access.cost w p before)).1
 
 pub returns-in-Err-Halted-clause-cause : goal.returns-in-Err-Halted-clause-cause
-returns-in-Err-Halted-clause-cause g c = quiet_ending _ _ _ (rw c.in-Err-Halted.field-0-is at c.in-Err-Halted.ensures.cause) c.finished-in-Err-Halted.ensures.cause
+returns-in-Err-Halted-clause-cause g c = quiet_ending _ _ _ (rw c.in-Err-Halted.field-0-is at c.in-Err-Halted.ensures.cause) c.ended_whole-in-Err-Halted.ensures.cause
 
 pub returns-in-Err-Stopped-clause-answer : goal.returns-in-Err-Stopped-clause-answer
 returns-in-Err-Stopped-clause-answer g c = λ m known b knows.
-    let a = g.A.Access.reported c.evaluate.new.access in
+    let a = g.A.Access.reported c.run_all.new.access in
     let n = answered_by a in
     let w = world_from m n in
     let st = c.in-Err-Stopped.stop in
-    let p = program_of c.args.checked.now c.args.start.now c.args.settings.now in
+    let p = program_of (checked_trees c.args.checked.now) c.args.start.now c.args.settings.now in
     let before = known_part known (g.K.Sink.written c.args.sink.now) in
-    let after = known_part known (g.K.Sink.written c.evaluate.new.sink) in
-    let now = state_of c.evaluate.new.held a.asks after in
-    let r = ran c.left-in-Err-Stopped.result a.asks after in
+    let after = known_part known (g.K.Sink.written c.run_all.new.sink) in
+    let now = state_of c.run_all.new.held a.asks after in
+    let r = ran c.ended_early-in-Err-Stopped.result a.asks after in
     let same = at_start g.A.Access.cost w p c.in-Ok.held (g.A.Access.reported c.args.access.now).asks before c.requires.fresh (c.in-Ok.ensures.state g.A.Access.cost w before) in
-    subst (λ x. EndsAs x a.lines (outcome_of (meaning w p before)) r) (sym (c.left-in-Err-Stopped.ensures.ending ∙ c.ending_of.ensures))
+    subst (λ x. EndsAs x a.lines (outcome_of (meaning w p before)) r) (sym (c.ended_early-in-Err-Stopped.ensures.ending ∙ c.from.ensures))
     (stopped_ends w st a.lines r now (late_meaning g.A.Access.cost w p before) (meaning w p before) (late_pair g.A.Access.cost w p before) (answered_as st a (rw c.in-Err-Stopped.field-0-is at c.in-Err-Stopped.ensures.end))
     (left_end w a.lines st now _ _ same (rw c.in-Err-Stopped.field-0-is at (c.in-Err-Stopped.ensures.gives m n known b (left_by a) knows))) refl refl)
 
 pub returns-clause-answer : goal.returns-clause-answer
 returns-clause-answer g c = λ m known b knows.
-    let a = g.A.Access.reported c.evaluate.new.access in
+    let a = g.A.Access.reported c.run_all.new.access in
     let n = answered_by a in
     let w = world_from m n in
-    let p = program_of c.args.checked.now c.args.start.now c.args.settings.now in
+    let p = program_of (checked_trees c.args.checked.now) c.args.start.now c.args.settings.now in
     let before = known_part known (g.K.Sink.written c.args.sink.now) in
-    let after = known_part known (g.K.Sink.written c.evaluate.new.sink) in
-    let now = state_of c.evaluate.new.held a.asks after in
-    let r = ran c.left-in-Err-WriteFault.result a.asks after in
+    let after = known_part known (g.K.Sink.written c.run_all.new.sink) in
+    let now = state_of c.run_all.new.held a.asks after in
+    let r = ran c.ended_early-in-Err-WriteFault.result a.asks after in
     let same = at_start g.A.Access.cost w p c.in-Ok.held (g.A.Access.reported c.args.access.now).asks before c.requires.fresh (c.in-Ok.ensures.state g.A.Access.cost w before) in
-    subst (λ x. EndsAs x a.lines (outcome_of (meaning w p before)) r) (sym c.left-in-Err-WriteFault.ensures.ending)
+    subst (λ x. EndsAs x a.lines (outcome_of (meaning w p before)) r) (sym c.ended_early-in-Err-WriteFault.ensures.ending)
     (is_broken w r now (late_meaning g.A.Access.cost w p before) (meaning w p before) (late_pair g.A.Access.cost w p before)
     (later_end w now _ _ same (rw c.in-Err-WriteFault.field-0-is at (c.in-Err-WriteFault.ensures.gives m n known b (left_by a) knows))) refl refl)

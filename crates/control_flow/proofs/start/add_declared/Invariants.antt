@@ -1,9 +1,9 @@
 use Rattle.std.proofs.Common.{◌≡◌, drop}
-use Rattle.call_terms.specs.declared.calls.Value.TheVariants.{Number}
+use Rattle.target_calls.specs.declared.calls.Value.TheVariants.{Number}
 use Rattle.expr_grammar.specs.Tree.{code_trees}
-use Rattle.sequence_terms.specs.Shared.{bindings_of}
-use Rattle.sequence_terms.specs.Steps.{declared_names}
-use Rattle.sequence_terms.specs.Variables.{with_all_new}
+use Rattle.sequence_rules.specs.Shared.{bindings_of}
+use Rattle.sequence_rules.specs.Steps.{declared_names}
+use Rattle.sequence_rules.specs.Variables.{with_all_new}
 use Rattle.control_flow.proofs.start.add_declared.Given as goal
 
 abbrev pub invariant-loop-one : goal.invariant-loop-one

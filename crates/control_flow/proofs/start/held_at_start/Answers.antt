@@ -1,13 +1,13 @@
 use Rattle.std.proofs.Common.{List, ap, ◌∙◌}
-use Rattle.call_terms.specs.declared.calls.Value.TheVariants.{Number}
-use Rattle.call_terms.specs.NeedPoints.{nothing_asked}
+use Rattle.target_calls.specs.declared.calls.Value.TheVariants.{Number}
+use Rattle.target_calls.specs.NeedPoints.{nothing_asked}
 use Rattle.expr_grammar.specs.Tree.{code_trees}
 use Rattle.expr_grammar.specs.declared.code.Stmt.{Stmt}
 use Rattle.seq_check.specs.Answers.{checked_trees}
 use Rattle.target_machine.specs.declared.unit.Variable.{Variable}
-use Rattle.sequence_terms.specs.Steps.{declared_names}
-use Rattle.sequence_terms.specs.Variables.{with_all_new}
-use Rattle.control_flow.specs.Answers.{variables_of}
+use Rattle.sequence_rules.specs.Steps.{declared_names}
+use Rattle.sequence_rules.specs.Variables.{with_all_new}
+use Rattle.sequence_rules.specs.Runs.{variables_of}
 use Rattle.control_flow.specs.Closing.{as_values}
 use Rattle.control_flow.proofs.StartLemmas.{start_is}
 use Rattle.control_flow.proofs.start.held_at_start.Goals as goal

@@ -17,13 +17,13 @@ returns-in-Err-Usage-clause-usage g c = λ e command is. c.in-Err-Usage.ensures.
 
 pub returns-in-Some-clause-asked : goal.returns-in-Some-clause-asked
 returns-in-Some-clause-asked g c =
-    with_number c.args.words.now (g.S.Source.left c.args.source.now) c.in-Ok.command c.in-Some.number c.asked_with_number.result c.in-Ok.ensures.answer c.in-Some.ensures
-    c.asked_with_number.ensures.number c.asked_with_number.ensures.asked
+    with_number c.args.words.now (g.S.Source.left c.args.source.now) c.in-Ok.command c.in-Some.number c.ask_with_number.result c.in-Ok.ensures.answer c.in-Some.ensures
+    c.ask_with_number.ensures.number c.ask_with_number.ensures.asked
 
 pub returns-clause-asked : goal.returns-clause-asked
 returns-clause-asked g c =
-    with_source c.args.words.now (g.S.Source.left c.args.source.now) c.in-Ok.command c.asked_of_words.result c.in-Ok.ensures.answer c.in-None.ensures
-    c.asked_of_words.ensures.number c.asked_of_words.ensures.asked
+    with_source c.args.words.now (g.S.Source.left c.args.source.now) c.in-Ok.command c.ask_by_words.result c.in-Ok.ensures.answer c.in-None.ensures
+    c.ask_by_words.ensures.number c.ask_by_words.ensures.asked
 
 pub returns-clause-run : goal.returns-clause-run
-returns-clause-run g c = with_run c.args.words.now c.in-Ok.command c.asked_of_words.result c.in-Ok.ensures.answer c.asked_of_words.ensures.run
+returns-clause-run g c = with_run c.args.words.now c.in-Ok.command c.ask_by_words.result c.in-Ok.ensures.answer c.ask_by_words.ensures.run

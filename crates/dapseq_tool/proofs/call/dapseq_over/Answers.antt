@@ -1,6 +1,6 @@
 use Rattle.std.proofs.Common.{◌≡◌, Err, ap, refl, subst, sym}
 use Rattle.probe_core.specs.Bench.{seen}
-use Rattle.dapseq_tool.specs.Headline.{Call, FailsWriting, moment}
+use Rattle.dapseq_tool.specs.Headline.{Call, FailsPutting, moment}
 use Rattle.dapseq_tool.proofs.CallLemmas.{failed_fails, is_done, what_is_begun, what_is_done}
 use Rattle.dapseq_tool.proofs.call.dapseq_over.Goals as goal
 use Rattle.job_runs.specs.Runs.{access_kind}
@@ -36,4 +36,4 @@ returns-clause-asked g c =
       end = c.failed_status.result;
     } in
     is_done (access_kind g.A.Access.journal g.A.Access.cost g.A.Access.is_sparing) call _ c.in-Ok.asked c.in-Ok.ensures.asked
-    (what_is_begun (access_kind g.A.Access.journal g.A.Access.cost g.A.Access.is_sparing) call _ c.in-Ok.asked.number c.in-Ok.asked.what (subst FailsWriting (sym c.failed_status.ensures) (failed_fails c.in-Err.end)) c.in-Err.ensures.text refl)
+    (what_is_begun (access_kind g.A.Access.journal g.A.Access.cost g.A.Access.is_sparing) call _ c.in-Ok.asked.number c.in-Ok.asked.what c.in-Err.ensures.some (subst FailsPutting (sym c.failed_status.ensures) (failed_fails c.in-Err.end)) c.in-Err.ensures.text refl)

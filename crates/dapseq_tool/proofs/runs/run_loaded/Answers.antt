@@ -1,9 +1,10 @@
 use Rattle.std.proofs.Common.{◌≡◌, ◌∙◌, ap}
 use Rattle.dap_base.specs.Streams.{PutAppends}
+use Rattle.access_calls.specs.Causes.{code_of_cause}
 use Rattle.access_calls.specs.declared.ended.Ended.{Ended}
 use Rattle.job_runs.specs.Texts.{run_text}
 use Rattle.dapseq_tool.specs.Answers.{status_after}
-use Rattle.dapseq_tool.proofs.RunLemmas.{bad_after, kept_run, on_some, status_is, text_written}
+use Rattle.dapseq_tool.proofs.RunLemmas.{bad_after, got_after, kept_run, on_some, status_is, text_put, text_written}
 use Rattle.dapseq_tool.proofs.runs.run_loaded.Goals as goal
 
 pub returns-clause-run : goal.returns-clause-run
@@ -28,8 +29,10 @@ returns-clause-run g c =
                 log = kept_run run.valid.job.bench (g.B.Bench.state c.args.bench) (g.B.Bench.state ran.bench) r.0 known r.1 c.run_on-ran.ensures.goes.runs;
               },
             );
-        alone = λ hidden. text_written w ran.ended.ending mid new _ c.status_after.result is (c.write_run-written.ensures.alone hidden);
+        alone = λ hidden. text_put w ran.ended.ending mid new _ c.status_after.result is (c.write_run-written.ensures.unasked hidden) (c.write_run-written.ensures.alone hidden);
         status = status_is w ran.ended.ending c.status_after.result is;
+        cut = λ report cut. got_after (code_of_cause report.cause) (g.B.Bench.reported c.args.bench) (g.B.Bench.reported ran.bench) (g.B.Bench.reported c.write_run-written.new.ran.bench)
+            c.write_run-written.ensures.same.reported (c.run_on-ran.ensures.cut report cut);
         bad = λ bad. bad_after (g.B.Bench.reported c.args.bench) (g.B.Bench.reported ran.bench) (g.B.Bench.reported c.write_run-written.new.ran.bench) ran.sent ran.got
             c.write_run-written.ensures.same.reported (c.run_on-ran.ensures.bad bad);
       },

@@ -1,6 +1,6 @@
 use Rattle.std.proofs.Common.{option_map}
 use Rattle.expr_grammar.specs.Tree.{tree}
-use Rattle.sequence_code.specs.declared.spot.Part.TheVariants as parts
+use Rattle.sequence_trees.specs.declared.spot.Part.TheVariants as parts
 use Rattle.code_check.specs.Views.{scope_view}
 use Rattle.seq_check.specs.StepFaults.{ControlFault, ConditionFault}
 use Rattle.seq_check.proofs.ControlLemmas.{own_first, first_in_part, not_deep}

@@ -1,6 +1,6 @@
 use Rattle.std.proofs.Common.{map}
-use Rattle.sequence_code.specs.Trees.{steps_tree}
-use Rattle.sequence_code.specs.SetView.{set_trees}
+use Rattle.sequence_trees.specs.Trees.{steps_tree}
+use Rattle.sequence_trees.specs.SetView.{set_trees}
 use Rattle.seq_check.specs.SetFaults.{names_of}
 use Rattle.seq_check.specs.Calls.{sequence_calls, set_calls}
 use Rattle.seq_check.proofs.CheckLemmas.{calls_more}

@@ -1,5 +1,5 @@
 use Rattle.std.proofs.Common.{◌≡◌, ◌++◌, map, drop}
-use Rattle.sequence_code.specs.SetView.{set_trees}
+use Rattle.sequence_trees.specs.SetView.{set_trees}
 use Rattle.seq_check.specs.SetFaults.{names_of}
 use Rattle.seq_check.specs.Calls.{sequence_calls, set_calls}
 use Rattle.seq_check.proofs.set_calls.set_calls.Given as goal

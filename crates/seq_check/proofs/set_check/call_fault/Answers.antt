@@ -1,5 +1,5 @@
 use Rattle.std.proofs.Common.{◌∙◌, ap, map}
-use Rattle.sequence_code.specs.SetView.{set_trees}
+use Rattle.sequence_trees.specs.SetView.{set_trees}
 use Rattle.seq_check.proofs.CheckLemmas.{reported_cycle, no_cycle, reported_deep, deep_call, calls_sound}
 use Rattle.seq_check.proofs.set_check.call_fault.Goals as goal
 

@@ -1,5 +1,5 @@
 use Rattle.std.proofs.Common.{sym, subst, refl}
-use Rattle.sequence_code.specs.SetView.{set_trees}
+use Rattle.sequence_trees.specs.SetView.{set_trees}
 use Rattle.code_check.specs.declared.fault.FaultKind.TheVariants as k
 use Rattle.seq_check.specs.Valid as valid
 use Rattle.seq_check.specs.Valid.{IsSound}

@@ -1,4 +1,4 @@
-use Rattle.sequence_code.specs.SetView.{set_trees}
+use Rattle.sequence_trees.specs.SetView.{set_trees}
 use Rattle.seq_check.specs.Valid as valid
 use Rattle.seq_check.specs.Views.{held_view}
 use Rattle.seq_check.proofs.CheckLemmas.{rules_answer, none_holds}

@@ -1,6 +1,6 @@
 use Rattle.std.proofs.Common.{sym, subst, Some, true}
 use Rattle.expr_grammar.specs.Tree.{code_trees}
-use Rattle.sequence_code.specs.declared.spot.Part.TheVariants as parts
+use Rattle.sequence_trees.specs.declared.spot.Part.TheVariants as parts
 use Rattle.code_check.specs.First.{IsFirst}
 use Rattle.code_check.specs.BlockFaults.{BlockFault}
 use Rattle.seq_check.specs.declared.faulty.Holder.TheVariants as holders

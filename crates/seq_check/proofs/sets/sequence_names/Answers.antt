@@ -1,6 +1,6 @@
 use Rattle.std.proofs.Common.{◌∙◌, ◌+◌, ◌≤◌, sym, ap, drop, length, arith}
 use Rattle.std.proofs.lemmas.List.{length-map}
-use Rattle.sequence_code.specs.SetView.{set_trees}
+use Rattle.sequence_trees.specs.SetView.{set_trees}
 use Rattle.seq_check.specs.SetFaults.{names_of}
 use Rattle.seq_check.proofs.SetLemmas.{added, added-distinct, drop-at, drop-past}
 use Rattle.seq_check.proofs.sets.sequence_names.Goals as goal

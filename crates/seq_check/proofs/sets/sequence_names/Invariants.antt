@@ -1,5 +1,5 @@
 use Rattle.std.proofs.Common.{◌≡◌, [], drop}
-use Rattle.sequence_code.specs.SetView.{set_trees}
+use Rattle.sequence_trees.specs.SetView.{set_trees}
 use Rattle.seq_check.specs.SetFaults.{names_of}
 use Rattle.seq_check.proofs.SetLemmas.{added}
 use Rattle.seq_check.proofs.sets.sequence_names.Given as goal

@@ -1,7 +1,7 @@
 use Rattle.std.proofs.Common.{◌∙◌, ◌≤◌, map, length, false, arith}
 use Rattle.std.proofs.lemmas.List.{length-map}
-use Rattle.sequence_code.specs.Trees.{steps_tree}
-use Rattle.sequence_code.specs.SetView.{set_trees}
+use Rattle.sequence_trees.specs.Trees.{steps_tree}
+use Rattle.sequence_trees.specs.SetView.{set_trees}
 use Rattle.code_check.specs.ExprFaults.{Scope}
 use Rattle.seq_check.specs.Views.{faulty_view}
 use Rattle.seq_check.proofs.SetLemmas.{carries_on, found_there, none_at_end}

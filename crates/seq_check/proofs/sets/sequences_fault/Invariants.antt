@@ -1,5 +1,5 @@
 use Rattle.std.proofs.Common.{◌≡◌, map, false}
-use Rattle.sequence_code.specs.SetView.{set_trees}
+use Rattle.sequence_trees.specs.SetView.{set_trees}
 use Rattle.seq_check.proofs.SetLemmas.{Carries}
 use Rattle.seq_check.proofs.sets.sequences_fault.Given as goal
 

@@ -1,6 +1,6 @@
 use Rattle.std.proofs.Common.{◌∙◌, ap}
 use Rattle.expr_grammar.specs.Tree.{code_trees}
-use Rattle.sequence_code.specs.SetView.{set_trees}
+use Rattle.sequence_trees.specs.SetView.{set_trees}
 use Rattle.seq_check.specs.Views.{held_view}
 use Rattle.seq_check.proofs.CheckLemmas.{held_first, set_first}
 use Rattle.seq_check.proofs.sets.set_fault.Goals as goal

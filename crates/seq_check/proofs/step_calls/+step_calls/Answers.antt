@@ -1,5 +1,5 @@
 use Rattle.std.proofs.Common.{◌++◌, ◌∷◌, [], take}
-use Rattle.sequence_code.specs.Trees.{step_tree, steps_tree}
+use Rattle.sequence_trees.specs.Trees.{step_tree, steps_tree}
 use Rattle.seq_check.specs.Calls.{step_calls, steps_calls}
 use Rattle.seq_check.proofs.CallLemmas.{grown, steps_calls_more}
 use Rattle.seq_check.proofs.step_calls.+step_calls.Goals as goal

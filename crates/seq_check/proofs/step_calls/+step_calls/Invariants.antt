@@ -1,5 +1,5 @@
 use Rattle.std.proofs.Common.{◌≡◌, ◌++◌, take}
-use Rattle.sequence_code.specs.Trees.{steps_tree}
+use Rattle.sequence_trees.specs.Trees.{steps_tree}
 use Rattle.seq_check.specs.Calls.{steps_calls}
 use Rattle.seq_check.proofs.step_calls.+step_calls.Given as goal
 

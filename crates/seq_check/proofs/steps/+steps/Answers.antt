@@ -1,6 +1,6 @@
 use Rattle.std.proofs.Common.{false, option_map, add-one}
 use Rattle.expr_grammar.specs.Tree.{tree}
-use Rattle.sequence_code.specs.Trees.{steps_tree}
+use Rattle.sequence_trees.specs.Trees.{steps_tree}
 use Rattle.code_check.specs.ExprFaults.{Scope}
 use Rattle.seq_check.specs.Views.{own_view, faulty_view}
 use Rattle.seq_check.proofs.NameLemmas.{cut_answer}

@@ -1,6 +1,6 @@
 use Rattle.std.proofs.Common.{◌≡◌, take, None, false}
 use Rattle.code_check.specs.First.{IsFirst}
-use Rattle.sequence_code.specs.Trees.{steps_tree}
+use Rattle.sequence_trees.specs.Trees.{steps_tree}
 use Rattle.seq_check.specs.StepFaults.{is_step_before, names_after_steps, FaultInSteps}
 use Rattle.seq_check.proofs.steps.+steps.Given as goal
 

@@ -1,4 +1,4 @@
-use Rattle.call_terms.specs.Asks.{unit_ask}
+use Rattle.target_calls.specs.Asks.{unit_ask}
 use Rattle.sequence_meaning.proofs.StopLemmas.{one_made}
 use Rattle.sequence_meaning.proofs.asking.ask.Goals as goal
 

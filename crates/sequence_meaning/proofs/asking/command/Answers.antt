@@ -1,15 +1,15 @@
 use Rattle.std.proofs.Common.{false, sym, subst, ℕ}
-use Rattle.calls_at_once.specs.Made.{IsDone}
+use Rattle.direct_calls.specs.Made.{IsDone}
 use Rattle.target_machine.specs.Plain.{Answered, call_done}
 use Rattle.target_machine.specs.declared.unit.Call.TheVariants.{Probe}
-use Rattle.call_terms.specs.Asks.{probe_ask}
+use Rattle.target_calls.specs.Asks.{probe_ask}
 use Rattle.sequence_meaning.proofs.StopLemmas.{one_made}
 use Rattle.sequence_meaning.proofs.UnitLemmas.{command_at}
 use Rattle.sequence_meaning.proofs.asking.command.Goals as goal
 
 pub returns-clause-gives : goal.returns-clause-gives
 returns-clause-gives c = λ written.
-    command_at _ _ _ _ _ _ _ _ _ _ c.args.call _ _ _ c.if-held-ge1000000.false
+    command_at _ _ _ _ _ _ _ _ _ _ c.args.call _ _ _ c.if-held-ge-MOST_UNITS.false
     (λ l. subst (λ (k : ℕ). IsDone (call_done c.args.target.now l false (Probe c.args.call)) (Answered k) c.command_at_once.new.target l) (sym c.from.ensures) (c.command_at_once.ensures.answer l)) c.in-Ok.ensures.added
 
 pub returns-clause-made : goal.returns-clause-made

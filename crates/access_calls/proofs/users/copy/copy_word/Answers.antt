@@ -1,5 +1,5 @@
 use Rattle.std.proofs.Common.{◌∙◌, ap, subst, Option, ℕ}
-use Rattle.call_terms.specs.Asks.{settled_last}
+use Rattle.target_calls.specs.Asks.{settled_last}
 use Rattle.access_calls.specs.Answers.{StopsCalls, StopsSettling}
 use Rattle.access_calls.specs.Left.{answered_by}
 use Rattle.access_calls.specs.Reported.{world_from}

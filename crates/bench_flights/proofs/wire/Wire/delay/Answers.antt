@@ -28,11 +28,11 @@ loop-left-preserved g c =
       is = (let e = i.is in let b = c.loop-left-test.true in omega (arith, e, b));
       some = λ no. (let b = c.loop-left-test.true in omega (arith, b));
       usable = c.in-Ok.ensures.ended;
-      empty = c.single.ensures.empty;
+      empty = c.command_once.ensures.empty;
       on = delay_next _ _ _ i.count c.in-Ok.field-0 i.on c.in-Ok.ensures.done;
       packets = delay_few _ _ _ i.count i.on i.packets c.in-Ok.ensures.packets;
       limits = search rules;
-      goes = goes_then _ _ _ _ _ _ i.goes c.single.ensures.goes;
+      goes = goes_then _ _ _ _ _ _ i.goes c.command_once.ensures.goes;
       faults = search rules;
       identity = search rules;
     }
@@ -45,14 +45,14 @@ returns-in-Err-clause-left g c =
 pub returns-clause-done : goal.returns-clause-done
 returns-clause-done g c =
     let i = c.loop-left.invariant in
-    delay_mades _ _ _ i.count c.loop-left.left c.args.micros c.single-2.result (let b = c.loop-left-test.false in omega (arith, b)) i.some i.is i.on c.single-2.ensures.done
+    delay_mades _ _ _ i.count c.loop-left.left c.args.micros c.command_once-2.result (let b = c.loop-left-test.false in omega (arith, b)) i.some i.is i.on c.command_once-2.ensures.done
 
 pub returns-clause-left : goal.returns-clause-left
 returns-clause-left g c =
     let i = c.loop-left.invariant in
-    delay_lefts _ _ _ i.count c.loop-left.left c.args.micros c.single-2.result (let b = c.loop-left-test.false in omega (arith, b)) i.some i.is i.on c.single-2.ensures.left
+    delay_lefts _ _ _ i.count c.loop-left.left c.args.micros c.command_once-2.result (let b = c.loop-left-test.false in omega (arith, b)) i.some i.is i.on c.command_once-2.ensures.left
 
 pub returns-clause-packets : goal.returns-clause-packets
 returns-clause-packets g c =
     let i = c.loop-left.invariant in
-    delays_few _ _ _ i.count c.loop-left.left c.args.micros c.single-2.result (let b = c.loop-left-test.false in omega (arith, b)) i.is i.on i.packets c.single-2.ensures.packets
+    delays_few _ _ _ i.count c.loop-left.left c.args.micros c.command_once-2.result (let b = c.loop-left-test.false in omega (arith, b)) i.is i.on i.packets c.command_once-2.ensures.packets

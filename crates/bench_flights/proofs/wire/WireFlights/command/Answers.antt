@@ -27,18 +27,18 @@ pub returns-in_default : goal.returns-in_default
 returns-in_default g c =
     let one : is_one c.args.call ≡ true = one_unless c.args.call c.in_default.not-Delay in
     record {
-      done = call_dones _ _ c.args.call c.single.result c.single.ensures.done;
-      packets = call_few _ _ c.args.call c.single.result c.single.ensures.packets;
-      limits = c.single.ensures.limits;
-      left = call_lefts _ _ c.args.call c.single.result one c.single.ensures.left;
-      cleared = clear_dones _ _ c.args.call c.single.result (call_dones _ _ c.args.call c.single.result c.single.ensures.done);
-      uncleared = clear_lefts _ _ c.args.call c.single.result (call_lefts _ _ c.args.call c.single.result one c.single.ensures.left) c.single.ensures.uncut;
-      none = uncut_none c.single.result c.single.ensures.uncut;
-      response = uncut_response c.single.result c.single.ensures.uncut;
-      empty = c.single.ensures.empty;
-      ended = c.single.ensures.ended;
-      faults = c.single.ensures.faults;
-      cause = c.single.ensures.cause;
-      goes = c.single.ensures.goes;
-      identity = c.single.ensures.identity;
+      done = call_dones _ _ c.args.call c.command_once.result c.command_once.ensures.done;
+      packets = call_few _ _ c.args.call c.command_once.result c.command_once.ensures.packets;
+      limits = c.command_once.ensures.limits;
+      left = call_lefts _ _ c.args.call c.command_once.result one c.command_once.ensures.left;
+      cleared = clear_dones _ _ c.args.call c.command_once.result (call_dones _ _ c.args.call c.command_once.result c.command_once.ensures.done);
+      uncleared = clear_lefts _ _ c.args.call c.command_once.result (call_lefts _ _ c.args.call c.command_once.result one c.command_once.ensures.left) c.command_once.ensures.uncut;
+      none = uncut_none c.command_once.result c.command_once.ensures.uncut;
+      response = uncut_response c.command_once.result c.command_once.ensures.uncut;
+      empty = c.command_once.ensures.empty;
+      ended = c.command_once.ensures.ended;
+      faults = c.command_once.ensures.faults;
+      cause = c.command_once.ensures.cause;
+      goes = c.command_once.ensures.goes;
+      identity = c.command_once.ensures.identity;
     }

@@ -2,49 +2,49 @@ use Rattle.std.proofs.Common.{◌≡◌, ◌<◌, ◌≤◌, ◌+◌, ◌*◌, �
 use Rattle.expr_grammar.specs.Tree.{tree, arg_tree, arg_trees, stmt_tree, code_trees}
 use Rattle.access_calls.specs.Reported.{world_from}
 use Rattle.seq_check.specs.Answers.{checked_trees}
-use Rattle.sequence_code.specs.Trees.{NoSteps, step_tree, steps_tree, steps_named}
+use Rattle.sequence_trees.specs.Trees.{NoSteps, step_tree, steps_tree, steps_named}
 use Rattle.access_calls.proofs.KeepLemmas.{goes_trans}
-use Rattle.sequence_terms.specs.Late.{late}
-use Rattle.sequence_terms.specs.Steps as st
-use Rattle.sequence_terms.specs.Steps.{statement}
-use Rattle.sequence_terms.specs.Shared.{bindings_of}
-use Rattle.sequence_terms.proofs.LoopLemmas as loop
-use Rattle.sequence_terms.specs.Values as v
-use Rattle.sequence_terms.specs.Values.{value}
-use Rattle.sequence_terms.specs.Known.{known_part}
-use Rattle.late_calls.specs.Held.{seen}
+use Rattle.sequence_rules.specs.Late.{late}
+use Rattle.sequence_rules.specs.Steps as st
+use Rattle.sequence_rules.specs.Steps.{statement}
+use Rattle.sequence_rules.specs.Shared.{bindings_of}
+use Rattle.sequence_rules.proofs.LoopLemmas as loop
+use Rattle.sequence_rules.specs.Values as v
+use Rattle.sequence_rules.specs.Values.{value}
+use Rattle.sequence_rules.specs.Known.{known_part}
+use Rattle.function_calls.specs.Held.{seen}
 use Rattle.code_check.proofs.TreeLemmas.{tree-Number, tree-Name, tree-Call}
 use Rattle.control_flow.specs.Calls.{calls_of}
 use Rattle.control_flow.proofs.Exits.{later_sequence, later_value, later_inside, later_done, operands_first, call_first, turn_test}
 use Rattle.control_flow.proofs.Parts.{used_first, assigned_first, assigned_on, operands_second, strict_first, push_refused, controlled_first, called_none, choice_test, and_first, or_first, repeated_on, sequence_none, call_on, call_second, number_on, name_on}
 use Rattle.control_flow.proofs.Loops.{declare_refused, args_next, args_fail, block_next, block_fail, done_next, done_fail, turns_fail, entered_fail, entered_as, sequence_on}
-use Rattle.sequence_terms.proofs.Sizes.{arg_size, args_size, stmt_size, block_size, step_size, steps_size, all_size, arg_within, stmt_within, step_within, named_within, less_budget}
+use Rattle.sequence_rules.proofs.Sizes.{arg_size, args_size, stmt_size, block_size, step_size, steps_size, all_size, arg_within, stmt_within, step_within, named_within, less_budget}
 use Rattle.control_flow.proofs.runner.Runner.+eval.Goals as goal
 
-pub arguments-argument-requires : goal.arguments-argument-requires
-arguments-argument-requires g t c =
+pub evaluate_arguments-evaluate_argument-requires : goal.evaluate_arguments-evaluate_argument-requires
+evaluate_arguments-evaluate_argument-requires g t c =
     let less : arg_size (arg_tree c.arg-item.result) < args_size (arg_trees c.args.args.now) = arg_within c.args.args.now c.loop-arg.arg-index _ c.arg-item.result c.loop-arg-test.true c.arg-item.is in
     λ κs met. (omega (arith, less), Prim.search rules)
 
-pub block-statement-requires : goal.block-statement-requires
-block-statement-requires g t c =
+pub run_block-run_statement-requires : goal.run_block-run_statement-requires
+run_block-run_statement-requires g t c =
     let less : stmt_size (stmt_tree c.one-item.result) < block_size (code_trees c.args.code.now) = stmt_within c.args.code.now c.loop-one.one-index _ c.one-item.result c.loop-one-test.true c.one-item.is in
     λ κs met. (omega (arith, less), Prim.search rules)
 
-pub done-step-requires : goal.done-step-requires
-done-step-requires g t c =
+pub run_steps-run_step-requires : goal.run_steps-run_step-requires
+run_steps-run_step-requires g t c =
     let less : step_size (step_tree c.one-item.result) < steps_size (steps_tree c.args.steps.now) = step_within c.args.steps.now c.loop-one.one-index _ c.one-item.result c.loop-one-test.true c.one-item.is in
     λ κs met. (omega (arith, less), Prim.search rules)
 
-pub sequence-entered-requires : goal.sequence-entered-requires
-sequence-entered-requires g t c =
+pub run_named-run_sequence-requires : goal.run_named-run_sequence-requires
+run_named-run_sequence-requires g t c =
     let below : steps_size (unwrap_or (steps_named c.args.name.now (checked_trees c.args.self.now.set.now).sequences) NoSteps) ≤ all_size (checked_trees c.args.self.now.set.now).sequences = named_within c.args.name.now (checked_trees c.args.self.now.set.now).sequences in
     let same : steps_size (steps_tree c.steps_of.result.now) ≡ steps_size (unwrap_or (steps_named c.args.name.now (checked_trees c.args.self.now.set.now).sequences) NoSteps) = ap steps_size c.steps_of.ensures in
     let less = less_budget c.args.depth (10 * all_size (checked_trees c.args.self.now.set.now).sequences + 20) c.if-depth-eq0.false in
     λ κs met. (omega (arith, below, same, less), Prim.search rules)
 
-pub arguments-loop-arg-preserved : goal.arguments-loop-arg-preserved
-arguments-loop-arg-preserved g t c =
+pub evaluate_arguments-loop-arg-preserved : goal.evaluate_arguments-loop-arg-preserved
+evaluate_arguments-loop-arg-preserved g t c =
     let i = c.loop-arg.invariant in
     let e = c.in-Ok.ensures in
     record {
@@ -59,8 +59,8 @@ arguments-loop-arg-preserved g t c =
       goes = goes_trans _ _ _ i.goes e.goes;
     }
 
-pub block-loop-one-preserved : goal.block-loop-one-preserved
-block-loop-one-preserved g t c =
+pub run_block-loop-one-preserved : goal.run_block-loop-one-preserved
+run_block-loop-one-preserved g t c =
     let i = c.loop-one.invariant in
     let e = c.in-Ok.ensures in
     record {
@@ -75,8 +75,8 @@ block-loop-one-preserved g t c =
       goes = goes_trans _ _ _ i.goes e.goes;
     }
 
-pub done-loop-one-preserved : goal.done-loop-one-preserved
-done-loop-one-preserved g t c =
+pub run_steps-loop-one-preserved : goal.run_steps-loop-one-preserved
+run_steps-loop-one-preserved g t c =
     let i = c.loop-one.invariant in
     let e = c.in-Ok.ensures in
     record {
@@ -91,44 +91,44 @@ done-loop-one-preserved g t c =
       goes = goes_trans _ _ _ i.goes e.goes;
     }
 
-pub arguments-returns-in-Err-clause-gives : goal.arguments-returns-in-Err-clause-gives
-arguments-returns-in-Err-clause-gives g t c = λ m answered known b l knows.
+pub evaluate_arguments-returns-in-Err-clause-gives : goal.evaluate_arguments-returns-in-Err-clause-gives
+evaluate_arguments-returns-in-Err-clause-gives g t c = λ m answered known b l knows.
     let i = c.loop-arg.invariant in
-    args_fail g.A.Access.cost (world_from m answered) _ _ c.in-Err.end _ c.args.args.now c.loop-arg.arg-index _ c.arg-item.result _ _ _ (later_sequence g.A.Access.cost (world_from m answered) c.args.self.now.turn_us (checked_trees c.args.self.now.set.now) c.args.depth) (i.same m answered known b (c.argument.ensures.left answered l) knows) c.loop-arg-test.true c.arg-item.is (c.in-Err.ensures.gives m answered known (i.on m b) l (i.knows known knows))
+    args_fail g.A.Access.cost (world_from m answered) _ _ c.in-Err.end _ c.args.args.now c.loop-arg.arg-index _ c.arg-item.result _ _ _ (later_sequence g.A.Access.cost (world_from m answered) c.args.self.now.turn_us (checked_trees c.args.self.now.set.now) c.args.depth) (i.same m answered known b (c.evaluate_argument.ensures.left answered l) knows) c.loop-arg-test.true c.arg-item.is (c.in-Err.ensures.gives m answered known (i.on m b) l (i.knows known knows))
 
-pub block-returns-in-Err-clause-gives : goal.block-returns-in-Err-clause-gives
-block-returns-in-Err-clause-gives g t c = λ m answered known b l knows.
+pub run_block-returns-in-Err-clause-gives : goal.run_block-returns-in-Err-clause-gives
+run_block-returns-in-Err-clause-gives g t c = λ m answered known b l knows.
     let i = c.loop-one.invariant in
-    block_fail g.A.Access.cost (world_from m answered) _ c.args.self.now.turn_us _ c.in-Err.end _ c.args.code.now c.loop-one.one-index _ c.one-item.result _ _ (later_sequence g.A.Access.cost (world_from m answered) c.args.self.now.turn_us (checked_trees c.args.self.now.set.now) c.args.depth) (i.same m answered known b (c.statement.ensures.left answered l) knows) c.loop-one-test.true c.one-item.is (c.in-Err.ensures.gives m answered known (i.on m b) l (i.knows known knows))
+    block_fail g.A.Access.cost (world_from m answered) _ c.args.self.now.turn_us _ c.in-Err.end _ c.args.code.now c.loop-one.one-index _ c.one-item.result _ _ (later_sequence g.A.Access.cost (world_from m answered) c.args.self.now.turn_us (checked_trees c.args.self.now.set.now) c.args.depth) (i.same m answered known b (c.run_statement.ensures.left answered l) knows) c.loop-one-test.true c.one-item.is (c.in-Err.ensures.gives m answered known (i.on m b) l (i.knows known knows))
 
-pub done-returns-in-Err-clause-gives : goal.done-returns-in-Err-clause-gives
-done-returns-in-Err-clause-gives g t c = λ m answered known b l knows.
+pub run_steps-returns-in-Err-clause-gives : goal.run_steps-returns-in-Err-clause-gives
+run_steps-returns-in-Err-clause-gives g t c = λ m answered known b l knows.
     let i = c.loop-one.invariant in
-    done_fail g.A.Access.cost (world_from m answered) _ c.args.self.now.turn_us _ c.in-Err.end _ c.args.steps.now c.loop-one.one-index _ c.one-item.result _ _ (later_sequence g.A.Access.cost (world_from m answered) c.args.self.now.turn_us (checked_trees c.args.self.now.set.now) c.args.depth) (i.same m answered known b (c.step.ensures.left answered l) knows) c.loop-one-test.true c.one-item.is (c.in-Err.ensures.gives m answered known (i.on m b) l (i.knows known knows))
+    done_fail g.A.Access.cost (world_from m answered) _ c.args.self.now.turn_us _ c.in-Err.end _ c.args.steps.now c.loop-one.one-index _ c.one-item.result _ _ (later_sequence g.A.Access.cost (world_from m answered) c.args.self.now.turn_us (checked_trees c.args.self.now.set.now) c.args.depth) (i.same m answered known b (c.run_step.ensures.left answered l) knows) c.loop-one-test.true c.one-item.is (c.in-Err.ensures.gives m answered known (i.on m b) l (i.knows known knows))
 
-pub arguments-returns-clause-gives : goal.arguments-returns-clause-gives
-arguments-returns-clause-gives g t c = λ m answered known b l knows. loop.args_over (late g.A.Access.cost (world_from m answered)) _ _ c.args.args.now c.loop-arg.arg-index _ _ (c.loop-arg.invariant.same m answered known b l knows) c.loop-arg-test.false
+pub evaluate_arguments-returns-clause-gives : goal.evaluate_arguments-returns-clause-gives
+evaluate_arguments-returns-clause-gives g t c = λ m answered known b l knows. loop.args_over (late g.A.Access.cost (world_from m answered)) _ _ c.args.args.now c.loop-arg.arg-index _ _ (c.loop-arg.invariant.same m answered known b l knows) c.loop-arg-test.false
 
-pub block-returns-clause-gives : goal.block-returns-clause-gives
-block-returns-clause-gives g t c = λ m answered known b l knows. loop.block_over (late g.A.Access.cost (world_from m answered)) _ c.args.self.now.turn_us _ c.args.code.now c.loop-one.one-index _ (c.loop-one.invariant.same m answered known b l knows) c.loop-one-test.false
+pub run_block-returns-clause-gives : goal.run_block-returns-clause-gives
+run_block-returns-clause-gives g t c = λ m answered known b l knows. loop.block_over (late g.A.Access.cost (world_from m answered)) _ c.args.self.now.turn_us _ c.args.code.now c.loop-one.one-index _ (c.loop-one.invariant.same m answered known b l knows) c.loop-one-test.false
 
-pub done-returns-clause-gives : goal.done-returns-clause-gives
-done-returns-clause-gives g t c = λ m answered known b l knows. loop.done_over (late g.A.Access.cost (world_from m answered)) _ c.args.self.now.turn_us _ c.args.steps.now c.loop-one.one-index _ (c.loop-one.invariant.same m answered known b l knows) c.loop-one-test.false
+pub run_steps-returns-clause-gives : goal.run_steps-returns-clause-gives
+run_steps-returns-clause-gives g t c = λ m answered known b l knows. loop.done_over (late g.A.Access.cost (world_from m answered)) _ c.args.self.now.turn_us _ c.args.steps.now c.loop-one.one-index _ (c.loop-one.invariant.same m answered known b l knows) c.loop-one-test.false
 
-pub turns-returns-in-Ok-false-clause-gives : goal.turns-returns-in-Ok-false-clause-gives
-turns-returns-in-Ok-false-clause-gives g t c = λ m answered known b l knows.
+pub run_turns-returns-in-Ok-false-clause-gives : goal.run_turns-returns-in-Ok-false-clause-gives
+run_turns-returns-in-Ok-false-clause-gives g t c = λ m answered known b l knows.
     let i = c.loop-left.invariant in
     let last = c.in-Ok-false.ensures.gives m answered known (i.on m b) l (i.knows known knows) in
-    loop.turns_over (late g.A.Access.cost (world_from m answered)) _ _ _ c.loop-left.left _ _ (i.same m answered known b (c.turn.ensures.left answered l) knows) c.loop-left-test.true (rw c.in-Ok-false.field-0-test at last)
+    loop.turns_over (late g.A.Access.cost (world_from m answered)) _ _ _ c.loop-left.left _ _ (i.same m answered known b (c.run_turn.ensures.left answered l) knows) c.loop-left-test.true (rw c.in-Ok-false.field-0-test at last)
 
-pub turns-returns-in-Err-clause-gives : goal.turns-returns-in-Err-clause-gives
-turns-returns-in-Err-clause-gives g t c = λ m answered known b l knows.
+pub run_turns-returns-in-Err-clause-gives : goal.run_turns-returns-in-Err-clause-gives
+run_turns-returns-in-Err-clause-gives g t c = λ m answered known b l knows.
     let i = c.loop-left.invariant in
-    turns_fail g.A.Access.cost (world_from m answered) _ _ _ c.in-Err.end _ c.loop-left.left _ _ (λ s. later_value g.A.Access.cost (world_from m answered) _ (tree c.args.expr.now) s (later_sequence g.A.Access.cost (world_from m answered) c.args.self.now.turn_us (checked_trees c.args.self.now.set.now) c.args.depth)) (λ r. later_inside g.A.Access.cost (world_from m answered) _ r (λ q. later_done g.A.Access.cost (world_from m answered) c.args.self.now.turn_us _ (steps_tree c.args.steps.now) q (later_sequence g.A.Access.cost (world_from m answered) c.args.self.now.turn_us (checked_trees c.args.self.now.set.now) c.args.depth))) (i.same m answered known b (c.turn.ensures.left answered l) knows) c.loop-left-test.true
+    turns_fail g.A.Access.cost (world_from m answered) _ _ _ c.in-Err.end _ c.loop-left.left _ _ (λ s. later_value g.A.Access.cost (world_from m answered) _ (tree c.args.expr.now) s (later_sequence g.A.Access.cost (world_from m answered) c.args.self.now.turn_us (checked_trees c.args.self.now.set.now) c.args.depth)) (λ r. later_inside g.A.Access.cost (world_from m answered) _ r (λ q. later_done g.A.Access.cost (world_from m answered) c.args.self.now.turn_us _ (steps_tree c.args.steps.now) q (later_sequence g.A.Access.cost (world_from m answered) c.args.self.now.turn_us (checked_trees c.args.self.now.set.now) c.args.depth))) (i.same m answered known b (c.run_turn.ensures.left answered l) knows) c.loop-left-test.true
     (c.in-Err.ensures.gives m answered known (i.on m b) l (i.knows known knows))
 
-pub turns-loop-left-preserved : goal.turns-loop-left-preserved
-turns-loop-left-preserved g t c =
+pub run_turns-loop-left-preserved : goal.run_turns-loop-left-preserved
+run_turns-loop-left-preserved g t c =
     let i = c.loop-left.invariant in
     let e = c.in-Ok-true.ensures in
     record {
@@ -145,33 +145,33 @@ turns-loop-left-preserved g t c =
       goes = goes_trans _ _ _ i.goes e.goes;
     }
 
-pub entered-returns-in-Err-clause-gives : goal.entered-returns-in-Err-clause-gives
-entered-returns-in-Err-clause-gives g t c = λ m answered known b l knows.
+pub run_sequence-returns-in-Err-clause-gives : goal.run_sequence-returns-in-Err-clause-gives
+run_sequence-returns-in-Err-clause-gives g t c = λ m answered known b l knows.
     entered_fail g.A.Access.cost (world_from m answered) _ _ c.in-Err.end _ _ _ (c.take_locals-locals.ensures.none _ _) (c.in-Err.ensures.gives m answered known b l knows)
 
-pub entered-returns-in-Ok-clause-gives : goal.entered-returns-in-Ok-clause-gives
-entered-returns-in-Ok-clause-gives g t c = λ m answered known b l knows.
-    entered_as g.A.Access.cost (world_from m answered) _ _ _ _ _ _ _ _ _ (c.take_locals-locals.ensures.none _ _) (c.in-Ok.ensures.gives m answered known b l knows) c.global-dp.ensures c.global-ap.ensures c.global-control.ensures c.take_locals-locals.ensures.taken (c.give_back.ensures.state _ _)
+pub run_sequence-returns-in-Ok-clause-gives : goal.run_sequence-returns-in-Ok-clause-gives
+run_sequence-returns-in-Ok-clause-gives g t c = λ m answered known b l knows.
+    entered_as g.A.Access.cost (world_from m answered) _ _ _ _ _ _ _ _ _ (c.take_locals-locals.ensures.none _ _) (c.in-Ok.ensures.gives m answered known b l knows) c.get_global-dp.ensures c.get_global-ap.ensures c.get_global-control.ensures c.take_locals-locals.ensures.taken (c.give_back.ensures.state _ _)
 
-pub sequence-returns-clause-gives : goal.sequence-returns-clause-gives
-sequence-returns-clause-gives g t c = λ m answered known b l knows.
-    sequence_on g.A.Access.cost (world_from m answered) c.args.self.now.turn_us (checked_trees c.args.self.now.set.now) (g.A.Access.reported c.entered.new.access).lines c.args.depth c.args.name.now _ _ c.entered.result (steps_tree c.steps_of.result.now) c.if-depth-eq0.false c.steps_of.ensures (c.entered.ensures.gives m answered known b l knows)
+pub run_named-returns-clause-gives : goal.run_named-returns-clause-gives
+run_named-returns-clause-gives g t c = λ m answered known b l knows.
+    sequence_on g.A.Access.cost (world_from m answered) c.args.self.now.turn_us (checked_trees c.args.self.now.set.now) (g.A.Access.reported c.run_sequence.new.access).lines c.args.depth c.args.name.now _ _ c.run_sequence.result (steps_tree c.steps_of.result.now) c.if-depth-eq0.false c.steps_of.ensures (c.run_sequence.ensures.gives m answered known b l knows)
 
-pub operands-returns-in-Err-clause-gives : goal.operands-returns-in-Err-clause-gives
-operands-returns-in-Err-clause-gives g t c = λ m answered known b l knows.
+pub evaluate_operands-returns-in-Err-clause-gives : goal.evaluate_operands-returns-in-Err-clause-gives
+evaluate_operands-returns-in-Err-clause-gives g t c = λ m answered known b l knows.
     operands_first g.A.Access.cost (world_from m answered) _ c.in-Err.end _ _ _ (c.in-Err.ensures.gives m answered known b l knows) (λ s. later_value g.A.Access.cost (world_from m answered) _ (tree c.args.right.now) s (later_sequence g.A.Access.cost (world_from m answered) c.args.self.now.turn_us (checked_trees c.args.self.now.set.now) c.args.depth))
 
 pub call-returns-in-Err-clause-gives : goal.call-returns-in-Err-clause-gives
 call-returns-in-Err-clause-gives g t c = λ m answered known b l knows.
     call_first g.A.Access.cost (world_from m answered) _ c.in-Err.end _ _ c.args.called.now.name (arg_trees c.args.args.now) _ (later_sequence g.A.Access.cost (world_from m answered) c.args.self.now.turn_us (checked_trees c.args.self.now.set.now) c.args.depth) (rw c.new-values.ensures.items at (c.in-Err.ensures.gives m answered known b l knows))
 
-pub turn-returns-in-Err-used-clause-gives : goal.turn-returns-in-Err-used-clause-gives
-turn-returns-in-Err-used-clause-gives g t c = λ m answered known b l knows.
-    turn_test g.A.Access.cost (world_from m answered) _ c.in-Err-used.end _ _ _ _ _ (c.in-Ok.ensures.gives _ _ _ _) (c.in-Err-used.ensures.gives m answered known b l knows) (λ r. later_inside g.A.Access.cost (world_from m answered) _ r (λ q. later_done g.A.Access.cost (world_from m answered) c.args.self.now.turn_us _ (steps_tree c.args.steps.now) q (later_sequence g.A.Access.cost (world_from m answered) c.args.self.now.turn_us (checked_trees c.args.self.now.set.now) c.args.depth)))
+pub run_turn-returns-in-Err-evaluate_number-clause-gives : goal.run_turn-returns-in-Err-evaluate_number-clause-gives
+run_turn-returns-in-Err-evaluate_number-clause-gives g t c = λ m answered known b l knows.
+    turn_test g.A.Access.cost (world_from m answered) _ c.in-Err-evaluate_number.end _ _ _ _ _ (c.in-Ok.ensures.gives _ _ _ _) (c.in-Err-evaluate_number.ensures.gives m answered known b l knows) (λ r. later_inside g.A.Access.cost (world_from m answered) _ r (λ q. later_done g.A.Access.cost (world_from m answered) c.args.self.now.turn_us _ (steps_tree c.args.steps.now) q (later_sequence g.A.Access.cost (world_from m answered) c.args.self.now.turn_us (checked_trees c.args.self.now.set.now) c.args.depth)))
 
 pub declare-returns-in-Ok-declare-clause-gives : goal.declare-returns-in-Ok-declare-clause-gives
 declare-returns-in-Ok-declare-clause-gives g t c = λ m answered known b l knows.
-    loop.declared_on (late g.A.Access.cost (world_from m answered)) c.args.name.now (v.value (late g.A.Access.cost (world_from m answered)) (calls_of g.A.Access.cost (world_from m answered) c.args.self.now c.args.depth) (tree c.args.expr.now)) _ _ _ _ _ (c.in-Ok.ensures.gives _ _ _ _) (c.in-Ok-value.ensures.gives m answered known b l knows) (c.in-Ok-declare.ensures.state _ _)
+    loop.declared_on (late g.A.Access.cost (world_from m answered)) c.args.name.now (v.value (late g.A.Access.cost (world_from m answered)) (calls_of g.A.Access.cost (world_from m answered) c.args.self.now c.args.depth) (tree c.args.expr.now)) _ _ _ _ _ (c.in-Ok.ensures.gives _ _ _ _) (c.in-Ok-evaluate.ensures.gives m answered known b l knows) (c.in-Ok-declare.ensures.state _ _)
 
 pub assign-returns-in-Err-clause-gives : goal.assign-returns-in-Err-clause-gives
 assign-returns-in-Err-clause-gives g t c = λ m answered known b l knows.
@@ -179,103 +179,103 @@ assign-returns-in-Err-clause-gives g t c = λ m answered known b l knows.
 
 pub assign-returns-clause-gives : goal.assign-returns-clause-gives
 assign-returns-clause-gives g t c = λ m answered known b l knows.
-    assigned_on g.A.Access.cost (world_from m answered) c.args.name.now c.in-Ok.value _ _ _ (c.in-Ok.ensures.gives m answered known b l knows) (rw c.as_str.ensures at (c.store.ensures.state (g.A.Access.reported c.value.new.access).asks (known_part known (g.K.Sink.written c.value.new.sink))))
+    assigned_on g.A.Access.cost (world_from m answered) c.args.name.now c.in-Ok.value _ _ _ (c.in-Ok.ensures.gives m answered known b l knows) (rw c.as_str.ensures at (c.store.ensures.state (g.A.Access.reported c.evaluate.new.access).asks (known_part known (g.K.Sink.written c.evaluate.new.sink))))
 
-pub called-returns-in-None-clause-gives : goal.called-returns-in-None-clause-gives
-called-returns-in-None-clause-gives g t c = λ m answered known b l knows.
+pub call_function-returns-in-None-clause-gives : goal.call_function-returns-in-None-clause-gives
+call_function-returns-in-None-clause-gives g t c = λ m answered known b l knows.
     rw c.in-None.is (called_none g.A.Access.cost (world_from m answered) (calls_of g.A.Access.cost (world_from m answered) c.args.self.now c.args.depth) c.args.text.now c.args.numbers.now (seen known c.args.held.now (g.A.Access.reported c.args.access.now).asks (g.K.Sink.written c.args.sink.now)))
 
-pub choice-returns-in-Err-clause-gives : goal.choice-returns-in-Err-clause-gives
-choice-returns-in-Err-clause-gives g t c = λ m answered known b l knows.
+pub evaluate_choice-returns-in-Err-clause-gives : goal.evaluate_choice-returns-in-Err-clause-gives
+evaluate_choice-returns-in-Err-clause-gives g t c = λ m answered known b l knows.
     choice_test g.A.Access.cost (world_from m answered) _ c.in-Err.end _ _ _ _ (c.in-Err.ensures.gives m answered known b l knows) (λ s. later_value g.A.Access.cost (world_from m answered) _ (tree c.args.first.now) s (later_sequence g.A.Access.cost (world_from m answered) c.args.self.now.turn_us (checked_trees c.args.self.now.set.now) c.args.depth)) (λ s. later_value g.A.Access.cost (world_from m answered) _ (tree c.args.second.now) s (later_sequence g.A.Access.cost (world_from m answered) c.args.self.now.turn_us (checked_trees c.args.self.now.set.now) c.args.depth))
 
-pub conjunction-returns-in-Err-clause-gives : goal.conjunction-returns-in-Err-clause-gives
-conjunction-returns-in-Err-clause-gives g t c = λ m answered known b l knows.
+pub evaluate_and-returns-in-Err-clause-gives : goal.evaluate_and-returns-in-Err-clause-gives
+evaluate_and-returns-in-Err-clause-gives g t c = λ m answered known b l knows.
     and_first g.A.Access.cost (world_from m answered) _ c.in-Err.end _ _ _ (c.in-Err.ensures.gives m answered known b l knows) (λ s. later_value g.A.Access.cost (world_from m answered) _ (tree c.args.right.now) s (later_sequence g.A.Access.cost (world_from m answered) c.args.self.now.turn_us (checked_trees c.args.self.now.set.now) c.args.depth))
 
-pub disjunction-returns-in-Err-clause-gives : goal.disjunction-returns-in-Err-clause-gives
-disjunction-returns-in-Err-clause-gives g t c = λ m answered known b l knows.
+pub evaluate_or-returns-in-Err-clause-gives : goal.evaluate_or-returns-in-Err-clause-gives
+evaluate_or-returns-in-Err-clause-gives g t c = λ m answered known b l knows.
     or_first g.A.Access.cost (world_from m answered) _ c.in-Err.end _ _ _ (c.in-Err.ensures.gives m answered known b l knows) (λ s. later_value g.A.Access.cost (world_from m answered) _ (tree c.args.right.now) s (later_sequence g.A.Access.cost (world_from m answered) c.args.self.now.turn_us (checked_trees c.args.self.now.set.now) c.args.depth))
 
-pub control-returns-in-Err-clause-gives : goal.control-returns-in-Err-clause-gives
-control-returns-in-Err-clause-gives g t c = λ m answered known b l knows.
+pub run_control-returns-in-Err-clause-gives : goal.run_control-returns-in-Err-clause-gives
+run_control-returns-in-Err-clause-gives g t c = λ m answered known b l knows.
     controlled_first g.A.Access.cost (world_from m answered) _ _ c.args.self.now.turn_us c.in-Err.end _ _ c.args.timeout _ _ _ _ (later_sequence g.A.Access.cost (world_from m answered) c.args.self.now.turn_us (checked_trees c.args.self.now.set.now) c.args.depth) (λ r. later_done g.A.Access.cost (world_from m answered) c.args.self.now.turn_us _ (steps_tree c.args.steps.now) r (later_sequence g.A.Access.cost (world_from m answered) c.args.self.now.turn_us (checked_trees c.args.self.now.set.now) c.args.depth)) (c.in-Err.ensures.gives m answered known b l knows)
 
 pub declare-returns-in-Err-declare-clause-gives : goal.declare-returns-in-Err-declare-clause-gives
 declare-returns-in-Err-declare-clause-gives g t c = λ m answered known b l knows.
-    declare_refused g.A.Access.cost (world_from m answered) c.args.name.now (v.value (late g.A.Access.cost (world_from m answered)) (calls_of g.A.Access.cost (world_from m answered) c.args.self.now c.args.depth) (tree c.args.expr.now)) _ _ _ _ _ c.in-Ok-value.value (c.in-Ok.ensures.gives _ _ _ _) (c.in-Ok-value.ensures.gives m answered known b l knows) (c.in-Err-declare.ensures.same (g.A.Access.reported c.value.new.access).asks (known_part known (g.K.Sink.written c.value.new.sink)))
+    declare_refused g.A.Access.cost (world_from m answered) c.args.name.now (v.value (late g.A.Access.cost (world_from m answered)) (calls_of g.A.Access.cost (world_from m answered) c.args.self.now c.args.depth) (tree c.args.expr.now)) _ _ _ _ _ c.in-Ok-evaluate.value (c.in-Ok.ensures.gives _ _ _ _) (c.in-Ok-evaluate.ensures.gives m answered known b l knows) (c.in-Err-declare.ensures.same (g.A.Access.reported c.evaluate.new.access).asks (known_part known (g.K.Sink.written c.evaluate.new.sink)))
 
-pub inside-returns-clause-gives : goal.inside-returns-clause-gives
-inside-returns-clause-gives g t c = λ m answered known b l knows.
-    loop.inside_on (late g.A.Access.cost (world_from m answered)) _ _ _ _ _ (c.in-Ok.ensures.gives m answered known b l knows) c.local_count-count.ensures (c.cut_back.ensures.state (g.A.Access.reported c.done.new.access).asks (known_part known (g.K.Sink.written c.done.new.sink)))
+pub run_inside-returns-clause-gives : goal.run_inside-returns-clause-gives
+run_inside-returns-clause-gives g t c = λ m answered known b l knows.
+    loop.inside_on (late g.A.Access.cost (world_from m answered)) _ _ _ _ _ (c.in-Ok.ensures.gives m answered known b l knows) c.local_count-count.ensures (c.cut_back.ensures.state (g.A.Access.reported c.run_steps.new.access).asks (known_part known (g.K.Sink.written c.run_steps.new.sink)))
 
-pub operands-returns-in-Err-value-clause-gives : goal.operands-returns-in-Err-value-clause-gives
-operands-returns-in-Err-value-clause-gives g t c = λ m answered known b l knows.
-    operands_second g.A.Access.cost (world_from m answered) _ c.in-Err-value.end _ _ c.in-Ok.left _ _ (c.in-Ok.ensures.gives m answered known b (c.value-2.ensures.left answered l) knows) (c.in-Err-value.ensures.gives m answered known (c.in-Ok.ensures.on m b) l (c.in-Ok.ensures.knows known knows))
+pub evaluate_operands-returns-in-Err-evaluate-clause-gives : goal.evaluate_operands-returns-in-Err-evaluate-clause-gives
+evaluate_operands-returns-in-Err-evaluate-clause-gives g t c = λ m answered known b l knows.
+    operands_second g.A.Access.cost (world_from m answered) _ c.in-Err-evaluate.end _ _ c.in-Ok.left _ _ (c.in-Ok.ensures.gives m answered known b (c.evaluate-2.ensures.left answered l) knows) (c.in-Err-evaluate.ensures.gives m answered known (c.in-Ok.ensures.on m b) l (c.in-Ok.ensures.knows known knows))
 
 pub push_value-returns-in-Err-push-clause-gives : goal.push_value-returns-in-Err-push-clause-gives
 push_value-returns-in-Err-push-clause-gives g t c = λ m answered known b l knows.
     push_refused g.A.Access.cost (world_from m answered) _ c.args.values.now.items c.in-Ok.value _ _ (c.in-Ok.ensures.gives m answered known b l knows)
 
-pub repeated-returns-in-Some-clause-gives : goal.repeated-returns-in-Some-clause-gives
-repeated-returns-in-Some-clause-gives g t c = λ m answered known b l knows.
-    rw c.in-Some.is (repeated_on g.A.Access.cost (world_from m answered) (calls_of g.A.Access.cost (world_from m answered) c.args.self.now c.args.depth) _ c.args.self.now.turn_us _ c.args.timeout _ (steps_tree c.args.steps.now) _ (seen known c.args.held.now (g.A.Access.reported c.args.access.now).asks (g.K.Sink.written c.args.sink.now)) _ c.looped.result c.turn_count.ensures.answer (c.looped.ensures.gives m answered known b l knows))
+pub repeat_steps-returns-in-Some-clause-gives : goal.repeat_steps-returns-in-Some-clause-gives
+repeat_steps-returns-in-Some-clause-gives g t c = λ m answered known b l knows.
+    rw c.in-Some.is (repeated_on g.A.Access.cost (world_from m answered) (calls_of g.A.Access.cost (world_from m answered) c.args.self.now c.args.depth) _ c.args.self.now.turn_us _ c.args.timeout _ (steps_tree c.args.steps.now) _ (seen known c.args.held.now (g.A.Access.reported c.args.access.now).asks (g.K.Sink.written c.args.sink.now)) _ c.run_loop.result c.turn_count.ensures.answer (c.run_loop.ensures.gives m answered known b l knows))
 
-pub sequence-returns-then-depth-eq0-clause-gives : goal.sequence-returns-then-depth-eq0-clause-gives
-sequence-returns-then-depth-eq0-clause-gives g t c = λ m answered known b l knows.
+pub run_named-returns-then-depth-eq0-clause-gives : goal.run_named-returns-then-depth-eq0-clause-gives
+run_named-returns-then-depth-eq0-clause-gives g t c = λ m answered known b l knows.
     sequence_none g.A.Access.cost (world_from m answered) c.args.self.now.turn_us (checked_trees c.args.self.now.set.now) c.args.depth c.args.name.now (seen known c.args.held.now (g.A.Access.reported c.args.access.now).asks (g.K.Sink.written c.args.sink.now)) c.if-depth-eq0.true
 
-pub statement-returns-in-Declare-clause-gives : goal.statement-returns-in-Declare-clause-gives
+pub run_statement-returns-in-Declare-clause-gives : goal.run_statement-returns-in-Declare-clause-gives
 unfolding statement
-statement-returns-in-Declare-clause-gives g t c = λ m answered known b l knows.
+run_statement-returns-in-Declare-clause-gives g t c = λ m answered known b l knows.
     rw c.in-Declare.is (rw c.deref.ensures at (c.declare.ensures.gives m answered known b l knows))
 
-pub statement-returns-in-Plain-clause-gives : goal.statement-returns-in-Plain-clause-gives
+pub run_statement-returns-in-Plain-clause-gives : goal.run_statement-returns-in-Plain-clause-gives
 unfolding statement
-statement-returns-in-Plain-clause-gives g t c = λ m answered known b l knows.
-    rw c.in-Plain.is (c.plain.ensures.gives m answered known b l knows)
+run_statement-returns-in-Plain-clause-gives g t c = λ m answered known b l knows.
+    rw c.in-Plain.is (c.run_expression.ensures.gives m answered known b l knows)
 
-pub strict_binary-returns-in-Err-clause-gives : goal.strict_binary-returns-in-Err-clause-gives
-strict_binary-returns-in-Err-clause-gives g t c = λ m answered known b l knows.
+pub evaluate_strict-returns-in-Err-clause-gives : goal.evaluate_strict-returns-in-Err-clause-gives
+evaluate_strict-returns-in-Err-clause-gives g t c = λ m answered known b l knows.
     strict_first g.A.Access.cost (world_from m answered) _ c.in-Err.end c.args.op _ _ _ (c.in-Err.ensures.gives m answered known b l knows)
 
-pub turns-returns-clause-gives : goal.turns-returns-clause-gives
-turns-returns-clause-gives g t c = λ m answered known b l knows.
+pub run_turns-returns-clause-gives : goal.run_turns-returns-clause-gives
+run_turns-returns-clause-gives g t c = λ m answered known b l knows.
     loop.turns_none (late g.A.Access.cost (world_from m answered)) _ _ _ c.loop-left.left _ (c.loop-left.invariant.same m answered known b l knows) c.loop-left-test.false
 
-pub used-returns-in-Err-clause-gives : goal.used-returns-in-Err-clause-gives
-used-returns-in-Err-clause-gives g t c = λ m answered known b l knows.
+pub evaluate_number-returns-in-Err-clause-gives : goal.evaluate_number-returns-in-Err-clause-gives
+evaluate_number-returns-in-Err-clause-gives g t c = λ m answered known b l knows.
     used_first g.A.Access.cost (world_from m answered) _ c.in-Err.end _ _ (c.in-Err.ensures.gives m answered known b l knows)
 
-pub call-returns-in-Err-numbers_of-clause-gives : goal.call-returns-in-Err-numbers_of-clause-gives
-call-returns-in-Err-numbers_of-clause-gives g t c = λ m answered known b l knows.
-    let h = c.arguments.new.held in
-    let before = known_part known (g.K.Sink.written c.arguments.new.sink) in
-    call_second g.A.Access.cost (world_from m answered) (calls_of g.A.Access.cost (world_from m answered) c.args.self.now c.args.depth) _ c.in-Err-numbers_of.end c.args.called.now.name (arg_trees c.args.args.now) _ c.arguments.new.values.items _ _ (later_sequence g.A.Access.cost (world_from m answered) c.args.self.now.turn_us (checked_trees c.args.self.now.set.now) c.args.depth)
-    (rw c.new-values.ensures.items at (c.in-Ok.ensures.gives m answered known b (c.numbers_of.ensures.left answered l) knows))
-    (rw c.as_slice.ensures.value at (c.in-Err-numbers_of.ensures.gives m answered (bindings_of h.globals) h.locals.items h.units h.lines h.steps before (c.in-Ok.ensures.on m b) l))
+pub call-returns-in-Err-use_values-clause-gives : goal.call-returns-in-Err-use_values-clause-gives
+call-returns-in-Err-use_values-clause-gives g t c = λ m answered known b l knows.
+    let h = c.evaluate_arguments.new.held in
+    let before = known_part known (g.K.Sink.written c.evaluate_arguments.new.sink) in
+    call_second g.A.Access.cost (world_from m answered) (calls_of g.A.Access.cost (world_from m answered) c.args.self.now c.args.depth) _ c.in-Err-use_values.end c.args.called.now.name (arg_trees c.args.args.now) _ c.evaluate_arguments.new.values.items _ _ (later_sequence g.A.Access.cost (world_from m answered) c.args.self.now.turn_us (checked_trees c.args.self.now.set.now) c.args.depth)
+    (rw c.new-values.ensures.items at (c.in-Ok.ensures.gives m answered known b (c.use_values.ensures.left answered l) knows))
+    (rw c.as_slice.ensures.value at (c.in-Err-use_values.ensures.gives m answered (bindings_of h.globals) h.locals.items h.units h.lines h.steps before (c.in-Ok.ensures.on m b) l))
 
 pub call-returns-clause-gives : goal.call-returns-clause-gives
 call-returns-clause-gives g t c = λ m answered known b l knows.
-    let h = c.arguments.new.held in
-    let before = known_part known (g.K.Sink.written c.arguments.new.sink) in
-    let mid = c.called.ensures.left answered l in
+    let h = c.evaluate_arguments.new.held in
+    let before = known_part known (g.K.Sink.written c.evaluate_arguments.new.sink) in
+    let mid = c.call_function.ensures.left answered l in
     let on = c.in-Ok.ensures.on m b in
-    call_on g.A.Access.cost (world_from m answered) (calls_of g.A.Access.cost (world_from m answered) c.args.self.now c.args.depth) _ c.args.called.now.name (arg_trees c.args.args.now) _ c.arguments.new.values.items c.in-Ok-numbers_of.numbers.items _ _ _ c.called.result c.args.called.now.function c.text_of.result.now
-    (rw c.new-values.ensures.items at (c.in-Ok.ensures.gives m answered known b (c.numbers_of.ensures.left answered mid) knows))
-    (rw c.as_slice.ensures.value at (c.in-Ok-numbers_of.ensures.gives m answered (bindings_of h.globals) h.locals.items h.units h.lines h.steps before on mid))
+    call_on g.A.Access.cost (world_from m answered) (calls_of g.A.Access.cost (world_from m answered) c.args.self.now c.args.depth) _ c.args.called.now.name (arg_trees c.args.args.now) _ c.evaluate_arguments.new.values.items c.in-Ok-use_values.numbers.items _ _ _ c.call_function.result c.args.called.now.function c.text_of.result.now
+    (rw c.new-values.ensures.items at (c.in-Ok.ensures.gives m answered known b (c.use_values.ensures.left answered mid) knows))
+    (rw c.as_slice.ensures.value at (c.in-Ok-use_values.ensures.gives m answered (bindings_of h.globals) h.locals.items h.units h.lines h.steps before on mid))
     c.args.called.now.found c.text_of.ensures
-    (rw c.as_slice-2.ensures.value at (c.called.ensures.gives m answered known (c.in-Ok-numbers_of.ensures.on m on) l (c.in-Ok.ensures.knows known knows)))
+    (rw c.as_slice-2.ensures.value at (c.call_function.ensures.gives m answered known (c.in-Ok-use_values.ensures.on m on) l (c.in-Ok.ensures.knows known knows)))
 
-pub value-returns-in-Number-clause-gives : goal.value-returns-in-Number-clause-gives
-value-returns-in-Number-clause-gives g t c = λ m answered known b l knows.
+pub evaluate-returns-in-Number-clause-gives : goal.evaluate-returns-in-Number-clause-gives
+evaluate-returns-in-Number-clause-gives g t c = λ m answered known b l knows.
     rw c.in-Number.is (rw (tree-Number c.in-Number.number) (number_on g.A.Access.cost (world_from m answered) (calls_of g.A.Access.cost (world_from m answered) c.args.self.now c.args.depth) c.in-Number.number (seen known c.args.held.now (g.A.Access.reported c.args.access.now).asks (g.K.Sink.written c.args.sink.now))))
 
-pub value-returns-in-Name-clause-gives : goal.value-returns-in-Name-clause-gives
-value-returns-in-Name-clause-gives g t c = λ m answered known b l knows.
-    rw c.in-Name.is (rw (tree-Name c.in-Name.name) (name_on g.A.Access.cost (world_from m answered) (calls_of g.A.Access.cost (world_from m answered) c.args.self.now c.args.depth) c.in-Name.name.value c.visible.result (seen known c.args.held.now (g.A.Access.reported c.args.access.now).asks (g.K.Sink.written c.args.sink.now)) (rw (c.as_str.ensures, c.deref.ensures) at (c.visible.ensures (seen known c.args.held.now (g.A.Access.reported c.args.access.now).asks (g.K.Sink.written c.args.sink.now)) refl refl))))
+pub evaluate-returns-in-Name-clause-gives : goal.evaluate-returns-in-Name-clause-gives
+evaluate-returns-in-Name-clause-gives g t c = λ m answered known b l knows.
+    rw c.in-Name.is (rw (tree-Name c.in-Name.name) (name_on g.A.Access.cost (world_from m answered) (calls_of g.A.Access.cost (world_from m answered) c.args.self.now c.args.depth) c.in-Name.name.value c.get_visible.result (seen known c.args.held.now (g.A.Access.reported c.args.access.now).asks (g.K.Sink.written c.args.sink.now)) (rw (c.as_str.ensures, c.deref.ensures) at (c.get_visible.ensures (seen known c.args.held.now (g.A.Access.reported c.args.access.now).asks (g.K.Sink.written c.args.sink.now)) refl refl))))
 
-pub value-returns-in-Call-clause-gives : goal.value-returns-in-Call-clause-gives
+pub evaluate-returns-in-Call-clause-gives : goal.evaluate-returns-in-Call-clause-gives
 unfolding value
-value-returns-in-Call-clause-gives g t c = λ m answered known b l knows.
+evaluate-returns-in-Call-clause-gives g t c = λ m answered known b l knows.
     rw c.in-Call.is (rw (tree-Call c.in-Call.called c.in-Call.args) (rw (c.as_slice.ensures, c.deref-in-Call.ensures) at (c.call.ensures.gives m answered known b l knows)))

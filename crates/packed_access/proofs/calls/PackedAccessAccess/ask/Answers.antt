@@ -1,11 +1,11 @@
 use Rattle.std.proofs.Common.{rules, ◌≡◌, ◌∙◌, List, Bool, ◌&&◌, None, arith, refl, sym, ap, subst}
-use Rattle.call_terms.specs.Asks.{IsAskable, is_wide, unit_ask}
-use Rattle.call_terms.specs.World.{small_now}
-use Rattle.call_terms.specs.declared.calls.Ask.{Ask}
+use Rattle.target_calls.specs.Asks.{IsAskable, is_wide, unit_ask}
+use Rattle.target_calls.specs.World.{small_now}
+use Rattle.target_calls.specs.declared.calls.Ask.{Ask}
 use Rattle.access_calls.specs.Answers.{IsSmallWhere}
 use Rattle.access_calls.specs.Reported.{world_from}
 use Rattle.probe_core.specs.Probe.{target_of}
-use Rattle.call_terms.specs.NeedPoints.{asked}
+use Rattle.target_calls.specs.NeedPoints.{asked}
 use Rattle.access_regs.specs.Costs.{cost_by}
 use Rattle.packed_access.specs.Begun.{StopsThere}
 use Rattle.packed_access.specs.Logs.{LogState, asks_of, with_call}
@@ -19,7 +19,7 @@ use Rattle.packed_access.proofs.calls.PackedAccessAccess.ask.Goals as goal
 use Rattle.packed_access.proofs.calls.PackedAccessAccess.ask.Goals.{then-small, else-small}
 
 pub returns-then-is_err-clause-on : goal.returns-then-is_err-clause-on
-returns-then-is_err-clause-on g c = λ m h. sparing_refused g.F.Flights.planner _ _ _ c.args.self.now.sender.log c.ask.new.self _ _ _ _ m h (search rules)
+returns-then-is_err-clause-on g c = λ m h. record { sparing = sparing_refused g.F.Flights.planner _ _ _ c.args.self.now.sender.log c.ask.new.self _ _ _ _ m h.sparing (search rules); set = h.set }
 
 pub returns-after-small-clause-needs : goal.returns-after-small-clause-needs
 returns-after-small-clause-needs g c = λ m answered h left.
@@ -27,8 +27,8 @@ returns-after-small-clause-needs g c = λ m answered h left.
     let old = c.args.self.now.sender in
     let is : c.ask.new.self ≡ with_call old.log (unit_ask c.args.unit c.args.forgive) c.ask.new.self.room = search rules in
     let ok : IsAskable (unit_ask c.args.unit c.args.forgive) = record { sound = c.requires.sound; range = c.ask_of-ask.ensures.range } in
-    let there = begins_asked g.F.Flights.planner _ _ old.log c.ask.new.self _ _ _ _ (unit_ask c.args.unit c.args.forgive) m h.begun none ok refl old.sound.results_long old.sound.places_long is in
-    c.in-Ok.ensures.needs m old.log.calls (unit_ask c.args.unit c.args.forgive) refl there ∙ ap (λ (l : LogState). asked (cost_by g.F.Flights.planner (target_of m.probe) old.log.calls (unit_ask c.args.unit c.args.forgive)) (unit_ask c.args.unit c.args.forgive) (record { calls = old.log.calls; needs = l.needs; fence = l.fence })) is
+    let there = begins_asked g.F.Flights.planner _ _ old.log c.ask.new.self _ _ _ _ (unit_ask c.args.unit c.args.forgive) m h.sparing.begun none ok refl old.sound.results_long old.sound.places_long is in
+    c.in-Ok.ensures.needs m old.log.calls (unit_ask c.args.unit c.args.forgive) h.set refl there ∙ ap (λ (l : LogState). asked (cost_by g.F.Flights.planner (target_of m.probe) old.log.calls (unit_ask c.args.unit c.args.forgive)) (unit_ask c.args.unit c.args.forgive) (record { calls = old.log.calls; needs = l.needs; fence = l.fence })) is
 
 pub returns-after-small-clause-small : goal.returns-after-small-clause-small
 returns-after-small-clause-small g c = λ m answered h left.
@@ -36,15 +36,15 @@ returns-after-small-clause-small g c = λ m answered h left.
     let old = c.args.self.now.sender in
     let is_asked : c.ask.new.self ≡ with_call old.log (unit_ask c.args.unit c.args.forgive) c.ask.new.self.room = search rules in
     let ok : IsAskable (unit_ask c.args.unit c.args.forgive) = record { sound = c.requires.sound; range = c.ask_of-ask.ensures.range } in
-    let there = begins_asked g.F.Flights.planner _ _ old.log c.ask.new.self _ _ _ _ (unit_ask c.args.unit c.args.forgive) m h.begun none ok refl old.sound.results_long old.sound.places_long is_asked in
+    let there = begins_asked g.F.Flights.planner _ _ old.log c.ask.new.self _ _ _ _ (unit_ask c.args.unit c.args.forgive) m h.sparing.begun none ok refl old.sound.results_long old.sound.places_long is_asked in
     let new = c.issue_asked.new.self in
     let calls = c.issue_asked.ensures.calls ∙ ap (λ (l : LogState). l.calls) is_asked in
     let both : c.if-small.answer ≡ (c.in-Ok.small && is_wide c.args.unit) = elim c.if-small.branch [ then-small w ↦ search rules | else-small w ↦ search rules ] in
     let is : c.if-small.answer ≡ small_now (world_from m answered) old.log.calls (unit_ask c.args.unit c.args.forgive) =
     both
-    ∙ ap (λ (b : Bool). b && is_wide c.args.unit) (c.in-Ok.ensures.small m old.log.calls (unit_ask c.args.unit c.args.forgive) refl there)
+    ∙ ap (λ (b : Bool). b && is_wide c.args.unit) (c.in-Ok.ensures.small m old.log.calls (unit_ask c.args.unit c.args.forgive) h.set refl there)
     ∙ small_wide (target_of m.probe) old.log.calls c.args.unit c.args.forgive
-    ∙ sym (small_left g.F.Flights.planner _ _ new.log _ _ _ _ old.log.calls (unit_ask c.args.unit c.args.forgive) m answered (c.in-Ok.ensures.on m old.log.calls (unit_ask c.args.unit c.args.forgive) refl there) c.in-Ok.ensures.open calls left) in
+    ∙ sym (small_left g.F.Flights.planner _ _ new.log _ _ _ _ old.log.calls (unit_ask c.args.unit c.args.forgive) m answered (c.in-Ok.ensures.on m old.log.calls (unit_ask c.args.unit c.args.forgive) h.set refl there) c.in-Ok.ensures.open calls left) in
     subst (λ (b : Bool). IsSmallWhere b c.answer.result) is c.answer.ensures.small
 
 pub returns-after-small-clause-on : goal.returns-after-small-clause-on
@@ -53,14 +53,17 @@ returns-after-small-clause-on g c = λ m h.
     let old = c.args.self.now.sender in
     let is_asked : c.ask.new.self ≡ with_call old.log (unit_ask c.args.unit c.args.forgive) c.ask.new.self.room = search rules in
     let ok : IsAskable (unit_ask c.args.unit c.args.forgive) = record { sound = c.requires.sound; range = c.ask_of-ask.ensures.range } in
-    let there = begins_asked g.F.Flights.planner _ _ old.log c.ask.new.self _ _ _ _ (unit_ask c.args.unit c.args.forgive) m h.begun none ok refl old.sound.results_long old.sound.places_long is_asked in
+    let there = begins_asked g.F.Flights.planner _ _ old.log c.ask.new.self _ _ _ _ (unit_ask c.args.unit c.args.forgive) m h.sparing.begun none ok refl old.sound.results_long old.sound.places_long is_asked in
     record {
-      begun = c.in-Ok.ensures.on m old.log.calls (unit_ask c.args.unit c.args.forgive) refl there;
-      paid = λ open_. paid_upto g.F.Flights.planner _ _ _ old.log c.issue_asked.new.self.log m
-          (c.in-Ok.ensures.spare m old.log.calls (unit_ask c.args.unit c.args.forgive) (left_of old.log) refl there (paid_asked g.F.Flights.planner _ _ _ old.log c.ask.new.self (unit_ask c.args.unit c.args.forgive) (left_of old.log) m (h.paid none) is_asked))
-          (λ past. (let p = c.in-Ok.ensures.fenced past in let k = ap (λ (l : LogState). l.known) is_asked in let f = ap (λ (l : LogState). l.fence) is_asked in omega (arith, p, k, f)));
-      needed = λ open_. needed_by g.F.Flights.planner (target_of m.probe) (asks_of old.log) (asks_of c.issue_asked.new.self.log) (unit_ask c.args.unit c.args.forgive) (h.needed none) refl
-          (c.in-Ok.ensures.needs m old.log.calls (unit_ask c.args.unit c.args.forgive) refl there ∙ ap (λ (l : LogState). asked (cost_by g.F.Flights.planner (target_of m.probe) old.log.calls (unit_ask c.args.unit c.args.forgive)) (unit_ask c.args.unit c.args.forgive) (record { calls = old.log.calls; needs = l.needs; fence = l.fence })) is_asked);
+      sparing = record {
+        begun = c.in-Ok.ensures.on m old.log.calls (unit_ask c.args.unit c.args.forgive) h.set refl there;
+        paid = λ open_. paid_upto g.F.Flights.planner _ _ _ old.log c.issue_asked.new.self.log m
+            (c.in-Ok.ensures.spare m old.log.calls (unit_ask c.args.unit c.args.forgive) (left_of old.log) h.set refl there (paid_asked g.F.Flights.planner _ _ _ old.log c.ask.new.self (unit_ask c.args.unit c.args.forgive) (left_of old.log) m (h.sparing.paid none) is_asked))
+            (λ past. (let p = c.in-Ok.ensures.fenced past in let k = ap (λ (l : LogState). l.known) is_asked in let f = ap (λ (l : LogState). l.fence) is_asked in omega (arith, p, k, f)));
+        needed = λ open_. needed_by g.F.Flights.planner (target_of m.probe) (asks_of old.log) (asks_of c.issue_asked.new.self.log) (unit_ask c.args.unit c.args.forgive) (h.sparing.needed none) refl
+            (c.in-Ok.ensures.needs m old.log.calls (unit_ask c.args.unit c.args.forgive) h.set refl there ∙ ap (λ (l : LogState). asked (cost_by g.F.Flights.planner (target_of m.probe) old.log.calls (unit_ask c.args.unit c.args.forgive)) (unit_ask c.args.unit c.args.forgive) (record { calls = old.log.calls; needs = l.needs; fence = l.fence })) is_asked);
+      };
+      set = h.set;
     }
 
 pub returns-in-Err-clause-stops : goal.returns-in-Err-clause-stops
@@ -68,10 +71,10 @@ returns-in-Err-clause-stops g c = λ m answered h left none.
     let old = c.args.self.now.sender in
     let is_asked : c.ask.new.self ≡ with_call old.log (unit_ask c.args.unit c.args.forgive) c.ask.new.self.room = search rules in
     let ok : IsAskable (unit_ask c.args.unit c.args.forgive) = record { sound = c.requires.sound; range = c.ask_of-ask.ensures.range } in
-    let there = begins_asked g.F.Flights.planner _ _ old.log c.ask.new.self _ _ _ _ (unit_ask c.args.unit c.args.forgive) m h.begun none ok refl old.sound.results_long old.sound.places_long is_asked in
+    let there = begins_asked g.F.Flights.planner _ _ old.log c.ask.new.self _ _ _ _ (unit_ask c.args.unit c.args.forgive) m h.sparing.begun none ok refl old.sound.results_long old.sound.places_long is_asked in
     stops_asked m answered old.log.calls (unit_ask c.args.unit c.args.forgive) _ c.in-Err.stop refl
     (subst (λ (calls : List Ask). StopsThere m answered calls c.issue_asked.new.self.log.lines c.in-Err.stop) (ap (λ (l : LogState). l.calls) is_asked)
-    (c.in-Err.ensures.stops m old.log.calls (unit_ask c.args.unit c.args.forgive) answered refl there left))
+    (c.in-Err.ensures.stops m old.log.calls (unit_ask c.args.unit c.args.forgive) answered h.set refl there left))
 
 pub returns-in-Err-clause-on : goal.returns-in-Err-clause-on
 returns-in-Err-clause-on g c = λ m h.
@@ -79,5 +82,5 @@ returns-in-Err-clause-on g c = λ m h.
     let old = c.args.self.now.sender in
     let is_asked : c.ask.new.self ≡ with_call old.log (unit_ask c.args.unit c.args.forgive) c.ask.new.self.room = search rules in
     let ok : IsAskable (unit_ask c.args.unit c.args.forgive) = record { sound = c.requires.sound; range = c.ask_of-ask.ensures.range } in
-    let there = begins_asked g.F.Flights.planner _ _ old.log c.ask.new.self _ _ _ _ (unit_ask c.args.unit c.args.forgive) m h.begun none ok refl old.sound.results_long old.sound.places_long is_asked in
-    sparing_ended g.F.Flights.planner _ _ _ c.issue_asked.new.self.log _ _ _ _ m c.in-Err.stop (c.in-Err.ensures.broke m old.log.calls (unit_ask c.args.unit c.args.forgive) refl there) c.in-Err.ensures.ended
+    let there = begins_asked g.F.Flights.planner _ _ old.log c.ask.new.self _ _ _ _ (unit_ask c.args.unit c.args.forgive) m h.sparing.begun none ok refl old.sound.results_long old.sound.places_long is_asked in
+    record { sparing = sparing_ended g.F.Flights.planner _ _ _ c.issue_asked.new.self.log _ _ _ _ m c.in-Err.stop (c.in-Err.ensures.broke m old.log.calls (unit_ask c.args.unit c.args.forgive) h.set refl there) c.in-Err.ensures.ended; set = h.set }

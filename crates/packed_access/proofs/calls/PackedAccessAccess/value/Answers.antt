@@ -1,7 +1,7 @@
 use Rattle.std.proofs.Common.{rules, ◌≡◌, ◌∙◌, ◌<◌, ◌≤◌, inl, inr, [], List, length, None, arith, refl, sym, ap}
 use Rattle.std.specs.Prelude.{slice_index}
-use Rattle.call_terms.specs.World.{results}
-use Rattle.call_terms.specs.declared.calls.Ask.{Ask}
+use Rattle.target_calls.specs.World.{results}
+use Rattle.target_calls.specs.declared.calls.Ask.{Ask}
 use Rattle.access_calls.specs.Reported.{world_from}
 use Rattle.probe_core.specs.Probe.{target_of}
 use Rattle.packed_access.specs.Logs.{LogState, asks_of}
@@ -16,32 +16,38 @@ returns-then-is_known-clause-value g c = λ m answered h left.
     let old = c.args.self.now.sender in
     let known : c.args.slot.index < old.log.known = is_under c.args.slot.index old.log.known c.is_known.result c.is_known.ensures c.if-is_known.true in
     let within : old.log.known ≤ length old.log.results = (let s = old.sound in let k = s.known_within in let l = s.results_long in omega (arith, k, l)) in
-    c.used.ensures.value ∙ known_result g.F.Flights.planner _ _ old.log _ _ _ _ m answered c.args.slot.index h.begun (left_needs _ _ old.log c.used.new.self _ _ _ _ answered (used_new old.log _ c.args.slot c.used.ensures.answer) left) within (inl known)
+    c.use_slot.ensures.value ∙ known_result g.F.Flights.planner _ _ old.log _ _ _ _ m answered c.args.slot.index h.sparing.begun (left_needs _ _ old.log c.use_slot.new.self _ _ _ _ answered (used_new old.log _ c.args.slot c.use_slot.ensures.answer) left) within (inl known)
 
 pub returns-then-is_known-clause-on : goal.returns-then-is_known-clause-on
 returns-then-is_known-clause-on g c = λ m h.
     let old = c.args.self.now.sender in
     let known : c.args.slot.index < old.log.known = is_under c.args.slot.index old.log.known c.is_known.result c.is_known.ensures c.if-is_known.true in
-    let noted = used_new old.log c.used.new.self c.args.slot c.used.ensures.answer in
+    let noted = used_new old.log c.use_slot.new.self c.args.slot c.use_slot.ensures.answer in
     record {
-      begun = begun_needs g.F.Flights.planner _ _ old.log c.used.new.self _ _ _ _ _ _ m h.begun (search rules) (search rules) noted;
-      paid = λ open_. paid_known g.F.Flights.planner _ _ _ old.log c.used.new.self c.args.slot m (h.paid (ap (λ (l : LogState). l.end) (sym noted) ∙ open_)) c.used.ensures.answer known;
-      needed = λ open_. needed_used g.F.Flights.planner (target_of m.probe) (asks_of old.log) old.log c.used.new.self c.args.slot (h.needed (ap (λ (l : LogState). l.end) (sym noted) ∙ open_)) refl refl c.used.ensures.answer;
+      sparing = record {
+        begun = begun_needs g.F.Flights.planner _ _ old.log c.use_slot.new.self _ _ _ _ _ _ m h.sparing.begun (search rules) (search rules) noted;
+        paid = λ open_. paid_known g.F.Flights.planner _ _ _ old.log c.use_slot.new.self c.args.slot m (h.sparing.paid (ap (λ (l : LogState). l.end) (sym noted) ∙ open_)) c.use_slot.ensures.answer known;
+        needed = λ open_. needed_used g.F.Flights.planner (target_of m.probe) (asks_of old.log) old.log c.use_slot.new.self c.args.slot (h.sparing.needed (ap (λ (l : LogState). l.end) (sym noted) ∙ open_)) refl refl c.use_slot.ensures.answer;
+      };
+      set = h.set;
     }
 
 pub returns-in-Ok-clause-on : goal.returns-in-Ok-clause-on
 returns-in-Ok-clause-on g c = λ m h.
     let old = c.args.self.now.sender in
     let none : old.log.end ≡ None = search rules in
-    let there = c.in-Ok.ensures.on m [] (begun_issued g.F.Flights.planner _ _ old.log _ _ _ _ m h.begun none) in
+    let there = c.in-Ok.ensures.on m [] (begun_issued g.F.Flights.planner _ _ old.log _ _ _ _ m h.sparing.begun none) in
     let not : old.log.known ≤ c.args.slot.index = is_past c.args.slot.index old.log.known c.is_known.result c.is_known.ensures c.if-is_known.false in
     record {
-      begun = begun_needs g.F.Flights.planner _ _ c.send.new.self.log c.used-in-Ok.new.self _ _ _ _ _ _ m
-          (begun_flushed g.F.Flights.planner _ _ _ _ old.log c.send.new.self.log _ _ _ _ _ _ _ _ _ m h.begun none (c.args.self.now.whole none) there c.in-Ok.ensures.log c.send.ensures.empty c.send.ensures.managed)
-          refl refl (used_new c.send.new.self.log _ c.args.slot c.used-in-Ok.ensures.answer);
-      paid = λ open_. paid_sent g.F.Flights.planner _ _ _ _ _ _ old.log c.send.new.self.log c.used-in-Ok.new.self _ c.args.slot m (h.paid none) (λ points s. c.in-Ok.ensures.spare m [] points (begun_issued g.F.Flights.planner _ _ old.log _ _ _ _ m h.begun none) s)
-          c.in-Ok.ensures.log (c.args.self.now.whole none) old.sound.fence_within not c.used-in-Ok.ensures.answer;
-      needed = λ open_. needed_used g.F.Flights.planner (target_of m.probe) (asks_of old.log) c.send.new.self.log c.used-in-Ok.new.self c.args.slot (h.needed none) (ap (λ (l : LogState). l.calls) c.in-Ok.ensures.log) (ap (λ (l : LogState). l.needs) c.in-Ok.ensures.log) c.used-in-Ok.ensures.answer;
+      sparing = record {
+        begun = begun_needs g.F.Flights.planner _ _ c.send.new.self.log c.use_slot-in-Ok.new.self _ _ _ _ _ _ m
+            (begun_flushed g.F.Flights.planner _ _ _ _ old.log c.send.new.self.log _ _ _ _ _ _ _ _ _ m h.sparing.begun none (c.args.self.now.whole none) there c.in-Ok.ensures.log c.send.ensures.empty c.send.ensures.managed)
+            refl refl (used_new c.send.new.self.log _ c.args.slot c.use_slot-in-Ok.ensures.answer);
+        paid = λ open_. paid_sent g.F.Flights.planner _ _ _ _ _ _ old.log c.send.new.self.log c.use_slot-in-Ok.new.self _ c.args.slot m (h.sparing.paid none) (λ points s. c.in-Ok.ensures.spare m [] points (begun_issued g.F.Flights.planner _ _ old.log _ _ _ _ m h.sparing.begun none) s)
+            c.in-Ok.ensures.log (c.args.self.now.whole none) old.sound.fence_within not c.use_slot-in-Ok.ensures.answer;
+        needed = λ open_. needed_used g.F.Flights.planner (target_of m.probe) (asks_of old.log) c.send.new.self.log c.use_slot-in-Ok.new.self c.args.slot (h.sparing.needed none) (ap (λ (l : LogState). l.calls) c.in-Ok.ensures.log) (ap (λ (l : LogState). l.needs) c.in-Ok.ensures.log) c.use_slot-in-Ok.ensures.answer;
+      };
+      set = h.set;
     }
 
 pub returns-in-Ok-clause-value : goal.returns-in-Ok-clause-value
@@ -49,24 +55,24 @@ returns-in-Ok-clause-value g c = λ m answered h left.
     let old = c.args.self.now.sender in
     let mid = c.send.new.self in
     let none : old.log.end ≡ None = search rules in
-    let there = c.in-Ok.ensures.on m [] (begun_issued g.F.Flights.planner _ _ old.log _ _ _ _ m h.begun none) in
-    let begun = begun_flushed g.F.Flights.planner _ (g.F.Flights.reported mid.flights) _ _ old.log mid.log _ _ [] [] _ _ _ _ _ m h.begun none (c.args.self.now.whole none) there c.in-Ok.ensures.log c.send.ensures.empty c.send.ensures.managed in
+    let there = c.in-Ok.ensures.on m [] (begun_issued g.F.Flights.planner _ _ old.log _ _ _ _ m h.sparing.begun none) in
+    let begun = begun_flushed g.F.Flights.planner _ (g.F.Flights.reported mid.flights) _ _ old.log mid.log _ _ [] [] _ _ _ _ _ m h.sparing.begun none (c.args.self.now.whole none) there c.in-Ok.ensures.log c.send.ensures.empty c.send.ensures.managed in
     let calls : mid.log.calls ≡ old.log.calls = ap (λ (l : LogState). l.calls) c.in-Ok.ensures.log in
     let known : mid.log.known ≡ old.log.whole = ap (λ (l : LogState). l.known) c.in-Ok.ensures.log in
     let whole : old.log.whole ≡ length old.log.calls = c.args.self.now.whole none in
     let counts : length mid.log.calls ≡ length old.log.calls = ap length calls in
     let within : mid.log.known ≤ length mid.log.results = (let s = mid.sound in let k = s.known_within in let l = s.results_long in omega (arith, k, l)) in
-    c.used-in-Ok.ensures.value
-    ∙ known_result g.F.Flights.planner _ _ mid.log [] [] _ _ m answered c.args.slot.index begun (left_needs _ _ mid.log c.used-in-Ok.new.self [] [] _ _ answered (used_new mid.log _ c.args.slot c.used-in-Ok.ensures.answer) left) within (inr (omega (arith, known, whole, counts)))
+    c.use_slot-in-Ok.ensures.value
+    ∙ known_result g.F.Flights.planner _ _ mid.log [] [] _ _ m answered c.args.slot.index begun (left_needs _ _ mid.log c.use_slot-in-Ok.new.self [] [] _ _ answered (used_new mid.log _ c.args.slot c.use_slot-in-Ok.ensures.answer) left) within (inr (omega (arith, known, whole, counts)))
     ∙ ap (λ (l : List Ask). slice_index (results (world_from m answered) l) c.args.slot.index) calls
 
 pub returns-in-Err-clause-stops : goal.returns-in-Err-clause-stops
 returns-in-Err-clause-stops g c = λ m answered h left none.
     let old = c.args.self.now.sender in
-    stops_flushed g.F.Flights.planner _ _ old.log _ _ _ _ m answered _ c.in-Err.stop h.begun none c.in-Err.ensures.some (c.in-Err.ensures.stops m [] answered (begun_issued g.F.Flights.planner _ _ old.log _ _ _ _ m h.begun none) left)
+    stops_flushed g.F.Flights.planner _ _ old.log _ _ _ _ m answered _ c.in-Err.stop h.sparing.begun none c.in-Err.ensures.some (c.in-Err.ensures.stops m [] answered (begun_issued g.F.Flights.planner _ _ old.log _ _ _ _ m h.sparing.begun none) left)
 
 pub returns-in-Err-clause-on : goal.returns-in-Err-clause-on
 returns-in-Err-clause-on g c = λ m h.
     let old = c.args.self.now.sender in
     let none : old.log.end ≡ None = search rules in
-    sparing_ended g.F.Flights.planner _ _ _ c.send.new.self.log _ _ _ _ m c.in-Err.stop (c.in-Err.ensures.broke m [] (begun_issued g.F.Flights.planner _ _ old.log _ _ _ _ m h.begun none)) (ap (λ (l : LogState). l.end) c.in-Err.ensures.ended)
+    record { sparing = sparing_ended g.F.Flights.planner _ _ _ c.send.new.self.log _ _ _ _ m c.in-Err.stop (c.in-Err.ensures.broke m [] (begun_issued g.F.Flights.planner _ _ old.log _ _ _ _ m h.sparing.begun none)) (ap (λ (l : LogState). l.end) c.in-Err.ensures.ended); set = h.set }

@@ -2,10 +2,10 @@ use Rattle.std.proofs.Common.{◌≡◌, ◌∙◌, ◌+◌, ◌<◌, ◌≤◌,
 use Rattle.target_machine.specs.Plain.{call_actions}
 use Rattle.target_machine.specs.declared.unit.Call.TheVariants.{Access}
 use Rattle.probe_core.specs.Probe.{target_of}
-use Rattle.call_terms.specs.Asks.{unit_ask}
-use Rattle.call_terms.specs.NeedPoints.{Asks, asked}
-use Rattle.call_terms.specs.World.{small_now, start_world}
-use Rattle.call_terms.specs.declared.calls.Ask.{Ask}
+use Rattle.target_calls.specs.Asks.{unit_ask}
+use Rattle.target_calls.specs.NeedPoints.{Asks, asked}
+use Rattle.target_calls.specs.World.{small_now, start_world}
+use Rattle.target_calls.specs.declared.calls.Ask.{Ask}
 use Rattle.access_regs.specs.Costs.{cost_by}
 use Rattle.access_regs.specs.Journal.{large_of}
 use Rattle.access_regs.specs.Kept.{Kept, forget}
@@ -117,16 +117,16 @@ returns-in-Ok-try_unit-clause-on g c = λ m0 calls ask same h.
     (c.in-Ok-try_unit.ensures.on m0 _ _ may table tried) in
     let outcome = unit_outcome g.F.Flights.planner c.args.forgive _ unit_done.log old.managed calls c.args.unit.now c.in-Ok-try_unit.tried.small c.in-Ok-try_unit.tried.word c.in-Ok-try_unit.tried.reads unit_done.managed m0 h.kept_is c.requires.alone may b done in
     let calls4 : unit_done.log.calls ≡ calls ++ unit_ask c.args.unit.now c.args.forgive ∷ [] = c.in-Ok-try_unit.ensures.further.calls ∙ calls3 in
-    let new_calls : c.close.new.log.calls ≡ unit_done.log.calls = ap (λ (l : LogState). l.calls) c.close.ensures.answer ∙ ap (λ (a : Asks). a.calls) (closed_asks c.in-Ok-try_unit.tried.word unit_done.log) in
+    let new_calls : c.close_call.new.log.calls ≡ unit_done.log.calls = ap (λ (l : LogState). l.calls) c.close_call.ensures.answer ∙ ap (λ (a : Asks). a.calls) (closed_asks c.in-Ok-try_unit.tried.word unit_done.log) in
     let came4 : unit_done.log.came ≡ length calls = c.in-Ok-try_unit.ensures.came ∙ c.in-Ok-try_unit.ensures.further.whole ∙ whole3 in
-    let issuing = has_closed g.F.Flights.planner c.in-Ok-try_unit.tried.word _ unit_done.log c.close.new.log calls (unit_ask c.args.unit.now c.args.forgive) m0 outcome.issuing calls4 refl came4 outcome.results_are outcome.skips_are unit_done.sound.results_long unit_done.sound.few c.close.ensures.answer in
+    let issuing = has_closed g.F.Flights.planner c.in-Ok-try_unit.tried.word _ unit_done.log c.close_call.new.log calls (unit_ask c.args.unit.now c.args.forgive) m0 outcome.issuing calls4 refl came4 outcome.results_are outcome.skips_are unit_done.sound.results_long unit_done.sound.few c.close_call.ensures.answer in
     let kept : c.forget.new.self ≡ forget unit_done.managed _ = c.forget.ensures ∙ ap (forget unit_done.managed) c.port_of.ensures in
-    let end : c.close.new.log.end ≡ None = ap (λ (l : LogState). l.end) c.close.ensures.answer ∙ closed_end c.in-Ok-try_unit.tried.word unit_done.log ∙ c.in-Ok-try_unit.ensures.further.end in
-    let whole : c.close.new.log.whole ≡ length c.close.new.log.calls = ap (λ (l : LogState). l.whole) c.close.ensures.answer ∙ (closed_whole c.in-Ok-try_unit.tried.word unit_done.log).0 ∙ ap length (sym new_calls) in
-    let came : c.close.new.log.came ≡ length c.close.new.log.calls = ap (λ (l : LogState). l.came) c.close.ensures.answer ∙ (closed_whole c.in-Ok-try_unit.tried.word unit_done.log).1 ∙ ap length (sym new_calls) in
-    begun_needs g.F.Flights.planner _ _ c.close.new.log c.need.new.self _ _ _ _ _ _ m0
-    (unit_begun g.F.Flights.planner c.args.forgive _ _ c.close.new.log _ _ _ _ calls c.args.unit.now m0 issuing end whole came (new_calls ∙ calls4) (unit_kept g.F.Flights.planner c.args.forgive (target_of m0.probe) old.managed calls c.args.unit.now unit_done.managed h.kept_is c.requires.alone may done.kept_is ∙ sym kept) c.in-Ok-try_unit.ensures.empty)
-    refl refl (needs_new c.close.new.log c.need.new.self _ _ c.need.ensures.answer)
+    let end : c.close_call.new.log.end ≡ None = ap (λ (l : LogState). l.end) c.close_call.ensures.answer ∙ closed_end c.in-Ok-try_unit.tried.word unit_done.log ∙ c.in-Ok-try_unit.ensures.further.end in
+    let whole : c.close_call.new.log.whole ≡ length c.close_call.new.log.calls = ap (λ (l : LogState). l.whole) c.close_call.ensures.answer ∙ (closed_whole c.in-Ok-try_unit.tried.word unit_done.log).0 ∙ ap length (sym new_calls) in
+    let came : c.close_call.new.log.came ≡ length c.close_call.new.log.calls = ap (λ (l : LogState). l.came) c.close_call.ensures.answer ∙ (closed_whole c.in-Ok-try_unit.tried.word unit_done.log).1 ∙ ap length (sym new_calls) in
+    begun_needs g.F.Flights.planner _ _ c.close_call.new.log c.need.new.self _ _ _ _ _ _ m0
+    (unit_begun g.F.Flights.planner c.args.forgive _ _ c.close_call.new.log _ _ _ _ calls c.args.unit.now m0 issuing end whole came (new_calls ∙ calls4) (unit_kept g.F.Flights.planner c.args.forgive (target_of m0.probe) old.managed calls c.args.unit.now unit_done.managed h.kept_is c.requires.alone may done.kept_is ∙ sym kept) c.in-Ok-try_unit.ensures.empty)
+    refl refl (needs_new c.close_call.new.log c.need.new.self _ _ c.need.ensures.answer)
 
 pub returns-in-Ok-try_unit-clause-small : goal.returns-in-Ok-try_unit-clause-small
 returns-in-Ok-try_unit-clause-small g c = λ m0 calls ask same h.
@@ -176,13 +176,13 @@ returns-in-Ok-try_unit-clause-needs g c = λ m0 calls ask same h.
     let done = subst (λ (q : Kept). IsDoneBy g.F.Flights.planner c.args.forgive c.in-Ok-try_unit.tried.small c.in-Ok-try_unit.tried.word c.in-Ok-try_unit.tried.reads unit_done.managed (g.F.Flights.state unit_done.flights) unit_done.log c.args.unit.now q (target_settled g.F.Flights.planner (target_of m0.probe) calls old.managed) m0) managed3
     (c.in-Ok-try_unit.ensures.on m0 _ _ may table tried) in
     let calls4 : unit_done.log.calls ≡ calls ++ unit_ask c.args.unit.now c.args.forgive ∷ [] = c.in-Ok-try_unit.ensures.further.calls ∙ calls3 in
-    let new_calls : c.close.new.log.calls ≡ unit_done.log.calls = ap (λ (l : LogState). l.calls) c.close.ensures.answer ∙ ap (λ (a : Asks). a.calls) (closed_asks c.in-Ok-try_unit.tried.word unit_done.log) in
-    let asks : asks_of c.close.new.log ≡ record { calls = calls ++ unit_ask c.args.unit.now c.args.forgive ∷ []; needs = old.log.needs; fence = old.log.fence } =
-    ap asks_of c.close.ensures.answer ∙ closed_asks c.in-Ok-try_unit.tried.word unit_done.log ∙ c.try_unit.ensures.asks ∙ ap asks_of c.in-Ok-send.ensures.log ∙ c.settle.ensures.asks
+    let new_calls : c.close_call.new.log.calls ≡ unit_done.log.calls = ap (λ (l : LogState). l.calls) c.close_call.ensures.answer ∙ ap (λ (a : Asks). a.calls) (closed_asks c.in-Ok-try_unit.tried.word unit_done.log) in
+    let asks : asks_of c.close_call.new.log ≡ record { calls = calls ++ unit_ask c.args.unit.now c.args.forgive ∷ []; needs = old.log.needs; fence = old.log.fence } =
+    ap asks_of c.close_call.ensures.answer ∙ closed_asks c.in-Ok-try_unit.tried.word unit_done.log ∙ c.try_unit.ensures.asks ∙ ap asks_of c.in-Ok-send.ensures.log ∙ c.settle.ensures.asks
     ∙ (λ j. record { calls = (h.are ∙ ap (λ (a : Ask). calls ++ a ∷ []) same) j; needs = old.log.needs; fence = old.log.fence }) in
-    let count : c.count-count.result ≡ length c.close.new.log.calls = c.count-count.ensures ∙ ap length (h.are ∙ ap (λ (a : Ask). calls ++ a ∷ []) same ∙ sym (new_calls ∙ calls4)) in
+    let count : c.count-count.result ≡ length c.close_call.new.log.calls = c.count-count.ensures ∙ ap length (h.are ∙ ap (λ (a : Ask). calls ++ a ∷ []) same ∙ sym (new_calls ∙ calls4)) in
     subst (λ (a : Ask). asks_of c.need.new.self ≡ asked (cost_by g.F.Flights.planner (target_of m0.probe) calls a) a (record { calls = calls; needs = old.log.needs; fence = old.log.fence })) (sym same)
-    (unit_needs g.F.Flights.planner c.args.forgive (target_of m0.probe) old.managed calls c.args.unit.now c.in-Ok-try_unit.tried.reads old.log.needs old.log.fence c.close.new.log c.need.new.self _ _ c.requires.alone h.kept_is may done.reads_are c.need.ensures.answer c.counted.ensures count asks)
+    (unit_needs g.F.Flights.planner c.args.forgive (target_of m0.probe) old.managed calls c.args.unit.now c.in-Ok-try_unit.tried.reads old.log.needs old.log.fence c.close_call.new.log c.need.new.self _ _ c.requires.alone h.kept_is may done.reads_are c.need.ensures.answer c.count_points.ensures count asks)
 
 pub returns-in-Ok-try_unit-clause-spare : goal.returns-in-Ok-try_unit-clause-spare
 returns-in-Ok-try_unit-clause-spare g c = λ m0 calls ask left same h s.
@@ -196,18 +196,18 @@ returns-in-Ok-try_unit-clause-spare g c = λ m0 calls ask left same h s.
     let word = c.in-Ok-try_unit.tried.word in
     let spared = c.in-Ok-send.ensures.spare m0 _ s.paid there2 (c.in-Ok.ensures.spare m0 _ s.paid there s.spared) in
     let tried = has_grown g.F.Flights.planner _ _ _ _ _ _ sent.log unit_done.log _ _ (s.paid + 1) 4 m0 there3 spared c.in-Ok-try_unit.ensures.packets c.in-Ok-try_unit.ensures.further.calls c.in-Ok-try_unit.ensures.later c.try_unit.ensures.limits c.try_unit.ensures.goes.limits in
-    let closed_all = spared_closed g.F.Flights.planner _ _ _ c.in-Ok-try_unit.tried.word unit_done.log c.close.new.log ((s.paid + 1) + 4) (s.paid + (5 + c.in-Ok-try_unit.tried.reads)) m0 tried c.close.ensures.answer unit_done.sound.confirmed_within (omega arith) in
-    let needs : c.close.new.log.needs ≡ old.log.needs = ap (λ (l : LogState). l.needs) c.close.ensures.answer ∙ ap (λ (a : Asks). a.needs) (closed_asks c.in-Ok-try_unit.tried.word unit_done.log) ∙ c.in-Ok-try_unit.ensures.further.needs ∙ ap (λ (l : LogState). l.needs) c.in-Ok-send.ensures.log ∙ c.in-Ok.ensures.further.needs in
-    has_paid g.F.Flights.planner _ _ _ c.close.new.log c.need.new.self old.log.needs s.paid c.counted.result _ left m0 (counted_spared g.F.Flights.planner _ _ _ c.close.new.log s.paid (5 + c.in-Ok-try_unit.tried.reads) c.counted.result m0 closed_all c.counted.ensures) s.covers needs c.need.ensures.answer
+    let closed_all = spared_closed g.F.Flights.planner _ _ _ c.in-Ok-try_unit.tried.word unit_done.log c.close_call.new.log ((s.paid + 1) + 4) (s.paid + (5 + c.in-Ok-try_unit.tried.reads)) m0 tried c.close_call.ensures.answer unit_done.sound.confirmed_within (omega arith) in
+    let needs : c.close_call.new.log.needs ≡ old.log.needs = ap (λ (l : LogState). l.needs) c.close_call.ensures.answer ∙ ap (λ (a : Asks). a.needs) (closed_asks c.in-Ok-try_unit.tried.word unit_done.log) ∙ c.in-Ok-try_unit.ensures.further.needs ∙ ap (λ (l : LogState). l.needs) c.in-Ok-send.ensures.log ∙ c.in-Ok.ensures.further.needs in
+    has_paid g.F.Flights.planner _ _ _ c.close_call.new.log c.need.new.self old.log.needs s.paid c.count_points.result _ left m0 (counted_spared g.F.Flights.planner _ _ _ c.close_call.new.log s.paid (5 + c.in-Ok-try_unit.tried.reads) c.count_points.result m0 closed_all c.count_points.ensures) s.covers needs c.need.ensures.answer
 
 pub returns-in-Ok-try_unit-clause-goes : goal.returns-in-Ok-try_unit-clause-goes
 returns-in-Ok-try_unit-clause-goes g c =
     let unit_done = c.try_unit.new.self in
     let word = c.in-Ok-try_unit.tried.word in
-    let noted : c.need.new.self ≡ record c.close.new.log { needs = c.need.new.self.needs; fence = c.need.new.self.fence; room = c.need.new.self.room } = needs_new c.close.new.log c.need.new.self _ _ c.need.ensures.answer in
-    let end : c.need.new.self.end ≡ None = ap (λ (l : LogState). l.end) noted ∙ ap (λ (l : LogState). l.end) c.close.ensures.answer ∙ closed_end c.in-Ok-try_unit.tried.word unit_done.log ∙ c.in-Ok-try_unit.ensures.further.end in
-    let came : c.need.new.self.came ≡ length unit_done.log.calls = ap (λ (l : LogState). l.came) noted ∙ ap (λ (l : LogState). l.came) c.close.ensures.answer ∙ (closed_whole c.in-Ok-try_unit.tried.word unit_done.log).1 in
-    let known : c.need.new.self.known ≡ length unit_done.log.calls = ap (λ (l : LogState). l.known) noted ∙ ap (λ (l : LogState). l.known) c.close.ensures.answer ∙ closed_known c.in-Ok-try_unit.tried.word unit_done.log in
+    let noted : c.need.new.self ≡ record c.close_call.new.log { needs = c.need.new.self.needs; fence = c.need.new.self.fence; room = c.need.new.self.room } = needs_new c.close_call.new.log c.need.new.self _ _ c.need.ensures.answer in
+    let end : c.need.new.self.end ≡ None = ap (λ (l : LogState). l.end) noted ∙ ap (λ (l : LogState). l.end) c.close_call.ensures.answer ∙ closed_end c.in-Ok-try_unit.tried.word unit_done.log ∙ c.in-Ok-try_unit.ensures.further.end in
+    let came : c.need.new.self.came ≡ length unit_done.log.calls = ap (λ (l : LogState). l.came) noted ∙ ap (λ (l : LogState). l.came) c.close_call.ensures.answer ∙ (closed_whole c.in-Ok-try_unit.tried.word unit_done.log).1 in
+    let known : c.need.new.self.known ≡ length unit_done.log.calls = ap (λ (l : LogState). l.known) noted ∙ ap (λ (l : LogState). l.known) c.close_call.ensures.answer ∙ closed_known c.in-Ok-try_unit.tried.word unit_done.log in
     goes_trans _ _ _ c.settle.ensures.goes (goes_trans _ _ _ c.send.ensures.goes (goes_trans _ _ _ c.try_unit.ensures.goes
     (goes_later _ _ unit_done.log c.need.new.self _ _ _ _ c.in-Ok-try_unit.ensures.further.end end
     (let w = unit_done.sound.came_within in omega (arith, w, came)) (let w = unit_done.sound.known_within in omega (arith, w, known)))))
@@ -215,7 +215,7 @@ returns-in-Ok-try_unit-clause-goes g c =
 pub returns-in-Ok-try_unit-clause-fenced : goal.returns-in-Ok-try_unit-clause-fenced
 returns-in-Ok-try_unit-clause-fenced g c =
     let unit_done = c.try_unit.new.self in
-    let noted : c.need.new.self ≡ record c.close.new.log { needs = c.need.new.self.needs; fence = c.need.new.self.fence; room = c.need.new.self.room } = needs_new c.close.new.log c.need.new.self _ _ c.need.ensures.answer in
-    let known : c.need.new.self.known ≡ length unit_done.log.calls = ap (λ (l : LogState). l.known) noted ∙ ap (λ (l : LogState). l.known) c.close.ensures.answer ∙ closed_known c.in-Ok-try_unit.tried.word unit_done.log in
-    let calls : length c.need.new.self.calls ≡ length unit_done.log.calls = ap (λ (l : LogState). length l.calls) noted ∙ ap (λ (l : LogState). length l.calls) c.close.ensures.answer ∙ ap (λ (a : Asks). length a.calls) (closed_asks c.in-Ok-try_unit.tried.word unit_done.log) in
+    let noted : c.need.new.self ≡ record c.close_call.new.log { needs = c.need.new.self.needs; fence = c.need.new.self.fence; room = c.need.new.self.room } = needs_new c.close_call.new.log c.need.new.self _ _ c.need.ensures.answer in
+    let known : c.need.new.self.known ≡ length unit_done.log.calls = ap (λ (l : LogState). l.known) noted ∙ ap (λ (l : LogState). l.known) c.close_call.ensures.answer ∙ closed_known c.in-Ok-try_unit.tried.word unit_done.log in
+    let calls : length c.need.new.self.calls ≡ length unit_done.log.calls = ap (λ (l : LogState). length l.calls) noted ∙ ap (λ (l : LogState). length l.calls) c.close_call.ensures.answer ∙ ap (λ (a : Asks). length a.calls) (closed_asks c.in-Ok-try_unit.tried.word unit_done.log) in
     λ past. absurd (let w = c.need.ensures.sound.fence_within in omega (arith, known, calls, w, past))

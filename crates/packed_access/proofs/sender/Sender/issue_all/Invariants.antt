@@ -1,6 +1,6 @@
 use Rattle.std.proofs.Common.{◌≡◌, ℕ, ◌+◌, ◌<◌, ◌++◌, List, length, drop}
 use Rattle.probe_core.specs.Bench.{BenchState}
-use Rattle.call_terms.specs.Journal.{Entry}
+use Rattle.target_calls.specs.Journal.{Entry}
 use Rattle.access_calls.specs.GoesOn.{GoesOn}
 use Rattle.packed_access.specs.Begun.{HasIssued, entries_of}
 use Rattle.packed_access.specs.Logs.{IsFurther, asks_of, reported_by}

@@ -1,17 +1,17 @@
 use Rattle.std.proofs.Common.{◌≡◌, ◌∙◌, Bool, false, None, rules, sym, ap}
-use Rattle.call_terms.specs.Asks.{is_forgiving, is_wide}
-use Rattle.call_terms.specs.World.{small_now, start_world}
+use Rattle.target_calls.specs.Asks.{is_forgiving, is_wide}
+use Rattle.target_calls.specs.World.{small_now, start_world}
 use Rattle.probe_core.specs.Probe.{target_of}
-use Rattle.calls_in_flight.proofs.SmallLemmas.{never_narrow}
+use Rattle.flight_laws.proofs.SmallLemmas.{never_narrow}
 use Rattle.std.specs.Prelude.{◌&&◌}
 use Rattle.target_machine.specs.Plain.{may_forgive}
 use Rattle.target_machine.specs.declared.unit.Call.TheVariants.{Access}
-use Rattle.call_terms.specs.declared.calls.Ask.{Ask}
+use Rattle.target_calls.specs.declared.calls.Ask.{Ask}
 use Rattle.packed_access.proofs.AskedLemmas.{apart_mild}
 use Rattle.packed_access.proofs.sender.Sender.issue_asked.Goals as goal
 
 pub returns-in-Ok-clause-small : goal.returns-in-Ok-clause-small
-returns-in-Ok-clause-small g c = λ m0 calls ask is h.
+returns-in-Ok-clause-small g c = λ m0 calls ask set is h.
     sym (ap (small_now (start_world (target_of m0.probe) None) calls) is ∙ never_narrow (target_of m0.probe) calls None c.args.unit.now c.args.forgive (ap is_wide c.in-Poll.is))
 
 pub returns-else-makes_alone : goal.returns-else-makes_alone
@@ -19,12 +19,12 @@ returns-else-makes_alone g c =
     let e = c.ask_planned.ensures in
     let mild : (c.args.forgive && may_forgive (Access c.args.unit.now)) ≡ false = apart_mild g.F.Flights.planner c.args.forgive (may_forgive (Access c.args.unit.now)) (sym c.makes_alone.ensures ∙ c.if-makes_alone.false) in
     record {
-      on = λ m0 calls ask is h. e.on m0 calls ask (ap (λ (a : Ask). a.call) is) (ap is_forgiving is ∙ mild) h;
-      spare = λ m0 calls ask left is h s. e.spare m0 calls ask left (ap (λ (a : Ask). a.call) is) (ap is_forgiving is ∙ mild) h s;
-      small = λ m0 calls ask is h. e.small m0 calls ask (ap (λ (a : Ask). a.call) is) (ap is_forgiving is ∙ mild) h;
-      needs = λ m0 calls ask is h. e.needs m0 calls ask (ap (λ (a : Ask). a.call) is) (ap is_forgiving is ∙ mild) h;
-      broke = λ m0 calls ask is h. e.broke m0 calls ask (ap (λ (a : Ask). a.call) is) (ap is_forgiving is ∙ mild) h;
-      stops = λ m0 calls ask answered is h left. e.stops m0 calls ask answered (ap (λ (a : Ask). a.call) is) (ap is_forgiving is ∙ mild) h left;
+      on = λ m0 calls ask set is h. e.on m0 calls ask (ap (λ (a : Ask). a.call) is) (ap is_forgiving is ∙ mild) h;
+      spare = λ m0 calls ask left set is h s. e.spare m0 calls ask left (ap (λ (a : Ask). a.call) is) (ap is_forgiving is ∙ mild) h s;
+      small = λ m0 calls ask set is h. e.small m0 calls ask (ap (λ (a : Ask). a.call) is) (ap is_forgiving is ∙ mild) h;
+      needs = λ m0 calls ask set is h. e.needs m0 calls ask (ap (λ (a : Ask). a.call) is) (ap is_forgiving is ∙ mild) h;
+      broke = λ m0 calls ask set is h. e.broke m0 calls ask (ap (λ (a : Ask). a.call) is) (ap is_forgiving is ∙ mild) h;
+      stops = λ m0 calls ask answered set is h left. e.stops m0 calls ask answered (ap (λ (a : Ask). a.call) is) (ap is_forgiving is ∙ mild) h left;
       goes = e.goes;
       calls = e.calls;
       whole = e.whole;

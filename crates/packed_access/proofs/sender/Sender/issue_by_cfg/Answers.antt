@@ -1,6 +1,6 @@
 use Rattle.std.proofs.Common.{rules, ◌≡◌, ◌∙◌, ℕ, ◌+◌, ◌-◌, List, length, true, false, arith, sym, ap, subst}
 use Rattle.dap_base.specs.Bits.{has_bit}
-use Rattle.call_terms.specs.declared.calls.Ask.{Ask}
+use Rattle.target_calls.specs.declared.calls.Ask.{Ask}
 use Rattle.access_regs.specs.Journal.{gives, port_of}
 use Rattle.access_regs.specs.Plan.{cfg_plan, needs_cfg, needs_csw}
 use Rattle.packed_access.specs.Begun.{StopsThere, target_issued}

@@ -1,8 +1,8 @@
 use Rattle.std.proofs.Common.{rules, ◌≡◌, ◌∙◌, ◌<◌, ◌++◌, [], List, length, true, false, Ok, Err, arith, refl, sym, ap, subst}
 use Rattle.std.specs.Prelude.{IfErr, OnOk}
-use Rattle.call_terms.specs.Journal.{Entry}
-use Rattle.call_terms.specs.declared.calls.Ask.{Ask}
-use Rattle.call_terms.specs.declared.journal.Part.TheVariants.{Leads}
+use Rattle.target_calls.specs.Journal.{Entry}
+use Rattle.target_calls.specs.declared.calls.Ask.{Ask}
+use Rattle.target_calls.specs.declared.journal.Part.TheVariants.{Leads}
 use Rattle.access_regs.specs.Journal.{by_csw, gives, port_of}
 use Rattle.access_regs.specs.Kept.{Kept}
 use Rattle.access_regs.specs.Plan.{first_plan, learned, made, needs_csw}

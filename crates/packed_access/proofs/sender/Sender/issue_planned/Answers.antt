@@ -1,6 +1,6 @@
 use Rattle.std.proofs.Common.{rules, ◌≡◌, ◌∙◌, ℕ, ◌-◌, List, length, true, false, arith, refl, sym, ap, subst}
 use Rattle.std.specs.Prelude.{IfErr}
-use Rattle.call_terms.specs.declared.calls.Ask.{Ask}
+use Rattle.target_calls.specs.declared.calls.Ask.{Ask}
 use Rattle.access_regs.specs.Plan.{needs_settle}
 use Rattle.packed_access.specs.Begun.{StopsThere}
 use Rattle.packed_access.proofs.AskedLemmas.{at_ok_then, first_calm, kept_is, needs_is, ok_then, plain_ready, planned_left, settle_left, settled_ready, small_is}

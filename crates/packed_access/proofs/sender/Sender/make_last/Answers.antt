@@ -1,9 +1,9 @@
 use Rattle.std.proofs.Common.{rules, ◌≡◌, ◌∙◌, ℕ, ◌+◌, ◌*◌, ◌^◌, ◌<◌, ◌≤◌, List, [], ◌∷◌, ◌++◌, length, refl, ap, subst, arith, length-append}
 use Rattle.std.specs.Prelude.{slice_get}
 use Rattle.target_machine.specs.Plain.{Commands}
-use Rattle.call_terms.specs.Asks.{probe_ask}
-use Rattle.call_terms.specs.declared.calls.Ask.{Ask}
-use Rattle.call_terms.specs.declared.journal.Part.TheVariants.{Ends}
+use Rattle.target_calls.specs.Asks.{probe_ask}
+use Rattle.target_calls.specs.declared.calls.Ask.{Ask}
+use Rattle.target_calls.specs.declared.journal.Part.TheVariants.{Ends}
 use Rattle.packed_access.specs.Actions.{entry_of, log_done}
 use Rattle.access_calls.specs.Issued.{kept_of}
 use Rattle.packed_access.specs.Logs.{IsStopped, LogState, result_for, with_entry}

@@ -1,6 +1,6 @@
 use Rattle.std.proofs.Common.{rules, ◌≡◌, ℕ, ◌-◌, ◌++◌, List, arith, ap, sym, subst}
 use Rattle.target_machine.specs.declared.access.RegAccess.{RegAccess}
-use Rattle.call_terms.specs.declared.journal.Part.TheVariants.{Leads}
+use Rattle.target_calls.specs.declared.journal.Part.TheVariants.{Leads}
 use Rattle.access_regs.specs.Journal.{port_of}
 use Rattle.access_regs.specs.Plan.{first_plan}
 use Rattle.packed_access.specs.Begun.{HasIssued, entries_of}
@@ -11,8 +11,8 @@ use Rattle.packed_access.proofs.sender.Sender.read_csw.Goals as goal
 pub returns-in-Ok-clause-spare : goal.returns-in-Ok-clause-spare
 returns-in-Ok-clause-spare g c = λ m0 rest left h s.
     let old = c.args.self.now in
-    let plan : c.listed.result.now ≡ first_plan old.managed (port_of c.args.unit.now) = search rules in
-    let here : HasIssued g.F.Flights.planner (g.F.Flights.state old.flights) old.log (g.F.Flights.accesses old.flights) (entries_of c.count-number.result Leads c.listed.result.now ++ rest) m0 =
+    let plan : c.list_accesses.result.now ≡ first_plan old.managed (port_of c.args.unit.now) = search rules in
+    let here : HasIssued g.F.Flights.planner (g.F.Flights.state old.flights) old.log (g.F.Flights.accesses old.flights) (entries_of c.count-number.result Leads c.list_accesses.result.now ++ rest) m0 =
     subst (λ (l : List RegAccess). HasIssued g.F.Flights.planner (g.F.Flights.state old.flights) old.log (g.F.Flights.accesses old.flights) (entries_of c.count-number.result Leads l ++ rest) m0) (sym plan)
     (subst (λ (n : ℕ). HasIssued g.F.Flights.planner (g.F.Flights.state old.flights) old.log (g.F.Flights.accesses old.flights) (entries_of n Leads (first_plan old.managed (port_of c.args.unit.now)) ++ rest) m0) (sym c.count-number.ensures) h) in
     has_paid g.F.Flights.planner _ _ _ c.read_by.new.self.log c.need.new.self old.log.needs s.paid 1 (c.count-number.result - 1) left m0 (c.in-Ok.ensures.spare m0 rest s.paid here s.spared) s.covers c.in-Ok.ensures.further.needs c.need.ensures.answer

@@ -3,7 +3,7 @@ use Rattle.target_machine.specs.Lists.{after}
 use Rattle.target_machine.specs.Plain.{ap_access_of, csw_for, select_of, transfer_actions}
 use Rattle.target_machine.specs.declared.access.RegAccess.{RegAccess}
 use Rattle.target_machine.specs.declared.unit.Unit.TheVariants as unit
-use Rattle.call_terms.proofs.CallRanges.{lanes_fit}
+use Rattle.target_calls.proofs.CallRanges.{lanes_fit}
 use Rattle.access_regs.specs.Journal.{making}
 use Rattle.packed_access.specs.Forgiving.{IsNext, WentTo}
 use Rattle.packed_access.proofs.TryMemoryLemmas.{broken_calls, csw_given, csw_next, csw_read, drw_next, on_err, on_ok, went_came, went_skipped}

@@ -39,7 +39,7 @@ returns-in-Ok-command-clause-on g c = λ m0 asked k t made rest more h n.
     let part : c.if-ends.issue ≡ last_part c.args.ends = elim c.if-ends.branch [ then-ends w ↦ w.issue-is ∙ sym (ap last_part w.if-ends.true) | else-ends w ↦ w.issue-is ∙ sym (ap last_part w.if-ends.false) ] in
     let some : 0 < length old.log.calls = (let w = c.requires.whole in omega (arith, w)) in
     let log = flight_log c.args.forgive old.log _ c.issue.new.self asked c.args.leads.now c.args.last c.args.ends _ _ c.push_all.ensures.log c.issue.ensures.answer c.count-unit.ensures some part n.parts in
-    let log2 = abort_log c.args.forgive old.log c.issue.new.self c.issue-2.new.self asked made (c.args.leads.now ++ c.args.last ∷ []) c.args.ends _ log c.issue-2.ensures.answer c.count-unit.ensures some n.early in
+    let log2 = abort_log c.args.forgive old.log c.issue.new.self c.confirm_entries.new.self c.issue-2.new.self asked made (c.args.leads.now ++ c.args.last ∷ []) c.args.ends _ log c.confirm_entries.ensures.answer c.issue-2.ensures.answer c.count-unit.ensures some n.early in
     let are = c.push.ensures.accesses ∙ ap (λ (l : List RegAccess). l ++ c.args.last ∷ []) (c.push_all.ensures.accesses ∙ ap (λ (l : List RegAccess). l ++ c.args.leads.now) c.requires.empty) in
     let one : IsOneTransfer _ = subst IsOneTransfer (sym are) c.requires.one in
     let both : (c.args.forgive ≡ true) × (is_fault_end c.in-Err.end ≡ true) = elim c.if-forgive.branch [
@@ -57,7 +57,7 @@ returns-in-Err-command-clause-broke g c = λ m0 asked k t made rest more h n.
     let part : c.if-ends.issue ≡ last_part c.args.ends = elim c.if-ends.branch [ then-ends w ↦ w.issue-is ∙ sym (ap last_part w.if-ends.true) | else-ends w ↦ w.issue-is ∙ sym (ap last_part w.if-ends.false) ] in
     let some : 0 < length old.log.calls = (let w = c.requires.whole in omega (arith, w)) in
     let log = flight_log c.args.forgive old.log _ c.issue.new.self asked c.args.leads.now c.args.last c.args.ends _ _ c.push_all.ensures.log c.issue.ensures.answer c.count-unit.ensures some part n.parts in
-    let log2 = abort_log c.args.forgive old.log c.issue.new.self c.issue-2.new.self asked made (c.args.leads.now ++ c.args.last ∷ []) c.args.ends _ log c.issue-2.ensures.answer c.count-unit.ensures some n.early in
+    let log2 = abort_log c.args.forgive old.log c.issue.new.self c.confirm_entries.new.self c.issue-2.new.self asked made (c.args.leads.now ++ c.args.last ∷ []) c.args.ends _ log c.confirm_entries.ensures.answer c.issue-2.ensures.answer c.count-unit.ensures some n.early in
     let are = c.push.ensures.accesses ∙ ap (λ (l : List RegAccess). l ++ c.args.last ∷ []) (c.push_all.ensures.accesses ∙ ap (λ (l : List RegAccess). l ++ c.args.leads.now) c.requires.empty) in
     let one : IsOneTransfer _ = subst IsOneTransfer (sym are) c.requires.one in
     let both : (c.args.forgive ≡ true) × (is_fault_end c.in-Err.end ≡ true) = elim c.if-forgive.branch [

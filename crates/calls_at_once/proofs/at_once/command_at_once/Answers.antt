@@ -1,5 +1,0 @@
-use Rattle.calls_at_once.proofs.AtOnceLemmas.{command_made}
-use Rattle.calls_at_once.proofs.at_once.command_at_once.Goals as goal
-
-pub returns : goal.returns
-returns c = record { answer = command_made c.args.target.now c.args.call _ _ c.command_now.ensures.value c.command_now.ensures.next }

@@ -1,5 +1,0 @@
-use Rattle.std.proofs.Common.{Err, refl}
-use Rattle.dapseq_tool.proofs.asking.asked_of_check.Goals as goal
-
-pub returns-in-Err-Refused-clause-asked : goal.returns-in-Err-Refused-clause-asked
-returns-in-Err-Refused-clause-asked c = (Err c.in-Err-Refused.refusal, rw c.in-Err-Refused.field-0-is at c.in-Err-Refused.ensures.answer, refl)

@@ -1,6 +1,0 @@
-use Rattle.std.proofs.Common.{Err, ap}
-use Rattle.dapseq_tool.proofs.AskedLemmas.{long_asked}
-use Rattle.dapseq_tool.proofs.asking.asked_of_source.Goals as goal
-
-pub returns-in-Err-TooLong-clause-asked : goal.returns-in-Err-TooLong-clause-asked
-returns-in-Err-TooLong-clause-asked g c = long_asked (g.S.Source.left c.args.source.now) c.args.command.now (c.in-Err-TooLong.ensures.too_long (ap Err c.in-Err-TooLong.field-0-is))

@@ -1,0 +1,50 @@
+-- How the code of a call at once is the call.
+use Rattle.std.specs.Prelude.{◌≡◌, ◌==◌, ℕ, Bool, false, bit_and, List, Result, Ok, Err, if◌then◌else◌}
+use Rattle.dap_base.specs.declared.text.OutOfMemory.{OutOfMemory}
+use Rattle.target_machine.specs.Plain.{CallDone, CallEnd, Answered, Skipped, Faulted, Small, from_lanes, given, is_fault, needs_cfg}
+use Rattle.target_machine.specs.declared.unit.Call.{Call}
+use Rattle.target_machine.specs.declared.unit.Call.TheVariants.{Access}
+use Rattle.target_machine.specs.declared.unit.Unit.TheVariants as unit
+use Rattle.target_machine.specs.declared.access.Outcome.{Outcome}
+use Rattle.target_machine.specs.declared.access.Outcome.TheVariants as outcome
+use Rattle.target_machine.specs.State.{TargetState}
+use Rattle.direct_calls.specs.declared.made.Made.{Made}
+use Rattle.direct_calls.specs.declared.made.Made.TheVariants as made
+
+-- the end of a call
+abbrev pub call_end_of : Made → CallEnd
+call_end_of (made.Answered n) = Answered n
+call_end_of made.Skipped = Skipped
+call_end_of made.Faulted = Faulted
+call_end_of made.Small = Small
+
+-- the call ends so, and leaves this target and these access ports with large addresses
+pub record IsDone (d : CallDone) (end : CallEnd) (next : TargetState) (large : List ℕ) : Type 0 where
+  pub end_is : d.end ≡ end
+  pub next_is : d.next ≡ next
+  pub large_is : d.large ≡ large
+
+-- the call is a memory access over 0xFFFFFFFF, through an access port that is not in the list: its CFG has to be read
+abbrev pub takes_memory : List ℕ → Call → Bool
+takes_memory large (Access (unit.Memory size read ap address value)) = needs_cfg large ap address
+takes_memory large _ = false
+
+-- the call was made; nothing is said where memory was refused
+abbrev pub MadeAs : CallDone → Result Made OutOfMemory → TargetState → List ℕ → Type 0
+MadeAs d (Ok m) next large = IsDone d (call_end_of m) next large
+MadeAs d (Err e) next large = Unit {0}
+
+-- how an access that is no memory access ends by what its last register access answered
+abbrev pub end_by : Outcome → CallEnd
+end_by o = if is_fault o then Faulted else Answered (given o)
+
+-- how a memory access ends by what DRW answered: a read with the value in its lanes
+abbrev pub memory_end_by : ℕ → Bool → ℕ → Outcome → CallEnd
+memory_end_by size read address o =
+    if is_fault o then Faulted else Answered (if read then from_lanes size address (given o) else given o)
+
+-- a read of CTRL/STAT has the requested value under the mask
+abbrev pub is_match : Outcome → ℕ → ℕ → Bool
+is_match (outcome.Value n) mask requested = bit_and n mask == requested
+is_match outcome.Done mask requested = false
+is_match outcome.Fault mask requested = false

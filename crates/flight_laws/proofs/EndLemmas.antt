@@ -1,0 +1,185 @@
+-- How an access ends whose calls lie in a flight.
+use Rattle.std.proofs.Common.{◌≡◌, ◌∙◌, ℕ, ◌+◌, ◌≤◌, List, [], ◌∷◌, length, take, Option, Some, None, refl, sym, ap, subst, arith}
+use Rattle.target_machine.specs.State.{TargetState}
+use Rattle.target_machine.specs.declared.access.RegAccess.{RegAccess}
+use Rattle.probe_core.specs.Bench.{BenchState}
+use Rattle.probe_core.specs.Probe.{target_of}
+use Rattle.target_calls.specs.Asks.{AreAskable}
+use Rattle.target_calls.specs.Journal.{Entry}
+use Rattle.target_calls.specs.declared.calls.Ask.{Ask}
+use Rattle.target_machine.specs.Fresh.{IsFresh}
+use Rattle.target_calls.specs.World.{AtLeast, results}
+use Rattle.access_regs.specs.Journal.{issued}
+use Rattle.access_regs.specs.Kept.{Kept}
+use Rattle.access_calls.specs.Left.{IsLeft, IsLeftAt, IsLeftCut}
+use Rattle.access_calls.specs.Reported.{AccessView, began, world_from}
+use Rattle.access_calls.specs.Standing.{HasBroken, IsBenchFault, IsCutBy, StandsAt, WhereObservable}
+use Rattle.access_calls.specs.declared.stop.Report.{Report}
+use Rattle.access_calls.specs.declared.stop.Stop.{Stop}
+use Rattle.access_calls.specs.declared.stop.Stop.TheVariants.{BenchFault}
+use Rattle.access_calls.specs.declared.stop.StopCause.{StopCause}
+use Rattle.access_calls.specs.declared.stop.StopCause.TheVariants.{Faulted, NoAnswer}
+use Rattle.flight_laws.specs.Ending.{ActionFails, BegunAt, BegunCame, BegunStands, EndsCut, FlightEnds, FlightFails, IsCutOff, IsStrictAt, PollEnds, StopsBy, response_of_cause}
+use Rattle.flight_laws.specs.Flights.{IsCutAt}
+use Rattle.flight_laws.specs.Sending.{IsSending}
+use Rattle.flight_laws.proofs.ActionLemmas.{action_bench_law, action_wait_law}
+use Rattle.flight_laws.proofs.CutLemmas.{bench_flies, fault_flies, wait_flies}
+use Rattle.flight_laws.proofs.OpenLemmas.{came_stands, open_stands}
+use Rattle.flight_laws.proofs.OwnLemmas.{begun_stay}
+use Rattle.flight_laws.proofs.StopLemmas.{lines_cut, stops_at_fault, stops_at_wait}
+use Rattle.access_regs.specs.declared.planner.Planner.{Planner}
+
+-- ---- from the beginning on
+
+enough : (a : AccessView) (n : Option ℕ) → a.end ≡ None → IsLeft a n → AtLeast a.came n
+enough a n none left = subst (λ (e : Option Stop). IsLeftAt e a.lines a.came n) none left.so
+
+stands_at : (p : Planner) (e : Option Stop) (a : AccessView) (kept : Kept) (accesses : List RegAccess) (came : List ℕ) (n : Option ℕ) (m0 m : BenchState) → a.end ≡ e → BegunAt p e a kept accesses came m0 m → IsLeft a n
+    → StandsAt e (issued p (target_of m0.probe) a.asks.calls) a (began m0 n) m
+stands_at p None a kept accesses came n m0 m is begun left = open_stands p a kept accesses came n m0 m begun (enough a n is left)
+stands_at p (Some s) a kept accesses came n m0 m is begun left = begun.stands n left
+
+stands_where : (p : Planner) (x : Option BenchState) (a : AccessView) (kept : Kept) (accesses : List RegAccess) (came : List ℕ) (n : Option ℕ) (m0 : BenchState) → WhereObservable x (λ m. BegunAt p a.end a kept accesses came m0 m) → IsLeft a n
+    → WhereObservable x (λ m. StandsAt a.end (issued p (target_of m0.probe) a.asks.calls) a (began m0 n) m)
+stands_where p None a kept accesses came n m0 begun left = begun
+stands_where p (Some m) a kept accesses came n m0 begun left = stands_at p a.end a kept accesses came n m0 m refl begun left
+
+pub begun_stands : BegunStands
+begun_stands p a kept accesses came m0 n begun left = stands_where p a.state a kept accesses came n m0 begun.so left
+
+came_at : (p : Planner) (e : Option Stop) (a : AccessView) (kept : Kept) (accesses : List RegAccess) (came : List ℕ) (n : Option ℕ) (m0 m : BenchState) → a.end ≡ e → BegunAt p e a kept accesses came m0 m → IsLeft a n
+    → take (length came) (results (world_from m0 n) a.asks.calls) ≡ came
+came_at p None a kept accesses came n m0 m is begun left =
+    let c = came_stands p a kept accesses came n m0 m begun (enough a n is left) in
+    ap (λ (k : ℕ). take k (results (world_from m0 n) a.asks.calls)) c.0 ∙ c.1
+came_at p (Some s) a kept accesses came n m0 m is begun left = begun.results_are n left
+
+came_where : (p : Planner) (x : Option BenchState) (a : AccessView) (kept : Kept) (accesses : List RegAccess) (came : List ℕ) (n : Option ℕ) (m0 : BenchState) → WhereObservable x (λ m. BegunAt p a.end a kept accesses came m0 m) → IsLeft a n
+    → take (length came) (results (world_from m0 n) a.asks.calls) ≡ came
+came_where p None a kept accesses came n m0 begun left = absurd begun
+came_where p (Some m) a kept accesses came n m0 begun left = came_at p a.end a kept accesses came n m0 m refl begun left
+
+pub begun_came : BegunCame
+begun_came p a kept accesses came m0 n begun left = came_where p a.state a kept accesses came n m0 begun.so left
+
+-- ---- a cut
+
+-- what a cut makes of an access, by its cause
+record Cutting (p : Planner) (why : StopCause) (r : Report) (b : AccessView) (m0 o : BenchState) : Type 0 where
+  stands : (n : Option ℕ) → IsCutBy why (issued p (target_of m0.probe) b.asks.calls) r b (began m0 n) o
+  cut : IsCutAt (issued p (target_of m0.probe) b.asks.calls) r.confirmed (target_of m0.probe)
+  stops : (n : Option ℕ) → IsLeftCut why b.lines b.lines n → StopsBy why (world_from m0 n) b.asks.calls b.lines
+
+-- the world that is left after a cut
+left_cut : (p : Planner) (r : Report) (b : AccessView) (m0 : BenchState) (n : Option ℕ) → IsCutOff p r b m0 → IsLeft b n → IsLeftCut r.cause b.lines b.lines n
+left_cut p r b m0 n off left = subst (λ (k : ℕ). IsLeftCut r.cause b.lines k n) off.came (subst (λ (e : Option Stop). IsLeftAt e b.lines b.came n) off.end left.so)
+
+-- the calls that have their lines before it are answered
+lines_answered : (why : StopCause) (lines : ℕ) (n : Option ℕ) → IsLeftCut why lines lines n → AtLeast lines n
+lines_answered Faulted lines n left = left
+lines_answered NoAnswer lines n left = subst (AtLeast lines) (sym left) (omega arith)
+
+fewer_answered : (few many : ℕ) (n : Option ℕ) → few ≤ many → AtLeast many n → AtLeast few n
+fewer_answered few many None le h = tt
+fewer_answered few many (Some n) le h = omega (arith, le, h)
+
+ends_cut : (p : Planner) (confirmed count : ℕ) (flying rest : List Entry) (accesses : List RegAccess) (came : List ℕ) (m0 m o : BenchState) (r : Report) (b : AccessView)
+    → IsSending p b.asks.calls confirmed count flying rest accesses came m0 m → confirmed ≤ r.confirmed → IsCutOff p r b m0 → Cutting p r.cause r b m0 o → EndsCut p r b count came m0 o
+ends_cut p confirmed count flying rest accesses came m0 m o r b s low off c =
+    let kept : count ≤ b.lines = (let l = lines_cut (issued p (target_of m0.probe) b.asks.calls) (target_of m0.probe) b.asks.calls b.skipped b.lines r c.cut off.numbers in
+    let k = s.lines r.confirmed low c.cut in omega (arith, l, k)) in
+    record {
+      ended = record {
+        stands = λ n left. c.stands n;
+        results_are = λ n left.
+            ap (λ (k : ℕ). take k (results (world_from m0 n) b.asks.calls)) s.length_is
+            ∙ s.results_are n (fewer_answered count b.lines n kept (lines_answered r.cause b.lines n (left_cut p r b m0 n off left)));
+      };
+      kept = kept;
+      stops = λ n left. c.stops n (left_cut p r b m0 n off left);
+    }
+
+-- where a retry ended the calls stop in the world of so many calls
+wait_stops_by : (p : Planner) (b : AccessView) (m0 : BenchState) (r : Report) (confirmed count : ℕ) (flying rest : List Entry) (accesses : List RegAccess) (came : List ℕ) (m : BenchState)
+    → IsSending p b.asks.calls confirmed count flying rest accesses came m0 m → IsCutOff p r b m0 → IsCutAt (issued p (target_of m0.probe) b.asks.calls) r.confirmed (target_of m0.probe)
+    → (n : Option ℕ) → n ≡ Some b.lines → StopsBy NoAnswer (world_from m0 n) b.asks.calls b.lines
+wait_stops_by p b m0 r confirmed count flying rest accesses came m s off cut n is =
+    subst (λ (k : Option ℕ). StopsBy NoAnswer (world_from m0 k) b.asks.calls b.lines) (sym is)
+    (flat (stops_at_wait p (target_of m0.probe) b.asks.calls r b.skipped b.lines s.fresh s.askable cut off.numbers))
+  where
+    flat : StopsBy NoAnswer (world_from m0 (Some b.lines)) b.asks.calls b.lines → StopsBy NoAnswer (world_from m0 (Some b.lines)) b.asks.calls b.lines
+    flat h = h
+
+pub flight_ends : FlightEnds
+flight_ends p confirmed count flying rest accesses came m0 m o part r b s flies response strict accesses_is confirmed_is off =
+    ends_cut p confirmed count flying rest accesses came m0 m o r b s (omega (arith, confirmed_is)) off (by_cause r.cause response strict)
+  where
+    t0 : TargetState
+    t0 = target_of m0.probe
+
+    performed : r.accesses ≡ length s.made + part.performed
+    performed = (let c = s.confirmed_is in omega (arith, c, accesses_is))
+
+    known : r.confirmed ≡ length s.made + part.confirmed
+    known = (let c = s.confirmed_is in omega (arith, c, confirmed_is))
+
+    by_cause : (why : StopCause) → part.response ≡ response_of_cause why → IsStrictAt why flying → Cutting p why r b m0 o
+    by_cause Faulted bad strict =
+        let f = λ (n : Option ℕ). fault_flies (issued p (target_of m0.probe) b.asks.calls) s.made flying rest accesses n m0 m o part r b s.on flies bad strict performed known off.numbers in
+        record {
+          stands = λ n. (f n).0;
+          cut = (f None).1.cut;
+          stops = λ n left. stops_at_fault p (target_of m0.probe) b.asks.calls r b.skipped b.lines n s.fresh s.askable (f None).1 off.numbers left;
+        }
+    by_cause NoAnswer wait strict =
+        let f = λ (n : Option ℕ). wait_flies (issued p (target_of m0.probe) b.asks.calls) s.made flying rest accesses n m0 m o part r b s.on flies wait performed known off.numbers in
+        record {
+          stands = λ n. (f n).0;
+          cut = (f None).1;
+          stops = λ n left. wait_stops_by p b m0 r confirmed count flying rest accesses came m s off (f None).1 n left;
+        }
+
+pub poll_ends : PollEnds
+poll_ends p confirmed count e rest came m0 m o work r b s grown less same retries over number pending why accesses_is confirmed_is off =
+    ends_cut p confirmed count [] (e ∷ rest) [] came m0 m o r b s (omega (arith, confirmed_is)) off (subst (λ (c : StopCause). Cutting p c r b m0 o) (sym why) cutting)
+  where
+    cut : IsCutAt (issued p (target_of m0.probe) b.asks.calls) r.confirmed (target_of m0.probe)
+    cut = record { front = s.made; entry = e; more = rest; is = s.on.are; at = s.confirmed_is ∙ sym confirmed_is; passes = s.on.passes }
+
+    cutting : Cutting p NoAnswer r b m0 o
+    cutting = record {
+      stands = λ n. action_wait_law (issued p (target_of m0.probe) b.asks.calls) s.made e rest n m0 m o work r b s.on grown less same retries over number pending (accesses_is ∙ sym s.confirmed_is) (confirmed_is ∙ sym s.confirmed_is) off.numbers;
+      cut = cut;
+      stops = λ n left. wait_stops_by p b m0 r confirmed count [] (e ∷ rest) [] came m s off cut n left;
+    }
+
+-- ---- a bench that failed
+
+-- what was begun is of the calls up to the first that ends at a fault
+pub bench_fault : (p : Planner) (asks : List Ask) (issued_count confirmed : ℕ) (n : Option ℕ) (m0 o : BenchState) → IsFresh (target_of m0.probe) → AreAskable asks
+    → HasBroken (issued p (target_of m0.probe) asks) issued_count confirmed (began m0 n) o → IsBenchFault asks (issued p (target_of m0.probe) asks) issued_count confirmed (began m0 n) o
+bench_fault p asks issued_count confirmed n m0 o fresh ok h = record { broken = h; own = begun_stay p (target_of m0.probe) asks h.begun fresh ok h.good }
+
+-- the calls that came stay answered
+came_left : (issued confirmed : ℕ) (b : AccessView) (n : Option ℕ) → b.end ≡ Some (BenchFault issued confirmed) → IsLeft b n → AtLeast b.came n
+came_left issued confirmed b n end left = subst (λ (e : Option Stop). IsLeftAt e b.lines b.came n) end left.so
+
+pub flight_fails : FlightFails
+flight_fails p confirmed count flying rest accesses came m0 m o part b s either never ended = record {
+  stands = λ n left. bench_fault p b.asks.calls (confirmed + length flying) confirmed n m0 o s.fresh s.askable
+      (subst (λ (k : ℕ). HasBroken (issued p (target_of m0.probe) b.asks.calls) (k + length flying) k (began m0 n) o) s.confirmed_is
+      (bench_flies (issued p (target_of m0.probe) b.asks.calls) s.made flying rest accesses n m0 m o part s.on either never));
+  results_are = λ n left.
+      ap (λ (k : ℕ). take k (results (world_from m0 n) b.asks.calls)) s.length_is
+      ∙ s.results_are n (subst (λ (k : ℕ). AtLeast k n) ended.came (came_left (confirmed + length flying) confirmed b n ended.end left));
+}
+
+pub action_fails : ActionFails
+action_fails p confirmed count e rest came m0 m o work b s grown less either ended = record {
+  stands = λ n left. bench_fault p b.asks.calls (confirmed + 1) confirmed n m0 o s.fresh s.askable
+      (subst (λ (k : ℕ). HasBroken (issued p (target_of m0.probe) b.asks.calls) (k + 1) k (began m0 n) o) s.confirmed_is
+      (action_bench_law (issued p (target_of m0.probe) b.asks.calls) s.made e rest n m0 m o work s.on grown less either));
+  results_are = λ n left.
+      ap (λ (k : ℕ). take k (results (world_from m0 n) b.asks.calls)) s.length_is
+      ∙ s.results_are n (subst (λ (k : ℕ). AtLeast k n) ended.came (came_left (confirmed + 1) confirmed b n ended.end left));
+}

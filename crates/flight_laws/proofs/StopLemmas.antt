@@ -1,0 +1,108 @@
+-- Where the calls of an access stop whose flight was cut.
+use Rattle.std.proofs.Common.{◌≡◌, ◌≢◌, ◌⊎◌, inl, inr, ◌∙◌, ℕ, suc, ◌+◌, ◌-◌, ◌≤◌, Bool, true, false, cond, List, [], ◌∷◌, ◌++◌, length, slice_get, Some, None, refl, sym, ap, subst, arith, length-append}
+use Rattle.target_machine.specs.Lists.{after}
+use Rattle.target_machine.specs.State.{TargetState}
+use Rattle.target_calls.specs.Asks.{is_forgiving, is_settled}
+use Rattle.target_calls.specs.Journal.{Entry, lines_before, settles, target_after}
+use Rattle.target_calls.specs.World.{AtLeast, start_world, stop}
+use Rattle.target_calls.specs.declared.calls.Ask.{Ask}
+use Rattle.target_calls.specs.declared.journal.Part.{Part}
+use Rattle.target_calls.specs.declared.journal.Part.TheVariants.{Ends, Leads, Settles, Skips}
+use Rattle.target_calls.proofs.CallLists.{results_take}
+use Rattle.target_calls.proofs.WorldLemmas.{front_first}
+use Rattle.access_regs.specs.Journal.{actions_of, entries_at, finish_of, issue_of, issued, issued_from, kept_from, numbered, steps_at}
+use Rattle.access_regs.specs.Kept.{Kept, nothing_kept}
+use Rattle.access_regs.specs.Stops.{StaysThere, StopsThere, world_at}
+use Rattle.access_regs.proofs.Joins.{journal_joins}
+use Rattle.access_regs.proofs.Seams.{InFirst, InSecond, seam_in}
+use Rattle.access_regs.proofs.StopLists.{fault_stops, lines_own, numbered_unit, wait_stops}
+use Rattle.access_calls.specs.Numbers.{HasNumbers, lines_at}
+use Rattle.access_calls.specs.declared.stop.Report.{Report}
+use Rattle.flight_laws.specs.Flights.{IsCutAt}
+use Rattle.flight_laws.specs.Stopping.{CameBefore, ResultsStay, StopsAtFault, StopsAtWait}
+use Rattle.access_regs.specs.declared.planner.Planner.{Planner}
+
+-- the entry after the first ones
+entry_at : (front : List Entry) (e : Entry) (more : List Entry) → slice_get (front ++ e ∷ more) (length front) ≡ Some e
+entry_at [] e more = refl
+entry_at (x ∷ front) e more = entry_at front e more
+
+-- the lines before a cut are those before its entry
+pub lines_cut : (entries : List Entry) (t : TargetState) (asks : List Ask) (skipped lines : ℕ) (r : Report) (cut : IsCutAt entries r.confirmed t) → HasNumbers entries asks skipped lines r → lines ≡ lines_before cut.entry
+lines_cut entries t asks skipped lines r cut numbers =
+    ap (λ x. x.lines) numbers.numbers
+    ∙ (λ j. lines_at (slice_get (cut.is j) (sym cut.at j)))
+    ∙ ap lines_at (entry_at cut.front cut.entry cut.more)
+
+not_settling : (p : Part) → p ≢ Settles → settles p ≡ false
+not_settling Settles ne = absurd (ne refl)
+not_settling Leads ne = refl
+not_settling Ends ne = refl
+not_settling (Skips attempted) ne = refl
+
+pub stops_at_fault : StopsAtFault
+stops_at_fault p t asks r skipped lines n fresh ok at numbers enough =
+    let cut = at.cut in
+    let s : StopsThere 0 t [] asks cut.entry = fault_stops p t asks cut.front cut.entry cut.more fresh ok cut.is cut.passes at.bad at.strict in
+    let same : lines ≡ s.at =
+    lines_cut (issued p t asks) t asks skipped lines r cut numbers
+    ∙ ap (λ (x : Bool). cond x cut.entry.unit (cut.entry.unit - 1)) (not_settling cut.entry.part s.own)
+    ∙ (let u = s.unit in omega (arith, u)) in
+    s.stops n (subst (λ (k : ℕ). AtLeast k n) same enough) ∙ (let next : suc s.at ≡ lines + 1 = omega (arith, same) in ap Some next)
+
+pub stops_at_wait : StopsAtWait
+stops_at_wait p t asks r skipped lines fresh ok cut numbers =
+    let s : StaysThere 0 t [] asks cut.entry = wait_stops p t asks cut.front cut.entry cut.more fresh ok cut.is cut.passes in
+    let same : lines ≡ s.at = lines_cut (issued p t asks) t asks skipped lines r cut numbers ∙ s.lines ∙ omega arith in
+    by_stop s.at s.stops same
+  where
+    by_stop : (k : ℕ) → (stop (world_at t [] (Some k)) asks ≡ Some (suc k)) ⊎ ((stop (world_at t [] (Some k)) asks ≡ None) × ((k ≡ length asks) × (is_settled asks ≡ true))) → lines ≡ k
+        → (stop (start_world t (Some lines)) asks ≡ Some (lines + 1)) ⊎ ((stop (start_world t (Some lines)) asks ≡ None) × ((lines ≡ length asks) × (is_settled asks ≡ true)))
+    by_stop k (inl h) same = inl (ap (λ (i : ℕ). stop (start_world t (Some i)) asks) same ∙ h ∙ (let next : suc k ≡ lines + 1 = omega (arith, same) in ap Some next))
+    by_stop k (inr h) same = inr (ap (λ (i : ℕ). stop (start_world t (Some i)) asks) same ∙ h.0, (same ∙ h.1.0, h.1.1))
+
+-- ---- lines of entries after others
+
+-- all lines of so many units come before each entry of later ones
+pub lines_from : (p : Planner) (n : ℕ) (k : Kept) (u : TargetState) (asks : List Ask) (front : List Entry) (e : Entry) (more : List Entry) → issued_from p n k u asks ≡ front ++ e ∷ more → n ≤ lines_before e
+lines_from p n k u [] [] e more is = absurd (cc)
+lines_from p n k u [] (x ∷ front) e more is = absurd (cc)
+lines_from p n k u (ask ∷ asks) front e more is =
+    by_seam (seam_in (entries_at p n u k c) rest front e more is)
+    (λ back h. (let low = lines_from p (n + 1) (finish_of p u k c).kept (after u (actions_of (steps_at p u k c))) asks back e more h in omega (arith, low)))
+  where
+    c : Ask
+    c = ask
+
+    rest : List Entry
+    rest = issued_from p (n + 1) (finish_of p u k ask).kept (after u (actions_of (steps_at p u k ask))) asks
+
+    by_half : (more' : List Entry) → InFirst (numbered n (is_forgiving ask) (issue_of p u k ask).steps) front e ⊎ InSecond (numbered n (is_forgiving ask) (issue_of p u k ask).steps) (numbered (n + 1) false (finish_of p u k ask).steps) front e more' → n ≤ lines_before e
+    by_half more' (inl i) = (let x = lines_own n e (numbered_unit n (is_forgiving ask) (issue_of p u k ask).steps front e i.more i.is) in omega (arith, x))
+    by_half more' (inr i) = (let x = lines_own (n + 1) e (numbered_unit (n + 1) false (finish_of p u k ask).steps i.back e more' i.is) in omega (arith, x))
+
+    by_seam : InFirst (entries_at p n u k ask) front e ⊎ InSecond (entries_at p n u k ask) (issued_from p (n + 1) (finish_of p u k ask).kept (after u (actions_of (steps_at p u k ask))) asks) front e more
+        → ((back : List Entry) → issued_from p (n + 1) (finish_of p u k ask).kept (after u (actions_of (steps_at p u k ask))) asks ≡ back ++ e ∷ more → n ≤ lines_before e) → n ≤ lines_before e
+    by_seam (inl i) again = by_half i.more (seam_in (numbered n (is_forgiving ask) (issue_of p u k ask).steps) (numbered (n + 1) false (finish_of p u k ask).steps) front e i.more i.is)
+    by_seam (inr i) again = again i.back i.is
+
+pub came_before : CameBefore
+came_before p t front back c low cut = by_seam (seam_in (issued p t front) rest cut.front cut.entry cut.more (sym split ∙ cut.is))
+  where
+    rest : List Entry
+    rest = issued_from p (0 + length front) (kept_from p nothing_kept t front) (target_after t (issued p t front)) back
+
+    split : issued p t (front ++ back) ≡ issued p t front ++ issued_from p (0 + length front) (kept_from p nothing_kept t front) (target_after t (issued p t front)) back
+    split = journal_joins p 0 nothing_kept t front back
+
+    by_seam : InFirst (issued p t front) cut.front cut.entry ⊎ InSecond (issued p t front) (issued_from p (0 + length front) (kept_from p nothing_kept t front) (target_after t (issued p t front)) back) cut.front cut.entry cut.more
+        → length front ≤ lines_before cut.entry
+    by_seam (inl i) = absurd (let a = ap length i.is ∙ length-append cut.front (cut.entry ∷ i.more) in let b = cut.at in omega (arith, a, b, low))
+    by_seam (inr i) = (let a = lines_from p (0 + length front) (kept_from p nothing_kept t front) (target_after t (issued p t front)) back i.back cut.entry cut.more i.is in omega (arith, a))
+
+pub results_stay : ResultsStay
+results_stay p t asks r skipped lines n fresh ok cut numbers enough =
+    let s : StaysThere 0 t [] asks cut.entry = wait_stops p t asks cut.front cut.entry cut.more fresh ok cut.is cut.passes in
+    let same : s.at ≡ lines = sym (lines_cut (issued p t asks) t asks skipped lines r cut numbers ∙ s.lines ∙ omega arith) in
+    let le : lines ≤ length asks = (let w = s.within in omega (arith, w, same)) in
+    (le, front_first (start_world t n) asks lines enough ∙ sym (results_take (start_world t None) asks lines))

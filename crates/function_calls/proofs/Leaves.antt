@@ -1,0 +1,290 @@
+-- Values that are used, units and commands, over an access; and what comes later, for the exits of functions.
+use Rattle.std.proofs.Common.{inl, inr, ◌≡◌, ◌⊎◌, ℕ, ◌+◌, ◌/◌, ◌^◌, Bool, true, false, cond, List, [], ◌∷◌, ◌++◌, length, nat_lt, Option, None, Some, unwrap_or, codes, Result, Ok, Err, refl, sym, ap, subst, ◌∙◌, slice_index}
+use Rattle.std.specs.Prelude.{is_some}
+use Rattle.dap_base.specs.Outcome.{◌>>=◌}
+use Rattle.target_machine.specs.declared.unit.HaltCause.TheVariants.{AddressTooLarge}
+use Rattle.target_machine.specs.declared.unit.ProbeCall.{ProbeCall}
+use Rattle.target_machine.specs.declared.unit.Unit.{Unit as AccessUnit}
+use Rattle.target_calls.specs.declared.calls.Ask.{Ask}
+use Rattle.target_calls.specs.declared.calls.Asked.{Asked}
+use Rattle.target_calls.specs.declared.calls.Slot.{Slot}
+use Rattle.target_calls.specs.declared.calls.Value.{Value}
+use Rattle.target_calls.specs.declared.calls.Value.TheVariants.{Number, Pending}
+use Rattle.target_calls.specs.Asks.{unit_ask, probe_ask}
+use Rattle.target_calls.specs.NeedPoints.{Asks, Costs}
+use Rattle.target_calls.specs.World.{World, results, stop, small_now}
+use Rattle.target_calls.proofs.NeedLemmas.{used_calls, asked_calls}
+use Rattle.access_calls.specs.Answers.{AtCut, IsEnd, NoMemory, StopsCalls, UnchangedByMemory, calls_after}
+use Rattle.access_calls.specs.GoesOn.{GoesOn}
+use Rattle.access_calls.specs.Left.{IsLeft}
+use Rattle.access_calls.specs.Reported.{AccessView}
+use Rattle.access_calls.specs.declared.stop.Stop.{Stop}
+use Rattle.access_calls.specs.declared.stop.Stop.TheVariants.{Cut, BenchFault, ReplyBad, OutOfMemory}
+use Rattle.access_calls.proofs.KeepLemmas.{goes_same, goes_trans}
+use Rattle.sequence_rules.specs.Calls.{Port, use_now, missing, given, global, port_with, port_from, ask, answered, command, numbered, zero_of, if_read, low_and_high, second_half, two_units, memory_unit, memory_at, ap_at, dp_at, abort, abort_at}
+use Rattle.sequence_rules.specs.Machine as machine
+use Rattle.sequence_rules.specs.Machine.{Over, State, Out, with_rest, unit_more, end_state}
+use Rattle.sequence_rules.specs.Late.{Late, late_of, asks_with, used_late, late, Later}
+use Rattle.sequence_rules.specs.Values.{both}
+use Rattle.sequence_rules.specs.Variables.{value_named}
+use Rattle.sequence_rules.proofs.Goes as g
+use Rattle.sequence_rules.proofs.LateLemmas.{later_on, later_same, later_still, steady_late, grows_same}
+use Rattle.function_calls.specs.declared.end.End.{End}
+use Rattle.function_calls.specs.declared.end.End.TheVariants as end
+use Rattle.function_calls.specs.Ends.{Left, EndsLate, EndsBy, MeansLate, HasSinkCause, IsStopAt, NoWriteFault}
+
+abbrev S : Type 0
+S = State Value Late
+
+-- what comes of a state is later than it; a name of its own, for the search
+pub record After {B : Type 0} (w : World) (s : S) (out : Out Value Late B) : Type 0 where
+  pub so : Later w s.rest (end_state out).rest
+
+-- ---- ends
+
+pub left_on : (a b : AccessView) → GoesOn a b → (answered : Option ℕ) → IsLeft b answered → IsLeft a answered
+left_on a b h answered l = h.left answered l
+
+pub stopped_end : (s : Stop) (a b : AccessView) → a.end ≡ None → IsEnd b.end s → UnchangedByMemory a b s → EndsBy s b.end
+stopped_end (Cut r) a b none is same = is
+stopped_end (BenchFault issued confirmed) a b none is same = is
+stopped_end ReplyBad a b none is same = is
+stopped_end OutOfMemory a b none is same = ap (λ (t : AccessView). t.end) same ∙ none
+
+pub stopped_ended : (s : Stop) (e : Option Stop) → IsEnd e s → NoMemory s → EndsBy s e
+stopped_ended (Cut r) e is memory = is
+stopped_ended (BenchFault issued confirmed) e is memory = is
+stopped_ended ReplyBad e is memory = is
+stopped_ended OutOfMemory e is memory = absurd memory
+
+-- a call without a sink
+pub quiet_cause : {A : Type 0} (result : Result A End) (n : ℕ) → NoWriteFault result → HasSinkCause result n n
+quiet_cause (Ok x) n h = refl
+quiet_cause (Err (end.Halted cause)) n h = refl
+quiet_cause (Err (end.Stopped s)) n h = refl
+quiet_cause (Err end.WriteFault) n h = absurd h
+
+-- ---- values
+
+used_rest : (cost : Costs) (w : World) (v : Value) (s : S) → (end_state (use_now (late cost w) v s)).rest ≡ (used_late cost w v s.rest).1
+unfolding use_now late
+used_rest cost w v s = refl
+
+-- a value whose look-up stops
+pub ends_use : (cost : Costs) (w : World) (slot : Slot) (s : S) (b : Asks) (lines : ℕ) (st : Stop) → b.calls ≡ s.rest.asks.calls → StopsCalls w s.rest.asks.calls lines st
+    → Left w lines st (with_rest s (late_of b s.rest.written)) (use_now (late cost w) (Pending slot) s)
+ends_use cost w slot s b lines st calls stops = record {
+  later = rw (used_rest cost w (Pending slot) s) (later_still cost w _ _ (used_calls slot s.rest.asks ∙ sym calls) refl);
+  first = subst (λ c. AtCut st (λ r. stop w c ≡ Some (lines + 1))) (sym calls) stops.so;
+}
+
+-- ---- units
+
+pub ask_slot : (cost : Costs) (w : World) (u : AccessUnit) (forgive : Bool) (s : S) (b : Asks) (slot : Slot) → nat_lt s.units 1000000 ≡ true → small_now w s.rest.asks.calls (unit_ask u forgive) ≡ false
+    → slot.index ≡ length s.rest.asks.calls → b ≡ asks_with cost w (unit_ask u forgive) s.rest.asks → ask (late cost w) u forgive s ≡ Ok (Pending slot, unit_more s (late_of b s.rest.written))
+unfolding ask answered late
+ask_slot cost w u forgive s b slot some large index is =
+    let place : slot ≡ record { index = length s.rest.asks.calls } = ap (λ i. record { index = i }) index in
+    rw some (rw large (rw is (rw place refl)))
+
+pub ask_small : (cost : Costs) (w : World) (u : AccessUnit) (forgive : Bool) (s : S) (b : Asks) → nat_lt s.units 1000000 ≡ true → small_now w s.rest.asks.calls (unit_ask u forgive) ≡ true
+    → b ≡ asks_with cost w (unit_ask u forgive) s.rest.asks → ask (late cost w) u forgive s ≡ Err (machine.Halted AddressTooLarge, unit_more s (late_of b s.rest.written))
+unfolding ask answered late
+ask_small cost w u forgive s b some small is = rw some (rw small (rw is refl))
+
+ask_rest : (cost : Costs) (w : World) (u : AccessUnit) (forgive : Bool) (s : S) → nat_lt s.units 1000000 ≡ true → (end_state (ask (late cost w) u forgive s)).rest ≡ late_of (asks_with cost w (unit_ask u forgive) s.rest.asks) s.rest.written
+unfolding ask answered late
+ask_rest cost w u forgive s some = rw some (either (small_now w s.rest.asks.calls (unit_ask u forgive)))
+  where
+    either : (c : Bool) → (end_state (answered (late cost w) (cond c (Err (machine.Halted AddressTooLarge, late_of (asks_with cost w (unit_ask u forgive) s.rest.asks) s.rest.written)) (Ok (Pending (record { index = length s.rest.asks.calls }), late_of (asks_with cost w (unit_ask u forgive) s.rest.asks) s.rest.written))) s)).rest
+        ≡ late_of (asks_with cost w (unit_ask u forgive) s.rest.asks) s.rest.written
+    either true = refl
+    either false = refl
+
+-- the calls after a call at which the access stops: that call is among them, except where memory was refused
+StopsAt : World → List Ask → Ask → ℕ → List Ask → Stop → Type 0
+StopsAt w calls ask lines now st = ((now ≡ calls) ⊎ (now ≡ calls ++ ask ∷ [])) × AtCut st (λ r. stop w now ≡ Some (lines + 1))
+
+all_asked : (a b : AccessView) (ask : Ask) → a.end ≡ None → b.asks.calls ≡ cond (is_some a.end) a.asks.calls (a.asks.calls ++ ask ∷ []) → b.asks.calls ≡ a.asks.calls ++ ask ∷ []
+all_asked a b ask none calls = calls ∙ ap (λ (e : Option Stop). cond (is_some e) a.asks.calls (a.asks.calls ++ ask ∷ [])) none
+
+stops_at : (T : Type 0) (w : World) (a b : AccessView) (ask : Ask) (st : Stop) → a.end ≡ None → b.asks.calls ≡ calls_after {T = T} a ask (Err st) → StopsCalls w (a.asks.calls ++ ask ∷ []) b.lines st → StopsAt w a.asks.calls ask b.lines b.asks.calls st
+unfolding StopsAt
+stops_at T w a b ask (Cut r) none calls stops = let all = all_asked a b ask none calls in (inr all, ap (stop w) all ∙ stops.so)
+stops_at T w a b ask (BenchFault issued confirmed) none calls stops = (inr (all_asked a b ask none calls), tt)
+stops_at T w a b ask ReplyBad none calls stops = (inr (all_asked a b ask none calls), tt)
+stops_at T w a b ask OutOfMemory none calls stops = (inl calls, tt)
+
+-- what was asked then comes first in what the meaning asks
+left_asked : {A : Type 0} (cost : Costs) (w : World) (ask : Ask) (s : S) (b : Asks) (lines : ℕ) (st : Stop) (out : Out Value Late A) → (end_state out).rest ≡ late_of (asks_with cost w ask s.rest.asks) s.rest.written
+    → StopsAt w s.rest.asks.calls ask lines b.calls st → Left w lines st (with_rest s (late_of b s.rest.written)) out
+unfolding StopsAt
+left_asked cost w ask s b lines st out is (inl same, first) = record { later = rw is (record { more = ask ∷ []; calls = all ∙ ap (λ c. c ++ ask ∷ []) (sym same); kept = λ n e. refl; grows = grows_same s.rest.written }); first = first }
+  where
+    all : (asks_with cost w ask s.rest.asks).calls ≡ s.rest.asks.calls ++ ask ∷ []
+    all = asked_calls (cost w.target s.rest.asks.calls ask) ask s.rest.asks
+left_asked cost w ask s b lines st out is (inr more, first) = record { later = rw is (later_still cost w _ _ (asked_calls (cost w.target s.rest.asks.calls ask) ask s.rest.asks ∙ sym more) refl); first = first }
+
+pub ends_ask : (cost : Costs) (w : World) (u : AccessUnit) (forgive : Bool) (s : S) (a b : AccessView) (st : Stop) → s.rest.asks ≡ a.asks → nat_lt s.units 1000000 ≡ true → a.end ≡ None
+    → b.asks.calls ≡ calls_after {T = Asked} a (unit_ask u forgive) (Err st) → StopsCalls w (a.asks.calls ++ unit_ask u forgive ∷ []) b.lines st
+    → Left w b.lines st (with_rest s (late_of b.asks s.rest.written)) (ask (late cost w) u forgive s)
+ends_ask cost w u forgive s a b st same some none calls stops =
+    left_asked cost w (unit_ask u forgive) s b.asks b.lines st _ (ask_rest cost w u forgive s some)
+    (subst (λ (x : Asks). StopsAt w x.calls (unit_ask u forgive) b.lines b.asks.calls st) (sym same) (stops_at Asked w a b (unit_ask u forgive) st none calls stops))
+
+-- ---- commands
+
+pub command_on : (cost : Costs) (w : World) (c : ProbeCall) (s : S) (b : Asks) (n : ℕ) → nat_lt s.units 1000000 ≡ true → n ≡ slice_index (results w (s.rest.asks.calls ++ probe_ask c ∷ [])) (length s.rest.asks.calls)
+    → b ≡ asks_with cost w (probe_ask c) s.rest.asks → command (late cost w) c s ≡ Ok (Number n, unit_more s (late_of b s.rest.written))
+unfolding command numbered late
+command_on cost w c s b n some value is = rw some (rw is (rw value refl))
+
+command_rest : (cost : Costs) (w : World) (c : ProbeCall) (s : S) → nat_lt s.units 1000000 ≡ true → (end_state (command (late cost w) c s)).rest ≡ late_of (asks_with cost w (probe_ask c) s.rest.asks) s.rest.written
+unfolding command numbered late
+command_rest cost w c s some = rw some refl
+
+pub ends_command : (cost : Costs) (w : World) (c : ProbeCall) (s : S) (a b : AccessView) (st : Stop) → s.rest.asks ≡ a.asks → nat_lt s.units 1000000 ≡ true → a.end ≡ None
+    → b.asks.calls ≡ calls_after {T = ℕ} a (probe_ask c) (Err st) → StopsCalls w (a.asks.calls ++ probe_ask c ∷ []) b.lines st
+    → Left w b.lines st (with_rest s (late_of b.asks s.rest.written)) (command (late cost w) c s)
+ends_command cost w c s a b st same some none calls stops =
+    left_asked cost w (probe_ask c) s b.asks b.lines st _ (command_rest cost w c s some)
+    (subst (λ (x : Asks). StopsAt w x.calls (probe_ask c) b.lines b.asks.calls st) (sym same) (stops_at ℕ w a b (probe_ask c) st none calls stops))
+
+-- ---- what comes later
+
+-- Such lemmas name nothing that their conclusion does not determine, so no costs.
+no_cost : Costs
+no_cost t calls ask = record { before = 0; after = 0 }
+
+pub later_bind : {A B : Type 0} (w : World) (s : S) (out : Out Value Late A) (f : A × S → Out Value Late B) → After w s out → ((x : A × S) → After w x.1 (f x)) → After w s (out >>= f)
+later_bind w s (Ok x) f h k = record { so = later_on no_cost w _ _ _ h.so (k x).so }
+later_bind w s (Err e) f h k = record { so = h.so }
+
+pub later_cond : {A : Type 0} (w : World) (s : S) (c : Bool) (x y : Out Value Late A) → After w s x → After w s y → After w s (cond c x y)
+later_cond w s true x y h k = h
+later_cond w s false x y h k = k
+
+pub later_ok : {A : Type 0} (w : World) (s : S) (x : A) → After w s (Ok (x, s))
+later_ok w s x = record { so = later_same no_cost w s.rest }
+
+pub later_halt : {A : Type 0} (w : World) (s : S) (e : Over) → After {B = A} w s (Err (e, s))
+later_halt w s e = record { so = later_same no_cost w s.rest }
+
+-- an end goes on outwards
+pub ends_on : {A B : Type 0} (w : World) (lines : ℕ) (e : End) (now : S) (out : Out Value Late A) (f : A × S → Out Value Late B) → EndsLate w lines e now out → ((x : A × S) → After w x.1 (f x)) → EndsLate w lines e now (out >>= f)
+ends_on w lines (end.Halted cause) now out f h k = ap (λ o. o >>= f) h
+ends_on w lines (end.Stopped s) now (Ok x) f h k = record { later = later_on no_cost w _ _ _ h.later (k x).so; first = h.first }
+ends_on w lines (end.Stopped s) now (Err e) f h k = record { later = h.later; first = h.first }
+ends_on w lines end.WriteFault now (Ok x) f h k = later_on no_cost w _ _ _ h (k x).so
+ends_on w lines end.WriteFault now (Err e) f h k = h
+
+-- the access stopped before this
+pub stops_before : {B : Type 0} (w : World) (lines : ℕ) (e : End) (s : S) (b : Asks) (out : Out Value Late B) → After w s out → b.calls ≡ s.rest.asks.calls → IsStopAt w s.rest.asks.calls lines e → EndsLate w lines e (with_rest s (late_of b s.rest.written)) out
+stops_before w lines (end.Halted cause) s b out h calls stops = absurd stops
+stops_before w lines (end.Stopped st) s b out h calls stops = record {
+  later = later_on no_cost w (late_of b s.rest.written) s.rest _ (later_still no_cost w (late_of b s.rest.written) s.rest (sym calls) refl) h.so;
+  first = subst (λ c. AtCut st (λ r. stop w c ≡ Some (lines + 1))) (sym calls) stops.so;
+}
+stops_before w lines end.WriteFault s b out h calls stops = absurd stops
+
+-- one line for each definition
+pub later_use : (cost : Costs) (w : World) (v : Value) (s : S) → After w s (use_now (late cost w) v s)
+later_use cost w v s = record { so = (g.goes_use (late cost w) (Later w) (steady_late cost w) v s).so }
+
+pub later_both : (cost : Costs) (w : World) (v u : Value) (s : S) → After w s (both (late cost w) v u s)
+later_both cost w v u s = record { so = (g.goes_both (late cost w) (Later w) (steady_late cost w) v u s).so }
+
+pub later_global : (cost : Costs) (w : World) (name : List ℕ) (s : S) → After w s (global (late cost w) name s)
+later_global cost w name s = record { so = (g.goes_global (late cost w) (Later w) (steady_late cost w) name s).so }
+
+pub later_ask : (cost : Costs) (w : World) (u : AccessUnit) (forgive : Bool) (s : S) → After w s (ask (late cost w) u forgive s)
+later_ask cost w u forgive s = record { so = (g.goes_ask (late cost w) (Later w) (steady_late cost w) u forgive s).so }
+
+pub later_port_with : (cost : Costs) (w : World) (a e : ℕ) (s : S) → After w s (port_with (late cost w) a e s)
+unfolding port_with
+later_port_with cost w a e s = later_bind w s _ _ (later_global cost w (codes "__dp") s) (λ d. later_ok w d.1 _)
+
+pub later_port_from : (cost : Costs) (w : World) (a : ℕ) (s : S) → After w s (port_from (late cost w) a s)
+unfolding port_from
+later_port_from cost w a s = later_bind w s _ _ (later_global cost w (codes "__errorcontrol") s) (λ e. later_port_with cost w a e.0 e.1)
+
+pub later_low_and_high : (cost : Costs) (w : World) (low high : Value) (s : S) → After w s (low_and_high (late cost w) low high s)
+later_low_and_high cost w low high s = record { so = (g.goes_low_and_high (late cost w) (Later w) (steady_late cost w) low high s).so }
+
+pub later_second_half : (cost : Costs) (w : World) (read : Bool) (p : Port) (address n : ℕ) (low : Value) (s : S) → After w s (second_half (late cost w) read p address n low s)
+later_second_half cost w read p address n low s = record { so = (g.goes_second_half (late cost w) (Later w) (steady_late cost w) read p address n low s).so }
+
+pub later_memory_at : (cost : Costs) (w : World) (size : ℕ) (read : Bool) (address n : ℕ) (p : Port) (s : S) → After w s (memory_at (late cost w) size read address n p s)
+later_memory_at cost w size read address n p s = record { so = (g.goes_memory_at (late cost w) (Later w) (steady_late cost w) size read address n p s).so }
+
+pub later_ap_at : (cost : Costs) (w : World) (read : Bool) (addr n : ℕ) (p : Port) (s : S) → After w s (ap_at (late cost w) read addr n p s)
+later_ap_at cost w read addr n p s = record { so = (g.goes_ap_at (late cost w) (Later w) (steady_late cost w) read addr n p s).so }
+
+pub later_dp_at : (cost : Costs) (w : World) (read : Bool) (addr n dp : ℕ) (s : S) → After w s (dp_at (late cost w) read addr n dp s)
+later_dp_at cost w read addr n dp s = record { so = (g.goes_dp_at (late cost w) (Later w) (steady_late cost w) read addr n dp s).so }
+
+pub later_abort_at : (cost : Costs) (w : World) (n dp : ℕ) (s : S) → After w s (abort_at (late cost w) n dp s)
+later_abort_at cost w n dp s = record { so = (g.goes_abort_at (late cost w) (Later w) (steady_late cost w) n dp s).so }
+
+pub ruleset goes_on = (ends_on, later_bind, later_cond, later_ok, later_halt, later_use, later_global, later_ask, later_port_with, later_port_from, later_low_and_high, later_second_half, later_memory_at, later_ap_at, later_dp_at, later_abort_at, goes_trans, goes_same, left_on)
+
+-- the number of a variable that is used
+global_is : (cost : Costs) (w : World) (name : List ℕ) (s : S) → global (late cost w) name s ≡ use_now (late cost w) (unwrap_or (value_named s.globals name) (Number 0)) s
+unfolding global given missing late
+global_is cost w name s = one (value_named s.globals name)
+  where
+    one : (o : Option Value) → (given (late cost w) ((late cost w).number 0) o s >>= λ v. use_now (late cost w) v.0 v.1) ≡ use_now (late cost w) (unwrap_or o (Number 0)) s
+    one None = refl
+    one (Some v) = refl
+
+pub global_gives : (cost : Costs) (w : World) (lines : ℕ) (name : List ℕ) (v : Value) (s now : S) (result : Result ℕ End) → v ≡ unwrap_or (value_named s.globals name) (Number 0) → MeansLate w lines result now (use_now (late cost w) v s) → MeansLate w lines result now (global (late cost w) name s)
+global_gives cost w lines name v s now result is h = subst (λ o. MeansLate w lines result now o) (ap (λ x. use_now (late cost w) x s) is ∙ sym (global_is cost w name s)) h
+
+pub ruleset leaves = (goes_same, left_on, stopped_end, stopped_ended)
+
+pub both_first : (cost : Costs) (w : World) (lines : ℕ) (left right : Value) (s now : S) (e : End) → EndsLate w lines e now (use_now (late cost w) left s) → EndsLate w lines e now (both (late cost w) left right s)
+unfolding both
+both_first cost w lines left right s now e h = ends_on w lines e now (use_now (late cost w) left s) _ h (λ p. later_bind w p.1 (use_now (late cost w) right p.1) _ (later_use cost w right p.1) (λ q. later_ok w q.1 _))
+
+-- the first unit of a 64-bit call, and the second
+pub two_first : (cost : Costs) (w : World) (lines : ℕ) (e : End) (read : Bool) (p : Port) (address n : ℕ) (u : AccessUnit) (s now : S) → u ≡ memory_unit 4 read p.ap address n → EndsLate w lines e now (ask (late cost w) u p.forgive s)
+    → EndsLate w lines e now (two_units (late cost w) read p address n s)
+unfolding two_units
+two_first cost w lines e read p address n u s now is h =
+    ends_on w lines e now (ask (late cost w) (memory_unit 4 read p.ap address n) p.forgive s) _ (subst (λ x. EndsLate w lines e now (ask (late cost w) x p.forgive s)) is h)
+    (λ low. later_second_half cost w read p address n low.0 low.1)
+
+pub second_first : (cost : Costs) (w : World) (lines : ℕ) (e : End) (read : Bool) (p : Port) (address n : ℕ) (low : Value) (u : AccessUnit) (s now : S) → u ≡ memory_unit 4 read p.ap (address + 4) (n / 2 ^ 32) → EndsLate w lines e now (ask (late cost w) u p.forgive s)
+    → EndsLate w lines e now (second_half (late cost w) read p address n low s)
+unfolding second_half
+second_first cost w lines e read p address n low u s now is h =
+    ends_on w lines e now (ask (late cost w) (memory_unit 4 read p.ap (address + 4) (n / 2 ^ 32)) p.forgive s) _ (subst (λ x. EndsLate w lines e now (ask (late cost w) x p.forgive s)) is h)
+    (λ high. later_cond w high.1 read _ _ (later_low_and_high cost w low high.0 high.1) (later_ok w high.1 _))
+
+pub second_write : (cost : Costs) (w : World) (read : Bool) (p : Port) (address n : ℕ) (low v : Value) (u : AccessUnit) (s now : S) → read ≡ false → u ≡ memory_unit 4 read p.ap (address + 4) (n / 2 ^ 32) → ask (late cost w) u p.forgive s ≡ Ok (v, now)
+    → second_half (late cost w) read p address n low s ≡ Ok (Number 0, now)
+unfolding second_half late
+second_write cost w read p address n low v u s now written is h =
+    ap (λ x. ask (late cost w) x p.forgive s >>= λ high. cond read (low_and_high (late cost w) low high.0 high.1) (Ok (Number 0, high.1))) (sym is)
+    ∙ ap (λ o. o >>= λ high. cond read (low_and_high (late cost w) low high.0 high.1) (Ok (Number 0, high.1))) h
+    ∙ ap (λ b. cond b (low_and_high (late cost w) low v now) (Ok (Number 0, now))) written
+
+pub abort_first : (cost : Costs) (w : World) (lines : ℕ) (e : End) (n : ℕ) (s now : S) → EndsLate w lines e now (global (late cost w) (codes "__dp") s) → EndsLate w lines e now (zero_of (late cost w) (abort (late cost w) n s))
+unfolding abort zero_of
+abort_first cost w lines e n s now h =
+    ends_on w lines e now (global (late cost w) (codes "__dp") s >>= λ d. abort_at (late cost w) n d.0 d.1) _
+    (ends_on w lines e now (global (late cost w) (codes "__dp") s) _ h (λ d. later_abort_at cost w n d.0 d.1))
+    (λ x. later_ok w x.1 _)
+
+-- a write has 0, and so has a command whose result is dropped
+pub zero_on : (cost : Costs) (w : World) (v : Value) (out : Out Value Late Value) (now : S) → out ≡ Ok (v, now) → zero_of (late cost w) out ≡ Ok (Number 0, now)
+unfolding zero_of late
+zero_on cost w v out now h = ap (λ o. o >>= λ x. Ok (Number 0, x.1)) h
+
+pub write_on : (cost : Costs) (w : World) (read : Bool) (v : Value) (out : Out Value Late Value) (now : S) → read ≡ false → out ≡ Ok (v, now) → if_read (late cost w) read out ≡ Ok (Number 0, now)
+unfolding if_read
+write_on cost w true v out now is h = absurd cc
+write_on cost w false v out now is h = zero_on cost w v out now h
+
+-- a small ruleset for exits: the search gives up where it has many rules
+pub ruleset exits = (ends_on, later_bind, later_ok, later_use)

@@ -1,0 +1,124 @@
+//! Calls that write lines.
+ghost use Rattle.std.specs.Prelude.{◌≡◌, ℕ, Bool, List, Option, None, IfOk, drop, length, slice_index};
+ghost use Rattle.probe_core.specs.Bench.{BenchState};
+ghost use Rattle.access_calls.specs.GoesOn.{GoesOn};
+ghost use Rattle.access_calls.specs.Left.{IsLeft};
+ghost use Rattle.access_calls.specs.Reported.{world_from};
+ghost use Rattle.sequence_rules.specs.Calls as c;
+ghost use Rattle.sequence_rules.specs.Late.{late};
+ghost use Rattle.sequence_rules.specs.Lines.{message_line};
+ghost use Rattle.function_calls.specs.Ends.{Counted, EndIs, HasSinkCause, MeansLate};
+ghost use Rattle.sequence_rules.specs.Known.{Knows};
+ghost use Rattle.function_calls.specs.Held.{seen};
+ghost use Rattle.function_calls.specs.Kinds.{line_done};
+
+use crate::end::End;
+use crate::held::Held;
+use crate::kinds::LineKind;
+use crate::performing::number_at;
+use crate::uses::confirm;
+use access_calls::{Access, Stop};
+use dap_base::{Failed, OutOfMemory, Sink};
+use sequence_rules::{MOST_LINES, load_line, message_line, query_line, value_line};
+use std::alloc::Global;
+use target_calls::Value;
+use target_machine::HaltCause;
+use text_lines::Line;
+
+// Makes all that was asked, writes a line, and then this is the value, unless it would be line 100,001.
+#[tactic(auto, unfolding(sequence_rules::specs::Calls::line_result), using(crate::proofs::LineLemmas::lines))]
+fn write_line<A: Access, K: Sink>(
+    line: Result<Line, OutOfMemory>,
+    value: u64,
+    held: &mut Held,
+    access: &mut A,
+    sink: &mut K,
+) -> Result<Value, End>
+    requires open { (A.reported access.old).end ≡ None }
+    requires counted { held.old.units ≡ length (A.reported access.old).asks.calls }
+    ensures gives { (m : BenchState) (answered : Option ℕ) (known : Bool) (text : List ℕ) → IfOk line (λ l. l ≡ text) → A.begun access.old m → IsLeft (A.reported access.new) answered → Knows known (K.written sink.old)
+        → MeansLate (world_from m answered) (A.reported access.new).lines result (seen known held.new (A.reported access.new).asks (K.written sink.new)) (c.line_result (late A.cost (world_from m answered)) text value (seen known held.old (A.reported access.old).asks (K.written sink.old))) }
+    ensures knows { (known : Bool) → Knows known (K.written sink.old) → Knows known (K.written sink.new) }
+    ensures counted { Counted result held.new.units (A.reported access.new).asks.calls }
+    ensures end { EndIs result (A.reported access.new).end }
+    ensures cause { HasSinkCause result (K.faults sink.old) (K.faults sink.new) }
+    ensures on { (m : BenchState) → A.begun access.old m → A.begun access.new m }
+    ensures left { (answered : Option ℕ) → IsLeft (A.reported access.new) answered → IsLeft (A.reported access.old) answered }
+    ensures identity { A.identity access.new ≡ A.identity access.old }
+    ensures goes { GoesOn (A.reported access.old) (A.reported access.new) }
+{
+    if held.lines >= MOST_LINES {
+        return Err(End::Halted(HaltCause::MessageLimit));
+    }
+    let Ok(line) = line else {
+        return Err(End::Stopped(Stop::OutOfMemory));
+    };
+    match confirm(access) {
+        Ok(()) => {}
+        Err(end) => return Err(end),
+    }
+    match sink.put(line.as_bytes()) {
+        Ok(()) => {
+            held.lines += 1;
+            Ok(Value::Number(value))
+        }
+        Err(Failed) => Err(End::WriteFault),
+    }
+}
+
+// The line of `Message`: the numbers after the first are for the conversions of its format.
+fn message_of(alloc: Global, text: &str, numbers: &[u64]) -> Result<Line, OutOfMemory>
+    ensures { IfOk result (λ line. line ≡ message_line (slice_index numbers.now 0) text.now (drop 1 numbers.now)) }
+{
+    let more = if numbers.is_empty() {
+        numbers
+    } else {
+        &numbers[1..]
+    };
+    message_line(alloc, number_at(numbers, 0), text, more)
+}
+
+// A call that writes a line of this kind.
+pub(crate) fn write_line_of<A: Access, K: Sink>(
+    kind: LineKind,
+    text: &str,
+    numbers: &[u64],
+    alloc: Global,
+    held: &mut Held,
+    access: &mut A,
+    sink: &mut K,
+) -> Result<Value, End>
+    requires open { (A.reported access.old).end ≡ None }
+    requires counted { held.old.units ≡ length (A.reported access.old).asks.calls }
+    ensures gives { (m : BenchState) (answered : Option ℕ) (known : Bool) → A.begun access.old m → IsLeft (A.reported access.new) answered → Knows known (K.written sink.old)
+        → MeansLate (world_from m answered) (A.reported access.new).lines result (seen known held.new (A.reported access.new).asks (K.written sink.new)) (line_done (late A.cost (world_from m answered)) kind text.now numbers.now (seen known held.old (A.reported access.old).asks (K.written sink.old))) }
+    ensures knows { (known : Bool) → Knows known (K.written sink.old) → Knows known (K.written sink.new) }
+    ensures counted { Counted result held.new.units (A.reported access.new).asks.calls }
+    ensures end { EndIs result (A.reported access.new).end }
+    ensures cause { HasSinkCause result (K.faults sink.old) (K.faults sink.new) }
+    ensures on { (m : BenchState) → A.begun access.old m → A.begun access.new m }
+    ensures left { (answered : Option ℕ) → IsLeft (A.reported access.new) answered → IsLeft (A.reported access.old) answered }
+    ensures identity { A.identity access.new ≡ A.identity access.old }
+    ensures goes { GoesOn (A.reported access.old) (A.reported access.new) }
+{
+    let first = number_at(numbers, 0);
+    let second = number_at(numbers, 1);
+    match kind {
+        LineKind::Message => {
+            let line = message_of(alloc, text, numbers);
+            write_line(line, 0, held, access, sink)
+        }
+        LineKind::Query => {
+            let line = query_line(alloc, first, text, second);
+            write_line(line, second, held, access, sink)
+        }
+        LineKind::Value => {
+            let line = value_line(alloc, text, first);
+            write_line(line, first, held, access, sink)
+        }
+        LineKind::Load => {
+            let line = load_line(alloc, text);
+            write_line(line, 0, held, access, sink)
+        }
+    }
+}

@@ -1,0 +1,163 @@
+//! Calls that are commands of the probe.
+ghost use Rattle.std.specs.Prelude.{◌≡◌, ℕ, List, Option, None, length};
+ghost use Rattle.probe_core.specs.Bench.{BenchState};
+ghost use Rattle.access_calls.specs.GoesOn.{GoesOn};
+ghost use Rattle.access_calls.specs.Left.{IsLeft};
+ghost use Rattle.access_calls.specs.Reported.{world_from};
+ghost use Rattle.sequence_rules.specs.Calls as c;
+ghost use Rattle.sequence_rules.specs.Late.{late};
+ghost use Rattle.function_calls.specs.Ends.{Counted, EndIs, MeansLate, NoWriteFault};
+ghost use Rattle.function_calls.specs.Held.{state_of};
+
+use crate::asking::{command, command_without_result};
+use crate::end::End;
+use crate::held::Held;
+use crate::ports::use_debug_port;
+use access_calls::Access;
+use sequence_rules::{low_bits, pins_command};
+use target_calls::Value;
+use target_machine::{HaltCause, ProbeCall};
+
+// `DAP_WriteABORT`, on debug port 0 alone.
+#[tactic(auto, unfolding(sequence_rules::specs::Calls::abort_at, sequence_rules::specs::Calls::zero_of))]
+fn abort_at<A: Access>(value: u64, dp: u64, held: &mut Held, access: &mut A) -> Result<Value, End>
+    requires open { (A.reported access.old).end ≡ None }
+    requires counted { held.old.units ≡ length (A.reported access.old).asks.calls }
+    ensures gives { (m : BenchState) (answered : Option ℕ) (written : Option (List ℕ)) → A.begun access.old m → IsLeft (A.reported access.new) answered
+        → MeansLate (world_from m answered) (A.reported access.new).lines result (state_of held.new (A.reported access.new).asks written) (c.zero_of (late A.cost (world_from m answered)) (c.abort_at (late A.cost (world_from m answered)) value dp (state_of held.old (A.reported access.old).asks written))) }
+    ensures counted { Counted result held.new.units (A.reported access.new).asks.calls }
+    ensures end { EndIs result (A.reported access.new).end }
+    ensures cause { NoWriteFault result }
+    ensures on { (m : BenchState) → A.begun access.old m → A.begun access.new m }
+    ensures left { (answered : Option ℕ) → IsLeft (A.reported access.new) answered → IsLeft (A.reported access.old) answered }
+    ensures identity { A.identity access.new ≡ A.identity access.old }
+    ensures goes { GoesOn (A.reported access.old) (A.reported access.new) }
+{
+    if dp != 0 {
+        return Err(End::Halted(HaltCause::Unsupported));
+    }
+    let call = ProbeCall::Abort((value % 0x1_0000_0000) as u32);
+    command_without_result(call, held, access)
+}
+
+// `DAP_WriteABORT`.
+#[tactic(auto, unfolding(sequence_rules::specs::Calls::abort, sequence_rules::specs::Calls::zero_of), using(crate::proofs::Leaves::goes_on))]
+pub(crate) fn abort<A: Access>(value: u64, held: &mut Held, access: &mut A) -> Result<Value, End>
+    requires open { (A.reported access.old).end ≡ None }
+    requires counted { held.old.units ≡ length (A.reported access.old).asks.calls }
+    ensures gives { (m : BenchState) (answered : Option ℕ) (written : Option (List ℕ)) → A.begun access.old m → IsLeft (A.reported access.new) answered
+        → MeansLate (world_from m answered) (A.reported access.new).lines result (state_of held.new (A.reported access.new).asks written) (c.zero_of (late A.cost (world_from m answered)) (c.abort (late A.cost (world_from m answered)) value (state_of held.old (A.reported access.old).asks written))) }
+    ensures counted { Counted result held.new.units (A.reported access.new).asks.calls }
+    ensures end { EndIs result (A.reported access.new).end }
+    ensures cause { NoWriteFault result }
+    ensures on { (m : BenchState) → A.begun access.old m → A.begun access.new m }
+    ensures left { (answered : Option ℕ) → IsLeft (A.reported access.new) answered → IsLeft (A.reported access.old) answered }
+    ensures identity { A.identity access.new ≡ A.identity access.old }
+    ensures goes { GoesOn (A.reported access.old) (A.reported access.new) }
+{
+    match use_debug_port(held, access) {
+        Ok(dp) => abort_at(value, dp, held, access),
+        Err(end) => Err(end),
+    }
+}
+
+// `DAP_Delay`, of at most 60,000,000 microseconds.
+#[tactic(auto, unfolding(sequence_rules::specs::Calls::delay, sequence_rules::specs::Calls::zero_of))]
+pub(crate) fn delay<A: Access>(micros: u64, held: &mut Held, access: &mut A) -> Result<Value, End>
+    requires open { (A.reported access.old).end ≡ None }
+    requires counted { held.old.units ≡ length (A.reported access.old).asks.calls }
+    ensures gives { (m : BenchState) (answered : Option ℕ) (written : Option (List ℕ)) → A.begun access.old m → IsLeft (A.reported access.new) answered
+        → MeansLate (world_from m answered) (A.reported access.new).lines result (state_of held.new (A.reported access.new).asks written) (c.zero_of (late A.cost (world_from m answered)) (c.delay (late A.cost (world_from m answered)) micros (state_of held.old (A.reported access.old).asks written))) }
+    ensures counted { Counted result held.new.units (A.reported access.new).asks.calls }
+    ensures end { EndIs result (A.reported access.new).end }
+    ensures cause { NoWriteFault result }
+    ensures on { (m : BenchState) → A.begun access.old m → A.begun access.new m }
+    ensures left { (answered : Option ℕ) → IsLeft (A.reported access.new) answered → IsLeft (A.reported access.old) answered }
+    ensures identity { A.identity access.new ≡ A.identity access.old }
+    ensures goes { GoesOn (A.reported access.old) (A.reported access.new) }
+{
+    if micros > 60_000_000 {
+        return Err(End::Halted(HaltCause::ArgumentOutOfRange));
+    }
+    command_without_result(ProbeCall::Delay(micros as u32), held, access)
+}
+
+// `DAP_SWJ_Clock`, of 1 to 2^32 - 1 hertz.
+#[tactic(auto, unfolding(sequence_rules::specs::Calls::clock, sequence_rules::specs::Calls::zero_of))]
+pub(crate) fn set_clock<A: Access>(
+    hertz: u64,
+    held: &mut Held,
+    access: &mut A,
+) -> Result<Value, End>
+    requires open { (A.reported access.old).end ≡ None }
+    requires counted { held.old.units ≡ length (A.reported access.old).asks.calls }
+    ensures gives { (m : BenchState) (answered : Option ℕ) (written : Option (List ℕ)) → A.begun access.old m → IsLeft (A.reported access.new) answered
+        → MeansLate (world_from m answered) (A.reported access.new).lines result (state_of held.new (A.reported access.new).asks written) (c.zero_of (late A.cost (world_from m answered)) (c.clock (late A.cost (world_from m answered)) hertz (state_of held.old (A.reported access.old).asks written))) }
+    ensures counted { Counted result held.new.units (A.reported access.new).asks.calls }
+    ensures end { EndIs result (A.reported access.new).end }
+    ensures cause { NoWriteFault result }
+    ensures on { (m : BenchState) → A.begun access.old m → A.begun access.new m }
+    ensures left { (answered : Option ℕ) → IsLeft (A.reported access.new) answered → IsLeft (A.reported access.old) answered }
+    ensures identity { A.identity access.new ≡ A.identity access.old }
+    ensures goes { GoesOn (A.reported access.old) (A.reported access.new) }
+{
+    if hertz == 0 || hertz > 0xFFFF_FFFF {
+        return Err(End::Halted(HaltCause::ArgumentOutOfRange));
+    }
+    command_without_result(ProbeCall::Clock(hertz as u32), held, access)
+}
+
+// `DAP_SWJ_Pins`, with a wait of 32 bits.
+#[tactic(auto, unfolding(sequence_rules::specs::Calls::pins, sequence_rules::specs::Calls::or_halt))]
+pub(crate) fn set_pins<A: Access>(
+    output: u64,
+    select: u64,
+    wait: u64,
+    held: &mut Held,
+    access: &mut A,
+) -> Result<Value, End>
+    requires open { (A.reported access.old).end ≡ None }
+    requires counted { held.old.units ≡ length (A.reported access.old).asks.calls }
+    ensures gives { (m : BenchState) (answered : Option ℕ) (written : Option (List ℕ)) → A.begun access.old m → IsLeft (A.reported access.new) answered
+        → MeansLate (world_from m answered) (A.reported access.new).lines result (state_of held.new (A.reported access.new).asks written) (c.pins (late A.cost (world_from m answered)) output select wait (state_of held.old (A.reported access.old).asks written)) }
+    ensures counted { Counted result held.new.units (A.reported access.new).asks.calls }
+    ensures end { EndIs result (A.reported access.new).end }
+    ensures cause { NoWriteFault result }
+    ensures on { (m : BenchState) → A.begun access.old m → A.begun access.new m }
+    ensures left { (answered : Option ℕ) → IsLeft (A.reported access.new) answered → IsLeft (A.reported access.old) answered }
+    ensures identity { A.identity access.new ≡ A.identity access.old }
+    ensures goes { GoesOn (A.reported access.old) (A.reported access.new) }
+{
+    match pins_command(output, select, wait) {
+        Ok(call) => command(call, held, access),
+        Err(cause) => Err(End::Halted(cause)),
+    }
+}
+
+// `DAP_SWJ_Sequence`, of 1 to 64 bits.
+#[tactic(auto, unfolding(sequence_rules::specs::Calls::line_bits, sequence_rules::specs::Calls::zero_of))]
+pub(crate) fn send_bits<A: Access>(
+    count: u64,
+    bits: u64,
+    held: &mut Held,
+    access: &mut A,
+) -> Result<Value, End>
+    requires open { (A.reported access.old).end ≡ None }
+    requires counted { held.old.units ≡ length (A.reported access.old).asks.calls }
+    ensures gives { (m : BenchState) (answered : Option ℕ) (written : Option (List ℕ)) → A.begun access.old m → IsLeft (A.reported access.new) answered
+        → MeansLate (world_from m answered) (A.reported access.new).lines result (state_of held.new (A.reported access.new).asks written) (c.zero_of (late A.cost (world_from m answered)) (c.line_bits (late A.cost (world_from m answered)) count bits (state_of held.old (A.reported access.old).asks written))) }
+    ensures counted { Counted result held.new.units (A.reported access.new).asks.calls }
+    ensures end { EndIs result (A.reported access.new).end }
+    ensures cause { NoWriteFault result }
+    ensures on { (m : BenchState) → A.begun access.old m → A.begun access.new m }
+    ensures left { (answered : Option ℕ) → IsLeft (A.reported access.new) answered → IsLeft (A.reported access.old) answered }
+    ensures identity { A.identity access.new ≡ A.identity access.old }
+    ensures goes { GoesOn (A.reported access.old) (A.reported access.new) }
+{
+    if count == 0 || count > 64 {
+        return Err(End::Halted(HaltCause::ArgumentOutOfRange));
+    }
+    let count = count as u8;
+    let bits = low_bits(count, bits);
+    command_without_result(ProbeCall::Line { count, bits }, held, access)
+}

@@ -1,0 +1,4 @@
+pub mod RecordLemmas
+pub mod PlaceLemmas
+pub mod SplitLemmas
+pub mod TextLemmas

@@ -1,5 +1,0 @@
-use Rattle.sequence_code.proofs.SetLaws as lemmas
-use Rattle.sequence_code.proofs.laws.one_reading.Goals as goal
-
-pub returns : goal.returns
-returns c = lemmas.one_set

@@ -1,0 +1,53 @@
+//! Variables and their values, in a list in which the newest is the last.
+
+ghost use Rattle.std.specs.Prelude.{◌≡◌};
+ghost use Rattle.sequence_rules.specs.Variables.{has_in, newest_in, set_newest};
+
+use dap_base::NameText;
+
+/// A variable and its value.
+#[derive(Debug, Drop)]
+pub struct Binding<V> {
+    pub name: NameText,
+    pub value: V,
+}
+
+/// Whether a variable has the name.
+pub fn has_in<V>(bindings: &[Binding<V>], name: &str) -> bool
+    ensures { result ≡ has_in bindings.now name.now }
+{
+    for binding in bindings {
+        if name == binding.name.as_str() {
+            return true;
+        }
+    }
+    false
+}
+
+/// The value of the newest variable with the name, sought from the last. `None` exactly where none has it.
+pub fn newest_in<V: Copy>(bindings: &[Binding<V>], name: &str) -> Option<V>
+    ensures { result ≡ newest_in bindings.now name.now }
+{
+    let mut index = bindings.len();
+    while index > 0 {
+        index -= 1;
+        if name == bindings[index].name.as_str() {
+            return Some(bindings[index].value);
+        }
+    }
+    None
+}
+
+/// Gives the newest variable with the name this value. Where none has it, nothing changes.
+pub fn set_newest<V: Copy>(bindings: &mut [Binding<V>], name: &str, value: V)
+    ensures { bindings.new ≡ set_newest bindings.old name.now value }
+{
+    let mut index = bindings.len();
+    while index > 0 {
+        index -= 1;
+        if name == bindings[index].name.as_str() {
+            bindings[index].value = value;
+            return;
+        }
+    }
+}

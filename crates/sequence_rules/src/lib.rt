@@ -1,0 +1,25 @@
+//! What debug access sequences mean, as definitions over a machine of operations, and the code that runners share.
+#![tactic(auto)]
+
+mod arguments;
+mod bindings;
+mod bounds;
+mod globals;
+pub mod laws;
+mod lines;
+mod loops;
+mod polls;
+mod ports;
+mod sequences;
+mod units;
+
+pub use arguments::text_of;
+pub use bindings::{Binding, has_in, newest_in, set_newest};
+pub use bounds::{MOST_CALLS_DEEP, MOST_LINES, MOST_STEPS, MOST_UNITS};
+pub use globals::Globals;
+pub use lines::{load_line, message_line, query_line, value_line};
+pub use loops::turn_count;
+pub use polls::poll_of;
+pub use ports::{AP_PLACE, CONTROL_PLACE, DP_PLACE, Port};
+pub use sequences::steps_of;
+pub use units::{ap_unit, dp_unit, low_bits, memory_port, memory_unit, pins_command};

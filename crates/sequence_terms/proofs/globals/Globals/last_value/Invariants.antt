@@ -1,4 +1,0 @@
-use Rattle.sequence_terms.proofs.globals.Globals.last_value.Given as goal
-
-abbrev pub decreases-loop-index : goal.decreases-loop-index
-decreases-loop-index g l = l.index

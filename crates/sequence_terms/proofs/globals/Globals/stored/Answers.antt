@@ -1,6 +1,0 @@
-use Rattle.std.proofs.Common.{◌∙◌}
-use Rattle.sequence_terms.proofs.GlobalLemmas.{value_found}
-use Rattle.sequence_terms.proofs.globals.Globals.stored.Goals as goal
-
-pub returns : goal.returns
-returns g c = c.copied.ensures ∙ c.get.ensures.value ∙ value_found c.args.name.now c.args.self.now.values.entries

@@ -1,5 +1,0 @@
-use Rattle.sequence_terms.proofs.Cuts.{is_cut}
-use Rattle.sequence_terms.proofs.laws.cuts_are_fronts.Goals as goal
-
-pub returns : goal.returns
-returns c = λ p t written. is_cut p t written

@@ -1,5 +1,0 @@
-use Rattle.sequence_terms.proofs.Made.{late_pair}
-use Rattle.sequence_terms.proofs.laws.late_values_change_nothing.Goals as goal
-
-pub returns : goal.returns
-returns c = λ cost w p written. late_pair cost w p written

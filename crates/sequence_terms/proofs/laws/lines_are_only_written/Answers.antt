@@ -1,5 +1,0 @@
-use Rattle.sequence_terms.proofs.Writing.{only_written}
-use Rattle.sequence_terms.proofs.laws.lines_are_only_written.Goals as goal
-
-pub returns : goal.returns
-returns c = λ cost w p a b. only_written cost w p a b

@@ -1,5 +1,0 @@
-use Rattle.sequence_terms.proofs.Watching.{watched_same}
-use Rattle.sequence_terms.proofs.laws.watched_is_the_meaning.Goals as goal
-
-pub returns : goal.returns
-returns c = λ w p written. watched_same w p written

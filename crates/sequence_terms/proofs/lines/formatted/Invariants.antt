@@ -1,9 +1,0 @@
-use Rattle.std.proofs.Common.{◌≡◌, ◌++◌, length}
-use Rattle.sequence_terms.specs.Lines.{formatted}
-use Rattle.sequence_terms.proofs.lines.formatted.Given as goal
-
-abbrev pub invariant-loop-left : goal.invariant-loop-left
-invariant-loop-left l = formatted (length l.fn.format) l.fn.format l.fn.numbers ≡ l.out.items ++ formatted l.left l.rest l.numbers
-
-abbrev pub decreases-loop-left : goal.decreases-loop-left
-decreases-loop-left l = l.left

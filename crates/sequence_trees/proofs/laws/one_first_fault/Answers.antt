@@ -1,0 +1,5 @@
+use Rattle.sequence_trees.proofs.SetLaws as lemmas
+use Rattle.sequence_trees.proofs.laws.one_first_fault.Goals as goal
+
+pub returns : goal.returns
+returns c = lemmas.one_fault

@@ -1,0 +1,33 @@
+//! Tries the tables of accesses that standard input names.
+#![tactic(auto)]
+
+mod access;
+mod copies;
+mod over;
+mod plans;
+mod stops;
+
+use access::AnyAccess;
+use copies::ScriptedAccess;
+use plans::Plans;
+use std::io;
+use std::io::ErrorKind;
+use stops::Stops;
+use test_words::try_table;
+
+fn main(rt: HostRuntime) -> io::Result<()> {
+    for line in rt.lines(rt.alloc()) {
+        let line = line?;
+        let name = line.as_str();
+        match name {
+            "plans" => try_table::<Plans>(&rt, name)?,
+            "packed" | "alone" | "bad_replies" | "openings" => {
+                try_table::<AnyAccess>(&rt, name)?
+            }
+            "stops" => try_table::<Stops>(&rt, name)?,
+            "copies" => try_table::<ScriptedAccess>(&rt, name)?,
+            _ => return Err(io::Error::from(ErrorKind::NotFound)),
+        }
+    }
+    Ok(())
+}

@@ -1,0 +1,24 @@
+//! Runs each worked job that standard input names, and compares what is written with the stored text; those after the word
+//! `failing` once for each call of an object, which fails; and those after the word `single` by the access that sends each
+//! register access by itself, and after the word `silent` over a bench that is not observable.
+#![tactic(auto)]
+
+use std::io;
+use test_support::{run_case, run_failing, run_silent, run_single};
+
+fn main(rt: HostRuntime) -> io::Result<()> {
+    for line in rt.lines(rt.alloc()) {
+        let line = line?;
+        let line = line.as_str();
+        if let Some(name) = line.strip_prefix("failing ") {
+            run_failing(&rt, name)?;
+        } else if let Some(name) = line.strip_prefix("single ") {
+            run_single(&rt, name)?;
+        } else if let Some(name) = line.strip_prefix("silent ") {
+            run_silent(&rt, name)?;
+        } else {
+            run_case(&rt, line)?;
+        }
+    }
+    Ok(())
+}
