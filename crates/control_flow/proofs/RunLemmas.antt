@@ -38,6 +38,7 @@ use Rattle.sequence_rules.specs.Steps.{run_of, start_state}
 use Rattle.sequence_rules.proofs.Goes as g
 use Rattle.sequence_rules.proofs.LateLemmas.{append_none, stop_here, steady_late}
 use Rattle.sequence_rules.proofs.Made.{no_cost, late_pair}
+use Rattle.sequels.proofs.LimitLemmas.{from_on, from_same}
 use Rattle.function_calls.specs.Ends.{Left}
 use Rattle.function_calls.specs.Held.{state_of}
 use Rattle.function_calls.specs.declared.held.Held.{Held}
@@ -56,6 +57,10 @@ Q = Out ℕ Now (Unit {0})
 numbers_marked : (w : World) (calls : List Ask) (bs : List (Binding Value)) → numbers_in w (settled_last calls) bs ≡ numbers_in w calls bs
 numbers_marked w calls [] = refl
 numbers_marked w calls (b ∷ bs) = let one = value_marked w calls b.value in let rest = numbers_marked w calls bs in cc (one, rest)
+
+-- nothing is added
+no_longer : (calls more all : List Ask) → all ≡ calls ++ more → more ≡ [] → length all ≤ length calls
+no_longer calls more all is none = (let long = ap length (is ∙ ap (λ (l : List Ask). calls ++ l) none ∙ append-nil calls) in omega (arith, long))
 
 some_none : (A : Type 0) (k : ℕ) (o : Option ℕ) → o ≡ Some k → o ≡ None → A
 some_none A k o e f = absurd (let z : Some k ≡ None = sym e ∙ f in cc)
@@ -255,10 +260,25 @@ module _ (w : World) where
 
   -- what was asked then, and the calls of the meaning
   shares : (out : L) (q : Q) (calls more : List Ask) → Pair w out q → (end_state out).rest.asks.calls ≡ calls ++ more → SharesCalls calls (outcome_of q)
-  shares out q calls more p is = let t = their_calls out q p in record { all = (end_state out).rest.asks.calls; more = more; over = t.more; ours = inl is; theirs = t.same; only = t.only }
+  shares out q calls more p is =
+      let t = their_calls out q p in
+      record {
+        all = (end_state out).rest.asks.calls;
+        ours = record { more = more; so = inl is };
+        theirs = record { more = t.more; so = inl t.same };
+        only = λ whole. no_longer (outcome_of q).calls t.more (end_state out).rest.asks.calls t.same (t.only whole);
+      }
 
   shares_settled : (out : L) (q : Q) (calls : List Ask) → Pair w out q → calls ≡ settled_last (end_state out).rest.asks.calls → SharesCalls calls (outcome_of q)
-  shares_settled out q calls p is = let t = their_calls out q p in record { all = (end_state out).rest.asks.calls; more = []; over = t.more; ours = inr is; theirs = t.same; only = t.only }
+  shares_settled out q calls p is =
+      let t = their_calls out q p in
+      let all = (end_state out).rest.asks.calls in
+      record {
+        all = calls;
+        ours = from_same calls;
+        theirs = from_on (outcome_of q).calls all calls (record { more = t.more; so = inl t.same }) (record { more = []; so = inr (is ∙ sym (append-nil (settled_last all))) });
+        only = λ whole. (let few = no_longer (outcome_of q).calls t.more all t.same (t.only whole) in let long = ap length is ∙ length_marked all in omega (arith, few, long));
+      }
 
   -- the code left the meaning in its middle
   is_cut_off : (lines : ℕ) (report : Report) (r : Ran) (now : State Value Late) (out : L) (q : Q) → Pair w out q → w.answered ≡ answered_cut report.cause lines → Left w lines (Cut report) now out → r.asks.calls ≡ now.rest.asks.calls → r.written ≡ now.rest.written

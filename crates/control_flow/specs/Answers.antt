@@ -1,5 +1,5 @@
 -- What a run answers.
-use Rattle.std.specs.Prelude.{◌≡◌, ◌⊎◌, ℕ, ◌+◌, List, [], ◌∷◌, ◌++◌, map, Option, Some, None}
+use Rattle.std.specs.Prelude.{◌≡◌, ◌⊎◌, ℕ, ◌+◌, ◌≤◌, List, length, Option, Some, None}
 use Rattle.dap_base.specs.Causes.{Rose}
 use Rattle.target_calls.specs.Asks.{settled_last}
 use Rattle.target_calls.specs.NeedPoints.{Asks, finished, needed}
@@ -14,6 +14,7 @@ use Rattle.sequence_rules.specs.Machine.{Out, end_state}
 use Rattle.sequence_rules.specs.Runs as runs
 use Rattle.sequence_rules.specs.Runs.{Outcome, units_of, variables_of}
 use Rattle.sequence_rules.specs.declared.bindings.Binding.{Binding}
+use Rattle.sequels.specs.Limits.{GoesOnFrom}
 use Rattle.access_calls.specs.declared.ended.Ended.{Ended}
 use Rattle.access_calls.specs.declared.ended.Ending.{Ending}
 use Rattle.access_calls.specs.declared.ended.Ending.TheVariants as e
@@ -55,15 +56,13 @@ IsWhole (runs.Faulted call) = ⊥
 IsWhole runs.Unanswered = ⊥
 IsWhole runs.Lost = ⊥
 
--- What was asked, except for a mark after the last call, and the calls of the outcome both come first in one list of calls. Where the
--- outcome is Done or Halted, that list is its calls.
+-- One list of calls goes on from what was asked, and from the calls of the outcome. Where the outcome is Done or Halted, that list has no
+-- more calls than it.
 pub record SharesCalls (asked : List Ask) (o : Outcome) : Type 0 where
   pub all : List Ask
-  pub more : List Ask
-  pub over : List Ask
-  pub ours : (all ≡ asked ++ more) ⊎ (asked ≡ settled_last all)
-  pub theirs : all ≡ o.calls ++ over
-  pub only : IsWhole o.ending → over ≡ []
+  pub ours : GoesOnFrom asked all
+  pub theirs : GoesOnFrom o.calls all
+  pub only : IsWhole o.ending → length all ≤ units_of o
 
 -- The run was left in its middle: what was written comes first in what the outcome writes, and its calls are among the first.
 pub record IsPart (o : Outcome) (r : Ran) : Type 0 where

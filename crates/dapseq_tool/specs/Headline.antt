@@ -13,7 +13,7 @@ use Rattle.access_calls.specs.declared.stop.Report.{Report}
 use Rattle.report_lines.specs.Endings.{ending_lines, shows_target}
 use Rattle.access_calls.specs.Opening.{HasBadReply}
 use Rattle.job_runs.specs.Ends.{HasGotResponse}
-use Rattle.job_runs.specs.Runs.{AccessKind, ComesTo, config_of, known_after, program_in}
+use Rattle.job_runs.specs.Runs.{AccessKind, ComesTo, config_of, known_after, task_in}
 use Rattle.job_runs.specs.Texts.{run_text}
 use Rattle.dapseq_tool.specs.Answers.{answer_status, answer_text, fault_text, head_text, run_status}
 use Rattle.dapseq_tool.specs.Asked.{Asks}
@@ -112,7 +112,7 @@ pub record After : Type 0 where
 -- a run of the job's probe.
 pub record IsRunTo (access : AccessKind) (run : Run) (before : Option (List ℕ)) (r : RunEnd) (a : After) (n : BenchState) : Type 0 where
   pub state : a.bench.state ≡ Some n
-  pub comes : ComesTo access (config_of run.valid.job.settings) run.valid.job.bench (program_in run.valid run.sequence) before (record { ended = r.ended; written = known_after before r.written; bench = n })
+  pub comes : ComesTo access (config_of run.valid.job.settings) run.valid.job.bench (task_in run.valid run.sequence) before (record { ended = r.ended; written = known_after before r.written; bench = n })
   pub text : IsWritten r.written a.written (run_text run.is_traced r.ended r.sent r.got run.valid.job n) (run_status r.ended.ending) a.end
   pub log : IsWholeRun (fresh_probe run.valid.job.bench) n
 

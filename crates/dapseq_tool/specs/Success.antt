@@ -7,7 +7,7 @@ use Rattle.probe_core.specs.Bench.{BenchState}
 use Rattle.job_runs.specs.Meant.{EndsAsMeant}
 use Rattle.access_calls.specs.Opening.{HasBadReply}
 use Rattle.job_runs.specs.Runs as runs
-use Rattle.job_runs.specs.Runs.{AccessKind, Left, NoneEnded, config_of, known_after, program_in, run_of}
+use Rattle.job_runs.specs.Runs.{AccessKind, Left, NoneEnded, config_of, known_after, run_of, task_in}
 use Rattle.job_runs.specs.Texts.{run_text}
 use Rattle.dapseq_tool.specs.Answers.{answer_status, answer_text, head_text, run_status}
 use Rattle.dapseq_tool.specs.Asked.{Asks}
@@ -38,7 +38,7 @@ pub record IsAnswered (call : Call) (number : Option ℕ) (answer : Answer) : Ty
 
 -- what is run, from where its access began
 abbrev pub run_from : AccessKind → Run → Option (List ℕ) → runs.Run
-run_from access run before = run_of access (config_of run.valid.job.settings) run.valid.job.bench (program_in run.valid run.sequence) before
+run_from access run before = run_of access (config_of run.valid.job.settings) run.valid.job.bench (task_in run.valid run.sequence) before
 
 -- what it left
 abbrev pub left_by : Option (List ℕ) → RunEnd → BenchState → Left

@@ -20,7 +20,7 @@ use Rattle.control_flow.specs.Answers.{IsWhole}
 use Rattle.sequence_rules.specs.Laws.{StopBy}
 use Rattle.sequence_rules.specs.Runs as runs
 use Rattle.sequence_rules.specs.Runs.{Ending}
-use Rattle.job_runs.proofs.FrontLemmas.{Meets, beyond, covers, goes_beyond, marked, within}
+use Rattle.job_runs.proofs.FrontLemmas.{Meets, beyond, covers, from_length, goes_beyond, within}
 
 -- ---- lists
 
@@ -49,9 +49,12 @@ ends_how w runs.Lost calls h = absurd h
 
 -- where more were asked, these stop there too
 pub asked_stop : (w : World) (asked calls : List Ask) → Meets asked calls → length calls < length asked → stop w calls ≡ Some (length calls) → stop w asked ≡ Some (length calls)
-asked_stop w asked calls (within rest is) more stops = absurd (let long = ap length is ∙ length-append asked rest in omega (arith, long, more))
-asked_stop w asked calls (beyond rest is) more stops = ap (stop w) is ∙ stop_more w calls rest (length calls) stops ∙ stops
-asked_stop w asked calls (marked over is) more stops = ap (stop w) is ∙ stop_marked w (calls ++ over) ∙ stop_more w calls over (length calls) stops ∙ stops
+asked_stop w asked calls (within g) more stops = absurd (let long = from_length asked calls g in omega (arith, long, more))
+asked_stop w asked calls (beyond g) more stops = by_mark g.so
+  where
+    by_mark : (asked ≡ calls ++ g.more) ⊎ (asked ≡ settled_last calls ++ g.more) → stop w asked ≡ Some (length calls)
+    by_mark (inl e) = ap (stop w) e ∙ stop_more w calls g.more (length calls) stops ∙ stops
+    by_mark (inr e) = ap (stop w) e ∙ stop_more w (settled_last calls) g.more (length calls) (stop_marked w calls ∙ stops) ∙ stop_marked w calls ∙ stops
 
 -- ---- journals
 

@@ -10,13 +10,13 @@ use Rattle.target_machine.specs.State.{Agree, TargetState}
 use Rattle.target_machine.specs.declared.unit.Call.{Call}
 use Rattle.probe_core.specs.Bench.{BenchState}
 use Rattle.probe_core.specs.Probe.{target_of}
-use Rattle.target_calls.specs.Asks.{settled_last}
+use Rattle.target_calls.specs.Asks.{is_settled, settled_last}
 use Rattle.target_calls.specs.Journal.{Entry, attempted_in, first_fault, is_unforgiven, lines_before, skipped_in, target_after}
 use Rattle.target_calls.specs.Weights.{performed, weight, weight_in}
 use Rattle.target_calls.proofs.EntryLemmas.{weight_append}
 use Rattle.target_calls.specs.World.{later_by}
 use Rattle.target_calls.specs.declared.calls.Ask.{Ask}
-use Rattle.target_calls.proofs.MarkLemmas.{length_marked}
+use Rattle.target_calls.proofs.MarkLemmas.{length_marked, marked_same}
 use Rattle.access_calls.specs.Growing.{GoesOnWith, IsAfter, JournalGrows, JournalSettles}
 use Rattle.access_calls.specs.Numbers.{HasNumbers, StopNumbers, attempted_by, lines_at, unit_at}
 use Rattle.access_calls.specs.Reported.{Beginning, start_of}
@@ -25,6 +25,8 @@ use Rattle.access_calls.specs.declared.stop.Report.{Report}
 use Rattle.access_calls.specs.declared.stop.StopCause.{StopCause}
 use Rattle.control_flow.specs.Answers.{IsWhole, SharesCalls}
 use Rattle.sequence_rules.specs.Runs.{Outcome}
+use Rattle.sequels.specs.Limits.{GoesOnFrom}
+use Rattle.sequels.proofs.LimitLemmas.{from_on, from_same}
 use Rattle.job_runs.specs.Runs.{HasMade}
 
 -- ---- lists
@@ -69,62 +71,150 @@ call_within [] i c is = absurd (cc)
 call_within (a ∷ xs) zero c is = omega arith
 call_within (a ∷ xs) (suc i) c is = (let less = call_within xs i c is in omega (arith, less))
 
--- only the last call is marked
-settled_after : (xs : List Ask) (y : Ask) (ys : List Ask) → settled_last (xs ++ y ∷ ys) ≡ xs ++ settled_last (y ∷ ys)
-settled_after [] y ys = refl
-settled_after (x ∷ []) y ys = refl
-settled_after (x ∷ z ∷ xs) y ys = ap (λ (l : List Ask). x ∷ l) (settled_after (z ∷ xs) y ys)
-
--- How what was asked and the calls of an outcome meet: one comes first in the other, or they are settled, with more calls between.
-pub data Meets (asked calls : List Ask) : Type 0 where
-  within : (rest : List Ask) → calls ≡ asked ++ rest → Meets asked calls
-  beyond : (rest : List Ask) → asked ≡ calls ++ rest → Meets asked calls
-  marked : (over : List Ask) → asked ≡ settled_last (calls ++ over) → Meets asked calls
-
-pub meets : (asked : List Ask) (o : Outcome) → SharesCalls asked o → Meets asked o.calls
-meets asked o s = by_ours s.ours
-  where
-    by_overlap : ((rest : List Ask) × (o.calls ≡ asked ++ rest)) ⊎ ((rest : List Ask) × (asked ≡ o.calls ++ rest)) → Meets asked o.calls
-    by_overlap (inl h) = within h.0 h.1
-    by_overlap (inr h) = beyond h.0 h.1
-
-    by_ours : (s.all ≡ asked ++ s.more) ⊎ (asked ≡ settled_last s.all) → Meets asked o.calls
-    by_ours (inl e) = by_overlap (overlap asked s.more o.calls s.over (sym e ∙ s.theirs))
-    by_ours (inr e) = marked s.over (e ∙ ap settled_last s.theirs)
-
--- where the outcome is Done or Halted, no more was asked than its calls
-pub few_asked : (asked : List Ask) (o : Outcome) → SharesCalls asked o → IsWhole o.ending → length asked ≤ length o.calls
-few_asked asked o s whole = by_ours s.ours
-  where
-    all : length s.all ≡ length o.calls
-    all = ap length (s.theirs ∙ ap (λ (l : List Ask). o.calls ++ l) (s.only whole) ∙ append-nil o.calls)
-
-    by_ours : (s.all ≡ asked ++ s.more) ⊎ (asked ≡ settled_last s.all) → length asked ≤ length o.calls
-    by_ours (inl e) = (let long = ap length e ∙ length-append asked s.more in omega (arith, all, long))
-    by_ours (inr e) = (let long = ap length e ∙ length_marked s.all in omega (arith, all, long))
-
--- no more were asked than the outcome has
+-- nothing is left
 none_left : {A : Type 0} (few : ℕ) (rest : List A) → few + length rest ≤ few → rest ≡ []
 none_left few [] le = refl
 none_left few (x ∷ rest) le = absurd (omega (arith, le))
 
--- the call at a place of what was asked stands there in the calls of the outcome too, where these reach so far
-pub own_call : (asked calls all later : List Ask) (i : ℕ) (c : Call) → Meets asked calls → all ≡ calls ++ later → i < length calls → option_map (λ (a : Ask). a.call) (slice_get asked i) ≡ Some c
-    → option_map (λ (a : Ask). a.call) (slice_get (settled_last all) i) ≡ Some c
-own_call asked calls all later i c meet are less is =
-    call_marked all i ∙ ap (λ (l : List Ask). option_map (λ (a : Ask). a.call) (slice_get l i)) are ∙ ap (option_map (λ (a : Ask). a.call)) (get_front i calls later less) ∙ here meet
+-- a mark says nothing else of a call
+unmarked : (a b : List Ask) → is_settled a ≡ false → is_settled b ≡ false → settled_last a ≡ settled_last b → a ≡ b
+unmarked [] b at is e = absurd (cc)
+unmarked (x ∷ a) [] at is e = absurd (cc)
+unmarked (x ∷ []) (y ∷ []) at is e =
+    let head : record x { settled = true } ≡ record y { settled = true } = cc in
+    let same : record x { settled = false } ≡ record y { settled = false } = ap (λ (k : Ask). record k { settled = false }) head in
+    ap (λ (b : Bool). record x { settled = b } ∷ []) at ∙ ap (λ (k : Ask). k ∷ []) same ∙ ap (λ (b : Bool). record y { settled = b } ∷ []) (sym is)
+unmarked (x ∷ []) (y ∷ z ∷ b) at is e = absurd (let long = ap length e in let same = length_marked (z ∷ b) in omega (arith, long, same))
+unmarked (x ∷ y ∷ a) (z ∷ []) at is e = absurd (let long = ap length e in let same = length_marked (y ∷ a) in omega (arith, long, same))
+unmarked (x ∷ y ∷ a) (z ∷ u ∷ b) at is e =
+    let head : x ≡ z = cc in
+    let tail : settled_last (y ∷ a) ≡ settled_last (u ∷ b) = cc in
+    ap (λ (k : Ask). k ∷ (y ∷ a)) head ∙ ap (λ (l : List Ask). z ∷ l) (unmarked (y ∷ a) (u ∷ b) at is tail)
+
+-- what a call is, at a place
+abbrev pub call_at : List Ask → ℕ → Option Call
+call_at calls i = option_map (λ (a : Ask). a.call) (slice_get calls i)
+
+-- ---- calls that go on from others
+
+-- they are no fewer
+pub from_length : (a b : List Ask) → GoesOnFrom a b → length a ≤ length b
+from_length a b g = by_mark g.so
   where
-    here : Meets asked calls → option_map (λ (a : Ask). a.call) (slice_get calls i) ≡ Some c
-    here (within rest e) =
-        ap (λ (l : List Ask). option_map (λ (a : Ask). a.call) (slice_get l i)) e
-        ∙ ap (option_map (λ (a : Ask). a.call)) (get_front i asked rest (call_within asked i c is)) ∙ is
-    here (beyond rest e) =
-        sym (ap (option_map (λ (a : Ask). a.call)) (get_front i calls rest less))
-        ∙ sym (ap (λ (l : List Ask). option_map (λ (a : Ask). a.call) (slice_get l i)) e) ∙ is
-    here (marked over e) =
-        sym (ap (option_map (λ (a : Ask). a.call)) (get_front i calls over less))
-        ∙ sym (call_marked (calls ++ over) i)
-        ∙ sym (ap (λ (l : List Ask). option_map (λ (a : Ask). a.call) (slice_get l i)) e) ∙ is
+    by_mark : (b ≡ a ++ g.more) ⊎ (b ≡ settled_last a ++ g.more) → length a ≤ length b
+    by_mark (inl e) = (let long = ap length e ∙ length-append a g.more in omega (arith, long))
+    by_mark (inr e) = (let long = ap length e ∙ length-append (settled_last a) g.more in let same = length_marked a in omega (arith, long, same))
+
+-- a call stands where it stood
+pub from_call : (a b : List Ask) (i : ℕ) → GoesOnFrom a b → i < length a → call_at b i ≡ call_at a i
+from_call a b i g less = by_mark g.so
+  where
+    by_mark : (b ≡ a ++ g.more) ⊎ (b ≡ settled_last a ++ g.more) → call_at b i ≡ call_at a i
+    by_mark (inl e) = ap (λ (l : List Ask). call_at l i) e ∙ ap (option_map (λ (c : Ask). c.call)) (get_front i a g.more less)
+    by_mark (inr e) =
+        ap (λ (l : List Ask). call_at l i) e
+        ∙ ap (option_map (λ (c : Ask). c.call)) (get_front i (settled_last a) g.more (let same = length_marked a in omega (arith, less, same)))
+        ∙ call_marked a i
+
+-- the same calls with a mark after the last
+pub from_mark : (calls : List Ask) → GoesOnFrom calls (settled_last calls)
+from_mark calls = record { more = []; so = inr (sym (append-nil (settled_last calls))) }
+
+-- where they are no more, they are the same, or a mark is added
+pub from_few : (a b : List Ask) → GoesOnFrom a b → length b ≤ length a → (b ≡ a) ⊎ (b ≡ settled_last a)
+from_few a b g few = by_mark g.so
+  where
+    by_mark : (b ≡ a ++ g.more) ⊎ (b ≡ settled_last a ++ g.more) → (b ≡ a) ⊎ (b ≡ settled_last a)
+    by_mark (inl e) =
+        let none : g.more ≡ [] = none_left (length a) g.more (let long = ap length e ∙ length-append a g.more in omega (arith, long, few)) in
+        inl (e ∙ ap (λ (l : List Ask). a ++ l) none ∙ append-nil a)
+    by_mark (inr e) =
+        let none : g.more ≡ [] = none_left (length a) g.more (let long = ap length e ∙ length-append (settled_last a) g.more in let same = length_marked a in omega (arith, long, same, few)) in
+        inr (e ∙ ap (λ (l : List Ask). settled_last a ++ l) none ∙ append-nil (settled_last a))
+
+-- calls that are settled, by a first part and what comes after it: the mark is after the last
+unsettled : (calls front : List Ask) (x : Ask) (rest : List Ask) → settled_last calls ≡ front ++ x ∷ rest → (more : List Ask) × (calls ≡ front ++ more)
+unsettled calls [] x rest e = (calls, refl)
+unsettled [] (y ∷ front) x rest e = absurd (cc)
+unsettled (c ∷ []) (y ∷ []) x rest e = absurd (cc)
+unsettled (c ∷ []) (y ∷ z ∷ front) x rest e = absurd (cc)
+unsettled (c ∷ d ∷ calls) (y ∷ front) x rest e =
+    let head : c ≡ y = cc in
+    let h = unsettled (d ∷ calls) front x rest (let tail : settled_last (d ∷ calls) ≡ front ++ x ∷ rest = cc in tail) in
+    (h.0, ap (λ (l : List Ask). c ∷ l) h.1 ∙ ap (λ (k : Ask). k ∷ (front ++ h.0)) head)
+
+-- calls that are the same once they are settled: one goes on from the other
+same_settled : (a b : List Ask) → settled_last a ≡ settled_last b → GoesOnFrom a b ⊎ GoesOnFrom b a
+same_settled a b e = by_marks (is_settled a) (is_settled b) refl refl
+  where
+    by_marks : (m n : Bool) → is_settled a ≡ m → is_settled b ≡ n → GoesOnFrom a b ⊎ GoesOnFrom b a
+    by_marks m true at is = inl (record { more = []; so = inr (sym (marked_same b is) ∙ sym e ∙ sym (append-nil (settled_last a))) })
+    by_marks true false at is = inr (record { more = []; so = inr (sym (marked_same a at) ∙ e ∙ sym (append-nil (settled_last b))) })
+    by_marks false false at is = inl (record { more = []; so = inl (sym (unmarked a b at is e) ∙ sym (append-nil a)) })
+
+-- How what was asked and the calls of an outcome meet: one goes on from the other.
+pub data Meets (asked calls : List Ask) : Type 0 where
+  within : GoesOnFrom asked calls → Meets asked calls
+  beyond : GoesOnFrom calls asked → Meets asked calls
+
+-- calls from which one list goes on
+both_from : (a b all : List Ask) → GoesOnFrom a all → GoesOnFrom b all → Meets a b
+both_from a b all g h = by_marks g.so h.so
+  where
+    plain : ((rest : List Ask) × (b ≡ a ++ rest)) ⊎ ((rest : List Ask) × (a ≡ b ++ rest)) → Meets a b
+    plain (inl r) = within (record { more = r.0; so = inl r.1 })
+    plain (inr r) = beyond (record { more = r.0; so = inl r.1 })
+
+    -- a first part of settled calls
+    part_of : (x y : List Ask) (rest : List Ask) → settled_last y ≡ x ++ rest → GoesOnFrom x y ⊎ GoesOnFrom y x
+    part_of x y [] e = inr (record { more = []; so = inr (sym (append-nil x) ∙ sym e ∙ sym (append-nil (settled_last y))) })
+    part_of x y (z ∷ rest) e = (let q = unsettled y x z rest e in inl (record { more = q.0; so = inl q.1 }))
+
+    by_part : GoesOnFrom a b ⊎ GoesOnFrom b a → Meets a b
+    by_part (inl q) = within q
+    by_part (inr q) = beyond q
+
+    turned : GoesOnFrom b a ⊎ GoesOnFrom a b → Meets a b
+    turned (inl q) = beyond q
+    turned (inr q) = within q
+
+    second : ((rest : List Ask) × (settled_last b ≡ a ++ rest)) ⊎ ((rest : List Ask) × (a ≡ settled_last b ++ rest)) → Meets a b
+    second (inl r) = by_part (part_of a b r.0 r.1)
+    second (inr r) = beyond (record { more = r.0; so = inr r.1 })
+
+    first : ((rest : List Ask) × (b ≡ settled_last a ++ rest)) ⊎ ((rest : List Ask) × (settled_last a ≡ b ++ rest)) → Meets a b
+    first (inl r) = within (record { more = r.0; so = inr r.1 })
+    first (inr r) = turned (part_of b a r.0 r.1)
+
+    -- settled calls that go on from settled calls
+    longer : (x y : List Ask) (rest : List Ask) → settled_last y ≡ settled_last x ++ rest → GoesOnFrom x y ⊎ GoesOnFrom y x
+    longer x y [] e = same_settled x y (sym (append-nil (settled_last x)) ∙ sym e)
+    longer x y (z ∷ rest) e = (let q = unsettled y (settled_last x) z rest e in inl (record { more = q.0; so = inr q.1 }))
+
+    both : ((rest : List Ask) × (settled_last b ≡ settled_last a ++ rest)) ⊎ ((rest : List Ask) × (settled_last a ≡ settled_last b ++ rest)) → Meets a b
+    both (inl r) = by_part (longer a b r.0 r.1)
+    both (inr r) = turned (longer b a r.0 r.1)
+
+    by_marks : (all ≡ a ++ g.more) ⊎ (all ≡ settled_last a ++ g.more) → (all ≡ b ++ h.more) ⊎ (all ≡ settled_last b ++ h.more) → Meets a b
+    by_marks (inl e) (inl f) = plain (overlap a g.more b h.more (sym e ∙ f))
+    by_marks (inl e) (inr f) = second (overlap a g.more (settled_last b) h.more (sym e ∙ f))
+    by_marks (inr e) (inl f) = first (overlap (settled_last a) g.more b h.more (sym e ∙ f))
+    by_marks (inr e) (inr f) = both (overlap (settled_last a) g.more (settled_last b) h.more (sym e ∙ f))
+
+pub meets : (asked : List Ask) (o : Outcome) → SharesCalls asked o → Meets asked o.calls
+meets asked o s = both_from asked o.calls s.all s.ours s.theirs
+
+-- where the outcome is Done or Halted, no more was asked than its calls
+pub few_asked : (asked : List Ask) (o : Outcome) → SharesCalls asked o → IsWhole o.ending → length asked ≤ length o.calls
+few_asked asked o s whole = (let first = from_length asked s.all s.ours in let most = s.only whole in omega (arith, first, most))
+
+-- the call at a place of what was asked stands there in the calls of the outcome too, where these reach so far
+pub own_call : (asked calls all : List Ask) (i : ℕ) (c : Call) → Meets asked calls → GoesOnFrom calls all → i < length calls → call_at asked i ≡ Some c → call_at (settled_last all) i ≡ Some c
+own_call asked calls all i c meet on less is = call_marked all i ∙ from_call calls all i on less ∙ here meet
+  where
+    here : Meets asked calls → call_at calls i ≡ Some c
+    here (within g) = from_call asked calls i g (call_within asked i c is) ∙ is
+    here (beyond g) = sym (from_call calls asked i g less) ∙ is
 
 -- ---- entries
 
@@ -274,60 +364,69 @@ common r calls first ours theirs e g h at less high = record {
 
 -- ---- journals of calls
 
+all_joined : (P : Entry → Type 0) (xs ys : List Entry) → AllByRecursion P xs → AllByRecursion P ys → AllByRecursion P (xs ++ ys)
+all_joined P [] ys h k = k
+all_joined P (x ∷ xs) ys h k = (h.0, all_joined P xs ys h.1 k)
+
+goes_twice : (calls : ℕ) (a b c : List Entry) → GoesOnWith calls a b → GoesOnWith calls b c → GoesOnWith calls a c
+goes_twice calls a b c g h = record {
+  rest = g.rest ++ h.rest;
+  joined = h.joined ∙ ap (λ (l : List Entry). l ++ h.rest) g.joined ∙ append_assoc a g.rest h.rest;
+  later = all_joined (IsAfter calls) g.rest h.rest g.later h.later;
+}
+
 module _ (journal : TargetState → List Ask → List Entry) (grows : JournalGrows journal) (settles : JournalSettles journal) (t : TargetState) where
-  -- the journal of more calls with a mark after the last
-  settled_more : (asks more all : List Ask) → all ≡ asks ++ more → GoesOnWith (length asks) (journal t asks) (journal t (settled_last all))
-  settled_more asks [] all is = subst (λ (c : List Ask). GoesOnWith (length asks) (journal t asks) (journal t (settled_last c))) (sym (is ∙ append-nil asks)) (settles t asks)
-  settled_more asks (y ∷ more) all is =
-      subst (λ (c : List Ask). GoesOnWith (length asks) (journal t asks) (journal t c)) (sym (ap settled_last is ∙ settled_after asks y more)) (grows t asks (settled_last (y ∷ more)))
+  -- the journal of calls that go on from others goes on from theirs
+  pub from_journal : (asks all : List Ask) → GoesOnFrom asks all → GoesOnWith (length asks) (journal t asks) (journal t all)
+  from_journal asks all g = by_mark g.so
+    where
+      by_mark : (all ≡ asks ++ g.more) ⊎ (all ≡ settled_last asks ++ g.more) → GoesOnWith (length asks) (journal t asks) (journal t all)
+      by_mark (inl e) = subst (λ (c : List Ask). GoesOnWith (length asks) (journal t asks) (journal t c)) (sym e) (grows t asks g.more)
+      by_mark (inr e) = subst (λ (c : List Ask). GoesOnWith (length asks) (journal t asks) (journal t c)) (sym e)
+          (goes_twice (length asks) (journal t asks) (journal t (settled_last asks)) (journal t (settled_last asks ++ g.more)) (settles t asks)
+          (subst (λ (k : ℕ). GoesOnWith k (journal t (settled_last asks)) (journal t (settled_last asks ++ g.more))) (length_marked asks) (grows t (settled_last asks) g.more)))
+
+  -- the same of calls that are settled then
+  settled_journal : (asks all : List Ask) → GoesOnFrom asks all → GoesOnWith (length asks) (journal t asks) (journal t (settled_last all))
+  settled_journal asks all g = from_journal asks (settled_last all) (from_on asks all (settled_last all) g (from_mark all))
 
   -- Where a stop names one of the outcome's units: the journal of what was asked, and that of the outcome's calls and of more.
-  pub meeting : (r : Report) (asked calls all later : List Ask) (e : Entry) → Meets asked calls → all ≡ calls ++ later → slice_get (journal t asked) r.confirmed ≡ Some e → lines_before e < length calls
+  pub meeting : (r : Report) (asked calls all : List Ask) (e : Entry) → Meets asked calls → GoesOnFrom calls all → slice_get (journal t asked) r.confirmed ≡ Some e → lines_before e < length calls
       → r.unit ≤ length asked → r.unit ≤ length calls → Meeting r (journal t asked) (journal t (settled_last all))
-  meeting r asked calls all later e (within rest is) are at less low high =
-      let g = settled_more asked (rest ++ later) all (are ∙ ap (λ (l : List Ask). l ++ later) is ∙ append_assoc asked rest later) in
+  meeting r asked calls all e (within g) on at less low high =
+      let h = settled_journal asked all (from_on asked calls all g on) in
       record {
         front = journal t asked;
         our_rest = [];
-        their_rest = g.rest;
+        their_rest = h.rest;
         ours_are = sym (append-nil (journal t asked));
-        theirs_are = g.joined;
-        later = after_fewer r.unit (length asked) g.rest low g.later;
+        theirs_are = h.joined;
+        later = after_fewer r.unit (length asked) h.rest low h.later;
         next = slice_get_within (journal t asked) r.confirmed e at;
       }
-  meeting r asked calls all later e (beyond rest is) are at less low high =
-      let ours : GoesOnWith (length calls) (journal t calls) (journal t asked) = subst (λ (c : List Ask). GoesOnWith (length calls) (journal t calls) (journal t c)) (sym is) (grows t calls rest) in
-      common r calls (journal t calls) (journal t asked) (journal t (settled_last all)) e ours (settled_more calls later all are) at less high
-  meeting r asked calls all later e (marked over is) are at less low high =
-      let ours : GoesOnWith (length calls) (journal t calls) (journal t asked) = subst (λ (c : List Ask). GoesOnWith (length calls) (journal t calls) (journal t c)) (sym is) (settled_more calls over (calls ++ over) refl) in
-      common r calls (journal t calls) (journal t asked) (journal t (settled_last all)) e ours (settled_more calls later all are) at less high
+  meeting r asked calls all e (beyond g) on at less low high =
+      common r calls (journal t calls) (journal t asked) (journal t (settled_last all)) e (from_journal calls asked g) (settled_journal calls all on) at less high
 
   -- What was asked comes first in the calls of the outcome, settled after the last.
   pub record Covers (asked calls : List Ask) : Type 0 where
     pub goes_on : GoesOnWith (length asked) (journal t asked) (journal t (settled_last calls))
-    pub same : (i : ℕ) (c : Call) → option_map (λ (a : Ask). a.call) (slice_get asked i) ≡ Some c → option_map (λ (a : Ask). a.call) (slice_get (settled_last calls) i) ≡ Some c
+    pub same : (i : ℕ) (c : Call) → call_at asked i ≡ Some c → call_at (settled_last calls) i ≡ Some c
 
-  -- so it is of the very calls
-  covers_own : (calls : List Ask) → Covers calls calls
-  covers_own calls = record { goes_on = settles t calls; same = λ i c at. call_marked calls i ∙ at }
-
-  covers_marked : (calls : List Ask) → Covers (settled_last calls) calls
-  covers_marked calls = record { goes_on = record { rest = []; joined = sym (append-nil (journal t (settled_last calls))); later = tt }; same = λ i c at. at }
+  -- since these go on from it
+  covers_by : (asked calls : List Ask) → GoesOnFrom asked (settled_last calls) → Covers asked calls
+  covers_by asked calls g = record {
+    goes_on = from_journal asked (settled_last calls) g;
+    same = λ i c at. from_call asked (settled_last calls) i g (call_within asked i c at) ∙ at;
+  }
 
   -- where no more were asked
   pub covers : (asked calls : List Ask) → Meets asked calls → length asked ≤ length calls → Covers asked calls
-  covers asked calls (within rest is) few = record {
-    goes_on = settled_more asked rest calls is;
-    same = λ i c at.
-        call_marked calls i ∙ ap (λ (l : List Ask). option_map (λ (a : Ask). a.call) (slice_get l i)) is
-        ∙ ap (option_map (λ (a : Ask). a.call)) (get_front i asked rest (call_within asked i c at)) ∙ at;
-  }
-  covers asked calls (beyond rest is) few =
-      let none : rest ≡ [] = none_left (length calls) rest (let long = ap length is ∙ length-append calls rest in omega (arith, long, few)) in
-      subst (λ (c : List Ask). Covers c calls) (sym (is ∙ ap (λ (l : List Ask). calls ++ l) none ∙ append-nil calls)) (covers_own calls)
-  covers asked calls (marked over is) few =
-      let none : over ≡ [] = none_left (length calls) over (let long = ap length is ∙ length_marked (calls ++ over) ∙ length-append calls over in omega (arith, long, few)) in
-      subst (λ (c : List Ask). Covers c calls) (sym (is ∙ ap (λ (l : List Ask). settled_last (calls ++ l)) none ∙ ap settled_last (append-nil calls))) (covers_marked calls)
+  covers asked calls (within g) few = covers_by asked calls (from_on asked calls (settled_last calls) g (from_mark calls))
+  covers asked calls (beyond g) few = by_few (from_few calls asked g few)
+    where
+      by_few : (asked ≡ calls) ⊎ (asked ≡ settled_last calls) → Covers asked calls
+      by_few (inl e) = subst (λ (c : List Ask). Covers c calls) (sym e) (covers_by calls calls (from_mark calls))
+      by_few (inr e) = subst (λ (c : List Ask). Covers c calls) (sym e) (covers_by (settled_last calls) calls (from_same (settled_last calls)))
 
   -- so the journals meet where the stop names any entry
   pub covered : (r : Report) (asked calls : List Ask) (h : Covers asked calls) → r.confirmed < length (journal t asked) → r.unit ≤ length asked → Meeting r (journal t asked) (journal t (settled_last calls))
@@ -341,8 +440,7 @@ module _ (journal : TargetState → List Ask → List Entry) (grows : JournalGro
     next = named;
   }
 
-  -- where more were asked, both journals go on from that of the outcome's calls
+  -- where more were asked, the journal of what was asked goes on from that of the outcome's calls
   pub goes_beyond : (asked calls : List Ask) → Meets asked calls → length calls < length asked → GoesOnWith (length calls) (journal t calls) (journal t asked)
-  goes_beyond asked calls (within rest is) more = absurd (let long = ap length is ∙ length-append asked rest in omega (arith, long, more))
-  goes_beyond asked calls (beyond rest is) more = subst (λ (c : List Ask). GoesOnWith (length calls) (journal t calls) (journal t c)) (sym is) (grows t calls rest)
-  goes_beyond asked calls (marked over is) more = subst (λ (c : List Ask). GoesOnWith (length calls) (journal t calls) (journal t c)) (sym is) (settled_more calls over (calls ++ over) refl)
+  goes_beyond asked calls (within g) more = absurd (let long = from_length asked calls g in omega (arith, long, more))
+  goes_beyond asked calls (beyond g) more = from_journal calls asked g

@@ -1,7 +1,7 @@
 -- What an access and a run over it report together is what a run leaves.
-use Rattle.std.proofs.Common.{◌≡◌, ◌∙◌, ◌⊎◌, inl, inr, ℕ, ◌+◌, ◌-◌, ◌*◌, ◌/◌, ◌<◌, ◌≤◌, if◌then◌else◌, List, [], ◌++◌, append-nil, length, take, Bool, true, false, Option, None, Some, refl, sym, ap, subst, arith}
+use Rattle.std.proofs.Common.{◌≡◌, ◌∙◌, ◌⊎◌, inl, inr, ℕ, ◌+◌, ◌-◌, ◌*◌, ◌/◌, ◌<◌, ◌≤◌, if◌then◌else◌, List, length, take, Bool, true, false, Option, None, Some, refl, sym, ap, subst, arith}
 use Rattle.std.specs.List.{AllByRecursion}
-use Rattle.std.specs.Prelude.{option_map, slice_get}
+use Rattle.std.specs.Prelude.{◌&&◌, is_none, option_map, slice_get}
 use Rattle.target_machine.specs.Start.{start}
 use Rattle.target_machine.specs.State.{Agree, TargetState}
 use Rattle.probe_core.specs.Bench.{BenchState, Seen, StepsTo, fresh}
@@ -33,20 +33,24 @@ use Rattle.access_calls.specs.declared.stop.Stop.{Stop}
 use Rattle.access_calls.specs.declared.stop.Stop.TheVariants as stop
 use Rattle.access_calls.specs.declared.stop.StopCause.{StopCause}
 use Rattle.access_calls.specs.declared.stop.StopCause.TheVariants.{Faulted, NoAnswer}
-use Rattle.sequence_rules.specs.Laws as laws
-use Rattle.sequence_rules.specs.Laws.{IsCutShort}
-use Rattle.sequence_rules.specs.Runs.{Program, Outcome, late_meaning, meaning, outcome, outcome_of, units_of}
+use Rattle.sequence_rules.specs.Runs.{Outcome, late_meaning, units_of}
 use Rattle.sequence_rules.specs.Machine.{end_state}
-use Rattle.sequence_rules.proofs.Limits.{limit_cuts}
-use Rattle.sequence_rules.proofs.Made.{are_made}
 use Rattle.sequence_rules.proofs.Writing.{only_written}
 use Rattle.control_flow.specs.Answers as answers
 use Rattle.control_flow.specs.Answers.{EndBy, EndsAs, EndsAtCut, HasNeeds, IsAll, IsPart, Ran, SharesCalls, StopsAfter, ran}
 use Rattle.sequence_rules.specs.Known.{Knows, known_part}
 use Rattle.target_machine.specs.Counts.{one_if}
+use Rattle.sequels.specs.Limits.{GoesOnFrom}
+use Rattle.sequels.proofs.LimitLemmas.{from_same}
+use Rattle.followed_runs.specs.Followed.{Task, task_outcome}
+use Rattle.followed_runs.specs.Followed as followed
+use Rattle.followed_runs.specs.Laws as laws
+use Rattle.followed_runs.specs.Laws.{IsCutShort}
+use Rattle.followed_runs.proofs.FollowLemmas.{limits_followed}
+use Rattle.followed_runs.proofs.MadeLemmas.{followed_made}
 use Rattle.job_runs.proofs.BegunLemmas.{Share, asked_stop, begun_share, ends_how, part_shared}
 use Rattle.job_runs.proofs.FrontLemmas.{Covers, Meeting, call_within, covered, covers, few_asked, get_some, goes_beyond, meeting, meets, own_call, same_fault, same_first, same_made, same_numbers}
-use Rattle.job_runs.specs.Runs.{AccessKind, ComesTo, HasStopped, IsBroken, IsFaultStop, IsFew, IsFewIf, IsFront, IsLeftOff, IsNotOpened, IsRetryStop, IsStop, IsUnopened, IsWhole, Left, LeavesAs, Run, calls_in, entries_in, known_after, needs_in, not_opened, opened, outcome_with}
+use Rattle.job_runs.specs.Runs.{AccessKind, ComesTo, HasStopped, IsBroken, IsFaultStop, IsFew, IsFewIf, IsFront, IsLeftOff, IsNotOpened, IsRetryStop, IsStop, IsUnopened, IsWhole, Left, LeavesAs, Run, calls_in, entries_in, is_bounded, known_after, needs_in, not_opened, opened, outcome_with}
 use Rattle.access_calls.specs.Endings.{ending_of}
 use Rattle.access_calls.specs.Opening.{HasTried, IsNotBegun, MayBegin, RefusedBy, opened_bench}
 
@@ -58,11 +62,11 @@ stands_at journal a first n end is seen h =
     (subst (λ (o : Option BenchState). WhereObservable o (λ m. StandsAt a.end (journal (target_of first.probe) a.asks.calls) a (began first (answered_by a)) m)) seen h)
 
 -- what a run answers at this end
-ends_at : (ending : Ending) (p : Program) (a : AccessView) (first : BenchState) (before : Option (List ℕ)) (r : Ran) (end : Option Stop) → a.end ≡ end
-    → EndsAs ending a.lines (outcome_of (meaning (world_from first (answered_by a)) p before)) r
-    → EndsAs ending a.lines (outcome_of (meaning (world_from first (answered_at end a.lines)) p before)) r
-ends_at ending p a first before r end is h =
-    subst (λ (x : Option Stop). EndsAs ending a.lines (outcome_of (meaning (world_from first (answered_at x a.lines)) p before)) r) is h
+ends_at : (ending : Ending) (k : Task) (a : AccessView) (first : BenchState) (before : Option (List ℕ)) (r : Ran) (end : Option Stop) → a.end ≡ end
+    → EndsAs ending a.lines (followed.outcome_in (world_from first (answered_by a)) k before) r
+    → EndsAs ending a.lines (followed.outcome_in (world_from first (answered_at end a.lines)) k before) r
+ends_at ending k a first before r end is h =
+    subst (λ (x : Option Stop). EndsAs ending a.lines (followed.outcome_in (world_from first (answered_at x a.lines)) k before) r) is h
 
 -- what came since the load, from which the access counts
 since_load : (now first most : ℕ) → first ≡ 0 → now - first ≤ most → now ≤ most
@@ -80,34 +84,34 @@ one_at_most : (b : Bool) → one_if b ≤ 1
 one_at_most true = omega arith
 one_at_most false = omega arith
 
-module _ (access : AccessKind) (grows : JournalGrows access.journal) (settles : JournalSettles access.journal) (limits : Limits) (p : Program) (first : BenchState) (before : Option (List ℕ)) where
+module _ (access : AccessKind) (grows : JournalGrows access.journal) (settles : JournalSettles access.journal) (limits : Limits) (k : Task) (first : BenchState) (before : Option (List ℕ)) where
   abbrev run : Run
-  run = record { access = access; limits = limits; program = p; first = first; before = before }
+  run = record { access = access; limits = limits; task = k; first = first; before = before }
 
   abbrev entries : AccessView → List Entry
   entries a = access.journal (target_of first.probe) a.asks.calls
 
   abbrev whole : Outcome
-  whole = outcome p (target_of first.probe) before
+  whole = task_outcome k (target_of first.probe) before
 
   -- the target after all calls, the last of them marked
   settled_target : (calls : List Ask) → calls ≡ settled_last whole.calls → (world_after (start_world (target_of first.probe) None) calls).target ≡ whole.target
   settled_target calls is =
       let w = start_world (target_of first.probe) None in
-      ap (λ (c : List Ask). (world_after w c).target) is ∙ ap (λ x. x.target) (after_marked w whole.calls) ∙ sym (are_made w p before).made.target
+      ap (λ (c : List Ask). (world_after w c).target) is ∙ ap (λ x. x.target) (after_marked w whole.calls) ∙ sym (followed_made w k before).target
 
   -- what an access reports of need points at the end of its run
   abbrev HasRunNeeds : Ending → AccessView → Type 0
-  HasRunNeeds ending a = HasNeeds ending a.asks (late_meaning access.cost (world_from first (answered_by a)) p before)
+  HasRunNeeds ending a = HasNeeds ending a.asks (late_meaning access.cost (world_from first (answered_by a)) k.program before)
 
   -- the same where all is answered
-  all_needs : (ending : Ending) (a : AccessView) → a.end ≡ None → HasRunNeeds ending a → HasNeeds ending a.asks (late_meaning access.cost (world_from first None) p before)
-  all_needs ending a end h = subst (λ (x : Option Stop). HasNeeds ending a.asks (late_meaning access.cost (world_from first (answered_at x a.lines)) p before)) end h
+  all_needs : (ending : Ending) (a : AccessView) → a.end ≡ None → HasRunNeeds ending a → HasNeeds ending a.asks (late_meaning access.cost (world_from first None) k.program before)
+  all_needs ending a end h = subst (λ (x : Option Stop). HasNeeds ending a.asks (late_meaning access.cost (world_from first (answered_at x a.lines)) k.program before)) end h
 
   -- the lines before do not count
-  counted_needs : (a : AccessView) → a.asks ≡ needed (finished (end_state (late_meaning access.cost (world_from first None) p before)).rest.asks) → a.asks.needs ≡ needs_in run
+  counted_needs : (a : AccessView) → a.asks ≡ needed (finished (end_state (late_meaning access.cost (world_from first None) k.program before)).rest.asks) → a.asks.needs ≡ needs_in run
   counted_needs a is = ap (λ (x : Asks). x.needs) is
-      ∙ ap (λ (x : Asks). (needed (finished x)).needs) (sym (only_written access.cost (world_from first None) p before None).asks)
+      ∙ ap (λ (x : Asks). (needed (finished x)).needs) (sym (only_written access.cost (world_from first None) k.program before None).asks)
 
   -- the bounds of the access are those of the run
   is_few : (answered : Option ℕ) (a : AccessView) (l : Left) → a.bench.limits ≡ limits → first.starting ≡ 0 → a.asks.calls ≡ settled_last whole.calls → a.asks.needs ≡ needs_in run
@@ -126,14 +130,15 @@ module _ (access : AccessKind) (grows : JournalGrows access.journal) (settles : 
         low (subst (λ (n : ℕ). n ≤ 2) (sym points) two))));
   }
 
-  -- so it is of an access that says so
-  few_if : (is_sparing : Bool) (answered : Option ℕ) (a : AccessView) (l : Left) → a.end ≡ None → a.state ≡ Some l.bench → a.bench.limits ≡ limits → first.starting ≡ 0
-      → a.asks.calls ≡ settled_last whole.calls → a.asks.needs ≡ needs_in run → KeepsBoundsIf is_sparing (entries a) a (began first answered) → IsFewIf is_sparing run l
-  few_if false answered a l end seen same opening calls points h = tt
-  few_if true answered a l end seen same opening calls points h =
-      is_few answered a l same opening calls points (subst (λ (o : Option BenchState). WhereObservable o (λ m. KeepsBounds (entries a) a (began first answered) m)) seen (h end))
+  -- so it is of an access that says so, where nothing follows the program
+  few_if : (is_sparing none : Bool) (answered : Option ℕ) (a : AccessView) (l : Left) → a.end ≡ None → a.state ≡ Some l.bench → a.bench.limits ≡ limits → first.starting ≡ 0
+      → a.asks.calls ≡ settled_last whole.calls → (none ≡ true → a.asks.needs ≡ needs_in run) → KeepsBoundsIf is_sparing (entries a) a (began first answered) → IsFewIf (is_sparing && none) run l
+  few_if false none answered a l end seen same opening calls points h = tt
+  few_if true false answered a l end seen same opening calls points h = tt
+  few_if true true answered a l end seen same opening calls points h =
+      is_few answered a l same opening calls (points refl) (subst (λ (o : Option BenchState). WhereObservable o (λ m. KeepsBounds (entries a) a (began first answered) m)) seen (h end))
 
-  is_whole : (a : AccessView) (l : Left) → IsAll whole (ran l.ended a.asks l.written) → IsOpen (entries a) a (began first None) l.bench → IsFewIf access.is_sparing run l → IsWhole run l
+  is_whole : (a : AccessView) (l : Left) → IsAll whole (ran l.ended a.asks l.written) → IsOpen (entries a) a (began first None) l.bench → IsFewIf (is_bounded run) run l → IsWhole run l
   is_whole a l all at few = record {
     variables = all.variables;
     units = all.units;
@@ -152,7 +157,7 @@ module _ (access : AccessKind) (grows : JournalGrows access.journal) (settles : 
   -- where more were asked, the outcome ends at its last call, and what was begun is not after that
   begun_own : (a : AccessView) (begun : ℕ) → SharesCalls a.asks.calls whole → s.StayWithin (target_of first.probe) a.asks.calls (take begun (entries a))
       → length whole.calls < length a.asks.calls → AllByRecursion (IsWithin (length whole.calls)) (take begun (entries a))
-  begun_own a begun shares own more = by_end (ends_how (start_world (target_of first.probe) None) whole.ending whole.calls (are_made (start_world (target_of first.probe) None) p before).made.ending)
+  begun_own a begun shares own more = by_end (ends_how (start_world (target_of first.probe) None) whole.ending whole.calls (followed_made (start_world (target_of first.probe) None) k before).ending)
     where
       by_end : answers.IsWhole whole.ending ⊎ (call_stop (start_world (target_of first.probe) None) whole.calls ≡ Some (length whole.calls)) → AllByRecursion (IsWithin (length whole.calls)) (take begun (entries a))
       by_end (inl ends) = absurd (let few = few_asked a.asks.calls whole shares ends in omega (arith, few, more))
@@ -239,9 +244,9 @@ module _ (access : AccessKind) (grows : JournalGrows access.journal) (settles : 
       let one : r.accesses ≤ r.confirmed + 1 = (let c = at.confirmed in omega (arith, c)) in
       let m = meets a.asks.calls whole cut.calls in
       let meet : Meeting r (entries a) (entries_in run (calls_in run)) =
-      meeting access.journal grows settles (target_of first.probe) r a.asks.calls whole.calls whole.calls [] n.entry m (sym (append-nil whole.calls)) n.at
+      meeting access.journal grows settles (target_of first.probe) r a.asks.calls whole.calls whole.calls n.entry m (from_same whole.calls) n.at
       (let lines = n.lines in omega (arith, lines, units)) n.asked (let high = n.unit in omega (arith, units, high)) in
-      let what = own_call a.asks.calls whole.calls whole.calls [] (r.unit - 1) r.what m (sym (append-nil whole.calls)) (let high = n.unit in omega (arith, units, high)) at.numbers.what in
+      let what = own_call a.asks.calls whole.calls whole.calls (r.unit - 1) r.what m (from_same whole.calls) (let high = n.unit in omega (arith, units, high)) at.numbers.what in
       record {
         lines = a.lines;
         stopped = has_stopped None whole a r l (calls_in run) cut skipped at.numbers at.performed at.up_to one meet what;
@@ -275,14 +280,14 @@ module _ (access : AccessKind) (grows : JournalGrows access.journal) (settles : 
 
   -- where the next unit is not answered
   retry_short : (a : AccessView) (r : Report) (l : Left) → EndsAtCut r.cause a.lines (short a.lines) (ran l.ended a.asks l.written) → l.ended.skipped ≡ a.skipped
-      → s.IsUnanswered (entries a) r a (began first (Some a.lines)) l.bench → units_of (short a.lines) ≡ a.lines + 1 → (later : List Ask) → whole.calls ≡ (short a.lines).calls ++ later → IsRetryStop run r l
-  retry_short a r l cut skipped at units later are =
+      → s.IsUnanswered (entries a) r a (began first (Some a.lines)) l.bench → units_of (short a.lines) ≡ a.lines + 1 → GoesOnFrom (short a.lines).calls whole.calls → IsRetryStop run r l
+  retry_short a r l cut skipped at units on =
       let n = names a r at.numbers in
       let m = meets a.asks.calls (short a.lines) cut.calls in
       retry_in a r l cut skipped at
-      (meeting access.journal grows settles (target_of first.probe) r a.asks.calls (short a.lines).calls whole.calls later n.entry m are n.at
+      (meeting access.journal grows settles (target_of first.probe) r a.asks.calls (short a.lines).calls whole.calls n.entry m on n.at
       (let lines = n.lines in omega (arith, lines, units)) n.asked (let high = n.unit in omega (arith, units, high)))
-      (own_call a.asks.calls (short a.lines).calls whole.calls later (r.unit - 1) r.what m are (let high = n.unit in omega (arith, units, high)) at.numbers.what)
+      (own_call a.asks.calls (short a.lines).calls whole.calls (r.unit - 1) r.what m on (let high = n.unit in omega (arith, units, high)) at.numbers.what)
 
   -- where the outcome comes to its end
   retry_whole : (a : AccessView) (r : Report) (l : Left) → EndsAtCut r.cause a.lines (short a.lines) (ran l.ended a.asks l.written) → l.ended.skipped ≡ a.skipped
@@ -297,18 +302,18 @@ module _ (access : AccessKind) (grows : JournalGrows access.journal) (settles : 
 
   is_retry_stop : (a : AccessView) (r : Report) (l : Left) → r.cause ≡ NoAnswer → EndsAtCut r.cause a.lines (short a.lines) (ran l.ended a.asks l.written) → l.ended.skipped ≡ a.skipped
       → s.IsUnanswered (entries a) r a (began first (Some a.lines)) l.bench → IsRetryStop run r l
-  is_retry_stop a r l cause cut skipped at = by_limit (limit_cuts a.lines p (target_of first.probe) before) (subst (λ (c : StopCause). StopsAfter c a.lines (short a.lines)) cause cut.stops)
+  is_retry_stop a r l cause cut skipped at = by_limit (limits_followed k.sequel a.lines k.program (target_of first.probe) before) (subst (λ (c : StopCause). StopsAfter c a.lines (short a.lines)) cause cut.stops)
     where
       by_limit : laws.IsWhole a.lines whole (short a.lines) ⊎ IsCutShort a.lines whole (short a.lines) → StopsAfter NoAnswer a.lines (short a.lines) → IsRetryStop run r l
       by_limit (inl h) (inl stops) =
           let units = ap units_of h.same in let few = h.units in let many = stops.1 in absurd (omega (arith, units, few, many))
       by_limit (inl h) (inr stops) = retry_whole a r l cut skipped at stops.0 h.same
-      by_limit (inr h) (inl stops) = retry_short a r l cut skipped at stops.1 h.more h.calls
+      by_limit (inr h) (inl stops) = retry_short a r l cut skipped at stops.1 h.calls
       by_limit (inr h) (inr stops) = absurd (subst answers.IsWhole h.ending stops.0)
 
   -- by the cause
   is_stop : (cause : StopCause) (a : AccessView) (r : Report) (l : Left) → cause ≡ r.cause
-      → EndsAtCut r.cause a.lines (outcome_of (meaning (world_from first (answered_cut cause a.lines)) p before)) (ran l.ended a.asks l.written) → l.ended.skipped ≡ a.skipped
+      → EndsAtCut r.cause a.lines (followed.outcome_in (world_from first (answered_cut cause a.lines)) k before) (ran l.ended a.asks l.written) → l.ended.skipped ≡ a.skipped
       → s.IsCutBy cause (entries a) r a (began first (answered_cut cause a.lines)) l.bench → IsStop cause run r l
   is_stop Faulted a r l is cut skipped at = is_fault_stop a r l (sym is) cut skipped at
   is_stop NoAnswer a r l is cut skipped at = is_retry_stop a r l (sym is) cut skipped at
@@ -317,36 +322,36 @@ module _ (access : AccessKind) (grows : JournalGrows access.journal) (settles : 
   pub record SendsFew (ending : Ending) (a : AccessView) : Type 0 where
     pub limits_are : a.bench.limits ≡ limits
     pub opening : first.starting ≡ 0
-    pub points : HasRunNeeds ending a
+    pub points : is_none k.sequel ≡ true → HasRunNeeds ending a
     pub bounds : KeepsBoundsIf access.is_sparing (entries a) a (began first (answered_by a))
 
   -- What a run leaves, by how it ended.
   pub leaves : (ending : Ending) (a : AccessView) (l : Left) → EndBy ending a.end → l.ended.skipped ≡ a.skipped → a.state ≡ Some l.bench → SendsFew ending a
-      → EndsAs ending a.lines (outcome_of (meaning (world_from first (answered_by a)) p before)) (ran l.ended a.asks l.written)
+      → EndsAs ending a.lines (followed.outcome_in (world_from first (answered_by a)) k before) (ran l.ended a.asks l.written)
       → Stands access.journal a (began first (answered_by a)) → LeavesAs ending run l
   leaves e.Done a l end skipped seen few ends stands =
-      let so = ends_at e.Done p a first before (ran l.ended a.asks l.written) None end ends in (
+      let so = ends_at e.Done k a first before (ran l.ended a.asks l.written) None end ends in (
         so.0,
         is_whole a l so.1 (stands_at access.journal a first l.bench None end seen stands)
-            (few_if access.is_sparing (answered_by a) a l end seen few.limits_are few.opening so.1.calls (counted_needs a (all_needs e.Done a end few.points)) few.bounds),
+            (few_if access.is_sparing (is_none k.sequel) (answered_by a) a l end seen few.limits_are few.opening so.1.calls (λ none. counted_needs a (all_needs e.Done a end (few.points none))) few.bounds),
       )
   leaves (e.Halted cause) a l end skipped seen few ends stands =
-      let so = ends_at (e.Halted cause) p a first before (ran l.ended a.asks l.written) None end ends in (
+      let so = ends_at (e.Halted cause) k a first before (ran l.ended a.asks l.written) None end ends in (
         so.0,
         is_whole a l so.1 (stands_at access.journal a first l.bench None end seen stands)
-            (few_if access.is_sparing (answered_by a) a l end seen few.limits_are few.opening so.1.calls (counted_needs a (all_needs (e.Halted cause) a end few.points)) few.bounds),
+            (few_if access.is_sparing (is_none k.sequel) (answered_by a) a l end seen few.limits_are few.opening so.1.calls (λ none. counted_needs a (all_needs (e.Halted cause) a end (few.points none))) few.bounds),
       )
   leaves (e.Cut r) a l end skipped seen few ends stands =
-      is_stop r.cause a r l refl (ends_at (e.Cut r) p a first before (ran l.ended a.asks l.written) (Some (stop.Cut r)) end ends) skipped
+      is_stop r.cause a r l refl (ends_at (e.Cut r) k a first before (ran l.ended a.asks l.written) (Some (stop.Cut r)) end ends) skipped
       (stands_at access.journal a first l.bench (Some (stop.Cut r)) end seen stands)
   leaves (e.BenchFault issued confirmed) a l end skipped seen few ends stands =
-      is_broken issued confirmed a l (ends_at (e.BenchFault issued confirmed) p a first before (ran l.ended a.asks l.written) (Some (stop.BenchFault issued confirmed)) end ends)
+      is_broken issued confirmed a l (ends_at (e.BenchFault issued confirmed) k a first before (ran l.ended a.asks l.written) (Some (stop.BenchFault issued confirmed)) end ends)
       (stands_at access.journal a first l.bench (Some (stop.BenchFault issued confirmed)) end seen stands)
   leaves e.ReplyBad a l end skipped seen few ends stands = stands_at access.journal a first l.bench (Some stop.ReplyBad) end seen stands
   leaves e.WriteFault a l end skipped seen few ends stands =
-      is_left_off a l (ends_at e.WriteFault p a first before (ran l.ended a.asks l.written) None end ends) (stands_at access.journal a first l.bench None end seen stands)
+      is_left_off a l (ends_at e.WriteFault k a first before (ran l.ended a.asks l.written) None end ends) (stands_at access.journal a first l.bench None end seen stands)
   leaves e.OutOfMemory a l end skipped seen few ends stands =
-      is_left_off a l (ends_at e.OutOfMemory p a first before (ran l.ended a.asks l.written) None end ends) (stands_at access.journal a first l.bench None end seen stands)
+      is_left_off a l (ends_at e.OutOfMemory k a first before (ran l.ended a.asks l.written) None end ends) (stands_at access.journal a first l.bench None end seen stands)
 
 -- what was known before is known, or nothing is
 pub known_by : (old new : Option (List ℕ)) → (known : Bool) × Knows known old × (known_part known old ≡ old) × (known_part known new ≡ known_after old new)
@@ -376,10 +381,10 @@ tried_target config job n (inl same) = subst (λ (t : TargetState). Agree t (sta
 tried_target config job n (inr set) = subst (λ (t : TargetState). Agree t (start job.target)) (sym (ap (λ (e : ExecutorState). e.transfers.line.target) set)) (record { same = refl })
 
 -- an access that did not begin
-pub not_begun : (access : AccessKind) (config : Config) (job : BenchJob) (p : Program) (before : Option (List ℕ)) (s : Stop) (old new : Seen) (sent got : List ℕ) (ended : Ended) (after : Option (List ℕ))
+pub not_begun : (access : AccessKind) (config : Config) (job : BenchJob) (k : Task) (before : Option (List ℕ)) (s : Stop) (old new : Seen) (sent got : List ℕ) (ended : Ended) (after : Option (List ℕ))
     → old.state ≡ Some (fresh job) → MayBegin (fresh job) → IsNotBegun config old new s sent got → ended.ending ≡ ending_of s → after ≡ before
-    → (n : BenchState) × (new.state ≡ Some n) × ComesTo access config job p before (record { ended = ended; written = after; bench = n })
-not_begun access config job p before s old new sent got ended after is may h ending same =
+    → (n : BenchState) × (new.state ≡ Some n) × ComesTo access config job k before (record { ended = ended; written = after; bench = n })
+not_begun access config job k before s old new sent got ended after is may h ending same =
     let seen = still_seen (λ m n. MayBegin m → HasTried config m n) (fresh job) old.state new.state is h.tried in
     let tried : HasTried config (fresh job) seen.0 = seen.2 may in
     let so : IsNotOpened config job before (record { ended = ended; written = after; bench = seen.0 }) = record {
@@ -397,33 +402,33 @@ where_seen None P h = absurd h
 where_seen (Some n) P h = (n, refl)
 
 -- what a run answers, by what was known before
-abbrev EndsOf : Program → BenchState → AccessView → Ended → Option (List ℕ) → Option (List ℕ) → Type 0
-EndsOf p first a ended before after = EndsAs ended.ending a.lines (outcome_of (meaning (world_from first (answered_by a)) p before)) (ran ended a.asks after)
+abbrev EndsOf : Task → BenchState → AccessView → Ended → Option (List ℕ) → Option (List ℕ) → Type 0
+EndsOf k first a ended before after = EndsAs ended.ending a.lines (followed.outcome_in (world_from first (answered_by a)) k before) (ran ended a.asks after)
 
 -- where it began
 abbrev began_at : Config → BenchJob → BenchState
 began_at config job = opened_bench config (fresh job)
 
 -- a run over an access that began
-pub opened_run : (access : AccessKind) → JournalGrows access.journal → JournalSettles access.journal → (config : Config) (job : BenchJob) (p : Program) (before mid : Option (List ℕ)) (a : AccessView) (ended : Ended)
+pub opened_run : (access : AccessKind) → JournalGrows access.journal → JournalSettles access.journal → (config : Config) (job : BenchJob) (k : Task) (before mid : Option (List ℕ)) (a : AccessView) (ended : Ended)
     → (Stands access.journal a (began (began_at config job) (answered_by a))
-    × ((known : Bool) → Knows known before → EndsOf p (began_at config job) a ended (known_part known before) (known_part known mid))
-    × ((known : Bool) → Knows known before → HasNeeds ended.ending a.asks (late_meaning access.cost (world_from (began_at config job) (answered_by a)) p (known_part known before)))
+    × ((known : Bool) → Knows known before → EndsOf k (began_at config job) a ended (known_part known before) (known_part known mid))
+    × ((known : Bool) → Knows known before → is_none k.sequel ≡ true → HasNeeds ended.ending a.asks (late_meaning access.cost (world_from (began_at config job) (answered_by a)) k.program (known_part known before)))
     × KeepsBoundsIf access.is_sparing (access.journal (target_of (began_at config job).probe) a.asks.calls) a (began (began_at config job) (answered_by a)))
     → EndBy ended.ending a.end → ended.skipped ≡ a.skipped → a.bench.limits ≡ job.limits
-    → (n : BenchState) × (a.state ≡ Some n) × ComesTo access config job p before (record { ended = ended; written = known_after before mid; bench = n })
-opened_run access grows settles config job p before mid a ended h end skipped limits_are =
+    → (n : BenchState) × (a.state ≡ Some n) × ComesTo access config job k before (record { ended = ended; written = known_after before mid; bench = n })
+opened_run access grows settles config job k before mid a ended h end skipped limits_are =
     let first : BenchState = began_at config job in
     let seen = where_seen a.state (λ m. StandsAt a.end (access.journal (target_of first.probe) a.asks.calls) a (began first (answered_by a)) m) h.0 in
     let known = known_by before mid in
-    let ends : EndsOf p first a ended before (known_after before mid) =
-    subst (λ (x : Option (List ℕ)). EndsOf p first a ended before x) known.3
-    (subst (λ (x : Option (List ℕ)). EndsOf p first a ended x (known_part known.0 mid)) known.2 (h.1 known.0 known.1)) in
-    let points = subst (λ (x : Option (List ℕ)). HasNeeds ended.ending a.asks (late_meaning access.cost (world_from first (answered_by a)) p x)) known.2 (h.2 known.0 known.1) in
-    let few : SendsFew access grows settles job.limits p first before ended.ending a = record { limits_are = limits_are; opening = refl; points = points; bounds = h.3 } in (
+    let ends : EndsOf k first a ended before (known_after before mid) =
+    subst (λ (x : Option (List ℕ)). EndsOf k first a ended before x) known.3
+    (subst (λ (x : Option (List ℕ)). EndsOf k first a ended x (known_part known.0 mid)) known.2 (h.1 known.0 known.1)) in
+    let points = λ (none : is_none k.sequel ≡ true). subst (λ (x : Option (List ℕ)). HasNeeds ended.ending a.asks (late_meaning access.cost (world_from first (answered_by a)) k.program x)) known.2 (h.2 known.0 known.1 none) in
+    let few : SendsFew access grows settles job.limits k first before ended.ending a = record { limits_are = limits_are; opening = refl; points = points; bounds = h.3 } in (
       seen.0,
       seen.1,
-      opened (leaves access grows settles job.limits p first before ended.ending a (record { ended = ended; written = known_after before mid; bench = seen.0 }) end skipped seen.1 few ends h.0),
+      opened (leaves access grows settles job.limits k first before ended.ending a (record { ended = ended; written = known_after before mid; bench = seen.0 }) end skipped seen.1 few ends h.0),
     )
 
 -- nothing was written

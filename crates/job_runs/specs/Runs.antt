@@ -1,5 +1,5 @@
 -- What a run of a job leaves.
-use Rattle.std.specs.Prelude.{◌≡◌, ⊤, ℕ, ◌+◌, ◌-◌, ◌*◌, ◌/◌, ◌^◌, ◌<◌, ◌≤◌, Bool, true, false, List, length, take, Option, Some, None}
+use Rattle.std.specs.Prelude.{◌≡◌, ⊤, ℕ, ◌&&◌, is_none, ◌+◌, ◌-◌, ◌*◌, ◌/◌, ◌^◌, ◌<◌, ◌≤◌, Bool, true, false, List, length, take, Option, Some, None}
 use Rattle.target_machine.specs.Start.{start}
 use Rattle.target_machine.specs.State.{Agree, TargetState}
 use Rattle.target_machine.specs.declared.unit.Settings.{Settings}
@@ -31,7 +31,8 @@ use Rattle.access_calls.specs.Opening.{HasTried, opened_bench}
 use Rattle.sequence_rules.specs.Late.{Grows}
 use Rattle.sequence_rules.specs.Runs as runs
 use Rattle.seq_check.specs.Answers.{checked_trees}
-use Rattle.sequence_rules.specs.Runs.{Outcome, Program, needs, outcome, outcome_within, program_of, units_of, variables_of}
+use Rattle.sequence_rules.specs.Runs.{Outcome, Program, needs, program_of, units_of, variables_of}
+use Rattle.followed_runs.specs.Followed.{Task, alone, task_outcome, task_within}
 
 -- ---- what is run, and what it leaves
 
@@ -46,12 +47,12 @@ pub record AccessKind : Type 0 where
 abbrev pub access_kind : (TargetState → List Ask → List Entry) → Costs → Bool → AccessKind
 access_kind journal cost is_sparing = record { journal = journal; cost = cost; is_sparing = is_sparing }
 
--- A run: its access, the packet limits of its job, its program, the state of its bench where the access began, and what was
--- written before, where that is known.
+-- A run: its access, the packet limits of its job, its program with what follows it, the state of its bench where the access began, and
+-- what was written before, where that is known.
 pub record Run : Type 0 where
   pub access : AccessKind
   pub limits : Limits
-  pub program : Program
+  pub task : Task
   pub first : BenchState
   pub before : Option (List ℕ)
 
@@ -66,13 +67,17 @@ abbrev pub config_of : Settings → Config
 config_of settings = record { idle = settings.idle; retry = settings.retry }
 
 -- A run of a job over its bench, which was just loaded: the access counts from the state after the load with the settings of the run.
-abbrev pub run_of : AccessKind → Config → BenchJob → Program → Option (List ℕ) → Run
-run_of access config job p before =
-    record { access = access; limits = job.limits; program = p; first = opened_bench config (fresh job); before = before }
+abbrev pub run_of : AccessKind → Config → BenchJob → Task → Option (List ℕ) → Run
+run_of access config job k before =
+    record { access = access; limits = job.limits; task = k; first = opened_bench config (fresh job); before = before }
 
 -- the program of a job and a sequence
 abbrev pub program_in : ValidRun → List ℕ → Program
 program_in r sequence = program_of (checked_trees r.trees) sequence r.job.settings
+
+-- what is run of them: nothing follows the program
+abbrev pub task_in : ValidRun → List ℕ → Task
+task_in r sequence = alone (program_in r sequence)
 
 -- what is written, where it was known before
 abbrev pub known_after : Option (List ℕ) → Option (List ℕ) → Option (List ℕ)
@@ -85,11 +90,11 @@ target_in run = target_of run.first.probe
 
 -- what the run means: each unit made alone and at once, and all are answered
 abbrev pub outcome_in : Run → Outcome
-outcome_in run = outcome run.program (target_in run) run.before
+outcome_in run = task_outcome run.task (target_in run) run.before
 
 -- the same where only so many units are answered
 abbrev pub outcome_with : Run → ℕ → Outcome
-outcome_with run m = outcome_within m run.program (target_in run) run.before
+outcome_with run m = task_within m run.task (target_in run) run.before
 
 -- the journal of calls, from the first target
 abbrev pub entries_in : Run → List Ask → List Entry
@@ -105,9 +110,9 @@ NoneEnded run l = ended_retries_of l.bench.probe ≡ ended_retries_of run.first.
 
 -- ---- how few packets are sent
 
--- how many need points it has, one of them at its end
+-- how many need points its program has, one of them at its end
 abbrev pub needs_in : Run → ℕ
-needs_in run = needs run.access.cost run.program (target_in run)
+needs_in run = needs run.access.cost run.task.program (target_in run)
 
 -- The starting packets since the load are few: at most three for the opening, one for each need point, and one for each full
 -- flight of register accesses; and for at least one write, all at neighbouring addresses of one block of 1,024 bytes below 2^32,
@@ -118,7 +123,11 @@ pub record IsFew (run : Run) (l : Left) : Type 0 where
       → address < 2 ^ 32 → needs_in run ≤ 2
       → l.bench.starting ≤ 6 + (length (calls_in run) + block_words run.limits - 1) / block_words run.limits
 
--- an access that says so keeps these bounds
+-- the access says that it keeps these bounds, and nothing follows the program
+abbrev pub is_bounded : Run → Bool
+is_bounded run = run.access.is_sparing && is_none run.task.sequel
+
+-- such a run keeps them
 abbrev pub IsFewIf : Bool → Run → Left → Type 0
 IsFewIf false run l = ⊤
 IsFewIf true run l = IsFew run l
@@ -134,7 +143,7 @@ pub record IsWhole (run : Run) (l : Left) : Type 0 where
   pub written : l.written ≡ (outcome_in run).written
   pub target : Agree (target_of l.bench.probe) (outcome_in run).target
   pub retries : NoneEnded run l
-  pub packets : IsFewIf run.access.is_sparing run l
+  pub packets : IsFewIf (is_bounded run) run l
 
 -- ---- stopped by the target or the probe
 
@@ -239,6 +248,6 @@ pub record IsNotOpened (config : Config) (job : BenchJob) (before : Option (List
   pub target : Agree (target_of l.bench.probe) (start job.target)
 
 -- What a run of a job with these settings comes to over a bench that was just loaded.
-pub data ComesTo (access : AccessKind) (config : Config) (job : BenchJob) (p : Program) (before : Option (List ℕ)) (l : Left) : Type 0 where
-  not_opened : IsNotOpened config job before l → ComesTo access config job p before l
-  opened : LeavesAs l.ended.ending (run_of access config job p before) l → ComesTo access config job p before l
+pub data ComesTo (access : AccessKind) (config : Config) (job : BenchJob) (k : Task) (before : Option (List ℕ)) (l : Left) : Type 0 where
+  not_opened : IsNotOpened config job before l → ComesTo access config job k before l
+  opened : LeavesAs l.ended.ending (run_of access config job k before) l → ComesTo access config job k before l

@@ -11,7 +11,7 @@ ghost use Rattle.access_calls.specs.Causes.{code_of_cause};
 ghost use Rattle.access_calls.specs.declared.stop.Report.{Report};
 ghost use Rattle.job_runs.specs.Ends.{HasBenchCause, HasGotResponse};
 ghost use Rattle.access_calls.specs.Opening.{GoesOnTo, HasBadReply, IsIdle};
-ghost use Rattle.job_runs.specs.Runs.{ComesTo, access_kind, config_of, known_after, program_in};
+ghost use Rattle.job_runs.specs.Runs.{ComesTo, access_kind, config_of, known_after, task_in};
 
 use crate::kept::Kept;
 use crate::ranges::numbers_fit;
@@ -95,7 +95,7 @@ pub fn run_on<B: Bench, K: Sink, A: OverBench<B>>(
     // What it comes to over an observable bench that was just loaded.
     ensures run { B.state bench ≡ Some (fresh run_of.now.job.bench)
         → (n : BenchState) × (B.state result.bench ≡ Some n)
-        × ComesTo (access_kind A.Access.journal A.Access.cost A.Access.is_sparing) (config_of run_of.now.job.settings) run_of.now.job.bench (program_in run_of.now sequence.now) (K.written sink.old)
+        × ComesTo (access_kind A.Access.journal A.Access.cost A.Access.is_sparing) (config_of run_of.now.job.settings) run_of.now.job.bench (task_in run_of.now sequence.now) (K.written sink.old)
         (record { ended = result.ended; written = known_after (K.written sink.old) (K.written sink.new); bench = n }) }
     // What becomes of any bench.
     ensures goes { GoesOnTo (seen B.reported B.state bench) (B.reported result.bench) (B.state result.bench) }

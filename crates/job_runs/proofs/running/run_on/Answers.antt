@@ -1,4 +1,4 @@
-use Rattle.std.proofs.Common.{◌≡◌, ◌∙◌, Some, ap, refl, sym, subst, take}
+use Rattle.std.proofs.Common.{◌∙◌, ap, sym, subst, take}
 use Rattle.probe_core.specs.declared.job.Config.{Config}
 use Rattle.probe_core.specs.Bench.{BenchState, fresh}
 use Rattle.access_calls.specs.Opening.{IsNotBegun, MayBegin, opened_bench}
@@ -6,7 +6,7 @@ use Rattle.access_calls.proofs.OpeningLemmas.{loaded_may_begin}
 use Rattle.probe_core.specs.Bench.{seen}
 use Rattle.access_calls.specs.Left.{answered_by}
 use Rattle.access_calls.proofs.KeepLemmas.{left_by}
-use Rattle.job_runs.specs.Runs.{access_kind, config_of, known_after, program_in}
+use Rattle.job_runs.specs.Runs.{access_kind, config_of, known_after, task_in}
 use Rattle.job_runs.proofs.LeaveLemmas.{not_begun, nothing_written, opened_run, still_seen}
 use Rattle.job_runs.proofs.running.run_on.Goals as goal
 
@@ -23,8 +23,8 @@ returns-in-Ok-clause-run g c = λ is.
     let spares = g.met.A.Access.spares c.run-ended.new.access first (answered_by a) (c.run-ended.ensures.on first begun) (left_by a) in
     let began_limits = c.in-Ok.ensures.goes.limits in
     let r = opened_run (access_kind g.A.Access.journal g.A.Access.cost g.A.Access.is_sparing) g.met.A.Access.grows g.met.A.Access.settles (config_of c.args.run_of.now.job.settings) c.args.run_of.now.job.bench
-    (program_in c.args.run_of.now c.args.sequence.now) (g.K.Sink.written c.args.sink.now) (g.K.Sink.written c.run-ended.new.sink) a c.run-ended.result
-    (stands, (λ known knows. c.run-ended.ensures.answer first known begun knows), (λ known knows. c.run-ended.ensures.needs first known begun knows), spares)
+    (task_in c.args.run_of.now c.args.sequence.now) (g.K.Sink.written c.args.sink.now) (g.K.Sink.written c.run-ended.new.sink) a c.run-ended.result
+    (stands, (λ known knows. c.run-ended.ensures.answer first known begun knows), (λ known knows none. c.run-ended.ensures.needs first known begun knows), spares)
     c.run-ended.ensures.end c.run-ended.ensures.skipped (c.run-ended.ensures.goes.limits ∙ began_limits ∙ sym c.requires.limits) in
     (r.0, c.into_bench-bench.ensures.state ∙ r.1, r.2)
 
@@ -34,7 +34,7 @@ returns-in-Err-clause-run g c = λ is.
     let may : MayBegin (fresh c.args.run_of.now.job.bench) = loaded_may_begin c.args.run_of.now.job.bench c.requires.job c.numbers_fit.ensures in
     let refused = subst (λ (k : Config). IsNotBegun k (seen g.B.Bench.reported g.B.Bench.state c.args.bench) (seen g.B.Bench.reported g.B.Bench.state c.in-Err.refused.bench) c.in-Err.refused.stop
     (take c.in-Err.refused.sent_length c.in-Err.refused.sent) (take c.in-Err.refused.got_length c.in-Err.refused.got)) c.config_of.ensures c.in-Err.ensures.refused in
-    let r = not_begun (access_kind g.A.Access.journal g.A.Access.cost g.A.Access.is_sparing) (config_of c.args.run_of.now.job.settings) c.args.run_of.now.job.bench (program_in c.args.run_of.now c.args.sequence.now) old c.in-Err.refused.stop
+    let r = not_begun (access_kind g.A.Access.journal g.A.Access.cost g.A.Access.is_sparing) (config_of c.args.run_of.now.job.settings) c.args.run_of.now.job.bench (task_in c.args.run_of.now c.args.sequence.now) old c.in-Err.refused.stop
     (seen g.B.Bench.reported g.B.Bench.state c.args.bench) (seen g.B.Bench.reported g.B.Bench.state c.in-Err.refused.bench)
     (take c.in-Err.refused.sent_length c.in-Err.refused.sent) (take c.in-Err.refused.got_length c.in-Err.refused.got)
     c.end_begin.result.ended (known_after old old) is may refused c.end_begin.ensures.ending (nothing_written old) in

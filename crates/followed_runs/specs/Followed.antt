@@ -1,0 +1,66 @@
+-- What a program comes to with what follows it.
+use Rattle.std.specs.Prelude.{ℕ, min, if◌then◌else◌, List, [], ◌∷◌, ◌++◌, Option, Some, None, is_some, option_map, length, nat_lt}
+use Rattle.target_calls.specs.Asks.{settled_last}
+use Rattle.target_calls.specs.World.{World, skips, start_world, world_after}
+use Rattle.target_calls.specs.declared.calls.Ask.{Ask}
+use Rattle.target_machine.specs.State.{TargetState}
+use Rattle.sequence_rules.specs.Runs as runs
+use Rattle.sequence_rules.specs.Runs.{Ending, Outcome, Program, meaning, outcome_of}
+use Rattle.sequels.specs.Sequel.{Comes, Sequel, comes}
+use Rattle.sequels.specs.declared.close.Close.{Close}
+
+-- What is run: a program, and what follows it where that is done.
+pub record Task : Type 0 where
+  pub program : Program
+  pub sequel : Option (Sequel Close)
+
+-- a program that nothing follows
+abbrev pub alone : Program → Task
+alone p = record { program = p; sequel = None }
+
+-- the last of the calls met a fault
+abbrev pub faulted_last : List Ask → Ending
+faulted_last [] = runs.Lost
+faulted_last (ask ∷ []) = runs.Faulted ask.call
+faulted_last (ask ∷ next ∷ calls) = faulted_last (next ∷ calls)
+
+-- why calls end that stop at their last one: more were asked than are answered, or it met a fault
+abbrev pub stopped_by : Option ℕ → List Ask → Ending
+stopped_by None calls = faulted_last calls
+stopped_by (Some n) calls = if nat_lt n (length calls) then runs.Unanswered else faulted_last calls
+
+-- A run that was done goes on with what a sequel comes to, once its last call is settled. Where the sequel has an end, the run is done.
+abbrev pub joined : {C : Type 0} → World → Outcome → Comes C → Outcome
+joined w o c = record {
+  ending = if is_some c.end then runs.Done else stopped_by (world_after w o.calls).answered c.calls;
+  variables = if is_some c.end then o.variables else [];
+  calls = settled_last o.calls ++ c.calls;
+  skipped = min (skips w (settled_last o.calls ++ c.calls)) 4294967295;
+  written = option_map (λ bytes. bytes ++ c.written) o.written;
+  target = (world_after w (settled_last o.calls ++ c.calls)).target;
+}
+
+-- only a run that was done goes on
+abbrev pub followed_at : {C : Type 0} → World → Sequel C → Outcome → Ending → Outcome
+followed_at w s o runs.Done = joined w o (comes (world_after w o.calls) s)
+followed_at w s o (runs.Halted cause) = o
+followed_at w s o (runs.Faulted call) = o
+followed_at w s o runs.Unanswered = o
+followed_at w s o runs.Lost = o
+
+-- The outcome of a run, with what follows it.
+abbrev pub followed : {C : Type 0} → Option (Sequel C) → World → Outcome → Outcome
+followed None w o = o
+followed (Some s) w o = followed_at w s o o.ending
+
+-- What a task comes to in a world, after what was written before.
+abbrev pub outcome_in : World → Task → Option (List ℕ) → Outcome
+outcome_in w k written = followed k.sequel w (outcome_of (meaning w k.program written))
+
+-- What a task comes to on a target, where all units are answered.
+abbrev pub task_outcome : Task → TargetState → Option (List ℕ) → Outcome
+task_outcome k t written = outcome_in (start_world t None) k written
+
+-- The same where only so many units are answered.
+abbrev pub task_within : ℕ → Task → TargetState → Option (List ℕ) → Outcome
+task_within m k t written = outcome_in (start_world t (Some m)) k written
