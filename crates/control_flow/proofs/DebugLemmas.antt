@@ -19,7 +19,7 @@ use Rattle.sequence_rules.specs.Variables.{set_visible}
 use Rattle.sequence_rules.proofs.LoopLemmas.{tail_two}
 use Rattle.function_calls.specs.declared.end.End.{End}
 use Rattle.function_calls.specs.Ends.{EndsLate, MeansLate}
-use Rattle.function_calls.proofs.Leaves.{After, ends_on, later_bind, later_ok}
+use Rattle.function_calls.proofs.Leaves.{ends_on, later_bind, later_ok}
 use Rattle.control_flow.specs.Calls.{debugged_one, defined}
 use Rattle.control_flow.proofs.Exits.{later_debugged, later_stored, later_done, later_sequence, later_steps_at}
 

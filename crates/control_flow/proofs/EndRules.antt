@@ -1,5 +1,5 @@
 -- What an end is, for the exits of the code that closes a run.
-use Rattle.std.proofs.Common.{◌≡◌, ℕ, None, Some, Option, sym, ap, ◌∙◌}
+use Rattle.std.proofs.Common.{◌≡◌, ℕ, Some, Option, ap}
 use Rattle.access_calls.proofs.KeepLemmas.{goes_same, goes_trans}
 use Rattle.access_calls.specs.Left.{answered_at, answered_by}
 use Rattle.access_calls.specs.Reported.{AccessView}

@@ -20,10 +20,11 @@ use Rattle.sequence_rules.specs.Steps.{turn, turns, counted, inside, poll_result
 use Rattle.sequence_rules.specs.Values.{value, stored, used_now, operands, result_of, truth_of, arguments, numbers_of, all_used, call_result, call_of, text_of}
 use Rattle.sequence_rules.proofs.Goes as g
 use Rattle.sequence_rules.proofs.LateLemmas.{steady_late, later_same}
+use Rattle.sequence_rules.proofs.Made.{no_cost}
 use Rattle.sequence_rules.specs.Steady.{Goes}
 use Rattle.function_calls.specs.declared.end.End.{End}
 use Rattle.function_calls.specs.Ends.{EndsLate, Left}
-use Rattle.function_calls.proofs.Leaves.{After, ends_on, later_bind, later_cond, later_ok, later_halt, later_use, later_both, later_global, later_ask, left_on}
+use Rattle.function_calls.proofs.Leaves.{After, ends_on, later_bind, later_cond, later_ok, later_halt, later_use, later_all_used, later_both, later_global, later_ask, left_on}
 
 abbrev S : Type 0
 S = State Value Late
@@ -34,9 +35,6 @@ O A = Out Value Late A
 -- what a call of a sequence does comes later than its start; a name of its own, for the search
 pub record CallsLater (w : World) (seq : List ℕ → S → O (Unit {0})) : Type 0 where
   pub so : (name : List ℕ) (r : S) → After w r (seq name r)
-
-no_cost : Costs
-no_cost t calls ask = record { before = 0; after = 0 }
 
 -- the two ways to say it
 go : {A : Type 0} (w : World) (s : S) (out : O A) → After w s out → Goes (Later w) s out
@@ -73,9 +71,6 @@ later_truth_of cost w out s h = back w s _ (g.goes_truth_of (late cost w) (Later
 
 pub later_result : (cost : Costs) (w : World) (o : Option ℕ) (s : S) → After w s (result_of (late cost w) o s)
 later_result cost w o s = back w s _ (g.goes_result (late cost w) (Later w) (steady_late cost w) o s)
-
-pub later_all_used : (cost : Costs) (w : World) (vs : List Value) (s : S) → After w s (all_used (late cost w) vs s)
-later_all_used cost w vs s = back w s _ (g.goes_all_used (late cost w) (Later w) (steady_late cost w) vs s)
 
 pub later_called : (cost : Costs) (w : World) (seq : List ℕ → S → O (Unit {0})) (function : Option Function) (text n : List ℕ) (s : S) → CallsLater w seq → After w s (call_result (late cost w) seq function text n s)
 later_called cost w seq function text n s q = back w s _ (g.goes_called (late cost w) (Later w) (steady_late cost w) seq (λ name r. go w r _ (q.so name r)) function text n s)

@@ -1,6 +1,5 @@
 -- Loops of the evaluator, one turn at a time.
-use Rattle.std.proofs.Common.{◌≡◌, ℕ, zero, suc, ◌+◌, ◌-◌, ◌<◌, ◌≤◌, Bool, true, false, cond, List, [], ◌∷◌, ◌++◌, length, drop, take, get_or, Option, None, Some, unwrap_or, Result, Ok, Err, codes, refl, sym, ap, subst, ◌∙◌, arith}
-use Rattle.dap_base.specs.Outcome.{◌>>=◌}
+use Rattle.std.proofs.Common.{◌≡◌, ℕ, ◌+◌, ◌-◌, ◌<◌, false, List, [], ◌∷◌, ◌++◌, length, drop, get_or, unwrap_or, Result, Ok, codes, refl, sym, ap, subst, ◌∙◌, arith}
 use Rattle.expr_grammar.specs.declared.code.Arg.{Arg}
 use Rattle.expr_grammar.specs.declared.code.Name.{Name}
 use Rattle.expr_grammar.specs.declared.code.Stmt as statement
@@ -13,8 +12,8 @@ use Rattle.target_calls.specs.NeedPoints.{Costs}
 use Rattle.target_calls.specs.World.{World}
 use Rattle.access_calls.specs.declared.stop.Stop.TheVariants.{OutOfMemory}
 use Rattle.sequence_rules.specs.declared.bindings.Binding.{Binding}
-use Rattle.sequence_rules.specs.Late.{Late, late, Later}
-use Rattle.sequence_rules.specs.Machine.{State, Out, end_state, with_locals, with_variables}
+use Rattle.sequence_rules.specs.Late.{Late, late}
+use Rattle.sequence_rules.specs.Machine.{State, Out, with_locals, with_variables}
 use Rattle.sequence_rules.specs.Variables.{bound, value_named, set_in}
 use Rattle.sequence_rules.specs.Values.{argument, arguments, chained}
 use Rattle.sequence_rules.specs.Steps.{in_order, counted, after_counted, declared, inside, block, step, steps_result, turn, turns, sequence_result, sequence_at}
@@ -22,8 +21,8 @@ use Rattle.sequence_rules.specs.Steps as steps
 use Rattle.sequence_rules.proofs.LoopLemmas as loop
 use Rattle.function_calls.specs.declared.end.End.{End}
 use Rattle.function_calls.specs.Ends.{EndsLate, Left, MeansLate}
-use Rattle.function_calls.proofs.Leaves.{After, ends_on, later_bind, later_cond, later_ok}
-use Rattle.control_flow.proofs.Exits.{CallsLater, later_arguments, later_block, later_done, later_turns, later_sequence, later_variables}
+use Rattle.function_calls.proofs.Leaves.{After, ends_on, later_cond, later_ok}
+use Rattle.control_flow.proofs.Exits.{CallsLater, later_arguments, later_block, later_done, later_turns, later_variables}
 
 abbrev S : Type 0
 S = State Value Late

@@ -1,5 +1,5 @@
 -- Parts of expressions and steps with results that come later, once what comes before them is known.
-use Rattle.std.proofs.Common.{◌≡◌, ℕ, ◌-◌, false, List, nat_eq, Option, None, Some, unwrap_or, Result, Ok, refl, sym, ap, subst, arith}
+use Rattle.std.proofs.Common.{◌≡◌, ℕ, false, List, nat_eq, Option, None, Some, unwrap_or, Result, Ok, refl, sym, ap, subst, arith}
 use Rattle.dap_base.specs.Outcome.{◌>>=◌}
 use Rattle.expr_grammar.specs.declared.code.Name.{Name}
 use Rattle.expr_grammar.specs.declared.code.BinaryOp.{BinaryOp}

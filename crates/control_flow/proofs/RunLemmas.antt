@@ -1,8 +1,7 @@
 -- What a run leaves is what its program means.
-use Rattle.std.proofs.Common.{inl, inr, ◌≡◌, ◌⊎◌, ℕ, suc, ◌+◌, ◌-◌, ◌^◌, ◌<◌, ◌≤◌, min, Bool, true, false, cond, List, [], ◌∷◌, ◌++◌, length, map, Option, None, Some, option_map, Result, Ok, Err, refl, sym, ap, subst, ◌∙◌, arith}
-use Rattle.std.specs.Prelude.{is_some, if◌then◌else◌}
-use Rattle.std.proofs.lemmas.List.{append-nil, append_assoc, length-append}
-use Rattle.target_machine.specs.declared.unit.Call.{Call}
+use Rattle.std.proofs.Common.{inl, inr, ◌≡◌, ℕ, ◌+◌, ◌-◌, ◌^◌, ◌<◌, ◌≤◌, min, Bool, true, false, cond, List, [], ◌∷◌, ◌++◌, length, Option, None, Some, option_map, Ok, Err, refl, sym, ap, subst, ◌∙◌, arith}
+use Rattle.std.specs.Prelude.{is_some}
+use Rattle.std.proofs.lemmas.List.{append-nil, length-append}
 use Rattle.target_machine.specs.declared.unit.HaltCause.{HaltCause}
 use Rattle.target_calls.specs.Asks.{settled_last}
 use Rattle.target_calls.specs.Journal.{Entry}
@@ -14,7 +13,7 @@ use Rattle.target_calls.specs.declared.calls.Value.{Value}
 use Rattle.target_calls.proofs.CallLists.{stop_stays, count_within}
 use Rattle.target_calls.proofs.MarkLemmas.{stop_marked, skips_marked, value_marked, length_marked}
 use Rattle.target_calls.proofs.WorldLemmas.{whole_after}
-use Rattle.access_calls.specs.Answers.{AtCut, StopsCalls, StopsOrSettles, StopsSettling, calls_finished}
+use Rattle.access_calls.specs.Answers.{StopsCalls, StopsOrSettles, StopsSettling, calls_finished}
 use Rattle.access_calls.specs.Left.{answered_at, answered_cut}
 use Rattle.access_calls.specs.Reported.{AccessView, Beginning, start_of, world_of}
 use Rattle.access_calls.specs.Standing.{Stands, StandsAt, WhereObservable}
@@ -28,7 +27,7 @@ use Rattle.probe_core.specs.Bench.{BenchState}
 use Rattle.sequence_rules.specs.declared.bindings.Binding.{Binding}
 use Rattle.sequence_rules.specs.Alike.{Binds, Alike}
 use Rattle.sequence_rules.specs.Direct.{Now, line_after}
-use Rattle.sequence_rules.specs.Late.{Late, late, late_of, ComesTo, SameRest, StoppedAt, FaultedAt, Grows, Later}
+use Rattle.sequence_rules.specs.Late.{Late, late, late_of, ComesTo, SameRest, StoppedAt, Later}
 use Rattle.sequence_rules.specs.Laws.{Pair}
 use Rattle.sequence_rules.specs.Machine as machine
 use Rattle.sequence_rules.specs.Machine.{Over, State, Out, end_state}
@@ -44,7 +43,7 @@ use Rattle.function_calls.specs.Held.{state_of}
 use Rattle.function_calls.specs.declared.held.Held.{Held}
 use Rattle.access_calls.specs.declared.ended.Ending.{Ending}
 use Rattle.access_calls.specs.declared.ended.Ending.TheVariants as ending
-use Rattle.control_flow.specs.Answers.{Ran, IsAll, SharesCalls, IsPart, IsFaulted, IsWhole, StopsAfter, EndsAtCut, EndsAs, HasNeeds}
+use Rattle.control_flow.specs.Answers.{Ran, IsAll, SharesCalls, IsPart, IsWhole, StopsAfter, EndsAtCut, EndsAs, HasNeeds}
 use Rattle.access_calls.specs.Endings.{ending_of}
 use Rattle.control_flow.specs.Closing.{numbers_in, AreAsked, OutIs}
 

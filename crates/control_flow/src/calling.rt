@@ -1,19 +1,14 @@
 //! Calls of functions and of sequences.
-ghost use Rattle.std.specs.Prelude.{◌≡◌, [], ℕ, Bool, List, Option, None, length, unwrap_or};
+ghost use Rattle.std.specs.Prelude.{◌≡◌, [], Option, None, unwrap_or};
 ghost use Rattle.expr_grammar.specs.Tree.{arg_tree, arg_trees, tree};
 ghost use Rattle.function_table.specs.declared.function.Function.{Function};
 ghost use Rattle.seq_check.specs.Answers.{checked_trees};
 ghost use Rattle.sequence_trees.specs.Trees.{NoSteps, steps_named, steps_tree};
 ghost use Rattle.sequence_rules.specs.Steps as st;
 ghost use Rattle.sequence_rules.specs.Values as v;
-ghost use Rattle.function_calls.specs.Ends.{Counted, EndIs, HasSinkCause, MeansLate, MeansLateAs};
-ghost use Rattle.probe_core.specs.Bench.{BenchState};
-ghost use Rattle.access_calls.specs.GoesOn.{GoesOn};
-ghost use Rattle.access_calls.specs.Left.{IsLeft};
-ghost use Rattle.access_calls.specs.Reported.{world_from};
+ghost use Rattle.function_calls.specs.Frame.{EndsWriting, IsReady, Keeps};
+ghost use Rattle.function_calls.specs.Means.{MeansWriting, MeansWritingAs};
 ghost use Rattle.sequence_rules.specs.Late.{late};
-ghost use Rattle.sequence_rules.specs.Known.{Knows};
-ghost use Rattle.function_calls.specs.Held.{seen};
 ghost use Rattle.control_flow.specs.Calls.{calls_of};
 
 use crate::runner::Runner;
@@ -39,18 +34,11 @@ impl Runner<'_> {
         access: &mut A,
         sink: &mut K,
     ) -> Result<(), End>
-        requires open { (A.reported access.old).end ≡ None }
-        requires counted { held.old.units ≡ length (A.reported access.old).asks.calls }
-        ensures gives { (m : BenchState) (answered : Option ℕ) (known : Bool) → A.begun access.old m → IsLeft (A.reported access.new) answered → Knows known (K.written sink.old)
-            → MeansLateAs (world_from m answered) (A.reported access.new).lines values.new.items result (seen known held.new (A.reported access.new).asks (K.written sink.new)) (v.argument (late A.cost (world_from m answered)) (calls_of A.cost (world_from m answered) self.now depth) (arg_tree arg.now) values.old.items (seen known held.old (A.reported access.old).asks (K.written sink.old))) }
-        ensures knows { (known : Bool) → Knows known (K.written sink.old) → Knows known (K.written sink.new) }
-        ensures counted { Counted result held.new.units (A.reported access.new).asks.calls }
-        ensures end { EndIs result (A.reported access.new).end }
-        ensures cause { HasSinkCause result (K.faults sink.old) (K.faults sink.new) }
-        ensures on { (m : BenchState) → A.begun access.old m → A.begun access.new m }
-        ensures left { (answered : Option ℕ) → IsLeft (A.reported access.new) answered → IsLeft (A.reported access.old) answered }
-        ensures identity { A.identity access.new ≡ A.identity access.old }
-        ensures goes { GoesOn (A.reported access.old) (A.reported access.new) }
+        requires ready { IsReady held.old.units (A.reported access.old) }
+        ensures gives { MeansWritingAs values.new.items A.begun A.reported K.written access.old access.new sink.old sink.new held.old held.new result
+            (λ w. v.argument (late A.cost w) (calls_of A.cost w self.now depth) (arg_tree arg.now) values.old.items) }
+        ensures keeps { Keeps A.begun A.reported A.identity access.old access.new }
+        ensures ends { EndsWriting K.written K.faults result held.new.units (A.reported access.new) sink.old sink.new }
     {
         match arg {
             Arg::Number(_, expr) => self.push_value(expr, values, depth, held, access, sink),
@@ -70,23 +58,13 @@ impl Runner<'_> {
         access: &mut A,
         sink: &mut K,
     ) -> Result<(), End>
-        requires open { (A.reported access.old).end ≡ None }
-        requires counted { held.old.units ≡ length (A.reported access.old).asks.calls }
-        ensures gives { (m : BenchState) (answered : Option ℕ) (known : Bool) → A.begun access.old m → IsLeft (A.reported access.new) answered → Knows known (K.written sink.old)
-            → MeansLateAs (world_from m answered) (A.reported access.new).lines values.new.items result (seen known held.new (A.reported access.new).asks (K.written sink.new)) (v.appended (late A.cost (world_from m answered)) values.old.items (v.value (late A.cost (world_from m answered)) (calls_of A.cost (world_from m answered) self.now depth) (tree expr.now) (seen known held.old (A.reported access.old).asks (K.written sink.old)))) }
-        ensures knows { (known : Bool) → Knows known (K.written sink.old) → Knows known (K.written sink.new) }
-        ensures counted { Counted result held.new.units (A.reported access.new).asks.calls }
-        ensures end { EndIs result (A.reported access.new).end }
-        ensures cause { HasSinkCause result (K.faults sink.old) (K.faults sink.new) }
-        ensures on { (m : BenchState) → A.begun access.old m → A.begun access.new m }
-        ensures left { (answered : Option ℕ) → IsLeft (A.reported access.new) answered → IsLeft (A.reported access.old) answered }
-        ensures identity { A.identity access.new ≡ A.identity access.old }
-        ensures goes { GoesOn (A.reported access.old) (A.reported access.new) }
+        requires ready { IsReady held.old.units (A.reported access.old) }
+        ensures gives { MeansWritingAs values.new.items A.begun A.reported K.written access.old access.new sink.old sink.new held.old held.new result
+            (λ w s. v.appended (late A.cost w) values.old.items (v.value (late A.cost w) (calls_of A.cost w self.now depth) (tree expr.now) s)) }
+        ensures keeps { Keeps A.begun A.reported A.identity access.old access.new }
+        ensures ends { EndsWriting K.written K.faults result held.new.units (A.reported access.new) sink.old sink.new }
     {
-        let value = match self.evaluate(expr, depth, held, access, sink) {
-            Ok(value) => value,
-            Err(end) => return Err(end),
-        };
+        let value = self.evaluate(expr, depth, held, access, sink)?;
         match values.push(value) {
             Ok(()) => Ok(()),
             Err(_) => Err(End::Stopped(Stop::OutOfMemory)),
@@ -105,24 +83,14 @@ impl Runner<'_> {
         access: &mut A,
         sink: &mut K,
     ) -> Result<(), End>
-        requires open { (A.reported access.old).end ≡ None }
-        requires counted { held.old.units ≡ length (A.reported access.old).asks.calls }
-        ensures gives { (m : BenchState) (answered : Option ℕ) (known : Bool) → A.begun access.old m → IsLeft (A.reported access.new) answered → Knows known (K.written sink.old)
-            → MeansLateAs (world_from m answered) (A.reported access.new).lines values.new.items result (seen known held.new (A.reported access.new).asks (K.written sink.new)) (v.arguments (late A.cost (world_from m answered)) (calls_of A.cost (world_from m answered) self.now depth) (arg_trees args.now) values.old.items (seen known held.old (A.reported access.old).asks (K.written sink.old))) }
-        ensures knows { (known : Bool) → Knows known (K.written sink.old) → Knows known (K.written sink.new) }
-        ensures counted { Counted result held.new.units (A.reported access.new).asks.calls }
-        ensures end { EndIs result (A.reported access.new).end }
-        ensures cause { HasSinkCause result (K.faults sink.old) (K.faults sink.new) }
-        ensures on { (m : BenchState) → A.begun access.old m → A.begun access.new m }
-        ensures left { (answered : Option ℕ) → IsLeft (A.reported access.new) answered → IsLeft (A.reported access.old) answered }
-        ensures identity { A.identity access.new ≡ A.identity access.old }
-        ensures goes { GoesOn (A.reported access.old) (A.reported access.new) }
+        requires ready { IsReady held.old.units (A.reported access.old) }
+        ensures gives { MeansWritingAs values.new.items A.begun A.reported K.written access.old access.new sink.old sink.new held.old held.new result
+            (λ w. v.arguments (late A.cost w) (calls_of A.cost w self.now depth) (arg_trees args.now) values.old.items) }
+        ensures keeps { Keeps A.begun A.reported A.identity access.old access.new }
+        ensures ends { EndsWriting K.written K.faults result held.new.units (A.reported access.new) sink.old sink.new }
     {
         for arg in args {
-            match self.evaluate_argument(arg, values, depth, held, access, sink) {
-                Ok(()) => {}
-                Err(end) => return Err(end),
-            }
+            self.evaluate_argument(arg, values, depth, held, access, sink)?;
         }
         Ok(())
     }
@@ -139,28 +107,16 @@ impl Runner<'_> {
         access: &mut A,
         sink: &mut K,
     ) -> Result<Value, End>
-        requires open { (A.reported access.old).end ≡ None }
-        requires counted { held.old.units ≡ length (A.reported access.old).asks.calls }
-        ensures gives { (m : BenchState) (answered : Option ℕ) (known : Bool) → A.begun access.old m → IsLeft (A.reported access.new) answered → Knows known (K.written sink.old)
-            → MeansLate (world_from m answered) (A.reported access.new).lines result (seen known held.new (A.reported access.new).asks (K.written sink.new)) (v.call_of (late A.cost (world_from m answered)) (calls_of A.cost (world_from m answered) self.now depth) called.now.name (arg_trees args.now) (v.arguments (late A.cost (world_from m answered)) (calls_of A.cost (world_from m answered) self.now depth) (arg_trees args.now) [] (seen known held.old (A.reported access.old).asks (K.written sink.old)))) }
-        ensures knows { (known : Bool) → Knows known (K.written sink.old) → Knows known (K.written sink.new) }
-        ensures counted { Counted result held.new.units (A.reported access.new).asks.calls }
-        ensures end { EndIs result (A.reported access.new).end }
-        ensures cause { HasSinkCause result (K.faults sink.old) (K.faults sink.new) }
-        ensures on { (m : BenchState) → A.begun access.old m → A.begun access.new m }
-        ensures left { (answered : Option ℕ) → IsLeft (A.reported access.new) answered → IsLeft (A.reported access.old) answered }
-        ensures identity { A.identity access.new ≡ A.identity access.old }
-        ensures goes { GoesOn (A.reported access.old) (A.reported access.new) }
+        requires ready { IsReady held.old.units (A.reported access.old) }
+        ensures gives { MeansWriting A.begun A.reported K.written access.old access.new sink.old sink.new held.old held.new result
+            (λ w s. v.call_of (late A.cost w) (calls_of A.cost w self.now depth) called.now.name (arg_trees args.now)
+            (v.arguments (late A.cost w) (calls_of A.cost w self.now depth) (arg_trees args.now) [] s)) }
+        ensures keeps { Keeps A.begun A.reported A.identity access.old access.new }
+        ensures ends { EndsWriting K.written K.faults result held.new.units (A.reported access.new) sink.old sink.new }
     {
         let mut values = Vec::new(self.alloc);
-        match self.evaluate_arguments(args, &mut values, depth, held, access, sink) {
-            Ok(()) => {}
-            Err(end) => return Err(end),
-        }
-        let numbers = match use_values(self.alloc, values.as_slice(), access) {
-            Ok(numbers) => numbers,
-            Err(end) => return Err(end),
-        };
+        self.evaluate_arguments(args, &mut values, depth, held, access, sink)?;
+        let numbers = use_values(self.alloc, values.as_slice(), access)?;
         self.call_function(
             called.function,
             text_of(args),
@@ -185,18 +141,11 @@ impl Runner<'_> {
         access: &mut A,
         sink: &mut K,
     ) -> Result<Value, End>
-        requires open { (A.reported access.old).end ≡ None }
-        requires counted { held.old.units ≡ length (A.reported access.old).asks.calls }
-        ensures gives { (m : BenchState) (answered : Option ℕ) (known : Bool) → A.begun access.old m → IsLeft (A.reported access.new) answered → Knows known (K.written sink.old)
-            → MeansLate (world_from m answered) (A.reported access.new).lines result (seen known held.new (A.reported access.new).asks (K.written sink.new)) (v.call_result (late A.cost (world_from m answered)) (calls_of A.cost (world_from m answered) self.now depth) function text.now numbers.now (seen known held.old (A.reported access.old).asks (K.written sink.old))) }
-        ensures knows { (known : Bool) → Knows known (K.written sink.old) → Knows known (K.written sink.new) }
-        ensures counted { Counted result held.new.units (A.reported access.new).asks.calls }
-        ensures end { EndIs result (A.reported access.new).end }
-        ensures cause { HasSinkCause result (K.faults sink.old) (K.faults sink.new) }
-        ensures on { (m : BenchState) → A.begun access.old m → A.begun access.new m }
-        ensures left { (answered : Option ℕ) → IsLeft (A.reported access.new) answered → IsLeft (A.reported access.old) answered }
-        ensures identity { A.identity access.new ≡ A.identity access.old }
-        ensures goes { GoesOn (A.reported access.old) (A.reported access.new) }
+        requires ready { IsReady held.old.units (A.reported access.old) }
+        ensures gives { MeansWriting A.begun A.reported K.written access.old access.new sink.old sink.new held.old held.new result
+            (λ w. v.call_result (late A.cost w) (calls_of A.cost w self.now depth) function text.now numbers.now) }
+        ensures keeps { Keeps A.begun A.reported A.identity access.old access.new }
+        ensures ends { EndsWriting K.written K.faults result held.new.units (A.reported access.new) sink.old sink.new }
     {
         match function {
             None => Ok(Value::Number(0)),
@@ -216,23 +165,14 @@ impl Runner<'_> {
         access: &mut A,
         sink: &mut K,
     ) -> Result<Value, End>
-        requires open { (A.reported access.old).end ≡ None }
-        requires counted { held.old.units ≡ length (A.reported access.old).asks.calls }
-        ensures gives { (m : BenchState) (answered : Option ℕ) (known : Bool) → A.begun access.old m → IsLeft (A.reported access.new) answered → Knows known (K.written sink.old)
-            → MeansLate (world_from m answered) (A.reported access.new).lines result (seen known held.new (A.reported access.new).asks (K.written sink.new)) (v.call_result (late A.cost (world_from m answered)) (calls_of A.cost (world_from m answered) self.now depth) (Some Function.Sequence) name.now [] (seen known held.old (A.reported access.old).asks (K.written sink.old))) }
-        ensures knows { (known : Bool) → Knows known (K.written sink.old) → Knows known (K.written sink.new) }
-        ensures counted { Counted result held.new.units (A.reported access.new).asks.calls }
-        ensures end { EndIs result (A.reported access.new).end }
-        ensures cause { HasSinkCause result (K.faults sink.old) (K.faults sink.new) }
-        ensures on { (m : BenchState) → A.begun access.old m → A.begun access.new m }
-        ensures left { (answered : Option ℕ) → IsLeft (A.reported access.new) answered → IsLeft (A.reported access.old) answered }
-        ensures identity { A.identity access.new ≡ A.identity access.old }
-        ensures goes { GoesOn (A.reported access.old) (A.reported access.new) }
+        requires ready { IsReady held.old.units (A.reported access.old) }
+        ensures gives { MeansWriting A.begun A.reported K.written access.old access.new sink.old sink.new held.old held.new result
+            (λ w. v.call_result (late A.cost w) (calls_of A.cost w self.now depth) (Some Function.Sequence) name.now []) }
+        ensures keeps { Keeps A.begun A.reported A.identity access.old access.new }
+        ensures ends { EndsWriting K.written K.faults result held.new.units (A.reported access.new) sink.old sink.new }
     {
-        match self.run_named(name, depth, held, access, sink) {
-            Ok(()) => Ok(Value::Number(0)),
-            Err(end) => Err(end),
-        }
+        self.run_named(name, depth, held, access, sink)?;
+        Ok(Value::Number(0))
     }
 
     // The sequence of the name.
@@ -246,18 +186,11 @@ impl Runner<'_> {
         access: &mut A,
         sink: &mut K,
     ) -> Result<(), End>
-        requires open { (A.reported access.old).end ≡ None }
-        requires counted { held.old.units ≡ length (A.reported access.old).asks.calls }
-        ensures gives { (m : BenchState) (answered : Option ℕ) (known : Bool) → A.begun access.old m → IsLeft (A.reported access.new) answered → Knows known (K.written sink.old)
-            → MeansLate (world_from m answered) (A.reported access.new).lines result (seen known held.new (A.reported access.new).asks (K.written sink.new)) ((calls_of A.cost (world_from m answered) self.now depth) name.now (seen known held.old (A.reported access.old).asks (K.written sink.old))) }
-        ensures knows { (known : Bool) → Knows known (K.written sink.old) → Knows known (K.written sink.new) }
-        ensures counted { Counted result held.new.units (A.reported access.new).asks.calls }
-        ensures end { EndIs result (A.reported access.new).end }
-        ensures cause { HasSinkCause result (K.faults sink.old) (K.faults sink.new) }
-        ensures on { (m : BenchState) → A.begun access.old m → A.begun access.new m }
-        ensures left { (answered : Option ℕ) → IsLeft (A.reported access.new) answered → IsLeft (A.reported access.old) answered }
-        ensures identity { A.identity access.new ≡ A.identity access.old }
-        ensures goes { GoesOn (A.reported access.old) (A.reported access.new) }
+        requires ready { IsReady held.old.units (A.reported access.old) }
+        ensures gives { MeansWriting A.begun A.reported K.written access.old access.new sink.old sink.new held.old held.new result
+            (λ w. (calls_of A.cost w self.now depth) name.now) }
+        ensures keeps { Keeps A.begun A.reported A.identity access.old access.new }
+        ensures ends { EndsWriting K.written K.faults result held.new.units (A.reported access.new) sink.old sink.new }
     {
         if depth == 0 {
             return Ok(());
@@ -287,29 +220,18 @@ impl Runner<'_> {
         access: &mut A,
         sink: &mut K,
     ) -> Result<(), End>
-        requires open { (A.reported access.old).end ≡ None }
-        requires counted { held.old.units ≡ length (A.reported access.old).asks.calls }
-        ensures gives { (m : BenchState) (answered : Option ℕ) (known : Bool) → A.begun access.old m → IsLeft (A.reported access.new) answered → Knows known (K.written sink.old)
-            → MeansLate (world_from m answered) (A.reported access.new).lines result (seen known held.new (A.reported access.new).asks (K.written sink.new)) (st.sequence_result (late A.cost (world_from m answered)) (st.steps_result (late A.cost (world_from m answered)) self.now.turn_us (calls_of A.cost (world_from m answered) self.now depth) (steps_tree steps.now)) (seen known held.old (A.reported access.old).asks (K.written sink.old))) }
-        ensures knows { (known : Bool) → Knows known (K.written sink.old) → Knows known (K.written sink.new) }
-        ensures counted { Counted result held.new.units (A.reported access.new).asks.calls }
-        ensures end { EndIs result (A.reported access.new).end }
-        ensures cause { HasSinkCause result (K.faults sink.old) (K.faults sink.new) }
-        ensures on { (m : BenchState) → A.begun access.old m → A.begun access.new m }
-        ensures left { (answered : Option ℕ) → IsLeft (A.reported access.new) answered → IsLeft (A.reported access.old) answered }
-        ensures identity { A.identity access.new ≡ A.identity access.old }
-        ensures goes { GoesOn (A.reported access.old) (A.reported access.new) }
+        requires ready { IsReady held.old.units (A.reported access.old) }
+        ensures gives { MeansWriting A.begun A.reported K.written access.old access.new sink.old sink.new held.old held.new result
+            (λ w. st.sequence_result (late A.cost w) (st.steps_result (late A.cost w) self.now.turn_us (calls_of A.cost w self.now depth) (steps_tree steps.now))) }
+        ensures keeps { Keeps A.begun A.reported A.identity access.old access.new }
+        ensures ends { EndsWriting K.written K.faults result held.new.units (A.reported access.new) sink.old sink.new }
     {
         let dp = held.get_global("__dp");
         let ap = held.get_global("__ap");
         let control = held.get_global("__errorcontrol");
         let locals = held.take_locals(self.alloc);
-        match self.run_steps(steps, depth, held, access, sink) {
-            Ok(()) => {
-                held.give_back(dp, ap, control, locals);
-                Ok(())
-            }
-            Err(end) => Err(end),
-        }
+        self.run_steps(steps, depth, held, access, sink)?;
+        held.give_back(dp, ap, control, locals);
+        Ok(())
     }
 }

@@ -1,9 +1,8 @@
 //! How a run is closed.
-ghost use Rattle.std.specs.Prelude.{◌≡◌, [], ℕ, List, Option, None, OnOk, IfOk, IfErr, length};
+ghost use Rattle.std.specs.Prelude.{◌≡◌, [], ℕ, List, Option, None, OnOk, IfOk, IfErr};
 ghost use Rattle.probe_core.specs.Bench.{BenchState};
 ghost use Rattle.target_calls.specs.Values.{IsAsked, number_of};
 ghost use Rattle.access_calls.specs.Answers.{StopsCalls};
-ghost use Rattle.access_calls.specs.GoesOn.{GoesOn};
 ghost use Rattle.access_calls.specs.Left.{IsLeft, answered_by};
 ghost use Rattle.access_calls.specs.Reported.{world_from};
 ghost use Rattle.sequence_rules.specs.Direct.{Now};
@@ -13,6 +12,7 @@ ghost use Rattle.sequence_rules.specs.Machine.{Out};
 ghost use Rattle.sequence_rules.specs.Runs.{outcome_of, variables_of};
 ghost use Rattle.sequence_rules.specs.Shared.{bindings_of};
 ghost use Rattle.function_calls.specs.Ends.{EndsBy};
+ghost use Rattle.function_calls.specs.Frame.{Keeps};
 ghost use Rattle.function_calls.specs.Held.{state_of};
 ghost use Rattle.control_flow.specs.Answers.{EndBy, EndsAs, HasNeeds, ran};
 ghost use Rattle.control_flow.specs.Closing.{AreAsked, ComesToEnd, NoWriteFault, OutIs, numbers_in};
@@ -37,9 +37,7 @@ fn look_up<A: Access>(value: Value, access: &mut A) -> Result<u64, Stop>
         → IfErr result (StopsCalls (world_from m answered) (A.reported access.old).asks.calls (A.reported access.new).lines) }
     ensures open { OnOk result ((A.reported access.new).end ≡ None) }
     ensures end { IfErr result (λ s. EndsBy s (A.reported access.new).end) }
-    ensures on { (m : BenchState) → A.begun access.old m → A.begun access.new m }
-    ensures identity { A.identity access.new ≡ A.identity access.old }
-    ensures goes { GoesOn (A.reported access.old) (A.reported access.new) }
+    ensures keeps { Keeps A.begun A.reported A.identity access.old access.new }
 {
     match value {
         Value::Number(number) => Ok(number),
@@ -63,9 +61,7 @@ fn look_up_variables<A: Access>(
         → IfErr result (StopsCalls (world_from m answered) (A.reported access.old).asks.calls (A.reported access.new).lines) }
     ensures open { OnOk result ((A.reported access.new).end ≡ None) }
     ensures end { IfErr result (λ s. EndsBy s (A.reported access.new).end) }
-    ensures on { (m : BenchState) → A.begun access.old m → A.begun access.new m }
-    ensures identity { A.identity access.new ≡ A.identity access.old }
-    ensures goes { GoesOn (A.reported access.old) (A.reported access.new) }
+    ensures keeps { Keeps A.begun A.reported A.identity access.old access.new }
 {
     let mut variables = Variables::new(alloc);
     let mut index = 0;
@@ -76,10 +72,7 @@ fn look_up_variables<A: Access>(
         let Ok(name) = NameText::new(alloc, name) else {
             return Err(Stop::OutOfMemory);
         };
-        let value = match look_up(value, access) {
-            Ok(value) => value,
-            Err(stop) => return Err(stop),
-        };
+        let value = look_up(value, access)?;
         match variables.push(Variable { name, value }) {
             Ok(()) => {}
             Err(_) => return Err(Stop::OutOfMemory),
@@ -116,13 +109,12 @@ pub(crate) fn ended_whole<A: Access>(
     requires whole { ComesToEnd ending }
     ensures answer { (m : BenchState) (written : Option (List ℕ)) (out : Out Value Late (Unit {0})) (q : Out ℕ Now (Unit {0})) → A.begun access.old m
         → OutIs ending (state_of held.now (A.reported access.old).asks written) out → Pair (world_from m (answered_by (A.reported access.new))) out q
-        → EndsAs result.ending (A.reported access.new).lines (outcome_of q) (ran result (A.reported access.new).asks written) × HasNeeds result.ending (A.reported access.new).asks out }
+        → EndsAs result.ending (A.reported access.new).lines (outcome_of q) (ran result (A.reported access.new).asks written) × HasNeeds result.ending
+        (A.reported access.new).asks out }
     ensures end { EndBy result.ending (A.reported access.new).end }
     ensures cause { NoWriteFault result.ending }
     ensures skipped { result.skipped ≡ (A.reported access.new).skipped }
-    ensures on { (m : BenchState) → A.begun access.old m → A.begun access.new m }
-    ensures identity { A.identity access.new ≡ A.identity access.old }
-    ensures goes { GoesOn (A.reported access.old) (A.reported access.new) }
+    ensures keeps { Keeps A.begun A.reported A.identity access.old access.new }
 {
     match access.finish() {
         Ok(()) => {}

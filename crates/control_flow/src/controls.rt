@@ -1,18 +1,13 @@
 //! Controls, their turns, and polls.
-ghost use Rattle.std.specs.Prelude.{◌≡◌, ◌≤◌, ℕ, Bool, List, Option, None, Some, length, option_map};
+ghost use Rattle.std.specs.Prelude.{◌≤◌, Option, None, Some, option_map};
 ghost use Rattle.expr_grammar.specs.Tree.{tree};
 ghost use Rattle.sequence_trees.specs.Trees.{steps_tree};
 ghost use Rattle.sequence_rules.specs.Polls as p;
 ghost use Rattle.sequence_rules.specs.Steps as st;
 ghost use Rattle.sequence_rules.specs.Values as v;
-ghost use Rattle.function_calls.specs.Ends.{Counted, EndIs, HasSinkCause, MeansLate};
-ghost use Rattle.probe_core.specs.Bench.{BenchState};
-ghost use Rattle.access_calls.specs.GoesOn.{GoesOn};
-ghost use Rattle.access_calls.specs.Left.{IsLeft};
-ghost use Rattle.access_calls.specs.Reported.{world_from};
+ghost use Rattle.function_calls.specs.Frame.{EndsWriting, IsReady, Keeps};
+ghost use Rattle.function_calls.specs.Means.{MeansWriting};
 ghost use Rattle.sequence_rules.specs.Late.{late};
-ghost use Rattle.sequence_rules.specs.Known.{Knows};
-ghost use Rattle.function_calls.specs.Held.{seen};
 ghost use Rattle.control_flow.specs.Calls.{calls_of};
 
 use crate::polling::run_poll;
@@ -39,23 +34,17 @@ impl Runner<'_> {
         access: &mut A,
         sink: &mut K,
     ) -> Result<(), End>
-        requires open { (A.reported access.old).end ≡ None }
-        requires counted { held.old.units ≡ length (A.reported access.old).asks.calls }
-        ensures gives { (m : BenchState) (answered : Option ℕ) (known : Bool) → A.begun access.old m → IsLeft (A.reported access.new) answered → Knows known (K.written sink.old)
-            → MeansLate (world_from m answered) (A.reported access.new).lines result (seen known held.new (A.reported access.new).asks (K.written sink.new)) (st.controlled (late A.cost (world_from m answered)) self.now.turn_us (calls_of A.cost (world_from m answered) self.now depth) (option_map tree cond.now) (option_map tree repeat.now) timeout (steps_tree steps.now) (st.steps_result (late A.cost (world_from m answered)) self.now.turn_us (calls_of A.cost (world_from m answered) self.now depth) (steps_tree steps.now)) (seen known held.old (A.reported access.old).asks (K.written sink.old))) }
-        ensures knows { (known : Bool) → Knows known (K.written sink.old) → Knows known (K.written sink.new) }
-        ensures counted { Counted result held.new.units (A.reported access.new).asks.calls }
-        ensures end { EndIs result (A.reported access.new).end }
-        ensures cause { HasSinkCause result (K.faults sink.old) (K.faults sink.new) }
-        ensures on { (m : BenchState) → A.begun access.old m → A.begun access.new m }
-        ensures left { (answered : Option ℕ) → IsLeft (A.reported access.new) answered → IsLeft (A.reported access.old) answered }
-        ensures identity { A.identity access.new ≡ A.identity access.old }
-        ensures goes { GoesOn (A.reported access.old) (A.reported access.new) }
+        requires ready { IsReady held.old.units (A.reported access.old) }
+        ensures gives { MeansWriting A.begun A.reported K.written access.old access.new sink.old sink.new held.old held.new result
+            (λ w. st.controlled (late A.cost w) self.now.turn_us (calls_of A.cost w self.now depth) (option_map tree cond.now) (option_map tree repeat.now) timeout
+            (steps_tree steps.now) (st.steps_result (late A.cost w) self.now.turn_us (calls_of A.cost w self.now depth) (steps_tree steps.now))) }
+        ensures keeps { Keeps A.begun A.reported A.identity access.old access.new }
+        ensures ends { EndsWriting K.written K.faults result held.new.units (A.reported access.new) sink.old sink.new }
     {
-        match self.test_condition(cond, depth, held, access, sink) {
-            Ok(true) => self.repeat_steps(repeat, timeout, steps, depth, held, access, sink),
-            Ok(false) => Ok(()),
-            Err(end) => Err(end),
+        if self.test_condition(cond, depth, held, access, sink)? {
+            self.repeat_steps(repeat, timeout, steps, depth, held, access, sink)
+        } else {
+            Ok(())
         }
     }
 
@@ -70,18 +59,11 @@ impl Runner<'_> {
         access: &mut A,
         sink: &mut K,
     ) -> Result<bool, End>
-        requires open { (A.reported access.old).end ≡ None }
-        requires counted { held.old.units ≡ length (A.reported access.old).asks.calls }
-        ensures gives { (m : BenchState) (answered : Option ℕ) (known : Bool) → A.begun access.old m → IsLeft (A.reported access.new) answered → Knows known (K.written sink.old)
-            → MeansLate (world_from m answered) (A.reported access.new).lines result (seen known held.new (A.reported access.new).asks (K.written sink.new)) (st.condition (late A.cost (world_from m answered)) self.now.turn_us (calls_of A.cost (world_from m answered) self.now depth) (option_map tree cond.now) (seen known held.old (A.reported access.old).asks (K.written sink.old))) }
-        ensures knows { (known : Bool) → Knows known (K.written sink.old) → Knows known (K.written sink.new) }
-        ensures counted { Counted result held.new.units (A.reported access.new).asks.calls }
-        ensures end { EndIs result (A.reported access.new).end }
-        ensures cause { HasSinkCause result (K.faults sink.old) (K.faults sink.new) }
-        ensures on { (m : BenchState) → A.begun access.old m → A.begun access.new m }
-        ensures left { (answered : Option ℕ) → IsLeft (A.reported access.new) answered → IsLeft (A.reported access.old) answered }
-        ensures identity { A.identity access.new ≡ A.identity access.old }
-        ensures goes { GoesOn (A.reported access.old) (A.reported access.new) }
+        requires ready { IsReady held.old.units (A.reported access.old) }
+        ensures gives { MeansWriting A.begun A.reported K.written access.old access.new sink.old sink.new held.old held.new result
+            (λ w. st.condition (late A.cost w) self.now.turn_us (calls_of A.cost w self.now depth) (option_map tree cond.now)) }
+        ensures keeps { Keeps A.begun A.reported A.identity access.old access.new }
+        ensures ends { EndsWriting K.written K.faults result held.new.units (A.reported access.new) sink.old sink.new }
     {
         match cond {
             None => Ok(true),
@@ -100,23 +82,14 @@ impl Runner<'_> {
         access: &mut A,
         sink: &mut K,
     ) -> Result<bool, End>
-        requires open { (A.reported access.old).end ≡ None }
-        requires counted { held.old.units ≡ length (A.reported access.old).asks.calls }
-        ensures gives { (m : BenchState) (answered : Option ℕ) (known : Bool) → A.begun access.old m → IsLeft (A.reported access.new) answered → Knows known (K.written sink.old)
-            → MeansLate (world_from m answered) (A.reported access.new).lines result (seen known held.new (A.reported access.new).asks (K.written sink.new)) (st.condition (late A.cost (world_from m answered)) self.now.turn_us (calls_of A.cost (world_from m answered) self.now depth) (Some (tree expr.now)) (seen known held.old (A.reported access.old).asks (K.written sink.old))) }
-        ensures knows { (known : Bool) → Knows known (K.written sink.old) → Knows known (K.written sink.new) }
-        ensures counted { Counted result held.new.units (A.reported access.new).asks.calls }
-        ensures end { EndIs result (A.reported access.new).end }
-        ensures cause { HasSinkCause result (K.faults sink.old) (K.faults sink.new) }
-        ensures on { (m : BenchState) → A.begun access.old m → A.begun access.new m }
-        ensures left { (answered : Option ℕ) → IsLeft (A.reported access.new) answered → IsLeft (A.reported access.old) answered }
-        ensures identity { A.identity access.new ≡ A.identity access.old }
-        ensures goes { GoesOn (A.reported access.old) (A.reported access.new) }
+        requires ready { IsReady held.old.units (A.reported access.old) }
+        ensures gives { MeansWriting A.begun A.reported K.written access.old access.new sink.old sink.new held.old held.new result
+            (λ w. st.condition (late A.cost w) self.now.turn_us (calls_of A.cost w self.now depth) (Some (tree expr.now))) }
+        ensures keeps { Keeps A.begun A.reported A.identity access.old access.new }
+        ensures ends { EndsWriting K.written K.faults result held.new.units (A.reported access.new) sink.old sink.new }
     {
-        match self.evaluate_number(expr, depth, held, access, sink) {
-            Ok(number) => Ok(number != 0),
-            Err(end) => Err(end),
-        }
+        let number = self.evaluate_number(expr, depth, held, access, sink)?;
+        Ok(number != 0)
     }
 
     // The steps of a control, once or in turns.
@@ -132,18 +105,12 @@ impl Runner<'_> {
         access: &mut A,
         sink: &mut K,
     ) -> Result<(), End>
-        requires open { (A.reported access.old).end ≡ None }
-        requires counted { held.old.units ≡ length (A.reported access.old).asks.calls }
-        ensures gives { (m : BenchState) (answered : Option ℕ) (known : Bool) → A.begun access.old m → IsLeft (A.reported access.new) answered → Knows known (K.written sink.old)
-            → MeansLate (world_from m answered) (A.reported access.new).lines result (seen known held.new (A.reported access.new).asks (K.written sink.new)) (st.repeat_result (late A.cost (world_from m answered)) self.now.turn_us (calls_of A.cost (world_from m answered) self.now depth) (option_map tree repeat.now) timeout (steps_tree steps.now) (st.steps_result (late A.cost (world_from m answered)) self.now.turn_us (calls_of A.cost (world_from m answered) self.now depth) (steps_tree steps.now)) (seen known held.old (A.reported access.old).asks (K.written sink.old))) }
-        ensures knows { (known : Bool) → Knows known (K.written sink.old) → Knows known (K.written sink.new) }
-        ensures counted { Counted result held.new.units (A.reported access.new).asks.calls }
-        ensures end { EndIs result (A.reported access.new).end }
-        ensures cause { HasSinkCause result (K.faults sink.old) (K.faults sink.new) }
-        ensures on { (m : BenchState) → A.begun access.old m → A.begun access.new m }
-        ensures left { (answered : Option ℕ) → IsLeft (A.reported access.new) answered → IsLeft (A.reported access.old) answered }
-        ensures identity { A.identity access.new ≡ A.identity access.old }
-        ensures goes { GoesOn (A.reported access.old) (A.reported access.new) }
+        requires ready { IsReady held.old.units (A.reported access.old) }
+        ensures gives { MeansWriting A.begun A.reported K.written access.old access.new sink.old sink.new held.old held.new result
+            (λ w. st.repeat_result (late A.cost w) self.now.turn_us (calls_of A.cost w self.now depth) (option_map tree repeat.now) timeout (steps_tree steps.now)
+            (st.steps_result (late A.cost w) self.now.turn_us (calls_of A.cost w self.now depth) (steps_tree steps.now))) }
+        ensures keeps { Keeps A.begun A.reported A.identity access.old access.new }
+        ensures ends { EndsWriting K.written K.faults result held.new.units (A.reported access.new) sink.old sink.new }
     {
         match repeat {
             None => self.run_inside(steps, depth, held, access, sink),
@@ -174,18 +141,12 @@ impl Runner<'_> {
     ) -> Result<(), End>
         requires least { 1 ≤ count }
         requires most { count ≤ 60000000 }
-        requires open { (A.reported access.old).end ≡ None }
-        requires counted { held.old.units ≡ length (A.reported access.old).asks.calls }
-        ensures gives { (m : BenchState) (answered : Option ℕ) (known : Bool) → A.begun access.old m → IsLeft (A.reported access.new) answered → Knows known (K.written sink.old)
-            → MeansLate (world_from m answered) (A.reported access.new).lines result (seen known held.new (A.reported access.new).asks (K.written sink.new)) (st.loop_result (late A.cost (world_from m answered)) self.now.turn_us (calls_of A.cost (world_from m answered) self.now depth) (p.poll_of (tree expr.now) (steps_tree steps.now)) (tree expr.now) count (st.steps_result (late A.cost (world_from m answered)) self.now.turn_us (calls_of A.cost (world_from m answered) self.now depth) (steps_tree steps.now)) (seen known held.old (A.reported access.old).asks (K.written sink.old))) }
-        ensures knows { (known : Bool) → Knows known (K.written sink.old) → Knows known (K.written sink.new) }
-        ensures counted { Counted result held.new.units (A.reported access.new).asks.calls }
-        ensures end { EndIs result (A.reported access.new).end }
-        ensures cause { HasSinkCause result (K.faults sink.old) (K.faults sink.new) }
-        ensures on { (m : BenchState) → A.begun access.old m → A.begun access.new m }
-        ensures left { (answered : Option ℕ) → IsLeft (A.reported access.new) answered → IsLeft (A.reported access.old) answered }
-        ensures identity { A.identity access.new ≡ A.identity access.old }
-        ensures goes { GoesOn (A.reported access.old) (A.reported access.new) }
+        requires ready { IsReady held.old.units (A.reported access.old) }
+        ensures gives { MeansWriting A.begun A.reported K.written access.old access.new sink.old sink.new held.old held.new result
+            (λ w. st.loop_result (late A.cost w) self.now.turn_us (calls_of A.cost w self.now depth) (p.poll_of (tree expr.now) (steps_tree steps.now))
+            (tree expr.now) count (st.steps_result (late A.cost w) self.now.turn_us (calls_of A.cost w self.now depth) (steps_tree steps.now))) }
+        ensures keeps { Keeps A.begun A.reported A.identity access.old access.new }
+        ensures ends { EndsWriting K.written K.faults result held.new.units (A.reported access.new) sink.old sink.new }
     {
         match poll_of(expr, steps) {
             Some((mask, requested)) => run_poll(mask, requested, count, held, access),
@@ -206,18 +167,12 @@ impl Runner<'_> {
         access: &mut A,
         sink: &mut K,
     ) -> Result<(), End>
-        requires open { (A.reported access.old).end ≡ None }
-        requires counted { held.old.units ≡ length (A.reported access.old).asks.calls }
-        ensures gives { (m : BenchState) (answered : Option ℕ) (known : Bool) → A.begun access.old m → IsLeft (A.reported access.new) answered → Knows known (K.written sink.old)
-            → MeansLate (world_from m answered) (A.reported access.new).lines result (seen known held.new (A.reported access.new).asks (K.written sink.new)) (st.turns (late A.cost (world_from m answered)) (v.value (late A.cost (world_from m answered)) (calls_of A.cost (world_from m answered) self.now depth) (tree expr.now)) (λ r. st.inside (late A.cost (world_from m answered)) (st.steps_result (late A.cost (world_from m answered)) self.now.turn_us (calls_of A.cost (world_from m answered) self.now depth) (steps_tree steps.now)) r) count (seen known held.old (A.reported access.old).asks (K.written sink.old))) }
-        ensures knows { (known : Bool) → Knows known (K.written sink.old) → Knows known (K.written sink.new) }
-        ensures counted { Counted result held.new.units (A.reported access.new).asks.calls }
-        ensures end { EndIs result (A.reported access.new).end }
-        ensures cause { HasSinkCause result (K.faults sink.old) (K.faults sink.new) }
-        ensures on { (m : BenchState) → A.begun access.old m → A.begun access.new m }
-        ensures left { (answered : Option ℕ) → IsLeft (A.reported access.new) answered → IsLeft (A.reported access.old) answered }
-        ensures identity { A.identity access.new ≡ A.identity access.old }
-        ensures goes { GoesOn (A.reported access.old) (A.reported access.new) }
+        requires ready { IsReady held.old.units (A.reported access.old) }
+        ensures gives { MeansWriting A.begun A.reported K.written access.old access.new sink.old sink.new held.old held.new result
+            (λ w. st.turns (late A.cost w) (v.value (late A.cost w) (calls_of A.cost w self.now depth) (tree expr.now))
+            (λ r. st.inside (late A.cost w) (st.steps_result (late A.cost w) self.now.turn_us (calls_of A.cost w self.now depth) (steps_tree steps.now)) r) count) }
+        ensures keeps { Keeps A.begun A.reported A.identity access.old access.new }
+        ensures ends { EndsWriting K.written K.faults result held.new.units (A.reported access.new) sink.old sink.new }
     {
         let mut left = count;
         while left > 0 {
@@ -242,34 +197,22 @@ impl Runner<'_> {
         access: &mut A,
         sink: &mut K,
     ) -> Result<bool, End>
-        requires open { (A.reported access.old).end ≡ None }
-        requires counted { held.old.units ≡ length (A.reported access.old).asks.calls }
-        ensures gives { (m : BenchState) (answered : Option ℕ) (known : Bool) → A.begun access.old m → IsLeft (A.reported access.new) answered → Knows known (K.written sink.old)
-            → MeansLate (world_from m answered) (A.reported access.new).lines result (seen known held.new (A.reported access.new).asks (K.written sink.new)) (st.turn (late A.cost (world_from m answered)) (v.value (late A.cost (world_from m answered)) (calls_of A.cost (world_from m answered) self.now depth) (tree expr.now)) (λ r. st.inside (late A.cost (world_from m answered)) (st.steps_result (late A.cost (world_from m answered)) self.now.turn_us (calls_of A.cost (world_from m answered) self.now depth) (steps_tree steps.now)) r) (seen known held.old (A.reported access.old).asks (K.written sink.old))) }
-        ensures knows { (known : Bool) → Knows known (K.written sink.old) → Knows known (K.written sink.new) }
-        ensures counted { Counted result held.new.units (A.reported access.new).asks.calls }
-        ensures end { EndIs result (A.reported access.new).end }
-        ensures cause { HasSinkCause result (K.faults sink.old) (K.faults sink.new) }
-        ensures on { (m : BenchState) → A.begun access.old m → A.begun access.new m }
-        ensures left { (answered : Option ℕ) → IsLeft (A.reported access.new) answered → IsLeft (A.reported access.old) answered }
-        ensures identity { A.identity access.new ≡ A.identity access.old }
-        ensures goes { GoesOn (A.reported access.old) (A.reported access.new) }
+        requires ready { IsReady held.old.units (A.reported access.old) }
+        ensures gives { MeansWriting A.begun A.reported K.written access.old access.new sink.old sink.new held.old held.new result
+            (λ w. st.turn (late A.cost w) (v.value (late A.cost w) (calls_of A.cost w self.now depth) (tree expr.now))
+            (λ r. st.inside (late A.cost w) (st.steps_result (late A.cost w) self.now.turn_us (calls_of A.cost w self.now depth) (steps_tree steps.now)) r)) }
+        ensures keeps { Keeps A.begun A.reported A.identity access.old access.new }
+        ensures ends { EndsWriting K.written K.faults result held.new.units (A.reported access.new) sink.old sink.new }
     {
         match held.count_step() {
             Ok(()) => {}
             Err(cause) => return Err(End::Halted(cause)),
         }
-        let number = match self.evaluate_number(expr, depth, held, access, sink) {
-            Ok(number) => number,
-            Err(end) => return Err(end),
-        };
+        let number = self.evaluate_number(expr, depth, held, access, sink)?;
         if number == 0 {
             return Ok(false);
         }
-        match self.run_inside(steps, depth, held, access, sink) {
-            Ok(()) => {}
-            Err(end) => return Err(end),
-        }
+        self.run_inside(steps, depth, held, access, sink)?;
         Ok(true)
     }
 
@@ -284,24 +227,14 @@ impl Runner<'_> {
         access: &mut A,
         sink: &mut K,
     ) -> Result<(), End>
-        requires open { (A.reported access.old).end ≡ None }
-        requires counted { held.old.units ≡ length (A.reported access.old).asks.calls }
-        ensures gives { (m : BenchState) (answered : Option ℕ) (known : Bool) → A.begun access.old m → IsLeft (A.reported access.new) answered → Knows known (K.written sink.old)
-            → MeansLate (world_from m answered) (A.reported access.new).lines result (seen known held.new (A.reported access.new).asks (K.written sink.new)) (st.inside (late A.cost (world_from m answered)) (st.steps_result (late A.cost (world_from m answered)) self.now.turn_us (calls_of A.cost (world_from m answered) self.now depth) (steps_tree steps.now)) (seen known held.old (A.reported access.old).asks (K.written sink.old))) }
-        ensures knows { (known : Bool) → Knows known (K.written sink.old) → Knows known (K.written sink.new) }
-        ensures counted { Counted result held.new.units (A.reported access.new).asks.calls }
-        ensures end { EndIs result (A.reported access.new).end }
-        ensures cause { HasSinkCause result (K.faults sink.old) (K.faults sink.new) }
-        ensures on { (m : BenchState) → A.begun access.old m → A.begun access.new m }
-        ensures left { (answered : Option ℕ) → IsLeft (A.reported access.new) answered → IsLeft (A.reported access.old) answered }
-        ensures identity { A.identity access.new ≡ A.identity access.old }
-        ensures goes { GoesOn (A.reported access.old) (A.reported access.new) }
+        requires ready { IsReady held.old.units (A.reported access.old) }
+        ensures gives { MeansWriting A.begun A.reported K.written access.old access.new sink.old sink.new held.old held.new result
+            (λ w. st.inside (late A.cost w) (st.steps_result (late A.cost w) self.now.turn_us (calls_of A.cost w self.now depth) (steps_tree steps.now))) }
+        ensures keeps { Keeps A.begun A.reported A.identity access.old access.new }
+        ensures ends { EndsWriting K.written K.faults result held.new.units (A.reported access.new) sink.old sink.new }
     {
         let count = held.local_count();
-        match self.run_steps(steps, depth, held, access, sink) {
-            Ok(()) => {}
-            Err(end) => return Err(end),
-        }
+        self.run_steps(steps, depth, held, access, sink)?;
         held.cut_back(count);
         Ok(())
     }

@@ -1,16 +1,10 @@
 //! Whole runs of the evaluator: the debug variables, and then the sequence that a run starts with.
-ghost use Rattle.std.specs.Prelude.{◌≡◌, ℕ, Bool, List, Option, None, length};
 ghost use Rattle.expr_grammar.specs.Tree.{code_trees, stmt_tree, tree};
-ghost use Rattle.probe_core.specs.Bench.{BenchState};
-ghost use Rattle.access_calls.specs.GoesOn.{GoesOn};
-ghost use Rattle.access_calls.specs.Left.{IsLeft};
-ghost use Rattle.access_calls.specs.Reported.{world_from};
 ghost use Rattle.seq_check.specs.Answers.{checked_trees};
 ghost use Rattle.sequence_rules.specs.Late.{late};
 ghost use Rattle.sequence_rules.specs.Steps as st;
-ghost use Rattle.function_calls.specs.Ends.{Counted, EndIs, HasSinkCause, MeansLate};
-ghost use Rattle.sequence_rules.specs.Known.{Knows};
-ghost use Rattle.function_calls.specs.Held.{seen};
+ghost use Rattle.function_calls.specs.Frame.{EndsWriting, IsReady, Keeps};
+ghost use Rattle.function_calls.specs.Means.{MeansWriting};
 ghost use Rattle.control_flow.specs.Calls.{debugged_one, defined};
 
 use crate::runner::Runner;
@@ -31,23 +25,13 @@ impl Runner<'_> {
         access: &mut A,
         sink: &mut K,
     ) -> Result<(), End>
-        requires open { (A.reported access.old).end ≡ None }
-        requires counted { held.old.units ≡ length (A.reported access.old).asks.calls }
-        ensures gives { (m : BenchState) (answered : Option ℕ) (known : Bool) → A.begun access.old m → IsLeft (A.reported access.new) answered → Knows known (K.written sink.old)
-            → MeansLate (world_from m answered) (A.reported access.new).lines result (seen known held.new (A.reported access.new).asks (K.written sink.new)) (defined A.cost (world_from m answered) self.now.turn_us (checked_trees self.now.set.now) name.now (tree expr.now) (seen known held.old (A.reported access.old).asks (K.written sink.old))) }
-        ensures knows { (known : Bool) → Knows known (K.written sink.old) → Knows known (K.written sink.new) }
-        ensures counted { Counted result held.new.units (A.reported access.new).asks.calls }
-        ensures end { EndIs result (A.reported access.new).end }
-        ensures cause { HasSinkCause result (K.faults sink.old) (K.faults sink.new) }
-        ensures on { (m : BenchState) → A.begun access.old m → A.begun access.new m }
-        ensures left { (answered : Option ℕ) → IsLeft (A.reported access.new) answered → IsLeft (A.reported access.old) answered }
-        ensures identity { A.identity access.new ≡ A.identity access.old }
-        ensures goes { GoesOn (A.reported access.old) (A.reported access.new) }
+        requires ready { IsReady held.old.units (A.reported access.old) }
+        ensures gives { MeansWriting A.begun A.reported K.written access.old access.new sink.old sink.new held.old held.new result
+            (λ w. defined A.cost w self.now.turn_us (checked_trees self.now.set.now) name.now (tree expr.now)) }
+        ensures keeps { Keeps A.begun A.reported A.identity access.old access.new }
+        ensures ends { EndsWriting K.written K.faults result held.new.units (A.reported access.new) sink.old sink.new }
     {
-        let value = match self.evaluate(expr, 0, held, access, sink) {
-            Ok(value) => value,
-            Err(end) => return Err(end),
-        };
+        let value = self.evaluate(expr, 0, held, access, sink)?;
         held.store(name.text.as_str(), value);
         Ok(())
     }
@@ -61,18 +45,11 @@ impl Runner<'_> {
         access: &mut A,
         sink: &mut K,
     ) -> Result<(), End>
-        requires open { (A.reported access.old).end ≡ None }
-        requires counted { held.old.units ≡ length (A.reported access.old).asks.calls }
-        ensures gives { (m : BenchState) (answered : Option ℕ) (known : Bool) → A.begun access.old m → IsLeft (A.reported access.new) answered → Knows known (K.written sink.old)
-            → MeansLate (world_from m answered) (A.reported access.new).lines result (seen known held.new (A.reported access.new).asks (K.written sink.new)) (debugged_one A.cost (world_from m answered) self.now.turn_us (checked_trees self.now.set.now) (stmt_tree one.now) (seen known held.old (A.reported access.old).asks (K.written sink.old))) }
-        ensures knows { (known : Bool) → Knows known (K.written sink.old) → Knows known (K.written sink.new) }
-        ensures counted { Counted result held.new.units (A.reported access.new).asks.calls }
-        ensures end { EndIs result (A.reported access.new).end }
-        ensures cause { HasSinkCause result (K.faults sink.old) (K.faults sink.new) }
-        ensures on { (m : BenchState) → A.begun access.old m → A.begun access.new m }
-        ensures left { (answered : Option ℕ) → IsLeft (A.reported access.new) answered → IsLeft (A.reported access.old) answered }
-        ensures identity { A.identity access.new ≡ A.identity access.old }
-        ensures goes { GoesOn (A.reported access.old) (A.reported access.new) }
+        requires ready { IsReady held.old.units (A.reported access.old) }
+        ensures gives { MeansWriting A.begun A.reported K.written access.old access.new sink.old sink.new held.old held.new result
+            (λ w. debugged_one A.cost w self.now.turn_us (checked_trees self.now.set.now) (stmt_tree one.now)) }
+        ensures keeps { Keeps A.begun A.reported A.identity access.old access.new }
+        ensures ends { EndsWriting K.written K.faults result held.new.units (A.reported access.new) sink.old sink.new }
     {
         match one {
             Stmt::Declare(name, expr) => self.define(name, expr, held, access, sink),
@@ -89,24 +66,14 @@ impl Runner<'_> {
         access: &mut A,
         sink: &mut K,
     ) -> Result<(), End>
-        requires open { (A.reported access.old).end ≡ None }
-        requires counted { held.old.units ≡ length (A.reported access.old).asks.calls }
-        ensures gives { (m : BenchState) (answered : Option ℕ) (known : Bool) → A.begun access.old m → IsLeft (A.reported access.new) answered → Knows known (K.written sink.old)
-            → MeansLate (world_from m answered) (A.reported access.new).lines result (seen known held.new (A.reported access.new).asks (K.written sink.new)) (st.debugged (late A.cost (world_from m answered)) self.now.turn_us (checked_trees self.now.set.now) (code_trees code.now) (seen known held.old (A.reported access.old).asks (K.written sink.old))) }
-        ensures knows { (known : Bool) → Knows known (K.written sink.old) → Knows known (K.written sink.new) }
-        ensures counted { Counted result held.new.units (A.reported access.new).asks.calls }
-        ensures end { EndIs result (A.reported access.new).end }
-        ensures cause { HasSinkCause result (K.faults sink.old) (K.faults sink.new) }
-        ensures on { (m : BenchState) → A.begun access.old m → A.begun access.new m }
-        ensures left { (answered : Option ℕ) → IsLeft (A.reported access.new) answered → IsLeft (A.reported access.old) answered }
-        ensures identity { A.identity access.new ≡ A.identity access.old }
-        ensures goes { GoesOn (A.reported access.old) (A.reported access.new) }
+        requires ready { IsReady held.old.units (A.reported access.old) }
+        ensures gives { MeansWriting A.begun A.reported K.written access.old access.new sink.old sink.new held.old held.new result
+            (λ w. st.debugged (late A.cost w) self.now.turn_us (checked_trees self.now.set.now) (code_trees code.now)) }
+        ensures keeps { Keeps A.begun A.reported A.identity access.old access.new }
+        ensures ends { EndsWriting K.written K.faults result held.new.units (A.reported access.new) sink.old sink.new }
     {
         for one in code {
-            match self.define_one(one, held, access, sink) {
-                Ok(()) => {}
-                Err(end) => return Err(end),
-            }
+            self.define_one(one, held, access, sink)?;
         }
         Ok(())
     }
@@ -120,23 +87,13 @@ impl Runner<'_> {
         access: &mut A,
         sink: &mut K,
     ) -> Result<(), End>
-        requires open { (A.reported access.old).end ≡ None }
-        requires counted { held.old.units ≡ length (A.reported access.old).asks.calls }
-        ensures gives { (m : BenchState) (answered : Option ℕ) (known : Bool) → A.begun access.old m → IsLeft (A.reported access.new) answered → Knows known (K.written sink.old)
-            → MeansLate (world_from m answered) (A.reported access.new).lines result (seen known held.new (A.reported access.new).asks (K.written sink.new)) (st.run_of (late A.cost (world_from m answered)) self.now.turn_us (checked_trees self.now.set.now) start.now (seen known held.old (A.reported access.old).asks (K.written sink.old))) }
-        ensures knows { (known : Bool) → Knows known (K.written sink.old) → Knows known (K.written sink.new) }
-        ensures counted { Counted result held.new.units (A.reported access.new).asks.calls }
-        ensures end { EndIs result (A.reported access.new).end }
-        ensures cause { HasSinkCause result (K.faults sink.old) (K.faults sink.new) }
-        ensures on { (m : BenchState) → A.begun access.old m → A.begun access.new m }
-        ensures left { (answered : Option ℕ) → IsLeft (A.reported access.new) answered → IsLeft (A.reported access.old) answered }
-        ensures identity { A.identity access.new ≡ A.identity access.old }
-        ensures goes { GoesOn (A.reported access.old) (A.reported access.new) }
+        requires ready { IsReady held.old.units (A.reported access.old) }
+        ensures gives { MeansWriting A.begun A.reported K.written access.old access.new sink.old sink.new held.old held.new result
+            (λ w. st.run_of (late A.cost w) self.now.turn_us (checked_trees self.now.set.now) start.now) }
+        ensures keeps { Keeps A.begun A.reported A.identity access.old access.new }
+        ensures ends { EndsWriting K.written K.faults result held.new.units (A.reported access.new) sink.old sink.new }
     {
-        match self.define_all(self.set.debugvars().as_slice(), held, access, sink) {
-            Ok(()) => {}
-            Err(end) => return Err(end),
-        }
+        self.define_all(self.set.debugvars().as_slice(), held, access, sink)?;
         self.run_steps(self.steps_of(start), MOST_CALLS_DEEP, held, access, sink)
     }
 }

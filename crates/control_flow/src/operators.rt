@@ -1,16 +1,11 @@
 //! Operators and their operands.
-ghost use Rattle.std.specs.Prelude.{◌≡◌, ℕ, Bool, List, Option, None, length};
+ghost use Rattle.std.specs.Prelude.{◌≡◌, None};
 ghost use Rattle.expr_grammar.specs.Arithmetic.{truth};
-ghost use Rattle.expr_grammar.specs.Tree.{tree, arg_trees};
-ghost use Rattle.probe_core.specs.Bench.{BenchState};
-ghost use Rattle.access_calls.specs.GoesOn.{GoesOn};
-ghost use Rattle.access_calls.specs.Left.{IsLeft};
-ghost use Rattle.access_calls.specs.Reported.{world_from};
+ghost use Rattle.expr_grammar.specs.Tree.{tree};
 ghost use Rattle.sequence_rules.specs.Late.{late};
 ghost use Rattle.sequence_rules.specs.Values as v;
-ghost use Rattle.function_calls.specs.Ends.{Counted, EndIs, HasSinkCause, MeansLate};
-ghost use Rattle.sequence_rules.specs.Known.{Knows};
-ghost use Rattle.function_calls.specs.Held.{seen};
+ghost use Rattle.function_calls.specs.Frame.{EndsWriting, IsReady, Keeps};
+ghost use Rattle.function_calls.specs.Means.{MeansWriting};
 ghost use Rattle.control_flow.specs.Calls.{calls_of};
 
 use crate::runner::Runner;
@@ -34,23 +29,14 @@ impl Runner<'_> {
         access: &mut A,
         sink: &mut K,
     ) -> Result<Value, End>
-        requires open { (A.reported access.old).end ≡ None }
-        requires counted { held.old.units ≡ length (A.reported access.old).asks.calls }
-        ensures gives { (m : BenchState) (answered : Option ℕ) (known : Bool) → A.begun access.old m → IsLeft (A.reported access.new) answered → Knows known (K.written sink.old)
-            → MeansLate (world_from m answered) (A.reported access.new).lines result (seen known held.new (A.reported access.new).asks (K.written sink.new)) (v.of_unary (late A.cost (world_from m answered)) op (v.value (late A.cost (world_from m answered)) (calls_of A.cost (world_from m answered) self.now depth) (tree operand.now) (seen known held.old (A.reported access.old).asks (K.written sink.old)))) }
-        ensures knows { (known : Bool) → Knows known (K.written sink.old) → Knows known (K.written sink.new) }
-        ensures counted { Counted result held.new.units (A.reported access.new).asks.calls }
-        ensures end { EndIs result (A.reported access.new).end }
-        ensures cause { HasSinkCause result (K.faults sink.old) (K.faults sink.new) }
-        ensures on { (m : BenchState) → A.begun access.old m → A.begun access.new m }
-        ensures left { (answered : Option ℕ) → IsLeft (A.reported access.new) answered → IsLeft (A.reported access.old) answered }
-        ensures identity { A.identity access.new ≡ A.identity access.old }
-        ensures goes { GoesOn (A.reported access.old) (A.reported access.new) }
+        requires ready { IsReady held.old.units (A.reported access.old) }
+        ensures gives { MeansWriting A.begun A.reported K.written access.old access.new sink.old sink.new held.old held.new result
+            (λ w s. v.of_unary (late A.cost w) op (v.value (late A.cost w) (calls_of A.cost w self.now depth) (tree operand.now) s)) }
+        ensures keeps { Keeps A.begun A.reported A.identity access.old access.new }
+        ensures ends { EndsWriting K.written K.faults result held.new.units (A.reported access.new) sink.old sink.new }
     {
-        match self.evaluate_number(operand, depth, held, access, sink) {
-            Ok(number) => Ok(Value::Number(unary_value(op, number))),
-            Err(end) => Err(end),
-        }
+        let number = self.evaluate_number(operand, depth, held, access, sink)?;
+        Ok(Value::Number(unary_value(op, number)))
     }
 
     // The numbers of two operands: both are evaluated, and then both are used.
@@ -65,27 +51,15 @@ impl Runner<'_> {
         access: &mut A,
         sink: &mut K,
     ) -> Result<(u64, u64), End>
-        requires open { (A.reported access.old).end ≡ None }
-        requires counted { held.old.units ≡ length (A.reported access.old).asks.calls }
-        ensures gives { (m : BenchState) (answered : Option ℕ) (known : Bool) → A.begun access.old m → IsLeft (A.reported access.new) answered → Knows known (K.written sink.old)
-            → MeansLate (world_from m answered) (A.reported access.new).lines result (seen known held.new (A.reported access.new).asks (K.written sink.new)) (v.operands (late A.cost (world_from m answered)) (v.value (late A.cost (world_from m answered)) (calls_of A.cost (world_from m answered) self.now depth) (tree left.now) (seen known held.old (A.reported access.old).asks (K.written sink.old))) (v.value (late A.cost (world_from m answered)) (calls_of A.cost (world_from m answered) self.now depth) (tree right.now))) }
-        ensures knows { (known : Bool) → Knows known (K.written sink.old) → Knows known (K.written sink.new) }
-        ensures counted { Counted result held.new.units (A.reported access.new).asks.calls }
-        ensures end { EndIs result (A.reported access.new).end }
-        ensures cause { HasSinkCause result (K.faults sink.old) (K.faults sink.new) }
-        ensures on { (m : BenchState) → A.begun access.old m → A.begun access.new m }
-        ensures left { (answered : Option ℕ) → IsLeft (A.reported access.new) answered → IsLeft (A.reported access.old) answered }
-        ensures identity { A.identity access.new ≡ A.identity access.old }
-        ensures goes { GoesOn (A.reported access.old) (A.reported access.new) }
+        requires ready { IsReady held.old.units (A.reported access.old) }
+        ensures gives { MeansWriting A.begun A.reported K.written access.old access.new sink.old sink.new held.old held.new result
+            (λ w s. v.operands (late A.cost w) (v.value (late A.cost w) (calls_of A.cost w self.now depth) (tree left.now) s)
+            (v.value (late A.cost w) (calls_of A.cost w self.now depth) (tree right.now))) }
+        ensures keeps { Keeps A.begun A.reported A.identity access.old access.new }
+        ensures ends { EndsWriting K.written K.faults result held.new.units (A.reported access.new) sink.old sink.new }
     {
-        let left = match self.evaluate(left, depth, held, access, sink) {
-            Ok(left) => left,
-            Err(end) => return Err(end),
-        };
-        let right = match self.evaluate(right, depth, held, access, sink) {
-            Ok(right) => right,
-            Err(end) => return Err(end),
-        };
+        let left = self.evaluate(left, depth, held, access, sink)?;
+        let right = self.evaluate(right, depth, held, access, sink)?;
         use_both(left, right, access)
     }
 
@@ -102,23 +76,14 @@ impl Runner<'_> {
         access: &mut A,
         sink: &mut K,
     ) -> Result<Value, End>
-        requires open { (A.reported access.old).end ≡ None }
-        requires counted { held.old.units ≡ length (A.reported access.old).asks.calls }
-        ensures gives { (m : BenchState) (answered : Option ℕ) (known : Bool) → A.begun access.old m → IsLeft (A.reported access.new) answered → Knows known (K.written sink.old)
-            → MeansLate (world_from m answered) (A.reported access.new).lines result (seen known held.new (A.reported access.new).asks (K.written sink.new)) (v.strict_binary (late A.cost (world_from m answered)) op (v.value (late A.cost (world_from m answered)) (calls_of A.cost (world_from m answered) self.now depth) (tree left.now) (seen known held.old (A.reported access.old).asks (K.written sink.old))) (v.value (late A.cost (world_from m answered)) (calls_of A.cost (world_from m answered) self.now depth) (tree right.now))) }
-        ensures knows { (known : Bool) → Knows known (K.written sink.old) → Knows known (K.written sink.new) }
-        ensures counted { Counted result held.new.units (A.reported access.new).asks.calls }
-        ensures end { EndIs result (A.reported access.new).end }
-        ensures cause { HasSinkCause result (K.faults sink.old) (K.faults sink.new) }
-        ensures on { (m : BenchState) → A.begun access.old m → A.begun access.new m }
-        ensures left { (answered : Option ℕ) → IsLeft (A.reported access.new) answered → IsLeft (A.reported access.old) answered }
-        ensures identity { A.identity access.new ≡ A.identity access.old }
-        ensures goes { GoesOn (A.reported access.old) (A.reported access.new) }
+        requires ready { IsReady held.old.units (A.reported access.old) }
+        ensures gives { MeansWriting A.begun A.reported K.written access.old access.new sink.old sink.new held.old held.new result
+            (λ w s. v.strict_binary (late A.cost w) op (v.value (late A.cost w) (calls_of A.cost w self.now depth) (tree left.now) s)
+            (v.value (late A.cost w) (calls_of A.cost w self.now depth) (tree right.now))) }
+        ensures keeps { Keeps A.begun A.reported A.identity access.old access.new }
+        ensures ends { EndsWriting K.written K.faults result held.new.units (A.reported access.new) sink.old sink.new }
     {
-        let (left, right) = match self.evaluate_operands(left, right, depth, held, access, sink) {
-            Ok((left, right)) => (left, right),
-            Err(end) => return Err(end),
-        };
+        let (left, right) = self.evaluate_operands(left, right, depth, held, access, sink)?;
         match binary_value(op, left, right) {
             Some(number) => Ok(Value::Number(number)),
             None => Err(End::Halted(HaltCause::DivideByZero)),
@@ -136,23 +101,14 @@ impl Runner<'_> {
         access: &mut A,
         sink: &mut K,
     ) -> Result<Value, End>
-        requires open { (A.reported access.old).end ≡ None }
-        requires counted { held.old.units ≡ length (A.reported access.old).asks.calls }
-        ensures gives { (m : BenchState) (answered : Option ℕ) (known : Bool) → A.begun access.old m → IsLeft (A.reported access.new) answered → Knows known (K.written sink.old)
-            → MeansLate (world_from m answered) (A.reported access.new).lines result (seen known held.new (A.reported access.new).asks (K.written sink.new)) (v.truth_of (late A.cost (world_from m answered)) (v.value (late A.cost (world_from m answered)) (calls_of A.cost (world_from m answered) self.now depth) (tree expr.now) (seen known held.old (A.reported access.old).asks (K.written sink.old)))) }
-        ensures knows { (known : Bool) → Knows known (K.written sink.old) → Knows known (K.written sink.new) }
-        ensures counted { Counted result held.new.units (A.reported access.new).asks.calls }
-        ensures end { EndIs result (A.reported access.new).end }
-        ensures cause { HasSinkCause result (K.faults sink.old) (K.faults sink.new) }
-        ensures on { (m : BenchState) → A.begun access.old m → A.begun access.new m }
-        ensures left { (answered : Option ℕ) → IsLeft (A.reported access.new) answered → IsLeft (A.reported access.old) answered }
-        ensures identity { A.identity access.new ≡ A.identity access.old }
-        ensures goes { GoesOn (A.reported access.old) (A.reported access.new) }
+        requires ready { IsReady held.old.units (A.reported access.old) }
+        ensures gives { MeansWriting A.begun A.reported K.written access.old access.new sink.old sink.new held.old held.new result
+            (λ w s. v.truth_of (late A.cost w) (v.value (late A.cost w) (calls_of A.cost w self.now depth) (tree expr.now) s)) }
+        ensures keeps { Keeps A.begun A.reported A.identity access.old access.new }
+        ensures ends { EndsWriting K.written K.faults result held.new.units (A.reported access.new) sink.old sink.new }
     {
-        match self.evaluate_number(expr, depth, held, access, sink) {
-            Ok(number) => Ok(Value::Number(truth(number != 0))),
-            Err(end) => Err(end),
-        }
+        let number = self.evaluate_number(expr, depth, held, access, sink)?;
+        Ok(Value::Number(truth(number != 0)))
     }
 
     // The right side counts only where the left one is not 0.
@@ -167,23 +123,14 @@ impl Runner<'_> {
         access: &mut A,
         sink: &mut K,
     ) -> Result<Value, End>
-        requires open { (A.reported access.old).end ≡ None }
-        requires counted { held.old.units ≡ length (A.reported access.old).asks.calls }
-        ensures gives { (m : BenchState) (answered : Option ℕ) (known : Bool) → A.begun access.old m → IsLeft (A.reported access.new) answered → Knows known (K.written sink.old)
-            → MeansLate (world_from m answered) (A.reported access.new).lines result (seen known held.new (A.reported access.new).asks (K.written sink.new)) (v.conjunction (late A.cost (world_from m answered)) (v.value (late A.cost (world_from m answered)) (calls_of A.cost (world_from m answered) self.now depth) (tree left.now) (seen known held.old (A.reported access.old).asks (K.written sink.old))) (v.value (late A.cost (world_from m answered)) (calls_of A.cost (world_from m answered) self.now depth) (tree right.now))) }
-        ensures knows { (known : Bool) → Knows known (K.written sink.old) → Knows known (K.written sink.new) }
-        ensures counted { Counted result held.new.units (A.reported access.new).asks.calls }
-        ensures end { EndIs result (A.reported access.new).end }
-        ensures cause { HasSinkCause result (K.faults sink.old) (K.faults sink.new) }
-        ensures on { (m : BenchState) → A.begun access.old m → A.begun access.new m }
-        ensures left { (answered : Option ℕ) → IsLeft (A.reported access.new) answered → IsLeft (A.reported access.old) answered }
-        ensures identity { A.identity access.new ≡ A.identity access.old }
-        ensures goes { GoesOn (A.reported access.old) (A.reported access.new) }
+        requires ready { IsReady held.old.units (A.reported access.old) }
+        ensures gives { MeansWriting A.begun A.reported K.written access.old access.new sink.old sink.new held.old held.new result
+            (λ w s. v.conjunction (late A.cost w) (v.value (late A.cost w) (calls_of A.cost w self.now depth) (tree left.now) s)
+            (v.value (late A.cost w) (calls_of A.cost w self.now depth) (tree right.now))) }
+        ensures keeps { Keeps A.begun A.reported A.identity access.old access.new }
+        ensures ends { EndsWriting K.written K.faults result held.new.units (A.reported access.new) sink.old sink.new }
     {
-        let number = match self.evaluate_number(left, depth, held, access, sink) {
-            Ok(number) => number,
-            Err(end) => return Err(end),
-        };
+        let number = self.evaluate_number(left, depth, held, access, sink)?;
         if number == 0 {
             return Ok(Value::Number(0));
         }
@@ -202,23 +149,14 @@ impl Runner<'_> {
         access: &mut A,
         sink: &mut K,
     ) -> Result<Value, End>
-        requires open { (A.reported access.old).end ≡ None }
-        requires counted { held.old.units ≡ length (A.reported access.old).asks.calls }
-        ensures gives { (m : BenchState) (answered : Option ℕ) (known : Bool) → A.begun access.old m → IsLeft (A.reported access.new) answered → Knows known (K.written sink.old)
-            → MeansLate (world_from m answered) (A.reported access.new).lines result (seen known held.new (A.reported access.new).asks (K.written sink.new)) (v.disjunction (late A.cost (world_from m answered)) (v.value (late A.cost (world_from m answered)) (calls_of A.cost (world_from m answered) self.now depth) (tree left.now) (seen known held.old (A.reported access.old).asks (K.written sink.old))) (v.value (late A.cost (world_from m answered)) (calls_of A.cost (world_from m answered) self.now depth) (tree right.now))) }
-        ensures knows { (known : Bool) → Knows known (K.written sink.old) → Knows known (K.written sink.new) }
-        ensures counted { Counted result held.new.units (A.reported access.new).asks.calls }
-        ensures end { EndIs result (A.reported access.new).end }
-        ensures cause { HasSinkCause result (K.faults sink.old) (K.faults sink.new) }
-        ensures on { (m : BenchState) → A.begun access.old m → A.begun access.new m }
-        ensures left { (answered : Option ℕ) → IsLeft (A.reported access.new) answered → IsLeft (A.reported access.old) answered }
-        ensures identity { A.identity access.new ≡ A.identity access.old }
-        ensures goes { GoesOn (A.reported access.old) (A.reported access.new) }
+        requires ready { IsReady held.old.units (A.reported access.old) }
+        ensures gives { MeansWriting A.begun A.reported K.written access.old access.new sink.old sink.new held.old held.new result
+            (λ w s. v.disjunction (late A.cost w) (v.value (late A.cost w) (calls_of A.cost w self.now depth) (tree left.now) s)
+            (v.value (late A.cost w) (calls_of A.cost w self.now depth) (tree right.now))) }
+        ensures keeps { Keeps A.begun A.reported A.identity access.old access.new }
+        ensures ends { EndsWriting K.written K.faults result held.new.units (A.reported access.new) sink.old sink.new }
     {
-        let number = match self.evaluate_number(left, depth, held, access, sink) {
-            Ok(number) => number,
-            Err(end) => return Err(end),
-        };
+        let number = self.evaluate_number(left, depth, held, access, sink)?;
         if number != 0 {
             return Ok(Value::Number(1));
         }
@@ -238,18 +176,12 @@ impl Runner<'_> {
         access: &mut A,
         sink: &mut K,
     ) -> Result<Value, End>
-        requires open { (A.reported access.old).end ≡ None }
-        requires counted { held.old.units ≡ length (A.reported access.old).asks.calls }
-        ensures gives { (m : BenchState) (answered : Option ℕ) (known : Bool) → A.begun access.old m → IsLeft (A.reported access.new) answered → Knows known (K.written sink.old)
-            → MeansLate (world_from m answered) (A.reported access.new).lines result (seen known held.new (A.reported access.new).asks (K.written sink.new)) (v.of_binary (late A.cost (world_from m answered)) op (v.value (late A.cost (world_from m answered)) (calls_of A.cost (world_from m answered) self.now depth) (tree left.now) (seen known held.old (A.reported access.old).asks (K.written sink.old))) (v.value (late A.cost (world_from m answered)) (calls_of A.cost (world_from m answered) self.now depth) (tree right.now))) }
-        ensures knows { (known : Bool) → Knows known (K.written sink.old) → Knows known (K.written sink.new) }
-        ensures counted { Counted result held.new.units (A.reported access.new).asks.calls }
-        ensures end { EndIs result (A.reported access.new).end }
-        ensures cause { HasSinkCause result (K.faults sink.old) (K.faults sink.new) }
-        ensures on { (m : BenchState) → A.begun access.old m → A.begun access.new m }
-        ensures left { (answered : Option ℕ) → IsLeft (A.reported access.new) answered → IsLeft (A.reported access.old) answered }
-        ensures identity { A.identity access.new ≡ A.identity access.old }
-        ensures goes { GoesOn (A.reported access.old) (A.reported access.new) }
+        requires ready { IsReady held.old.units (A.reported access.old) }
+        ensures gives { MeansWriting A.begun A.reported K.written access.old access.new sink.old sink.new held.old held.new result
+            (λ w s. v.of_binary (late A.cost w) op (v.value (late A.cost w) (calls_of A.cost w self.now depth) (tree left.now) s)
+            (v.value (late A.cost w) (calls_of A.cost w self.now depth) (tree right.now))) }
+        ensures keeps { Keeps A.begun A.reported A.identity access.old access.new }
+        ensures ends { EndsWriting K.written K.faults result held.new.units (A.reported access.new) sink.old sink.new }
     {
         match op {
             BinaryOp::And => self.evaluate_and(left, right, depth, held, access, sink),

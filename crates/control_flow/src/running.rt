@@ -1,14 +1,14 @@
 //! Runs over an access.
-ghost use Rattle.std.specs.Prelude.{◌≡◌, ◌<◌, ℕ, Bool, List, Option, None, map};
+ghost use Rattle.std.specs.Prelude.{◌≡◌, ◌<◌, Bool, None, map};
 ghost use Rattle.function_table.specs.Variables.{predefined};
 ghost use Rattle.probe_core.specs.Bench.{BenchState};
 ghost use Rattle.target_calls.specs.NeedPoints.{nothing_asked};
-ghost use Rattle.access_calls.specs.GoesOn.{GoesOn};
 ghost use Rattle.access_calls.specs.Left.{answered_by};
 ghost use Rattle.access_calls.specs.Reported.{world_from};
 ghost use Rattle.seq_check.specs.Answers.{checked_trees};
 ghost use Rattle.sequence_rules.specs.Runs.{late_meaning, meaning, outcome_of, program_of};
 ghost use Rattle.sequence_rules.specs.Known.{Knows, known_part};
+ghost use Rattle.function_calls.specs.Frame.{Keeps};
 ghost use Rattle.control_flow.specs.Answers.{EndBy, EndsAs, HasNeeds, HasSinkCause, ran};
 
 use crate::closing::{ended_early, ended_whole};
@@ -46,18 +46,18 @@ pub fn run<A: Access, K: Sink>(
     // How it ended, what is answered, and the lines are those of what the program means in the world that is left.
     ensures answer { (m : BenchState) (known : Bool) → A.begun access.old m → Knows known (K.written sink.old)
         → EndsAs result.ending (A.reported access.new).lines
-        (outcome_of (meaning (world_from m (answered_by (A.reported access.new))) (program_of (checked_trees checked.now) start.now settings.now) (known_part known (K.written sink.old))))
+        (outcome_of (meaning (world_from m (answered_by (A.reported access.new))) (program_of (checked_trees checked.now) start.now settings.now)
+        (known_part known (K.written sink.old))))
         (ran result (A.reported access.new).asks (known_part known (K.written sink.new))) }
     // What was asked has the need points of the meaning with results that come later, and one for the end.
     ensures needs { (m : BenchState) (known : Bool) → A.begun access.old m → Knows known (K.written sink.old)
         → HasNeeds result.ending (A.reported access.new).asks
-        (late_meaning A.cost (world_from m (answered_by (A.reported access.new))) (program_of (checked_trees checked.now) start.now settings.now) (known_part known (K.written sink.old))) }
+        (late_meaning A.cost (world_from m (answered_by (A.reported access.new))) (program_of (checked_trees checked.now) start.now settings.now)
+        (known_part known (K.written sink.old))) }
     ensures end { EndBy result.ending (A.reported access.new).end }
     ensures skipped { result.skipped ≡ (A.reported access.new).skipped }
     ensures cause { HasSinkCause result.ending (K.faults sink.old) (K.faults sink.new) }
-    ensures on { (m : BenchState) → A.begun access.old m → A.begun access.new m }
-    ensures identity { A.identity access.new ≡ A.identity access.old }
-    ensures goes { GoesOn (A.reported access.old) (A.reported access.new) }
+    ensures keeps { Keeps A.begun A.reported A.identity access.old access.new }
 {
     let Ok(mut held) = held_at_start(alloc, checked, settings) else {
         return ended_early(alloc, Ending::OutOfMemory, 0, access.skipped());

@@ -55,10 +55,7 @@ fn add_declared(
     ensures { OnOk result (bindings_of globals.new ≡ with_all_new (bindings_of globals.old) (declared_names (code_trees code.now)) (Number 0)) }
 {
     for one in code {
-        match add_one(globals, alloc, one) {
-            Ok(()) => {}
-            Err(refused) => return Err(refused),
-        }
+        add_one(globals, alloc, one)?;
     }
     Ok(())
 }
@@ -71,7 +68,8 @@ pub(crate) fn held_at_start(
 ) -> Result<Held, OutOfMemory>
     requires { map (λ variable. variable.name) settings.now.start ≡ predefined }
     ensures state { (cost : Costs) (w : World) (written : Option (List ℕ)) → IfOk result (λ held. state_of held nothing_asked written
-        ≡ start_state (late cost w) settings.now.turn_us (checked_trees checked.now) (r.as_values (late cost w) (variables_of settings.now.start)) (late_of nothing_asked written)) }
+        ≡ start_state (late cost w) settings.now.turn_us (checked_trees checked.now) (r.as_values (late cost w) (variables_of settings.now.start))
+        (late_of nothing_asked written)) }
     ensures units { IfOk result (λ held. held.units ≡ 0) }
 {
     let mut globals = make_globals(alloc, settings.start.as_slice())?;

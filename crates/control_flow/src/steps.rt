@@ -1,17 +1,11 @@
 //! Steps and statements.
-ghost use Rattle.std.specs.Prelude.{◌≡◌, ℕ, Bool, List, Option, None, length};
 ghost use Rattle.expr_grammar.specs.Tree.{code_trees, stmt_tree, tree};
 ghost use Rattle.sequence_trees.specs.Trees.{step_tree, steps_tree};
 ghost use Rattle.sequence_rules.specs.Steps as st;
 ghost use Rattle.sequence_rules.specs.Values as v;
-ghost use Rattle.function_calls.specs.Ends.{Counted, EndIs, HasSinkCause, MeansLate};
-ghost use Rattle.probe_core.specs.Bench.{BenchState};
-ghost use Rattle.access_calls.specs.GoesOn.{GoesOn};
-ghost use Rattle.access_calls.specs.Left.{IsLeft};
-ghost use Rattle.access_calls.specs.Reported.{world_from};
+ghost use Rattle.function_calls.specs.Frame.{EndsWriting, IsReady, Keeps};
+ghost use Rattle.function_calls.specs.Means.{MeansWriting};
 ghost use Rattle.sequence_rules.specs.Late.{late};
-ghost use Rattle.sequence_rules.specs.Known.{Knows};
-ghost use Rattle.function_calls.specs.Held.{seen};
 ghost use Rattle.control_flow.specs.Calls.{calls_of};
 
 use crate::runner::Runner;
@@ -33,24 +27,14 @@ impl Runner<'_> {
         access: &mut A,
         sink: &mut K,
     ) -> Result<(), End>
-        requires open { (A.reported access.old).end ≡ None }
-        requires counted { held.old.units ≡ length (A.reported access.old).asks.calls }
-        ensures gives { (m : BenchState) (answered : Option ℕ) (known : Bool) → A.begun access.old m → IsLeft (A.reported access.new) answered → Knows known (K.written sink.old)
-            → MeansLate (world_from m answered) (A.reported access.new).lines result (seen known held.new (A.reported access.new).asks (K.written sink.new)) (st.steps_result (late A.cost (world_from m answered)) self.now.turn_us (calls_of A.cost (world_from m answered) self.now depth) (steps_tree steps.now) (seen known held.old (A.reported access.old).asks (K.written sink.old))) }
-        ensures knows { (known : Bool) → Knows known (K.written sink.old) → Knows known (K.written sink.new) }
-        ensures counted { Counted result held.new.units (A.reported access.new).asks.calls }
-        ensures end { EndIs result (A.reported access.new).end }
-        ensures cause { HasSinkCause result (K.faults sink.old) (K.faults sink.new) }
-        ensures on { (m : BenchState) → A.begun access.old m → A.begun access.new m }
-        ensures left { (answered : Option ℕ) → IsLeft (A.reported access.new) answered → IsLeft (A.reported access.old) answered }
-        ensures identity { A.identity access.new ≡ A.identity access.old }
-        ensures goes { GoesOn (A.reported access.old) (A.reported access.new) }
+        requires ready { IsReady held.old.units (A.reported access.old) }
+        ensures gives { MeansWriting A.begun A.reported K.written access.old access.new sink.old sink.new held.old held.new result
+            (λ w. st.steps_result (late A.cost w) self.now.turn_us (calls_of A.cost w self.now depth) (steps_tree steps.now)) }
+        ensures keeps { Keeps A.begun A.reported A.identity access.old access.new }
+        ensures ends { EndsWriting K.written K.faults result held.new.units (A.reported access.new) sink.old sink.new }
     {
         for one in steps {
-            match self.run_step(one, depth, held, access, sink) {
-                Ok(()) => {}
-                Err(end) => return Err(end),
-            }
+            self.run_step(one, depth, held, access, sink)?;
         }
         Ok(())
     }
@@ -66,18 +50,11 @@ impl Runner<'_> {
         access: &mut A,
         sink: &mut K,
     ) -> Result<(), End>
-        requires open { (A.reported access.old).end ≡ None }
-        requires counted { held.old.units ≡ length (A.reported access.old).asks.calls }
-        ensures gives { (m : BenchState) (answered : Option ℕ) (known : Bool) → A.begun access.old m → IsLeft (A.reported access.new) answered → Knows known (K.written sink.old)
-            → MeansLate (world_from m answered) (A.reported access.new).lines result (seen known held.new (A.reported access.new).asks (K.written sink.new)) (st.step (late A.cost (world_from m answered)) self.now.turn_us (calls_of A.cost (world_from m answered) self.now depth) (step_tree one.now) (seen known held.old (A.reported access.old).asks (K.written sink.old))) }
-        ensures knows { (known : Bool) → Knows known (K.written sink.old) → Knows known (K.written sink.new) }
-        ensures counted { Counted result held.new.units (A.reported access.new).asks.calls }
-        ensures end { EndIs result (A.reported access.new).end }
-        ensures cause { HasSinkCause result (K.faults sink.old) (K.faults sink.new) }
-        ensures on { (m : BenchState) → A.begun access.old m → A.begun access.new m }
-        ensures left { (answered : Option ℕ) → IsLeft (A.reported access.new) answered → IsLeft (A.reported access.old) answered }
-        ensures identity { A.identity access.new ≡ A.identity access.old }
-        ensures goes { GoesOn (A.reported access.old) (A.reported access.new) }
+        requires ready { IsReady held.old.units (A.reported access.old) }
+        ensures gives { MeansWriting A.begun A.reported K.written access.old access.new sink.old sink.new held.old held.new result
+            (λ w. st.step (late A.cost w) self.now.turn_us (calls_of A.cost w self.now depth) (step_tree one.now)) }
+        ensures keeps { Keeps A.begun A.reported A.identity access.old access.new }
+        ensures ends { EndsWriting K.written K.faults result held.new.units (A.reported access.new) sink.old sink.new }
     {
         match one {
             CheckedStep::Block(code) => self.run_block(code.as_slice(), depth, held, access, sink),
@@ -110,24 +87,14 @@ impl Runner<'_> {
         access: &mut A,
         sink: &mut K,
     ) -> Result<(), End>
-        requires open { (A.reported access.old).end ≡ None }
-        requires counted { held.old.units ≡ length (A.reported access.old).asks.calls }
-        ensures gives { (m : BenchState) (answered : Option ℕ) (known : Bool) → A.begun access.old m → IsLeft (A.reported access.new) answered → Knows known (K.written sink.old)
-            → MeansLate (world_from m answered) (A.reported access.new).lines result (seen known held.new (A.reported access.new).asks (K.written sink.new)) (st.block (late A.cost (world_from m answered)) self.now.turn_us (calls_of A.cost (world_from m answered) self.now depth) (code_trees code.now) (seen known held.old (A.reported access.old).asks (K.written sink.old))) }
-        ensures knows { (known : Bool) → Knows known (K.written sink.old) → Knows known (K.written sink.new) }
-        ensures counted { Counted result held.new.units (A.reported access.new).asks.calls }
-        ensures end { EndIs result (A.reported access.new).end }
-        ensures cause { HasSinkCause result (K.faults sink.old) (K.faults sink.new) }
-        ensures on { (m : BenchState) → A.begun access.old m → A.begun access.new m }
-        ensures left { (answered : Option ℕ) → IsLeft (A.reported access.new) answered → IsLeft (A.reported access.old) answered }
-        ensures identity { A.identity access.new ≡ A.identity access.old }
-        ensures goes { GoesOn (A.reported access.old) (A.reported access.new) }
+        requires ready { IsReady held.old.units (A.reported access.old) }
+        ensures gives { MeansWriting A.begun A.reported K.written access.old access.new sink.old sink.new held.old held.new result
+            (λ w. st.block (late A.cost w) self.now.turn_us (calls_of A.cost w self.now depth) (code_trees code.now)) }
+        ensures keeps { Keeps A.begun A.reported A.identity access.old access.new }
+        ensures ends { EndsWriting K.written K.faults result held.new.units (A.reported access.new) sink.old sink.new }
     {
         for one in code {
-            match self.run_statement(one, depth, held, access, sink) {
-                Ok(()) => {}
-                Err(end) => return Err(end),
-            }
+            self.run_statement(one, depth, held, access, sink)?;
         }
         Ok(())
     }
@@ -143,18 +110,11 @@ impl Runner<'_> {
         access: &mut A,
         sink: &mut K,
     ) -> Result<(), End>
-        requires open { (A.reported access.old).end ≡ None }
-        requires counted { held.old.units ≡ length (A.reported access.old).asks.calls }
-        ensures gives { (m : BenchState) (answered : Option ℕ) (known : Bool) → A.begun access.old m → IsLeft (A.reported access.new) answered → Knows known (K.written sink.old)
-            → MeansLate (world_from m answered) (A.reported access.new).lines result (seen known held.new (A.reported access.new).asks (K.written sink.new)) (st.statement (late A.cost (world_from m answered)) self.now.turn_us (calls_of A.cost (world_from m answered) self.now depth) (stmt_tree one.now) (seen known held.old (A.reported access.old).asks (K.written sink.old))) }
-        ensures knows { (known : Bool) → Knows known (K.written sink.old) → Knows known (K.written sink.new) }
-        ensures counted { Counted result held.new.units (A.reported access.new).asks.calls }
-        ensures end { EndIs result (A.reported access.new).end }
-        ensures cause { HasSinkCause result (K.faults sink.old) (K.faults sink.new) }
-        ensures on { (m : BenchState) → A.begun access.old m → A.begun access.new m }
-        ensures left { (answered : Option ℕ) → IsLeft (A.reported access.new) answered → IsLeft (A.reported access.old) answered }
-        ensures identity { A.identity access.new ≡ A.identity access.old }
-        ensures goes { GoesOn (A.reported access.old) (A.reported access.new) }
+        requires ready { IsReady held.old.units (A.reported access.old) }
+        ensures gives { MeansWriting A.begun A.reported K.written access.old access.new sink.old sink.new held.old held.new result
+            (λ w. st.statement (late A.cost w) self.now.turn_us (calls_of A.cost w self.now depth) (stmt_tree one.now)) }
+        ensures keeps { Keeps A.begun A.reported A.identity access.old access.new }
+        ensures ends { EndsWriting K.written K.faults result held.new.units (A.reported access.new) sink.old sink.new }
     {
         match one {
             Stmt::Empty(_) => match held.count_step() {
@@ -178,27 +138,18 @@ impl Runner<'_> {
         access: &mut A,
         sink: &mut K,
     ) -> Result<(), End>
-        requires open { (A.reported access.old).end ≡ None }
-        requires counted { held.old.units ≡ length (A.reported access.old).asks.calls }
-        ensures gives { (m : BenchState) (answered : Option ℕ) (known : Bool) → A.begun access.old m → IsLeft (A.reported access.new) answered → Knows known (K.written sink.old)
-            → MeansLate (world_from m answered) (A.reported access.new).lines result (seen known held.new (A.reported access.new).asks (K.written sink.new)) (st.after_counted (late A.cost (world_from m answered)) (λ r. st.declared (late A.cost (world_from m answered)) name.now (v.value (late A.cost (world_from m answered)) (calls_of A.cost (world_from m answered) self.now depth) (tree expr.now) r)) (seen known held.old (A.reported access.old).asks (K.written sink.old))) }
-        ensures knows { (known : Bool) → Knows known (K.written sink.old) → Knows known (K.written sink.new) }
-        ensures counted { Counted result held.new.units (A.reported access.new).asks.calls }
-        ensures end { EndIs result (A.reported access.new).end }
-        ensures cause { HasSinkCause result (K.faults sink.old) (K.faults sink.new) }
-        ensures on { (m : BenchState) → A.begun access.old m → A.begun access.new m }
-        ensures left { (answered : Option ℕ) → IsLeft (A.reported access.new) answered → IsLeft (A.reported access.old) answered }
-        ensures identity { A.identity access.new ≡ A.identity access.old }
-        ensures goes { GoesOn (A.reported access.old) (A.reported access.new) }
+        requires ready { IsReady held.old.units (A.reported access.old) }
+        ensures gives { MeansWriting A.begun A.reported K.written access.old access.new sink.old sink.new held.old held.new result
+            (λ w. st.after_counted (late A.cost w) (λ r. st.declared (late A.cost w) name.now
+            (v.value (late A.cost w) (calls_of A.cost w self.now depth) (tree expr.now) r))) }
+        ensures keeps { Keeps A.begun A.reported A.identity access.old access.new }
+        ensures ends { EndsWriting K.written K.faults result held.new.units (A.reported access.new) sink.old sink.new }
     {
         match held.count_step() {
             Ok(()) => {}
             Err(cause) => return Err(End::Halted(cause)),
         }
-        let value = match self.evaluate(expr, depth, held, access, sink) {
-            Ok(value) => value,
-            Err(end) => return Err(end),
-        };
+        let value = self.evaluate(expr, depth, held, access, sink)?;
         match held.declare(self.alloc, &name.text, value) {
             Ok(()) => Ok(()),
             Err(_) => Err(End::Stopped(Stop::OutOfMemory)),
@@ -216,26 +167,17 @@ impl Runner<'_> {
         access: &mut A,
         sink: &mut K,
     ) -> Result<(), End>
-        requires open { (A.reported access.old).end ≡ None }
-        requires counted { held.old.units ≡ length (A.reported access.old).asks.calls }
-        ensures gives { (m : BenchState) (answered : Option ℕ) (known : Bool) → A.begun access.old m → IsLeft (A.reported access.new) answered → Knows known (K.written sink.old)
-            → MeansLate (world_from m answered) (A.reported access.new).lines result (seen known held.new (A.reported access.new).asks (K.written sink.new)) (st.after_counted (late A.cost (world_from m answered)) (λ r. st.dropped (late A.cost (world_from m answered)) (v.value (late A.cost (world_from m answered)) (calls_of A.cost (world_from m answered) self.now depth) (tree expr.now) r)) (seen known held.old (A.reported access.old).asks (K.written sink.old))) }
-        ensures knows { (known : Bool) → Knows known (K.written sink.old) → Knows known (K.written sink.new) }
-        ensures counted { Counted result held.new.units (A.reported access.new).asks.calls }
-        ensures end { EndIs result (A.reported access.new).end }
-        ensures cause { HasSinkCause result (K.faults sink.old) (K.faults sink.new) }
-        ensures on { (m : BenchState) → A.begun access.old m → A.begun access.new m }
-        ensures left { (answered : Option ℕ) → IsLeft (A.reported access.new) answered → IsLeft (A.reported access.old) answered }
-        ensures identity { A.identity access.new ≡ A.identity access.old }
-        ensures goes { GoesOn (A.reported access.old) (A.reported access.new) }
+        requires ready { IsReady held.old.units (A.reported access.old) }
+        ensures gives { MeansWriting A.begun A.reported K.written access.old access.new sink.old sink.new held.old held.new result
+            (λ w. st.after_counted (late A.cost w) (λ r. st.dropped (late A.cost w) (v.value (late A.cost w) (calls_of A.cost w self.now depth) (tree expr.now) r))) }
+        ensures keeps { Keeps A.begun A.reported A.identity access.old access.new }
+        ensures ends { EndsWriting K.written K.faults result held.new.units (A.reported access.new) sink.old sink.new }
     {
         match held.count_step() {
             Ok(()) => {}
             Err(cause) => return Err(End::Halted(cause)),
         }
-        match self.evaluate(expr, depth, held, access, sink) {
-            Ok(_) => Ok(()),
-            Err(end) => Err(end),
-        }
+        self.evaluate(expr, depth, held, access, sink)?;
+        Ok(())
     }
 }

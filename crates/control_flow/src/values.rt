@@ -1,15 +1,9 @@
 //! The values of expressions.
-ghost use Rattle.std.specs.Prelude.{◌≡◌, ℕ, Bool, List, Option, None, length};
-ghost use Rattle.expr_grammar.specs.Tree.{tree, arg_trees};
-ghost use Rattle.probe_core.specs.Bench.{BenchState};
-ghost use Rattle.access_calls.specs.GoesOn.{GoesOn};
-ghost use Rattle.access_calls.specs.Left.{IsLeft};
-ghost use Rattle.access_calls.specs.Reported.{world_from};
+ghost use Rattle.expr_grammar.specs.Tree.{tree};
 ghost use Rattle.sequence_rules.specs.Late.{late};
 ghost use Rattle.sequence_rules.specs.Values as v;
-ghost use Rattle.function_calls.specs.Ends.{Counted, EndIs, HasSinkCause, MeansLate};
-ghost use Rattle.sequence_rules.specs.Known.{Knows};
-ghost use Rattle.function_calls.specs.Held.{seen};
+ghost use Rattle.function_calls.specs.Frame.{EndsWriting, IsReady, Keeps};
+ghost use Rattle.function_calls.specs.Means.{MeansWriting};
 ghost use Rattle.control_flow.specs.Calls.{calls_of};
 
 use crate::runner::Runner;
@@ -31,18 +25,11 @@ impl Runner<'_> {
         access: &mut A,
         sink: &mut K,
     ) -> Result<Value, End>
-        requires open { (A.reported access.old).end ≡ None }
-        requires counted { held.old.units ≡ length (A.reported access.old).asks.calls }
-        ensures gives { (m : BenchState) (answered : Option ℕ) (known : Bool) → A.begun access.old m → IsLeft (A.reported access.new) answered → Knows known (K.written sink.old)
-            → MeansLate (world_from m answered) (A.reported access.new).lines result (seen known held.new (A.reported access.new).asks (K.written sink.new)) (v.value (late A.cost (world_from m answered)) (calls_of A.cost (world_from m answered) self.now depth) (tree expr.now) (seen known held.old (A.reported access.old).asks (K.written sink.old))) }
-        ensures knows { (known : Bool) → Knows known (K.written sink.old) → Knows known (K.written sink.new) }
-        ensures counted { Counted result held.new.units (A.reported access.new).asks.calls }
-        ensures end { EndIs result (A.reported access.new).end }
-        ensures cause { HasSinkCause result (K.faults sink.old) (K.faults sink.new) }
-        ensures on { (m : BenchState) → A.begun access.old m → A.begun access.new m }
-        ensures left { (answered : Option ℕ) → IsLeft (A.reported access.new) answered → IsLeft (A.reported access.old) answered }
-        ensures identity { A.identity access.new ≡ A.identity access.old }
-        ensures goes { GoesOn (A.reported access.old) (A.reported access.new) }
+        requires ready { IsReady held.old.units (A.reported access.old) }
+        ensures gives { MeansWriting A.begun A.reported K.written access.old access.new sink.old sink.new held.old held.new result
+            (λ w. v.value (late A.cost w) (calls_of A.cost w self.now depth) (tree expr.now)) }
+        ensures keeps { Keeps A.begun A.reported A.identity access.old access.new }
+        ensures ends { EndsWriting K.written K.faults result held.new.units (A.reported access.new) sink.old sink.new }
     {
         match expr {
             Expr::Number(number) => Ok(Value::Number(*number)),
@@ -80,23 +67,14 @@ impl Runner<'_> {
         access: &mut A,
         sink: &mut K,
     ) -> Result<u64, End>
-        requires open { (A.reported access.old).end ≡ None }
-        requires counted { held.old.units ≡ length (A.reported access.old).asks.calls }
-        ensures gives { (m : BenchState) (answered : Option ℕ) (known : Bool) → A.begun access.old m → IsLeft (A.reported access.new) answered → Knows known (K.written sink.old)
-            → MeansLate (world_from m answered) (A.reported access.new).lines result (seen known held.new (A.reported access.new).asks (K.written sink.new)) (v.used_now (late A.cost (world_from m answered)) (v.value (late A.cost (world_from m answered)) (calls_of A.cost (world_from m answered) self.now depth) (tree expr.now) (seen known held.old (A.reported access.old).asks (K.written sink.old)))) }
-        ensures knows { (known : Bool) → Knows known (K.written sink.old) → Knows known (K.written sink.new) }
-        ensures counted { Counted result held.new.units (A.reported access.new).asks.calls }
-        ensures end { EndIs result (A.reported access.new).end }
-        ensures cause { HasSinkCause result (K.faults sink.old) (K.faults sink.new) }
-        ensures on { (m : BenchState) → A.begun access.old m → A.begun access.new m }
-        ensures left { (answered : Option ℕ) → IsLeft (A.reported access.new) answered → IsLeft (A.reported access.old) answered }
-        ensures identity { A.identity access.new ≡ A.identity access.old }
-        ensures goes { GoesOn (A.reported access.old) (A.reported access.new) }
+        requires ready { IsReady held.old.units (A.reported access.old) }
+        ensures gives { MeansWriting A.begun A.reported K.written access.old access.new sink.old sink.new held.old held.new result
+            (λ w s. v.used_now (late A.cost w) (v.value (late A.cost w) (calls_of A.cost w self.now depth) (tree expr.now) s)) }
+        ensures keeps { Keeps A.begun A.reported A.identity access.old access.new }
+        ensures ends { EndsWriting K.written K.faults result held.new.units (A.reported access.new) sink.old sink.new }
     {
-        match self.evaluate(expr, depth, held, access, sink) {
-            Ok(value) => use_value(value, access),
-            Err(end) => Err(end),
-        }
+        let value = self.evaluate(expr, depth, held, access, sink)?;
+        use_value(value, access)
     }
 
     // One of two, by a condition that is used. The value of the chosen one is not used.
@@ -112,23 +90,15 @@ impl Runner<'_> {
         access: &mut A,
         sink: &mut K,
     ) -> Result<Value, End>
-        requires open { (A.reported access.old).end ≡ None }
-        requires counted { held.old.units ≡ length (A.reported access.old).asks.calls }
-        ensures gives { (m : BenchState) (answered : Option ℕ) (known : Bool) → A.begun access.old m → IsLeft (A.reported access.new) answered → Knows known (K.written sink.old)
-            → MeansLate (world_from m answered) (A.reported access.new).lines result (seen known held.new (A.reported access.new).asks (K.written sink.new)) (v.choice (late A.cost (world_from m answered)) (v.value (late A.cost (world_from m answered)) (calls_of A.cost (world_from m answered) self.now depth) (tree test.now) (seen known held.old (A.reported access.old).asks (K.written sink.old))) (v.value (late A.cost (world_from m answered)) (calls_of A.cost (world_from m answered) self.now depth) (tree first.now)) (v.value (late A.cost (world_from m answered)) (calls_of A.cost (world_from m answered) self.now depth) (tree second.now))) }
-        ensures knows { (known : Bool) → Knows known (K.written sink.old) → Knows known (K.written sink.new) }
-        ensures counted { Counted result held.new.units (A.reported access.new).asks.calls }
-        ensures end { EndIs result (A.reported access.new).end }
-        ensures cause { HasSinkCause result (K.faults sink.old) (K.faults sink.new) }
-        ensures on { (m : BenchState) → A.begun access.old m → A.begun access.new m }
-        ensures left { (answered : Option ℕ) → IsLeft (A.reported access.new) answered → IsLeft (A.reported access.old) answered }
-        ensures identity { A.identity access.new ≡ A.identity access.old }
-        ensures goes { GoesOn (A.reported access.old) (A.reported access.new) }
+        requires ready { IsReady held.old.units (A.reported access.old) }
+        ensures gives { MeansWriting A.begun A.reported K.written access.old access.new sink.old sink.new held.old held.new result
+            (λ w s. v.choice (late A.cost w) (v.value (late A.cost w) (calls_of A.cost w self.now depth) (tree test.now) s)
+            (v.value (late A.cost w) (calls_of A.cost w self.now depth) (tree first.now))
+            (v.value (late A.cost w) (calls_of A.cost w self.now depth) (tree second.now))) }
+        ensures keeps { Keeps A.begun A.reported A.identity access.old access.new }
+        ensures ends { EndsWriting K.written K.faults result held.new.units (A.reported access.new) sink.old sink.new }
     {
-        let number = match self.evaluate_number(test, depth, held, access, sink) {
-            Ok(number) => number,
-            Err(end) => return Err(end),
-        };
+        let number = self.evaluate_number(test, depth, held, access, sink)?;
         if number == 0 {
             self.evaluate(second, depth, held, access, sink)
         } else {
@@ -148,23 +118,13 @@ impl Runner<'_> {
         access: &mut A,
         sink: &mut K,
     ) -> Result<Value, End>
-        requires open { (A.reported access.old).end ≡ None }
-        requires counted { held.old.units ≡ length (A.reported access.old).asks.calls }
-        ensures gives { (m : BenchState) (answered : Option ℕ) (known : Bool) → A.begun access.old m → IsLeft (A.reported access.new) answered → Knows known (K.written sink.old)
-            → MeansLate (world_from m answered) (A.reported access.new).lines result (seen known held.new (A.reported access.new).asks (K.written sink.new)) (v.assigned (late A.cost (world_from m answered)) name.now (v.value (late A.cost (world_from m answered)) (calls_of A.cost (world_from m answered) self.now depth) (tree right.now) (seen known held.old (A.reported access.old).asks (K.written sink.old)))) }
-        ensures knows { (known : Bool) → Knows known (K.written sink.old) → Knows known (K.written sink.new) }
-        ensures counted { Counted result held.new.units (A.reported access.new).asks.calls }
-        ensures end { EndIs result (A.reported access.new).end }
-        ensures cause { HasSinkCause result (K.faults sink.old) (K.faults sink.new) }
-        ensures on { (m : BenchState) → A.begun access.old m → A.begun access.new m }
-        ensures left { (answered : Option ℕ) → IsLeft (A.reported access.new) answered → IsLeft (A.reported access.old) answered }
-        ensures identity { A.identity access.new ≡ A.identity access.old }
-        ensures goes { GoesOn (A.reported access.old) (A.reported access.new) }
+        requires ready { IsReady held.old.units (A.reported access.old) }
+        ensures gives { MeansWriting A.begun A.reported K.written access.old access.new sink.old sink.new held.old held.new result
+            (λ w s. v.assigned (late A.cost w) name.now (v.value (late A.cost w) (calls_of A.cost w self.now depth) (tree right.now) s)) }
+        ensures keeps { Keeps A.begun A.reported A.identity access.old access.new }
+        ensures ends { EndsWriting K.written K.faults result held.new.units (A.reported access.new) sink.old sink.new }
     {
-        let value = match self.evaluate(right, depth, held, access, sink) {
-            Ok(value) => value,
-            Err(end) => return Err(end),
-        };
+        let value = self.evaluate(right, depth, held, access, sink)?;
         held.store(name.text.as_str(), value);
         Ok(value)
     }

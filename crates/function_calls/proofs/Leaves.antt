@@ -1,6 +1,6 @@
 -- Values that are used, units and commands, over an access; and what comes later, for the exits of functions.
 use Rattle.std.proofs.Common.{inl, inr, ◌≡◌, ◌⊎◌, ℕ, ◌+◌, ◌/◌, ◌^◌, Bool, true, false, cond, List, [], ◌∷◌, ◌++◌, length, nat_lt, Option, None, Some, unwrap_or, codes, Result, Ok, Err, refl, sym, ap, subst, ◌∙◌, slice_index}
-use Rattle.std.specs.Prelude.{is_some}
+use Rattle.std.specs.Prelude.{is_some, IsErrAnd}
 use Rattle.dap_base.specs.Outcome.{◌>>=◌}
 use Rattle.target_machine.specs.declared.unit.HaltCause.TheVariants.{AddressTooLarge}
 use Rattle.target_machine.specs.declared.unit.ProbeCall.{ProbeCall}
@@ -25,13 +25,14 @@ use Rattle.sequence_rules.specs.Calls.{Port, use_now, missing, given, global, po
 use Rattle.sequence_rules.specs.Machine as machine
 use Rattle.sequence_rules.specs.Machine.{Over, State, Out, with_rest, unit_more, end_state}
 use Rattle.sequence_rules.specs.Late.{Late, late_of, asks_with, used_late, late, Later}
-use Rattle.sequence_rules.specs.Values.{both}
+use Rattle.sequence_rules.specs.Values.{all_used, both}
 use Rattle.sequence_rules.specs.Variables.{value_named}
 use Rattle.sequence_rules.proofs.Goes as g
+use Rattle.sequence_rules.proofs.Made.{no_cost}
 use Rattle.sequence_rules.proofs.LateLemmas.{later_on, later_same, later_still, steady_late, grows_same}
 use Rattle.function_calls.specs.declared.end.End.{End}
 use Rattle.function_calls.specs.declared.end.End.TheVariants as end
-use Rattle.function_calls.specs.Ends.{Left, EndsLate, EndsBy, MeansLate, HasSinkCause, IsStopAt, NoWriteFault}
+use Rattle.function_calls.specs.Ends.{Left, EndsLate, EndsBy, MeansLate, MeansLateAs, MeansLateBy, HasSinkCause, IsStopAt, NoWriteFault}
 
 abbrev S : Type 0
 S = State Value Late
@@ -153,8 +154,6 @@ ends_command cost w c s a b st same some none calls stops =
 -- ---- what comes later
 
 -- Such lemmas name nothing that their conclusion does not determine, so no costs.
-no_cost : Costs
-no_cost t calls ask = record { before = 0; after = 0 }
 
 pub later_bind : {A B : Type 0} (w : World) (s : S) (out : Out Value Late A) (f : A × S → Out Value Late B) → After w s out → ((x : A × S) → After w x.1 (f x)) → After w s (out >>= f)
 later_bind w s (Ok x) f h k = record { so = later_on no_cost w _ _ _ h.so (k x).so }
@@ -178,6 +177,21 @@ ends_on w lines (end.Stopped s) now (Err e) f h k = record { later = h.later; fi
 ends_on w lines end.WriteFault now (Ok x) f h k = later_on no_cost w _ _ _ h (k x).so
 ends_on w lines end.WriteFault now (Err e) f h k = h
 
+-- An error that `?` hands on is the end that is answered.
+pub passed : {A : Type 0} (w : World) (lines : ℕ) (e : End) (now : S) (out : Out Value Late A) (result : Result A End) → IsErrAnd result (λ x. x ≡ e) → EndsLate w lines e now out → MeansLate w lines result now out
+passed w lines e now out (Ok x) is h = absurd is
+passed w lines e now out (Err x) is h = subst (λ y. EndsLate w lines y now out) (sym is) h
+
+pub passed_by : {A B : Type 0} (w : World) (lines : ℕ) (view : A → B) (e : End) (now : S) (out : Out Value Late B) (result : Result A End) → IsErrAnd result (λ x. x ≡ e) → EndsLate w lines e now out
+    → MeansLateBy w lines view result now out
+passed_by w lines view e now out (Ok x) is h = absurd is
+passed_by w lines view e now out (Err x) is h = subst (λ y. EndsLate w lines y now out) (sym is) h
+
+pub passed_as : {A B : Type 0} (w : World) (lines : ℕ) (x : B) (e : End) (now : S) (out : Out Value Late B) (result : Result A End) → IsErrAnd result (λ y. y ≡ e) → EndsLate w lines e now out
+    → MeansLateAs w lines x result now out
+passed_as w lines x e now out (Ok y) is h = absurd is
+passed_as w lines x e now out (Err y) is h = subst (λ z. EndsLate w lines z now out) (sym is) h
+
 -- the access stopped before this
 pub stops_before : {B : Type 0} (w : World) (lines : ℕ) (e : End) (s : S) (b : Asks) (out : Out Value Late B) → After w s out → b.calls ≡ s.rest.asks.calls → IsStopAt w s.rest.asks.calls lines e → EndsLate w lines e (with_rest s (late_of b s.rest.written)) out
 stops_before w lines (end.Halted cause) s b out h calls stops = absurd stops
@@ -193,6 +207,9 @@ later_use cost w v s = record { so = (g.goes_use (late cost w) (Later w) (steady
 
 pub later_both : (cost : Costs) (w : World) (v u : Value) (s : S) → After w s (both (late cost w) v u s)
 later_both cost w v u s = record { so = (g.goes_both (late cost w) (Later w) (steady_late cost w) v u s).so }
+
+pub later_all_used : (cost : Costs) (w : World) (vs : List Value) (s : S) → After w s (all_used (late cost w) vs s)
+later_all_used cost w vs s = record { so = (g.goes_all_used (late cost w) (Later w) (steady_late cost w) vs s).so }
 
 pub later_global : (cost : Costs) (w : World) (name : List ℕ) (s : S) → After w s (global (late cost w) name s)
 later_global cost w name s = record { so = (g.goes_global (late cost w) (Later w) (steady_late cost w) name s).so }

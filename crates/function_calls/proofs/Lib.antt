@@ -1,3 +1,4 @@
+pub mod FrameLemmas
 pub mod Leaves
 pub mod LineLemmas
 pub mod UseLemmas

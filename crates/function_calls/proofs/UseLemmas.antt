@@ -10,14 +10,12 @@ use Rattle.target_calls.specs.World.{World}
 use Rattle.access_calls.specs.declared.stop.Stop.TheVariants.{OutOfMemory}
 use Rattle.sequence_rules.specs.Calls.{use_now, low_and_high}
 use Rattle.sequence_rules.specs.Machine.{State, Out, with_rest}
-use Rattle.sequence_rules.specs.Late.{Late, late, late_of, Later}
+use Rattle.sequence_rules.specs.Late.{Late, late, late_of}
 use Rattle.sequence_rules.specs.Values.{all_used, both}
-use Rattle.sequence_rules.proofs.Goes as g
-use Rattle.sequence_rules.proofs.LateLemmas.{steady_late}
 use Rattle.access_calls.proofs.KeepLemmas.{goes_same, goes_trans}
 use Rattle.function_calls.specs.declared.end.End.{End}
 use Rattle.function_calls.specs.Ends.{EndsLate, Left}
-use Rattle.function_calls.proofs.Leaves.{After, ends_on, later_bind, later_ok, left_on}
+use Rattle.function_calls.proofs.Leaves.{ends_on, later_bind, later_ok, later_all_used, left_on}
 
 abbrev S : Type 0
 S = State Value Late
@@ -34,9 +32,6 @@ joined got n (Ok x) = ap (λ l. Ok (l, x.1)) (sym (append_assoc got (n ∷ []) x
 joined got n (Err e) = refl
 
 module _ (cost : Costs) (w : World) where
-  later_all : (vs : List Value) (s : S) → After w s (all_used (late cost w) vs s)
-  later_all vs s = record { so = (g.goes_all_used (late cost w) (Later w) (steady_late cost w) vs s).so }
-
   one_more : (vs : List Value) (i : ℕ) (d : Value) (s : S) → i < length vs
       → all_used (late cost w) (drop i vs) s ≡ (use_now (late cost w) (get_or vs i d) s >>= λ x. all_used (late cost w) (drop (i + 1) vs) x.1 >>= λ y. Ok (x.0 ∷ y.0, y.1))
   unfolding all_used
@@ -57,7 +52,7 @@ module _ (cost : Costs) (w : World) where
       rw (same ∙ ap (with_rest_of got) (one_more vs i d s h))
       (ends_on w lines e r _ _
       (ends_on w lines e r (use_now (late cost w) (get_or vs i d) s) _ (subst (λ x. EndsLate w lines e r (use_now (late cost w) x s)) item ends)
-      (λ x. later_bind w x.1 _ _ (later_all (drop (i + 1) vs) x.1) (λ y. later_ok w y.1 _)))
+      (λ x. later_bind w x.1 _ _ (later_all_used cost w (drop (i + 1) vs) x.1) (λ y. later_ok w y.1 _)))
       (λ y. later_ok w y.1 _))
 
   pub all_over : (total : O (List ℕ)) (vs : List Value) (i : ℕ) (got : List ℕ) (s : S) → total ≡ with_rest_of got (all_used (late cost w) (drop i vs) s) → length vs ≤ i → total ≡ Ok (got, s)
@@ -72,7 +67,7 @@ module _ (cost : Costs) (w : World) where
 
   -- memory was refused for a number
   pub all_refused : (lines : ℕ) (total : O (List ℕ)) (vs : List Value) (i : ℕ) (got : List ℕ) (s : S) → total ≡ with_rest_of got (all_used (late cost w) (drop i vs) s) → Left w lines OutOfMemory s total
-  all_refused lines total vs i got s same = record { later = rw same (later_bind w s _ _ (later_all (drop i vs) s) (λ y. later_ok w y.1 _)).so; first = tt }
+  all_refused lines total vs i got s same = record { later = rw same (later_bind w s _ _ (later_all_used cost w (drop i vs) s) (λ y. later_ok w y.1 _)).so; first = tt }
 
 -- ---- the value of `Read64`
 

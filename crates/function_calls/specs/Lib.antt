@@ -1,3 +1,5 @@
 pub mod Held
 pub mod Ends
+pub mod Means
+pub mod Frame
 pub mod Kinds

@@ -1,14 +1,9 @@
 //! Units and commands of the probe, asked one after the other.
-ghost use Rattle.std.specs.Prelude.{◌≡◌, ℕ, List, Option, None, length};
-ghost use Rattle.probe_core.specs.Bench.{BenchState};
 ghost use Rattle.target_machine.specs.Sound.{IsSound, IsSoundProbe};
-ghost use Rattle.access_calls.specs.GoesOn.{GoesOn};
-ghost use Rattle.access_calls.specs.Left.{IsLeft};
-ghost use Rattle.access_calls.specs.Reported.{world_from};
 ghost use Rattle.sequence_rules.specs.Calls as c;
 ghost use Rattle.sequence_rules.specs.Late.{late};
-ghost use Rattle.function_calls.specs.Ends.{Counted, EndIs, MeansLate, NoWriteFault};
-ghost use Rattle.function_calls.specs.Held.{state_of};
+ghost use Rattle.function_calls.specs.Frame.{EndsCall, IsReady, Keeps};
+ghost use Rattle.function_calls.specs.Means.{MeansCall};
 
 use crate::end::End;
 use crate::held::Held;
@@ -27,17 +22,10 @@ pub fn ask<A: Access>(
     access: &mut A,
 ) -> Result<Value, End>
     requires sound { IsSound unit }
-    requires open { (A.reported access.old).end ≡ None }
-    requires counted { held.old.units ≡ length (A.reported access.old).asks.calls }
-    ensures gives { (m : BenchState) (answered : Option ℕ) (written : Option (List ℕ)) → A.begun access.old m → IsLeft (A.reported access.new) answered
-        → MeansLate (world_from m answered) (A.reported access.new).lines result (state_of held.new (A.reported access.new).asks written) (c.ask (late A.cost (world_from m answered)) unit forgive (state_of held.old (A.reported access.old).asks written)) }
-    ensures counted { Counted result held.new.units (A.reported access.new).asks.calls }
-    ensures end { EndIs result (A.reported access.new).end }
-    ensures cause { NoWriteFault result }
-    ensures on { (m : BenchState) → A.begun access.old m → A.begun access.new m }
-    ensures left { (answered : Option ℕ) → IsLeft (A.reported access.new) answered → IsLeft (A.reported access.old) answered }
-    ensures identity { A.identity access.new ≡ A.identity access.old }
-    ensures goes { GoesOn (A.reported access.old) (A.reported access.new) }
+    requires ready { IsReady held.old.units (A.reported access.old) }
+    ensures gives { MeansCall A.begun A.reported access.old access.new held.old held.new result (λ w. c.ask (late A.cost w) unit forgive) }
+    ensures keeps { Keeps A.begun A.reported A.identity access.old access.new }
+    ensures ends { EndsCall result held.new.units (A.reported access.new) }
 {
     if held.units >= MOST_UNITS {
         return Err(End::Halted(HaltCause::AccessLimit));
@@ -65,17 +53,11 @@ pub(crate) fn ask_for_result<A: Access>(
     access: &mut A,
 ) -> Result<Value, End>
     requires sound { IsSound unit }
-    requires open { (A.reported access.old).end ≡ None }
-    requires counted { held.old.units ≡ length (A.reported access.old).asks.calls }
-    ensures gives { (m : BenchState) (answered : Option ℕ) (written : Option (List ℕ)) → A.begun access.old m → IsLeft (A.reported access.new) answered
-        → MeansLate (world_from m answered) (A.reported access.new).lines result (state_of held.new (A.reported access.new).asks written) (c.if_read (late A.cost (world_from m answered)) read (c.ask (late A.cost (world_from m answered)) unit forgive (state_of held.old (A.reported access.old).asks written))) }
-    ensures counted { Counted result held.new.units (A.reported access.new).asks.calls }
-    ensures end { EndIs result (A.reported access.new).end }
-    ensures cause { NoWriteFault result }
-    ensures on { (m : BenchState) → A.begun access.old m → A.begun access.new m }
-    ensures left { (answered : Option ℕ) → IsLeft (A.reported access.new) answered → IsLeft (A.reported access.old) answered }
-    ensures identity { A.identity access.new ≡ A.identity access.old }
-    ensures goes { GoesOn (A.reported access.old) (A.reported access.new) }
+    requires ready { IsReady held.old.units (A.reported access.old) }
+    ensures gives { MeansCall A.begun A.reported access.old access.new held.old held.new result
+        (λ w s. c.if_read (late A.cost w) read (c.ask (late A.cost w) unit forgive s)) }
+    ensures keeps { Keeps A.begun A.reported A.identity access.old access.new }
+    ensures ends { EndsCall result held.new.units (A.reported access.new) }
 {
     let value = ask(unit, forgive, held, access)?;
     Ok(if read { value } else { Value::Number(0) })
@@ -89,17 +71,10 @@ pub(crate) fn command<A: Access>(
     access: &mut A,
 ) -> Result<Value, End>
     requires sound { IsSoundProbe call }
-    requires open { (A.reported access.old).end ≡ None }
-    requires counted { held.old.units ≡ length (A.reported access.old).asks.calls }
-    ensures gives { (m : BenchState) (answered : Option ℕ) (written : Option (List ℕ)) → A.begun access.old m → IsLeft (A.reported access.new) answered
-        → MeansLate (world_from m answered) (A.reported access.new).lines result (state_of held.new (A.reported access.new).asks written) (c.command (late A.cost (world_from m answered)) call (state_of held.old (A.reported access.old).asks written)) }
-    ensures counted { Counted result held.new.units (A.reported access.new).asks.calls }
-    ensures end { EndIs result (A.reported access.new).end }
-    ensures cause { NoWriteFault result }
-    ensures on { (m : BenchState) → A.begun access.old m → A.begun access.new m }
-    ensures left { (answered : Option ℕ) → IsLeft (A.reported access.new) answered → IsLeft (A.reported access.old) answered }
-    ensures identity { A.identity access.new ≡ A.identity access.old }
-    ensures goes { GoesOn (A.reported access.old) (A.reported access.new) }
+    requires ready { IsReady held.old.units (A.reported access.old) }
+    ensures gives { MeansCall A.begun A.reported access.old access.new held.old held.new result (λ w. c.command (late A.cost w) call) }
+    ensures keeps { Keeps A.begun A.reported A.identity access.old access.new }
+    ensures ends { EndsCall result held.new.units (A.reported access.new) }
 {
     if held.units >= MOST_UNITS {
         return Err(End::Halted(HaltCause::AccessLimit));
@@ -121,17 +96,11 @@ pub(crate) fn command_without_result<A: Access>(
     access: &mut A,
 ) -> Result<Value, End>
     requires sound { IsSoundProbe call }
-    requires open { (A.reported access.old).end ≡ None }
-    requires counted { held.old.units ≡ length (A.reported access.old).asks.calls }
-    ensures gives { (m : BenchState) (answered : Option ℕ) (written : Option (List ℕ)) → A.begun access.old m → IsLeft (A.reported access.new) answered
-        → MeansLate (world_from m answered) (A.reported access.new).lines result (state_of held.new (A.reported access.new).asks written) (c.zero_of (late A.cost (world_from m answered)) (c.command (late A.cost (world_from m answered)) call (state_of held.old (A.reported access.old).asks written))) }
-    ensures counted { Counted result held.new.units (A.reported access.new).asks.calls }
-    ensures end { EndIs result (A.reported access.new).end }
-    ensures cause { NoWriteFault result }
-    ensures on { (m : BenchState) → A.begun access.old m → A.begun access.new m }
-    ensures left { (answered : Option ℕ) → IsLeft (A.reported access.new) answered → IsLeft (A.reported access.old) answered }
-    ensures identity { A.identity access.new ≡ A.identity access.old }
-    ensures goes { GoesOn (A.reported access.old) (A.reported access.new) }
+    requires ready { IsReady held.old.units (A.reported access.old) }
+    ensures gives { MeansCall A.begun A.reported access.old access.new held.old held.new result
+        (λ w s. c.zero_of (late A.cost w) (c.command (late A.cost w) call s)) }
+    ensures keeps { Keeps A.begun A.reported A.identity access.old access.new }
+    ensures ends { EndsCall result held.new.units (A.reported access.new) }
 {
     command(call, held, access)?;
     Ok(Value::Number(0))

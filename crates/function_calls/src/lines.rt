@@ -1,16 +1,17 @@
 //! Calls that write lines.
-ghost use Rattle.std.specs.Prelude.{◌≡◌, ℕ, Bool, List, Option, None, IfOk, drop, length, slice_index};
+ghost use Rattle.std.specs.Prelude.{◌≡◌, ℕ, Bool, List, Option, IfOk, drop, slice_index};
 ghost use Rattle.probe_core.specs.Bench.{BenchState};
-ghost use Rattle.access_calls.specs.GoesOn.{GoesOn};
 ghost use Rattle.access_calls.specs.Left.{IsLeft};
 ghost use Rattle.access_calls.specs.Reported.{world_from};
 ghost use Rattle.sequence_rules.specs.Calls as c;
 ghost use Rattle.sequence_rules.specs.Late.{late};
 ghost use Rattle.sequence_rules.specs.Lines.{message_line};
-ghost use Rattle.function_calls.specs.Ends.{Counted, EndIs, HasSinkCause, MeansLate};
+ghost use Rattle.function_calls.specs.Ends.{MeansLate};
+ghost use Rattle.function_calls.specs.Frame.{EndsWriting, IsReady, Keeps};
 ghost use Rattle.sequence_rules.specs.Known.{Knows};
 ghost use Rattle.function_calls.specs.Held.{seen};
 ghost use Rattle.function_calls.specs.Kinds.{line_done};
+ghost use Rattle.function_calls.specs.Means.{MeansWriting};
 
 use crate::end::End;
 use crate::held::Held;
@@ -34,18 +35,13 @@ fn write_line<A: Access, K: Sink>(
     access: &mut A,
     sink: &mut K,
 ) -> Result<Value, End>
-    requires open { (A.reported access.old).end ≡ None }
-    requires counted { held.old.units ≡ length (A.reported access.old).asks.calls }
-    ensures gives { (m : BenchState) (answered : Option ℕ) (known : Bool) (text : List ℕ) → IfOk line (λ l. l ≡ text) → A.begun access.old m → IsLeft (A.reported access.new) answered → Knows known (K.written sink.old)
-        → MeansLate (world_from m answered) (A.reported access.new).lines result (seen known held.new (A.reported access.new).asks (K.written sink.new)) (c.line_result (late A.cost (world_from m answered)) text value (seen known held.old (A.reported access.old).asks (K.written sink.old))) }
-    ensures knows { (known : Bool) → Knows known (K.written sink.old) → Knows known (K.written sink.new) }
-    ensures counted { Counted result held.new.units (A.reported access.new).asks.calls }
-    ensures end { EndIs result (A.reported access.new).end }
-    ensures cause { HasSinkCause result (K.faults sink.old) (K.faults sink.new) }
-    ensures on { (m : BenchState) → A.begun access.old m → A.begun access.new m }
-    ensures left { (answered : Option ℕ) → IsLeft (A.reported access.new) answered → IsLeft (A.reported access.old) answered }
-    ensures identity { A.identity access.new ≡ A.identity access.old }
-    ensures goes { GoesOn (A.reported access.old) (A.reported access.new) }
+    requires ready { IsReady held.old.units (A.reported access.old) }
+    ensures gives { (m : BenchState) (answered : Option ℕ) (known : Bool) (text : List ℕ) → IfOk line (λ l. l ≡ text) → A.begun access.old m
+        → IsLeft (A.reported access.new) answered → Knows known (K.written sink.old)
+        → MeansLate (world_from m answered) (A.reported access.new).lines result (seen known held.new (A.reported access.new).asks (K.written sink.new))
+        (c.line_result (late A.cost (world_from m answered)) text value (seen known held.old (A.reported access.old).asks (K.written sink.old))) }
+    ensures keeps { Keeps A.begun A.reported A.identity access.old access.new }
+    ensures ends { EndsWriting K.written K.faults result held.new.units (A.reported access.new) sink.old sink.new }
 {
     if held.lines >= MOST_LINES {
         return Err(End::Halted(HaltCause::MessageLimit));
@@ -53,10 +49,7 @@ fn write_line<A: Access, K: Sink>(
     let Ok(line) = line else {
         return Err(End::Stopped(Stop::OutOfMemory));
     };
-    match confirm(access) {
-        Ok(()) => {}
-        Err(end) => return Err(end),
-    }
+    confirm(access)?;
     match sink.put(line.as_bytes()) {
         Ok(()) => {
             held.lines += 1;
@@ -88,18 +81,11 @@ pub(crate) fn write_line_of<A: Access, K: Sink>(
     access: &mut A,
     sink: &mut K,
 ) -> Result<Value, End>
-    requires open { (A.reported access.old).end ≡ None }
-    requires counted { held.old.units ≡ length (A.reported access.old).asks.calls }
-    ensures gives { (m : BenchState) (answered : Option ℕ) (known : Bool) → A.begun access.old m → IsLeft (A.reported access.new) answered → Knows known (K.written sink.old)
-        → MeansLate (world_from m answered) (A.reported access.new).lines result (seen known held.new (A.reported access.new).asks (K.written sink.new)) (line_done (late A.cost (world_from m answered)) kind text.now numbers.now (seen known held.old (A.reported access.old).asks (K.written sink.old))) }
-    ensures knows { (known : Bool) → Knows known (K.written sink.old) → Knows known (K.written sink.new) }
-    ensures counted { Counted result held.new.units (A.reported access.new).asks.calls }
-    ensures end { EndIs result (A.reported access.new).end }
-    ensures cause { HasSinkCause result (K.faults sink.old) (K.faults sink.new) }
-    ensures on { (m : BenchState) → A.begun access.old m → A.begun access.new m }
-    ensures left { (answered : Option ℕ) → IsLeft (A.reported access.new) answered → IsLeft (A.reported access.old) answered }
-    ensures identity { A.identity access.new ≡ A.identity access.old }
-    ensures goes { GoesOn (A.reported access.old) (A.reported access.new) }
+    requires ready { IsReady held.old.units (A.reported access.old) }
+    ensures gives { MeansWriting A.begun A.reported K.written access.old access.new sink.old sink.new held.old held.new result
+        (λ w. line_done (late A.cost w) kind text.now numbers.now) }
+    ensures keeps { Keeps A.begun A.reported A.identity access.old access.new }
+    ensures ends { EndsWriting K.written K.faults result held.new.units (A.reported access.new) sink.old sink.new }
 {
     let first = number_at(numbers, 0);
     let second = number_at(numbers, 1);

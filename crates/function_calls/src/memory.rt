@@ -1,15 +1,10 @@
 //! Calls that access memory.
-ghost use Rattle.std.specs.Prelude.{◌≡◌, ◌⊎◌, ◌+◌, ◌*◌, ◌%◌, ◌^◌, ℕ, List, Option, None, length};
-ghost use Rattle.probe_core.specs.Bench.{BenchState};
-ghost use Rattle.access_calls.specs.GoesOn.{GoesOn};
-ghost use Rattle.access_calls.specs.Left.{IsLeft};
-ghost use Rattle.access_calls.specs.Reported.{world_from};
-ghost use Rattle.sequence_rules.specs.declared.bindings.Binding.{Binding};
+ghost use Rattle.std.specs.Prelude.{◌≡◌, ◌⊎◌, ◌+◌, ◌*◌, ◌%◌, ◌^◌, None};
 ghost use Rattle.sequence_rules.specs.Calls as c;
 ghost use Rattle.sequence_rules.specs.Late.{late};
-ghost use Rattle.sequence_rules.specs.Machine.{with_rest};
-ghost use Rattle.function_calls.specs.Ends.{Counted, EndIs, MeansLate, MeansLateBy, NoWriteFault, as_port};
-ghost use Rattle.function_calls.specs.Held.{state_of, state_with};
+ghost use Rattle.function_calls.specs.Ends.{as_port};
+ghost use Rattle.function_calls.specs.Frame.{EndsCall, EndsUse, IsReady, Keeps};
+ghost use Rattle.function_calls.specs.Means.{MeansCall};
 
 use crate::asking::{ask, ask_for_result};
 use crate::end::End;
@@ -32,24 +27,13 @@ fn join_words(low: u64, high: u64) -> u64
 #[tactic(auto, using(crate::proofs::Leaves::goes_on))]
 fn use_words<A: Access>(low: Value, high: Value, held: &Held, access: &mut A) -> Result<Value, End>
     requires open { (A.reported access.old).end ≡ None }
-    ensures gives { (m : BenchState) (answered : Option ℕ) (written : Option (List ℕ)) → A.begun access.old m → IsLeft (A.reported access.new) answered
-        → MeansLate (world_from m answered) (A.reported access.new).lines result (state_of held.now (A.reported access.new).asks written) (c.low_and_high (late A.cost (world_from m answered)) low high (state_of held.now (A.reported access.old).asks written)) }
-    ensures calls { (A.reported access.new).asks.calls ≡ (A.reported access.old).asks.calls }
-    ensures end { EndIs result (A.reported access.new).end }
-    ensures cause { NoWriteFault result }
-    ensures on { (m : BenchState) → A.begun access.old m → A.begun access.new m }
-    ensures left { (answered : Option ℕ) → IsLeft (A.reported access.new) answered → IsLeft (A.reported access.old) answered }
-    ensures identity { A.identity access.new ≡ A.identity access.old }
-    ensures goes { GoesOn (A.reported access.old) (A.reported access.new) }
+    ensures gives { MeansCall A.begun A.reported access.old access.new held.now held.now result (λ w. c.low_and_high (late A.cost w) low high) }
+    ensures keeps { Keeps A.begun A.reported A.identity access.old access.new }
+    ensures ends { EndsUse result (A.reported access.old) (A.reported access.new) }
 {
-    match confirm(access) {
-        Ok(()) => {}
-        Err(end) => return Err(end),
-    }
-    match use_both(low, high, access) {
-        Ok((low, high)) => Ok(Value::Number(join_words(low, high))),
-        Err(end) => Err(end),
-    }
+    confirm(access)?;
+    let (low, high) = use_both(low, high, access)?;
+    Ok(Value::Number(join_words(low, high)))
 }
 
 // The second unit of a 64-bit call, at the higher address.
@@ -65,28 +49,18 @@ fn ask_second_half<A: Access>(
     access: &mut A,
 ) -> Result<Value, End>
     requires aligned { address % 8 ≡ 0 }
-    requires open { (A.reported access.old).end ≡ None }
-    requires counted { held.old.units ≡ length (A.reported access.old).asks.calls }
-    ensures gives { (m : BenchState) (answered : Option ℕ) (written : Option (List ℕ)) → A.begun access.old m → IsLeft (A.reported access.new) answered
-        → MeansLate (world_from m answered) (A.reported access.new).lines result (state_of held.new (A.reported access.new).asks written) (c.second_half (late A.cost (world_from m answered)) read (record { ap = ap; forgive = forgive; dp = 0 }) address value low (state_of held.old (A.reported access.old).asks written)) }
-    ensures counted { Counted result held.new.units (A.reported access.new).asks.calls }
-    ensures end { EndIs result (A.reported access.new).end }
-    ensures cause { NoWriteFault result }
-    ensures on { (m : BenchState) → A.begun access.old m → A.begun access.new m }
-    ensures left { (answered : Option ℕ) → IsLeft (A.reported access.new) answered → IsLeft (A.reported access.old) answered }
-    ensures identity { A.identity access.new ≡ A.identity access.old }
-    ensures goes { GoesOn (A.reported access.old) (A.reported access.new) }
+    requires ready { IsReady held.old.units (A.reported access.old) }
+    ensures gives { MeansCall A.begun A.reported access.old access.new held.old held.new result
+        (λ w. c.second_half (late A.cost w) read (record { ap = ap; forgive = forgive; dp = 0 }) address value low) }
+    ensures keeps { Keeps A.begun A.reported A.identity access.old access.new }
+    ensures ends { EndsCall result held.new.units (A.reported access.new) }
 {
     let unit = memory_unit(4, read, ap, address + 4, value / 0x1_0000_0000);
-    match ask(unit, forgive, held, access) {
-        Ok(high) => {
-            if read {
-                use_words(low, high, held, access)
-            } else {
-                Ok(Value::Number(0))
-            }
-        }
-        Err(end) => Err(end),
+    let high = ask(unit, forgive, held, access)?;
+    if read {
+        use_words(low, high, held, access)
+    } else {
+        Ok(Value::Number(0))
     }
 }
 
@@ -102,23 +76,15 @@ fn ask_two_units<A: Access>(
     access: &mut A,
 ) -> Result<Value, End>
     requires aligned { address % 8 ≡ 0 }
-    requires open { (A.reported access.old).end ≡ None }
-    requires counted { held.old.units ≡ length (A.reported access.old).asks.calls }
-    ensures gives { (m : BenchState) (answered : Option ℕ) (written : Option (List ℕ)) → A.begun access.old m → IsLeft (A.reported access.new) answered
-        → MeansLate (world_from m answered) (A.reported access.new).lines result (state_of held.new (A.reported access.new).asks written) (c.two_units (late A.cost (world_from m answered)) read (record { ap = ap; forgive = forgive; dp = 0 }) address value (state_of held.old (A.reported access.old).asks written)) }
-    ensures counted { Counted result held.new.units (A.reported access.new).asks.calls }
-    ensures end { EndIs result (A.reported access.new).end }
-    ensures cause { NoWriteFault result }
-    ensures on { (m : BenchState) → A.begun access.old m → A.begun access.new m }
-    ensures left { (answered : Option ℕ) → IsLeft (A.reported access.new) answered → IsLeft (A.reported access.old) answered }
-    ensures identity { A.identity access.new ≡ A.identity access.old }
-    ensures goes { GoesOn (A.reported access.old) (A.reported access.new) }
+    requires ready { IsReady held.old.units (A.reported access.old) }
+    ensures gives { MeansCall A.begun A.reported access.old access.new held.old held.new result
+        (λ w. c.two_units (late A.cost w) read (record { ap = ap; forgive = forgive; dp = 0 }) address value) }
+    ensures keeps { Keeps A.begun A.reported A.identity access.old access.new }
+    ensures ends { EndsCall result held.new.units (A.reported access.new) }
 {
     let unit = memory_unit(4, read, ap, address, value);
-    match ask(unit, forgive, held, access) {
-        Ok(low) => ask_second_half(read, ap, forgive, address, value, low, held, access),
-        Err(end) => Err(end),
-    }
+    let low = ask(unit, forgive, held, access)?;
+    ask_second_half(read, ap, forgive, address, value, low, held, access)
 }
 
 // A memory call, once the port is known.
@@ -133,17 +99,11 @@ fn access_memory_at<A: Access>(
     access: &mut A,
 ) -> Result<Value, End>
     requires sized { (size ≡ 1) ⊎ ((size ≡ 2) ⊎ ((size ≡ 4) ⊎ (size ≡ 8))) }
-    requires open { (A.reported access.old).end ≡ None }
-    requires counted { held.old.units ≡ length (A.reported access.old).asks.calls }
-    ensures gives { (m : BenchState) (answered : Option ℕ) (written : Option (List ℕ)) → A.begun access.old m → IsLeft (A.reported access.new) answered
-        → MeansLate (world_from m answered) (A.reported access.new).lines result (state_of held.new (A.reported access.new).asks written) (c.memory_at (late A.cost (world_from m answered)) size read address value (as_port port) (state_of held.old (A.reported access.old).asks written)) }
-    ensures counted { Counted result held.new.units (A.reported access.new).asks.calls }
-    ensures end { EndIs result (A.reported access.new).end }
-    ensures cause { NoWriteFault result }
-    ensures on { (m : BenchState) → A.begun access.old m → A.begun access.new m }
-    ensures left { (answered : Option ℕ) → IsLeft (A.reported access.new) answered → IsLeft (A.reported access.old) answered }
-    ensures identity { A.identity access.new ≡ A.identity access.old }
-    ensures goes { GoesOn (A.reported access.old) (A.reported access.new) }
+    requires ready { IsReady held.old.units (A.reported access.old) }
+    ensures gives { MeansCall A.begun A.reported access.old access.new held.old held.new result
+        (λ w. c.memory_at (late A.cost w) size read address value (as_port port)) }
+    ensures keeps { Keeps A.begun A.reported A.identity access.old access.new }
+    ensures ends { EndsCall result held.new.units (A.reported access.new) }
 {
     let ap = match memory_port(size, address, port.ap, port.dp) {
         Ok(ap) => ap,
@@ -167,20 +127,12 @@ pub(crate) fn access_memory<A: Access>(
     access: &mut A,
 ) -> Result<Value, End>
     requires sized { (size ≡ 1) ⊎ ((size ≡ 2) ⊎ ((size ≡ 4) ⊎ (size ≡ 8))) }
-    requires open { (A.reported access.old).end ≡ None }
-    requires counted { held.old.units ≡ length (A.reported access.old).asks.calls }
-    ensures gives { (m : BenchState) (answered : Option ℕ) (written : Option (List ℕ)) → A.begun access.old m → IsLeft (A.reported access.new) answered
-        → MeansLate (world_from m answered) (A.reported access.new).lines result (state_of held.new (A.reported access.new).asks written) (c.memory (late A.cost (world_from m answered)) size read address value (state_of held.old (A.reported access.old).asks written)) }
-    ensures counted { Counted result held.new.units (A.reported access.new).asks.calls }
-    ensures end { EndIs result (A.reported access.new).end }
-    ensures cause { NoWriteFault result }
-    ensures on { (m : BenchState) → A.begun access.old m → A.begun access.new m }
-    ensures left { (answered : Option ℕ) → IsLeft (A.reported access.new) answered → IsLeft (A.reported access.old) answered }
-    ensures identity { A.identity access.new ≡ A.identity access.old }
-    ensures goes { GoesOn (A.reported access.old) (A.reported access.new) }
+    requires ready { IsReady held.old.units (A.reported access.old) }
+    ensures gives { MeansCall A.begun A.reported access.old access.new held.old held.new result
+        (λ w. c.memory (late A.cost w) size read address value) }
+    ensures keeps { Keeps A.begun A.reported A.identity access.old access.new }
+    ensures ends { EndsCall result held.new.units (A.reported access.new) }
 {
-    match use_port(held, access) {
-        Ok(port) => access_memory_at(size, read, address, value, port, held, access),
-        Err(end) => Err(end),
-    }
+    let port = use_port(held, access)?;
+    access_memory_at(size, read, address, value, port, held, access)
 }

@@ -1,15 +1,10 @@
 //! What calls of functions do, once their arguments are numbers.
-ghost use Rattle.std.specs.Prelude.{◌≡◌, ℕ, Bool, List, Option, None, length, slice_index};
-ghost use Rattle.probe_core.specs.Bench.{BenchState};
-ghost use Rattle.access_calls.specs.GoesOn.{GoesOn};
-ghost use Rattle.access_calls.specs.Left.{IsLeft};
-ghost use Rattle.access_calls.specs.Reported.{world_from};
+ghost use Rattle.std.specs.Prelude.{◌≡◌, None, slice_index};
 ghost use Rattle.sequence_rules.specs.Calls as c;
 ghost use Rattle.sequence_rules.specs.Late.{late};
-ghost use Rattle.function_calls.specs.Ends.{Counted, EndIs, HasSinkCause, MeansLate, NoWriteFault};
-ghost use Rattle.sequence_rules.specs.Known.{Knows};
-ghost use Rattle.function_calls.specs.Held.{seen, state_of};
+ghost use Rattle.function_calls.specs.Frame.{EndsCall, EndsWriting, IsReady, Keeps};
 ghost use Rattle.function_calls.specs.Kinds.{IsSized, kind_done, probe_done, written_value};
+ghost use Rattle.function_calls.specs.Means.{MeansCall, MeansWriting};
 
 use crate::end::End;
 use crate::held::Held;
@@ -49,17 +44,10 @@ fn command_probe<A: Access>(
     held: &mut Held,
     access: &mut A,
 ) -> Result<Value, End>
-    requires open { (A.reported access.old).end ≡ None }
-    requires counted { held.old.units ≡ length (A.reported access.old).asks.calls }
-    ensures gives { (m : BenchState) (answered : Option ℕ) (written : Option (List ℕ)) → A.begun access.old m → IsLeft (A.reported access.new) answered
-        → MeansLate (world_from m answered) (A.reported access.new).lines result (state_of held.new (A.reported access.new).asks written) (probe_done (late A.cost (world_from m answered)) kind numbers.now (state_of held.old (A.reported access.old).asks written)) }
-    ensures counted { Counted result held.new.units (A.reported access.new).asks.calls }
-    ensures end { EndIs result (A.reported access.new).end }
-    ensures cause { NoWriteFault result }
-    ensures on { (m : BenchState) → A.begun access.old m → A.begun access.new m }
-    ensures left { (answered : Option ℕ) → IsLeft (A.reported access.new) answered → IsLeft (A.reported access.old) answered }
-    ensures identity { A.identity access.new ≡ A.identity access.old }
-    ensures goes { GoesOn (A.reported access.old) (A.reported access.new) }
+    requires ready { IsReady held.old.units (A.reported access.old) }
+    ensures gives { MeansCall A.begun A.reported access.old access.new held.old held.new result (λ w. probe_done (late A.cost w) kind numbers.now) }
+    ensures keeps { Keeps A.begun A.reported A.identity access.old access.new }
+    ensures ends { EndsCall result held.new.units (A.reported access.new) }
 {
     let first = number_at(numbers, 0);
     match kind {
@@ -89,18 +77,11 @@ fn make_call_of<A: Access, K: Sink>(
     sink: &mut K,
 ) -> Result<Value, End>
     requires sized { IsSized kind }
-    requires open { (A.reported access.old).end ≡ None }
-    requires counted { held.old.units ≡ length (A.reported access.old).asks.calls }
-    ensures gives { (m : BenchState) (answered : Option ℕ) (known : Bool) → A.begun access.old m → IsLeft (A.reported access.new) answered → Knows known (K.written sink.old)
-        → MeansLate (world_from m answered) (A.reported access.new).lines result (seen known held.new (A.reported access.new).asks (K.written sink.new)) (kind_done (late A.cost (world_from m answered)) kind text.now numbers.now (seen known held.old (A.reported access.old).asks (K.written sink.old))) }
-    ensures knows { (known : Bool) → Knows known (K.written sink.old) → Knows known (K.written sink.new) }
-    ensures counted { Counted result held.new.units (A.reported access.new).asks.calls }
-    ensures end { EndIs result (A.reported access.new).end }
-    ensures cause { HasSinkCause result (K.faults sink.old) (K.faults sink.new) }
-    ensures on { (m : BenchState) → A.begun access.old m → A.begun access.new m }
-    ensures left { (answered : Option ℕ) → IsLeft (A.reported access.new) answered → IsLeft (A.reported access.old) answered }
-    ensures identity { A.identity access.new ≡ A.identity access.old }
-    ensures goes { GoesOn (A.reported access.old) (A.reported access.new) }
+    requires ready { IsReady held.old.units (A.reported access.old) }
+    ensures gives { MeansWriting A.begun A.reported K.written access.old access.new sink.old sink.new held.old held.new result
+        (λ w. kind_done (late A.cost w) kind text.now numbers.now) }
+    ensures keeps { Keeps A.begun A.reported A.identity access.old access.new }
+    ensures ends { EndsWriting K.written K.faults result held.new.units (A.reported access.new) sink.old sink.new }
 {
     let first = number_at(numbers, 0);
     match kind {
@@ -133,18 +114,11 @@ pub fn make_call<A: Access, K: Sink>(
     access: &mut A,
     sink: &mut K,
 ) -> Result<Value, End>
-    requires open { (A.reported access.old).end ≡ None }
-    requires counted { held.old.units ≡ length (A.reported access.old).asks.calls }
-    ensures gives { (m : BenchState) (answered : Option ℕ) (known : Bool) → A.begun access.old m → IsLeft (A.reported access.new) answered → Knows known (K.written sink.old)
-        → MeansLate (world_from m answered) (A.reported access.new).lines result (seen known held.new (A.reported access.new).asks (K.written sink.new)) (c.function_result (late A.cost (world_from m answered)) function text.now numbers.now (seen known held.old (A.reported access.old).asks (K.written sink.old))) }
-    ensures knows { (known : Bool) → Knows known (K.written sink.old) → Knows known (K.written sink.new) }
-    ensures counted { Counted result held.new.units (A.reported access.new).asks.calls }
-    ensures end { EndIs result (A.reported access.new).end }
-    ensures cause { HasSinkCause result (K.faults sink.old) (K.faults sink.new) }
-    ensures on { (m : BenchState) → A.begun access.old m → A.begun access.new m }
-    ensures left { (answered : Option ℕ) → IsLeft (A.reported access.new) answered → IsLeft (A.reported access.old) answered }
-    ensures identity { A.identity access.new ≡ A.identity access.old }
-    ensures goes { GoesOn (A.reported access.old) (A.reported access.new) }
+    requires ready { IsReady held.old.units (A.reported access.old) }
+    ensures gives { MeansWriting A.begun A.reported K.written access.old access.new sink.old sink.new held.old held.new result
+        (λ w. c.function_result (late A.cost w) function text.now numbers.now) }
+    ensures keeps { Keeps A.begun A.reported A.identity access.old access.new }
+    ensures ends { EndsWriting K.written K.faults result held.new.units (A.reported access.new) sink.old sink.new }
 {
     make_call_of(
         call_kind_of(function),

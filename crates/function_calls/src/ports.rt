@@ -1,13 +1,10 @@
 //! The predefined variables that calls use.
-ghost use Rattle.std.specs.Prelude.{◌≡◌, ℕ, List, Option, None, length, codes};
-ghost use Rattle.probe_core.specs.Bench.{BenchState};
-ghost use Rattle.access_calls.specs.GoesOn.{GoesOn};
-ghost use Rattle.access_calls.specs.Left.{IsLeft};
-ghost use Rattle.access_calls.specs.Reported.{world_from};
+ghost use Rattle.std.specs.Prelude.{◌≡◌, None, codes};
 ghost use Rattle.sequence_rules.specs.Calls as c;
 ghost use Rattle.sequence_rules.specs.Late.{late};
-ghost use Rattle.function_calls.specs.Ends.{EndIs, MeansLate, MeansLateBy, NoWriteFault, as_port};
-ghost use Rattle.function_calls.specs.Held.{state_of};
+ghost use Rattle.function_calls.specs.Ends.{as_port};
+ghost use Rattle.function_calls.specs.Frame.{EndsUse, Keeps};
+ghost use Rattle.function_calls.specs.Means.{MeansCall, MeansCallBy};
 
 use crate::end::End;
 use crate::held::Held;
@@ -19,15 +16,9 @@ use sequence_rules::{AP_PLACE, CONTROL_PLACE, DP_PLACE, Port};
 #[tactic(auto, using(crate::proofs::Leaves::global_gives))]
 fn use_global<A: Access>(index: usize, name: &str, held: &Held, access: &mut A) -> Result<u64, End>
     requires open { (A.reported access.old).end ≡ None }
-    ensures gives { (m : BenchState) (answered : Option ℕ) (written : Option (List ℕ)) → A.begun access.old m → IsLeft (A.reported access.new) answered
-        → MeansLate (world_from m answered) (A.reported access.new).lines result (state_of held.now (A.reported access.new).asks written) (c.global (late A.cost (world_from m answered)) name.now (state_of held.now (A.reported access.old).asks written)) }
-    ensures calls { (A.reported access.new).asks.calls ≡ (A.reported access.old).asks.calls }
-    ensures end { EndIs result (A.reported access.new).end }
-    ensures cause { NoWriteFault result }
-    ensures on { (m : BenchState) → A.begun access.old m → A.begun access.new m }
-    ensures left { (answered : Option ℕ) → IsLeft (A.reported access.new) answered → IsLeft (A.reported access.old) answered }
-    ensures identity { A.identity access.new ≡ A.identity access.old }
-    ensures goes { GoesOn (A.reported access.old) (A.reported access.new) }
+    ensures gives { MeansCall A.begun A.reported access.old access.new held.now held.now result (λ w. c.global (late A.cost w) name.now) }
+    ensures keeps { Keeps A.begun A.reported A.identity access.old access.new }
+    ensures ends { EndsUse result (A.reported access.old) (A.reported access.new) }
 {
     use_value(held.get_predefined(index, name), access)
 }
@@ -35,15 +26,9 @@ fn use_global<A: Access>(index: usize, name: &str, held: &Held, access: &mut A) 
 /// The number of `__dp`, which is used.
 pub fn use_debug_port<A: Access>(held: &Held, access: &mut A) -> Result<u64, End>
     requires open { (A.reported access.old).end ≡ None }
-    ensures gives { (m : BenchState) (answered : Option ℕ) (written : Option (List ℕ)) → A.begun access.old m → IsLeft (A.reported access.new) answered
-        → MeansLate (world_from m answered) (A.reported access.new).lines result (state_of held.now (A.reported access.new).asks written) (c.global (late A.cost (world_from m answered)) (codes "__dp") (state_of held.now (A.reported access.old).asks written)) }
-    ensures calls { (A.reported access.new).asks.calls ≡ (A.reported access.old).asks.calls }
-    ensures end { EndIs result (A.reported access.new).end }
-    ensures cause { NoWriteFault result }
-    ensures on { (m : BenchState) → A.begun access.old m → A.begun access.new m }
-    ensures left { (answered : Option ℕ) → IsLeft (A.reported access.new) answered → IsLeft (A.reported access.old) answered }
-    ensures identity { A.identity access.new ≡ A.identity access.old }
-    ensures goes { GoesOn (A.reported access.old) (A.reported access.new) }
+    ensures gives { MeansCall A.begun A.reported access.old access.new held.now held.now result (λ w. c.global (late A.cost w) (codes "__dp")) }
+    ensures keeps { Keeps A.begun A.reported A.identity access.old access.new }
+    ensures ends { EndsUse result (A.reported access.old) (A.reported access.new) }
 {
     use_global(DP_PLACE, "__dp", held, access)
 }
@@ -52,15 +37,10 @@ pub fn use_debug_port<A: Access>(held: &Held, access: &mut A) -> Result<u64, End
 #[tactic(auto, unfolding(sequence_rules::specs::Calls::port_with), using(crate::proofs::Leaves::goes_on))]
 fn use_port_with<A: Access>(ap: u64, control: u64, held: &Held, access: &mut A) -> Result<Port, End>
     requires open { (A.reported access.old).end ≡ None }
-    ensures gives { (m : BenchState) (answered : Option ℕ) (written : Option (List ℕ)) → A.begun access.old m → IsLeft (A.reported access.new) answered
-        → MeansLateBy (world_from m answered) (A.reported access.new).lines as_port result (state_of held.now (A.reported access.new).asks written) (c.port_with (late A.cost (world_from m answered)) ap control (state_of held.now (A.reported access.old).asks written)) }
-    ensures calls { (A.reported access.new).asks.calls ≡ (A.reported access.old).asks.calls }
-    ensures end { EndIs result (A.reported access.new).end }
-    ensures cause { NoWriteFault result }
-    ensures on { (m : BenchState) → A.begun access.old m → A.begun access.new m }
-    ensures left { (answered : Option ℕ) → IsLeft (A.reported access.new) answered → IsLeft (A.reported access.old) answered }
-    ensures identity { A.identity access.new ≡ A.identity access.old }
-    ensures goes { GoesOn (A.reported access.old) (A.reported access.new) }
+    ensures gives { MeansCallBy as_port A.begun A.reported access.old access.new held.now held.now result
+        (λ w. c.port_with (late A.cost w) ap control) }
+    ensures keeps { Keeps A.begun A.reported A.identity access.old access.new }
+    ensures ends { EndsUse result (A.reported access.old) (A.reported access.new) }
 {
     let dp = use_debug_port(held, access)?;
     Ok(Port {
@@ -74,38 +54,22 @@ fn use_port_with<A: Access>(ap: u64, control: u64, held: &Held, access: &mut A) 
 #[tactic(auto, unfolding(sequence_rules::specs::Calls::port_from), using(crate::proofs::Leaves::goes_on))]
 fn use_port_from<A: Access>(ap: u64, held: &Held, access: &mut A) -> Result<Port, End>
     requires open { (A.reported access.old).end ≡ None }
-    ensures gives { (m : BenchState) (answered : Option ℕ) (written : Option (List ℕ)) → A.begun access.old m → IsLeft (A.reported access.new) answered
-        → MeansLateBy (world_from m answered) (A.reported access.new).lines as_port result (state_of held.now (A.reported access.new).asks written) (c.port_from (late A.cost (world_from m answered)) ap (state_of held.now (A.reported access.old).asks written)) }
-    ensures calls { (A.reported access.new).asks.calls ≡ (A.reported access.old).asks.calls }
-    ensures end { EndIs result (A.reported access.new).end }
-    ensures cause { NoWriteFault result }
-    ensures on { (m : BenchState) → A.begun access.old m → A.begun access.new m }
-    ensures left { (answered : Option ℕ) → IsLeft (A.reported access.new) answered → IsLeft (A.reported access.old) answered }
-    ensures identity { A.identity access.new ≡ A.identity access.old }
-    ensures goes { GoesOn (A.reported access.old) (A.reported access.new) }
+    ensures gives { MeansCallBy as_port A.begun A.reported access.old access.new held.now held.now result (λ w. c.port_from (late A.cost w) ap) }
+    ensures keeps { Keeps A.begun A.reported A.identity access.old access.new }
+    ensures ends { EndsUse result (A.reported access.old) (A.reported access.new) }
 {
-    match use_global(CONTROL_PLACE, "__errorcontrol", held, access) {
-        Ok(control) => use_port_with(ap, control, held, access),
-        Err(end) => Err(end),
-    }
+    let control = use_global(CONTROL_PLACE, "__errorcontrol", held, access)?;
+    use_port_with(ap, control, held, access)
 }
 
 // The variables that a memory or AP call uses.
 #[tactic(auto, unfolding(sequence_rules::specs::Calls::port), using(crate::proofs::Leaves::goes_on))]
 pub(crate) fn use_port<A: Access>(held: &Held, access: &mut A) -> Result<Port, End>
     requires open { (A.reported access.old).end ≡ None }
-    ensures gives { (m : BenchState) (answered : Option ℕ) (written : Option (List ℕ)) → A.begun access.old m → IsLeft (A.reported access.new) answered
-        → MeansLateBy (world_from m answered) (A.reported access.new).lines as_port result (state_of held.now (A.reported access.new).asks written) (c.port (late A.cost (world_from m answered)) (state_of held.now (A.reported access.old).asks written)) }
-    ensures calls { (A.reported access.new).asks.calls ≡ (A.reported access.old).asks.calls }
-    ensures end { EndIs result (A.reported access.new).end }
-    ensures cause { NoWriteFault result }
-    ensures on { (m : BenchState) → A.begun access.old m → A.begun access.new m }
-    ensures left { (answered : Option ℕ) → IsLeft (A.reported access.new) answered → IsLeft (A.reported access.old) answered }
-    ensures identity { A.identity access.new ≡ A.identity access.old }
-    ensures goes { GoesOn (A.reported access.old) (A.reported access.new) }
+    ensures gives { MeansCallBy as_port A.begun A.reported access.old access.new held.now held.now result (λ w. c.port (late A.cost w)) }
+    ensures keeps { Keeps A.begun A.reported A.identity access.old access.new }
+    ensures ends { EndsUse result (A.reported access.old) (A.reported access.new) }
 {
-    match use_global(AP_PLACE, "__ap", held, access) {
-        Ok(ap) => use_port_from(ap, held, access),
-        Err(end) => Err(end),
-    }
+    let ap = use_global(AP_PLACE, "__ap", held, access)?;
+    use_port_from(ap, held, access)
 }

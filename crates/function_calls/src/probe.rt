@@ -1,13 +1,8 @@
 //! Calls that are commands of the probe.
-ghost use Rattle.std.specs.Prelude.{◌≡◌, ℕ, List, Option, None, length};
-ghost use Rattle.probe_core.specs.Bench.{BenchState};
-ghost use Rattle.access_calls.specs.GoesOn.{GoesOn};
-ghost use Rattle.access_calls.specs.Left.{IsLeft};
-ghost use Rattle.access_calls.specs.Reported.{world_from};
 ghost use Rattle.sequence_rules.specs.Calls as c;
 ghost use Rattle.sequence_rules.specs.Late.{late};
-ghost use Rattle.function_calls.specs.Ends.{Counted, EndIs, MeansLate, NoWriteFault};
-ghost use Rattle.function_calls.specs.Held.{state_of};
+ghost use Rattle.function_calls.specs.Frame.{EndsCall, IsReady, Keeps};
+ghost use Rattle.function_calls.specs.Means.{MeansCall};
 
 use crate::asking::{command, command_without_result};
 use crate::end::End;
@@ -21,17 +16,11 @@ use target_machine::{HaltCause, ProbeCall};
 // `DAP_WriteABORT`, on debug port 0 alone.
 #[tactic(auto, unfolding(sequence_rules::specs::Calls::abort_at, sequence_rules::specs::Calls::zero_of))]
 fn abort_at<A: Access>(value: u64, dp: u64, held: &mut Held, access: &mut A) -> Result<Value, End>
-    requires open { (A.reported access.old).end ≡ None }
-    requires counted { held.old.units ≡ length (A.reported access.old).asks.calls }
-    ensures gives { (m : BenchState) (answered : Option ℕ) (written : Option (List ℕ)) → A.begun access.old m → IsLeft (A.reported access.new) answered
-        → MeansLate (world_from m answered) (A.reported access.new).lines result (state_of held.new (A.reported access.new).asks written) (c.zero_of (late A.cost (world_from m answered)) (c.abort_at (late A.cost (world_from m answered)) value dp (state_of held.old (A.reported access.old).asks written))) }
-    ensures counted { Counted result held.new.units (A.reported access.new).asks.calls }
-    ensures end { EndIs result (A.reported access.new).end }
-    ensures cause { NoWriteFault result }
-    ensures on { (m : BenchState) → A.begun access.old m → A.begun access.new m }
-    ensures left { (answered : Option ℕ) → IsLeft (A.reported access.new) answered → IsLeft (A.reported access.old) answered }
-    ensures identity { A.identity access.new ≡ A.identity access.old }
-    ensures goes { GoesOn (A.reported access.old) (A.reported access.new) }
+    requires ready { IsReady held.old.units (A.reported access.old) }
+    ensures gives { MeansCall A.begun A.reported access.old access.new held.old held.new result
+        (λ w s. c.zero_of (late A.cost w) (c.abort_at (late A.cost w) value dp s)) }
+    ensures keeps { Keeps A.begun A.reported A.identity access.old access.new }
+    ensures ends { EndsCall result held.new.units (A.reported access.new) }
 {
     if dp != 0 {
         return Err(End::Halted(HaltCause::Unsupported));
@@ -43,38 +32,24 @@ fn abort_at<A: Access>(value: u64, dp: u64, held: &mut Held, access: &mut A) -> 
 // `DAP_WriteABORT`.
 #[tactic(auto, unfolding(sequence_rules::specs::Calls::abort, sequence_rules::specs::Calls::zero_of), using(crate::proofs::Leaves::goes_on))]
 pub(crate) fn abort<A: Access>(value: u64, held: &mut Held, access: &mut A) -> Result<Value, End>
-    requires open { (A.reported access.old).end ≡ None }
-    requires counted { held.old.units ≡ length (A.reported access.old).asks.calls }
-    ensures gives { (m : BenchState) (answered : Option ℕ) (written : Option (List ℕ)) → A.begun access.old m → IsLeft (A.reported access.new) answered
-        → MeansLate (world_from m answered) (A.reported access.new).lines result (state_of held.new (A.reported access.new).asks written) (c.zero_of (late A.cost (world_from m answered)) (c.abort (late A.cost (world_from m answered)) value (state_of held.old (A.reported access.old).asks written))) }
-    ensures counted { Counted result held.new.units (A.reported access.new).asks.calls }
-    ensures end { EndIs result (A.reported access.new).end }
-    ensures cause { NoWriteFault result }
-    ensures on { (m : BenchState) → A.begun access.old m → A.begun access.new m }
-    ensures left { (answered : Option ℕ) → IsLeft (A.reported access.new) answered → IsLeft (A.reported access.old) answered }
-    ensures identity { A.identity access.new ≡ A.identity access.old }
-    ensures goes { GoesOn (A.reported access.old) (A.reported access.new) }
+    requires ready { IsReady held.old.units (A.reported access.old) }
+    ensures gives { MeansCall A.begun A.reported access.old access.new held.old held.new result
+        (λ w s. c.zero_of (late A.cost w) (c.abort (late A.cost w) value s)) }
+    ensures keeps { Keeps A.begun A.reported A.identity access.old access.new }
+    ensures ends { EndsCall result held.new.units (A.reported access.new) }
 {
-    match use_debug_port(held, access) {
-        Ok(dp) => abort_at(value, dp, held, access),
-        Err(end) => Err(end),
-    }
+    let dp = use_debug_port(held, access)?;
+    abort_at(value, dp, held, access)
 }
 
 // `DAP_Delay`, of at most 60,000,000 microseconds.
 #[tactic(auto, unfolding(sequence_rules::specs::Calls::delay, sequence_rules::specs::Calls::zero_of))]
 pub(crate) fn delay<A: Access>(micros: u64, held: &mut Held, access: &mut A) -> Result<Value, End>
-    requires open { (A.reported access.old).end ≡ None }
-    requires counted { held.old.units ≡ length (A.reported access.old).asks.calls }
-    ensures gives { (m : BenchState) (answered : Option ℕ) (written : Option (List ℕ)) → A.begun access.old m → IsLeft (A.reported access.new) answered
-        → MeansLate (world_from m answered) (A.reported access.new).lines result (state_of held.new (A.reported access.new).asks written) (c.zero_of (late A.cost (world_from m answered)) (c.delay (late A.cost (world_from m answered)) micros (state_of held.old (A.reported access.old).asks written))) }
-    ensures counted { Counted result held.new.units (A.reported access.new).asks.calls }
-    ensures end { EndIs result (A.reported access.new).end }
-    ensures cause { NoWriteFault result }
-    ensures on { (m : BenchState) → A.begun access.old m → A.begun access.new m }
-    ensures left { (answered : Option ℕ) → IsLeft (A.reported access.new) answered → IsLeft (A.reported access.old) answered }
-    ensures identity { A.identity access.new ≡ A.identity access.old }
-    ensures goes { GoesOn (A.reported access.old) (A.reported access.new) }
+    requires ready { IsReady held.old.units (A.reported access.old) }
+    ensures gives { MeansCall A.begun A.reported access.old access.new held.old held.new result
+        (λ w s. c.zero_of (late A.cost w) (c.delay (late A.cost w) micros s)) }
+    ensures keeps { Keeps A.begun A.reported A.identity access.old access.new }
+    ensures ends { EndsCall result held.new.units (A.reported access.new) }
 {
     if micros > 60_000_000 {
         return Err(End::Halted(HaltCause::ArgumentOutOfRange));
@@ -89,17 +64,11 @@ pub(crate) fn set_clock<A: Access>(
     held: &mut Held,
     access: &mut A,
 ) -> Result<Value, End>
-    requires open { (A.reported access.old).end ≡ None }
-    requires counted { held.old.units ≡ length (A.reported access.old).asks.calls }
-    ensures gives { (m : BenchState) (answered : Option ℕ) (written : Option (List ℕ)) → A.begun access.old m → IsLeft (A.reported access.new) answered
-        → MeansLate (world_from m answered) (A.reported access.new).lines result (state_of held.new (A.reported access.new).asks written) (c.zero_of (late A.cost (world_from m answered)) (c.clock (late A.cost (world_from m answered)) hertz (state_of held.old (A.reported access.old).asks written))) }
-    ensures counted { Counted result held.new.units (A.reported access.new).asks.calls }
-    ensures end { EndIs result (A.reported access.new).end }
-    ensures cause { NoWriteFault result }
-    ensures on { (m : BenchState) → A.begun access.old m → A.begun access.new m }
-    ensures left { (answered : Option ℕ) → IsLeft (A.reported access.new) answered → IsLeft (A.reported access.old) answered }
-    ensures identity { A.identity access.new ≡ A.identity access.old }
-    ensures goes { GoesOn (A.reported access.old) (A.reported access.new) }
+    requires ready { IsReady held.old.units (A.reported access.old) }
+    ensures gives { MeansCall A.begun A.reported access.old access.new held.old held.new result
+        (λ w s. c.zero_of (late A.cost w) (c.clock (late A.cost w) hertz s)) }
+    ensures keeps { Keeps A.begun A.reported A.identity access.old access.new }
+    ensures ends { EndsCall result held.new.units (A.reported access.new) }
 {
     if hertz == 0 || hertz > 0xFFFF_FFFF {
         return Err(End::Halted(HaltCause::ArgumentOutOfRange));
@@ -116,17 +85,10 @@ pub(crate) fn set_pins<A: Access>(
     held: &mut Held,
     access: &mut A,
 ) -> Result<Value, End>
-    requires open { (A.reported access.old).end ≡ None }
-    requires counted { held.old.units ≡ length (A.reported access.old).asks.calls }
-    ensures gives { (m : BenchState) (answered : Option ℕ) (written : Option (List ℕ)) → A.begun access.old m → IsLeft (A.reported access.new) answered
-        → MeansLate (world_from m answered) (A.reported access.new).lines result (state_of held.new (A.reported access.new).asks written) (c.pins (late A.cost (world_from m answered)) output select wait (state_of held.old (A.reported access.old).asks written)) }
-    ensures counted { Counted result held.new.units (A.reported access.new).asks.calls }
-    ensures end { EndIs result (A.reported access.new).end }
-    ensures cause { NoWriteFault result }
-    ensures on { (m : BenchState) → A.begun access.old m → A.begun access.new m }
-    ensures left { (answered : Option ℕ) → IsLeft (A.reported access.new) answered → IsLeft (A.reported access.old) answered }
-    ensures identity { A.identity access.new ≡ A.identity access.old }
-    ensures goes { GoesOn (A.reported access.old) (A.reported access.new) }
+    requires ready { IsReady held.old.units (A.reported access.old) }
+    ensures gives { MeansCall A.begun A.reported access.old access.new held.old held.new result (λ w. c.pins (late A.cost w) output select wait) }
+    ensures keeps { Keeps A.begun A.reported A.identity access.old access.new }
+    ensures ends { EndsCall result held.new.units (A.reported access.new) }
 {
     match pins_command(output, select, wait) {
         Ok(call) => command(call, held, access),
@@ -142,17 +104,11 @@ pub(crate) fn send_bits<A: Access>(
     held: &mut Held,
     access: &mut A,
 ) -> Result<Value, End>
-    requires open { (A.reported access.old).end ≡ None }
-    requires counted { held.old.units ≡ length (A.reported access.old).asks.calls }
-    ensures gives { (m : BenchState) (answered : Option ℕ) (written : Option (List ℕ)) → A.begun access.old m → IsLeft (A.reported access.new) answered
-        → MeansLate (world_from m answered) (A.reported access.new).lines result (state_of held.new (A.reported access.new).asks written) (c.zero_of (late A.cost (world_from m answered)) (c.line_bits (late A.cost (world_from m answered)) count bits (state_of held.old (A.reported access.old).asks written))) }
-    ensures counted { Counted result held.new.units (A.reported access.new).asks.calls }
-    ensures end { EndIs result (A.reported access.new).end }
-    ensures cause { NoWriteFault result }
-    ensures on { (m : BenchState) → A.begun access.old m → A.begun access.new m }
-    ensures left { (answered : Option ℕ) → IsLeft (A.reported access.new) answered → IsLeft (A.reported access.old) answered }
-    ensures identity { A.identity access.new ≡ A.identity access.old }
-    ensures goes { GoesOn (A.reported access.old) (A.reported access.new) }
+    requires ready { IsReady held.old.units (A.reported access.old) }
+    ensures gives { MeansCall A.begun A.reported access.old access.new held.old held.new result
+        (λ w s. c.zero_of (late A.cost w) (c.line_bits (late A.cost w) count bits s)) }
+    ensures keeps { Keeps A.begun A.reported A.identity access.old access.new }
+    ensures ends { EndsCall result held.new.units (A.reported access.new) }
 {
     if count == 0 || count > 64 {
         return Err(End::Halted(HaltCause::ArgumentOutOfRange));

@@ -1,13 +1,9 @@
 //! Calls that access registers.
-ghost use Rattle.std.specs.Prelude.{◌≡◌, ℕ, List, Option, None, length};
-ghost use Rattle.probe_core.specs.Bench.{BenchState};
-ghost use Rattle.access_calls.specs.GoesOn.{GoesOn};
-ghost use Rattle.access_calls.specs.Left.{IsLeft};
-ghost use Rattle.access_calls.specs.Reported.{world_from};
 ghost use Rattle.sequence_rules.specs.Calls as c;
 ghost use Rattle.sequence_rules.specs.Late.{late};
-ghost use Rattle.function_calls.specs.Ends.{Counted, EndIs, MeansLate, NoWriteFault, as_port};
-ghost use Rattle.function_calls.specs.Held.{state_of};
+ghost use Rattle.function_calls.specs.Ends.{as_port};
+ghost use Rattle.function_calls.specs.Frame.{EndsCall, IsReady, Keeps};
+ghost use Rattle.function_calls.specs.Means.{MeansCall};
 
 use crate::asking::ask_for_result;
 use crate::end::End;
@@ -27,17 +23,11 @@ fn access_ap_at<A: Access>(
     held: &mut Held,
     access: &mut A,
 ) -> Result<Value, End>
-    requires open { (A.reported access.old).end ≡ None }
-    requires counted { held.old.units ≡ length (A.reported access.old).asks.calls }
-    ensures gives { (m : BenchState) (answered : Option ℕ) (written : Option (List ℕ)) → A.begun access.old m → IsLeft (A.reported access.new) answered
-        → MeansLate (world_from m answered) (A.reported access.new).lines result (state_of held.new (A.reported access.new).asks written) (c.ap_at (late A.cost (world_from m answered)) read addr value (as_port port) (state_of held.old (A.reported access.old).asks written)) }
-    ensures counted { Counted result held.new.units (A.reported access.new).asks.calls }
-    ensures end { EndIs result (A.reported access.new).end }
-    ensures cause { NoWriteFault result }
-    ensures on { (m : BenchState) → A.begun access.old m → A.begun access.new m }
-    ensures left { (answered : Option ℕ) → IsLeft (A.reported access.new) answered → IsLeft (A.reported access.old) answered }
-    ensures identity { A.identity access.new ≡ A.identity access.old }
-    ensures goes { GoesOn (A.reported access.old) (A.reported access.new) }
+    requires ready { IsReady held.old.units (A.reported access.old) }
+    ensures gives { MeansCall A.begun A.reported access.old access.new held.old held.new result
+        (λ w. c.ap_at (late A.cost w) read addr value (as_port port)) }
+    ensures keeps { Keeps A.begun A.reported A.identity access.old access.new }
+    ensures ends { EndsCall result held.new.units (A.reported access.new) }
 {
     match ap_unit(read, addr, value, port.ap, port.dp) {
         Ok(unit) => ask_for_result(read, unit, port.forgive, held, access),
@@ -54,22 +44,13 @@ pub(crate) fn access_ap<A: Access>(
     held: &mut Held,
     access: &mut A,
 ) -> Result<Value, End>
-    requires open { (A.reported access.old).end ≡ None }
-    requires counted { held.old.units ≡ length (A.reported access.old).asks.calls }
-    ensures gives { (m : BenchState) (answered : Option ℕ) (written : Option (List ℕ)) → A.begun access.old m → IsLeft (A.reported access.new) answered
-        → MeansLate (world_from m answered) (A.reported access.new).lines result (state_of held.new (A.reported access.new).asks written) (c.ap_register (late A.cost (world_from m answered)) read addr value (state_of held.old (A.reported access.old).asks written)) }
-    ensures counted { Counted result held.new.units (A.reported access.new).asks.calls }
-    ensures end { EndIs result (A.reported access.new).end }
-    ensures cause { NoWriteFault result }
-    ensures on { (m : BenchState) → A.begun access.old m → A.begun access.new m }
-    ensures left { (answered : Option ℕ) → IsLeft (A.reported access.new) answered → IsLeft (A.reported access.old) answered }
-    ensures identity { A.identity access.new ≡ A.identity access.old }
-    ensures goes { GoesOn (A.reported access.old) (A.reported access.new) }
+    requires ready { IsReady held.old.units (A.reported access.old) }
+    ensures gives { MeansCall A.begun A.reported access.old access.new held.old held.new result (λ w. c.ap_register (late A.cost w) read addr value) }
+    ensures keeps { Keeps A.begun A.reported A.identity access.old access.new }
+    ensures ends { EndsCall result held.new.units (A.reported access.new) }
 {
-    match use_port(held, access) {
-        Ok(port) => access_ap_at(read, addr, value, port, held, access),
-        Err(end) => Err(end),
-    }
+    let port = use_port(held, access)?;
+    access_ap_at(read, addr, value, port, held, access)
 }
 
 // `ReadDP` and `WriteDP`, once the debug port is known.
@@ -82,17 +63,10 @@ fn access_dp_at<A: Access>(
     held: &mut Held,
     access: &mut A,
 ) -> Result<Value, End>
-    requires open { (A.reported access.old).end ≡ None }
-    requires counted { held.old.units ≡ length (A.reported access.old).asks.calls }
-    ensures gives { (m : BenchState) (answered : Option ℕ) (written : Option (List ℕ)) → A.begun access.old m → IsLeft (A.reported access.new) answered
-        → MeansLate (world_from m answered) (A.reported access.new).lines result (state_of held.new (A.reported access.new).asks written) (c.dp_at (late A.cost (world_from m answered)) read addr value dp (state_of held.old (A.reported access.old).asks written)) }
-    ensures counted { Counted result held.new.units (A.reported access.new).asks.calls }
-    ensures end { EndIs result (A.reported access.new).end }
-    ensures cause { NoWriteFault result }
-    ensures on { (m : BenchState) → A.begun access.old m → A.begun access.new m }
-    ensures left { (answered : Option ℕ) → IsLeft (A.reported access.new) answered → IsLeft (A.reported access.old) answered }
-    ensures identity { A.identity access.new ≡ A.identity access.old }
-    ensures goes { GoesOn (A.reported access.old) (A.reported access.new) }
+    requires ready { IsReady held.old.units (A.reported access.old) }
+    ensures gives { MeansCall A.begun A.reported access.old access.new held.old held.new result (λ w. c.dp_at (late A.cost w) read addr value dp) }
+    ensures keeps { Keeps A.begun A.reported A.identity access.old access.new }
+    ensures ends { EndsCall result held.new.units (A.reported access.new) }
 {
     match dp_unit(read, addr, value, dp) {
         Ok(unit) => ask_for_result(read, unit, false, held, access),
@@ -109,20 +83,11 @@ pub(crate) fn access_dp<A: Access>(
     held: &mut Held,
     access: &mut A,
 ) -> Result<Value, End>
-    requires open { (A.reported access.old).end ≡ None }
-    requires counted { held.old.units ≡ length (A.reported access.old).asks.calls }
-    ensures gives { (m : BenchState) (answered : Option ℕ) (written : Option (List ℕ)) → A.begun access.old m → IsLeft (A.reported access.new) answered
-        → MeansLate (world_from m answered) (A.reported access.new).lines result (state_of held.new (A.reported access.new).asks written) (c.dp_register (late A.cost (world_from m answered)) read addr value (state_of held.old (A.reported access.old).asks written)) }
-    ensures counted { Counted result held.new.units (A.reported access.new).asks.calls }
-    ensures end { EndIs result (A.reported access.new).end }
-    ensures cause { NoWriteFault result }
-    ensures on { (m : BenchState) → A.begun access.old m → A.begun access.new m }
-    ensures left { (answered : Option ℕ) → IsLeft (A.reported access.new) answered → IsLeft (A.reported access.old) answered }
-    ensures identity { A.identity access.new ≡ A.identity access.old }
-    ensures goes { GoesOn (A.reported access.old) (A.reported access.new) }
+    requires ready { IsReady held.old.units (A.reported access.old) }
+    ensures gives { MeansCall A.begun A.reported access.old access.new held.old held.new result (λ w. c.dp_register (late A.cost w) read addr value) }
+    ensures keeps { Keeps A.begun A.reported A.identity access.old access.new }
+    ensures ends { EndsCall result held.new.units (A.reported access.new) }
 {
-    match use_debug_port(held, access) {
-        Ok(dp) => access_dp_at(read, addr, value, dp, held, access),
-        Err(end) => Err(end),
-    }
+    let dp = use_debug_port(held, access)?;
+    access_dp_at(read, addr, value, dp, held, access)
 }

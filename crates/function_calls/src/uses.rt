@@ -1,16 +1,16 @@
 //! Values, where they are used.
-ghost use Rattle.std.specs.Prelude.{◌≡◌, ℕ, List, Option, None, OnOk, IfErr, length};
+ghost use Rattle.std.specs.Prelude.{◌≡◌, ℕ, List, Option, None, OnOk, IfErr};
 ghost use Rattle.probe_core.specs.Bench.{BenchState};
 ghost use Rattle.target_calls.specs.NeedPoints.{needed};
 ghost use Rattle.target_calls.specs.World.{stop};
-ghost use Rattle.access_calls.specs.GoesOn.{GoesOn};
 ghost use Rattle.access_calls.specs.Left.{IsLeft};
 ghost use Rattle.access_calls.specs.Reported.{world_from};
 ghost use Rattle.sequence_rules.specs.declared.bindings.Binding.{Binding};
 ghost use Rattle.sequence_rules.specs.Calls as c;
 ghost use Rattle.sequence_rules.specs.Late.{late};
 ghost use Rattle.sequence_rules.specs.Values as v;
-ghost use Rattle.function_calls.specs.Ends.{EndIs, IsStopAt, MeansLate, MeansLateBy, NoWriteFault};
+ghost use Rattle.function_calls.specs.Ends.{IsStopAt, MeansLate, MeansLateBy};
+ghost use Rattle.function_calls.specs.Frame.{EndsUse, Keeps};
 ghost use Rattle.function_calls.specs.Held.{state_with};
 
 use crate::end::End;
@@ -22,15 +22,12 @@ use target_calls::Value;
 #[tactic(auto, unfolding(sequence_rules::specs::Calls::use_now, sequence_rules::specs::Late::late), using(crate::proofs::Leaves::leaves))]
 pub fn use_value<A: Access>(value: Value, access: &mut A) -> Result<u64, End>
     requires open { (A.reported access.old).end ≡ None }
-    ensures gives { (m : BenchState) (answered : Option ℕ) (globals locals : List (Binding Value)) (units lines steps : ℕ) (written : Option (List ℕ)) → A.begun access.old m → IsLeft (A.reported access.new) answered
-        → MeansLate (world_from m answered) (A.reported access.new).lines result (state_with globals locals units lines steps (A.reported access.new).asks written) (c.use_now (late A.cost (world_from m answered)) value (state_with globals locals units lines steps (A.reported access.old).asks written)) }
-    ensures calls { (A.reported access.new).asks.calls ≡ (A.reported access.old).asks.calls }
-    ensures end { EndIs result (A.reported access.new).end }
-    ensures cause { NoWriteFault result }
-    ensures on { (m : BenchState) → A.begun access.old m → A.begun access.new m }
-    ensures left { (answered : Option ℕ) → IsLeft (A.reported access.new) answered → IsLeft (A.reported access.old) answered }
-    ensures identity { A.identity access.new ≡ A.identity access.old }
-    ensures goes { GoesOn (A.reported access.old) (A.reported access.new) }
+    ensures gives { (m : BenchState) (answered : Option ℕ) (globals locals : List (Binding Value)) (units lines steps : ℕ) (written : Option (List ℕ))
+        → A.begun access.old m → IsLeft (A.reported access.new) answered
+        → MeansLate (world_from m answered) (A.reported access.new).lines result (state_with globals locals units lines steps (A.reported access.new).asks written)
+        (c.use_now (late A.cost (world_from m answered)) value (state_with globals locals units lines steps (A.reported access.old).asks written)) }
+    ensures keeps { Keeps A.begun A.reported A.identity access.old access.new }
+    ensures ends { EndsUse result (A.reported access.old) (A.reported access.new) }
 {
     match value {
         Value::Number(number) => Ok(number),
@@ -45,20 +42,14 @@ pub fn use_value<A: Access>(value: Value, access: &mut A) -> Result<u64, End>
 #[tactic(auto, unfolding(sequence_rules::specs::Values::both), using(crate::proofs::Leaves::exits, access_calls::proofs::KeepLemmas::goes_trans))]
 pub fn use_both<A: Access>(left: Value, right: Value, access: &mut A) -> Result<(u64, u64), End>
     requires open { (A.reported access.old).end ≡ None }
-    ensures gives { (m : BenchState) (answered : Option ℕ) (globals locals : List (Binding Value)) (units lines steps : ℕ) (written : Option (List ℕ)) → A.begun access.old m → IsLeft (A.reported access.new) answered
-        → MeansLate (world_from m answered) (A.reported access.new).lines result (state_with globals locals units lines steps (A.reported access.new).asks written) (v.both (late A.cost (world_from m answered)) left right (state_with globals locals units lines steps (A.reported access.old).asks written)) }
-    ensures calls { (A.reported access.new).asks.calls ≡ (A.reported access.old).asks.calls }
-    ensures end { EndIs result (A.reported access.new).end }
-    ensures cause { NoWriteFault result }
-    ensures on { (m : BenchState) → A.begun access.old m → A.begun access.new m }
-    ensures left { (answered : Option ℕ) → IsLeft (A.reported access.new) answered → IsLeft (A.reported access.old) answered }
-    ensures identity { A.identity access.new ≡ A.identity access.old }
-    ensures goes { GoesOn (A.reported access.old) (A.reported access.new) }
+    ensures gives { (m : BenchState) (answered : Option ℕ) (globals locals : List (Binding Value)) (units lines steps : ℕ) (written : Option (List ℕ))
+        → A.begun access.old m → IsLeft (A.reported access.new) answered
+        → MeansLate (world_from m answered) (A.reported access.new).lines result (state_with globals locals units lines steps (A.reported access.new).asks written)
+        (v.both (late A.cost (world_from m answered)) left right (state_with globals locals units lines steps (A.reported access.old).asks written)) }
+    ensures keeps { Keeps A.begun A.reported A.identity access.old access.new }
+    ensures ends { EndsUse result (A.reported access.old) (A.reported access.new) }
 {
-    let left = match use_value(left, access) {
-        Ok(left) => left,
-        Err(end) => return Err(end),
-    };
+    let left = use_value(left, access)?;
     let right = use_value(right, access)?;
     Ok((left, right))
 }
@@ -71,22 +62,17 @@ pub fn use_values<A: Access>(
     access: &mut A,
 ) -> Result<Vec<u64>, End>
     requires open { (A.reported access.old).end ≡ None }
-    ensures gives { (m : BenchState) (answered : Option ℕ) (globals locals : List (Binding Value)) (units lines steps : ℕ) (written : Option (List ℕ)) → A.begun access.old m → IsLeft (A.reported access.new) answered
-        → MeansLateBy (world_from m answered) (A.reported access.new).lines (λ numbers. numbers.items) result (state_with globals locals units lines steps (A.reported access.new).asks written) (v.all_used (late A.cost (world_from m answered)) values.now (state_with globals locals units lines steps (A.reported access.old).asks written)) }
-    ensures calls { (A.reported access.new).asks.calls ≡ (A.reported access.old).asks.calls }
-    ensures end { EndIs result (A.reported access.new).end }
-    ensures cause { NoWriteFault result }
-    ensures on { (m : BenchState) → A.begun access.old m → A.begun access.new m }
-    ensures left { (answered : Option ℕ) → IsLeft (A.reported access.new) answered → IsLeft (A.reported access.old) answered }
-    ensures identity { A.identity access.new ≡ A.identity access.old }
-    ensures goes { GoesOn (A.reported access.old) (A.reported access.new) }
+    ensures gives { (m : BenchState) (answered : Option ℕ) (globals locals : List (Binding Value)) (units lines steps : ℕ) (written : Option (List ℕ))
+        → A.begun access.old m → IsLeft (A.reported access.new) answered
+        → MeansLateBy (world_from m answered) (A.reported access.new).lines (λ numbers. numbers.items) result
+        (state_with globals locals units lines steps (A.reported access.new).asks written)
+        (v.all_used (late A.cost (world_from m answered)) values.now (state_with globals locals units lines steps (A.reported access.old).asks written)) }
+    ensures keeps { Keeps A.begun A.reported A.identity access.old access.new }
+    ensures ends { EndsUse result (A.reported access.old) (A.reported access.new) }
 {
     let mut numbers = Vec::new(alloc);
     for value in values {
-        let number = match use_value(*value, access) {
-            Ok(number) => number,
-            Err(end) => return Err(end),
-        };
+        let number = use_value(*value, access)?;
         match numbers.push(number) {
             Ok(()) => {}
             Err(_) => return Err(End::Stopped(Stop::OutOfMemory)),
@@ -104,13 +90,8 @@ pub(crate) fn confirm<A: Access>(access: &mut A) -> Result<(), End>
         → OnOk result (stop (world_from m answered) (A.reported access.old).asks.calls ≡ None) }
     ensures stops { (m : BenchState) (answered : Option ℕ) → A.begun access.old m → IsLeft (A.reported access.new) answered
         → IfErr result (IsStopAt (world_from m answered) (A.reported access.old).asks.calls (A.reported access.new).lines) }
-    ensures calls { (A.reported access.new).asks.calls ≡ (A.reported access.old).asks.calls }
-    ensures end { EndIs result (A.reported access.new).end }
-    ensures cause { NoWriteFault result }
-    ensures on { (m : BenchState) → A.begun access.old m → A.begun access.new m }
-    ensures left { (answered : Option ℕ) → IsLeft (A.reported access.new) answered → IsLeft (A.reported access.old) answered }
-    ensures identity { A.identity access.new ≡ A.identity access.old }
-    ensures goes { GoesOn (A.reported access.old) (A.reported access.new) }
+    ensures keeps { Keeps A.begun A.reported A.identity access.old access.new }
+    ensures ends { EndsUse result (A.reported access.old) (A.reported access.new) }
 {
     match access.flush() {
         Ok(()) => Ok(()),

@@ -1,4 +1,4 @@
-use Rattle.std.proofs.Common.{◌≡◌, ◌∙◌, sym, ap, subst, refl}
+use Rattle.std.proofs.Common.{◌∙◌, sym, subst, refl}
 use Rattle.access_calls.specs.Answers.{StopsCalls}
 use Rattle.access_calls.specs.Left.{answered_by}
 use Rattle.access_calls.specs.Reported.{began, world_from}
@@ -28,10 +28,10 @@ returns-in-Ok-look_up_variables-clause-answer g c = λ m written out q b is p.
     let n = answered_by a in
     let s = state_of c.args.held.now (g.A.Access.reported c.args.access.now).asks written in
     let on = c.in-Ok.ensures.on m b in
-    closes (world_from m n) c.args.ending s out q a.lines _ (g.A.Access.reported c.finish.new.self).asks is p (c.in-Ok.ensures.whole m n b (c.in-Ok-look_up_variables.ensures.goes.left n (left_by a))) (record {
+    closes (world_from m n) c.args.ending s out q a.lines _ (g.A.Access.reported c.finish.new.self).asks is p (c.in-Ok.ensures.whole m n b (c.in-Ok-look_up_variables.ensures.keeps.goes.left n (left_by a))) (record {
       variables = c.in-Ok-look_up_variables.ensures.values m n on (left_by a);
       units = refl;
-      skipped = c.skipped-in-Ok-look_up_variables.ensures.skipped ∙ skipped_is g.A.Access.journal a (began m n) c.in-Ok-look_up_variables.ensures.open (g.met.A.Access.stands c.look_up_variables.new.access m n (c.in-Ok-look_up_variables.ensures.on m on) (left_by a));
+      skipped = c.skipped-in-Ok-look_up_variables.ensures.skipped ∙ skipped_is g.A.Access.journal a (began m n) c.in-Ok-look_up_variables.ensures.open (g.met.A.Access.stands c.look_up_variables.new.access m n (c.in-Ok-look_up_variables.ensures.keeps.on m on) (left_by a));
       few = c.skipped-in-Ok-look_up_variables.type_inv;
       finish = c.in-Ok.ensures.asks;
       asks = c.in-Ok-look_up_variables.ensures.asks;

@@ -1,10 +1,10 @@
 use Rattle.std.proofs.Common.{◌≡◌, ◌≤◌, ◌-◌, ℕ, Option, None, take, length}
 use Rattle.probe_core.specs.Bench.{BenchState}
-use Rattle.access_calls.specs.GoesOn.{GoesOn}
 use Rattle.access_calls.specs.Left.{IsLeft}
 use Rattle.access_calls.specs.Reported.{world_from}
 use Rattle.sequence_rules.specs.Shared.{bindings_of}
 use Rattle.sequence_rules.specs.Runs.{variables_of}
+use Rattle.function_calls.specs.Frame.{Keeps}
 use Rattle.control_flow.specs.Closing.{AreAsked, numbers_in}
 use Rattle.control_flow.proofs.closing.look_up_variables.Given as goal
 
@@ -16,9 +16,7 @@ invariant-loop-index g l = record {
   calls : (g.A.Access.reported l.access).asks.calls ≡ (g.A.Access.reported l.fn.access).asks.calls;
   asks : AreAsked (g.A.Access.reported l.fn.access).asks.fence (bindings_of l.globals) → (g.A.Access.reported l.access).asks ≡ (g.A.Access.reported l.fn.access).asks;
   ended : (g.A.Access.reported l.access).end ≡ None;
-  on : (m : BenchState) → g.A.Access.begun l.fn.access m → g.A.Access.begun l.access m;
-  identity : g.A.Access.identity l.access ≡ g.A.Access.identity l.fn.access;
-  goes : GoesOn (g.A.Access.reported l.fn.access) (g.A.Access.reported l.access);
+  keeps : Keeps g.A.Access.begun g.A.Access.reported g.A.Access.identity l.fn.access l.access;
 }
 
 abbrev pub decreases-loop-index : goal.decreases-loop-index

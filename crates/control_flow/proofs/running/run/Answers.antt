@@ -1,4 +1,4 @@
-use Rattle.std.proofs.Common.{◌≡◌, ◌∙◌, refl, sym, ap, subst}
+use Rattle.std.proofs.Common.{◌∙◌, refl, sym, subst}
 use Rattle.access_calls.specs.Left.{answered_by}
 use Rattle.access_calls.specs.Reported.{world_from}
 use Rattle.access_calls.proofs.KeepLemmas.{left_by}
@@ -32,7 +32,7 @@ returns-in-Ok-run_all-clause-answer g c = λ m known b knows.
     let after = known_part known (g.K.Sink.written c.run_all.new.sink) in
     let now = state_of c.run_all.new.held (g.A.Access.reported c.run_all.new.access).asks after in
     let same = at_start g.A.Access.cost w p c.in-Ok.held (g.A.Access.reported c.args.access.now).asks before c.requires.fresh (c.in-Ok.ensures.state g.A.Access.cost w before) in
-    (c.ended_whole.ensures.answer m after (late_meaning g.A.Access.cost w p before) (meaning w p before) (c.run_all.ensures.on m b) (at_end (ending.Done) now _ _ same (c.in-Ok-run_all.ensures.gives m n known b (c.ended_whole.ensures.goes.left n (left_by last)) knows)) (late_pair g.A.Access.cost w p before)).0
+    (c.ended_whole.ensures.answer m after (late_meaning g.A.Access.cost w p before) (meaning w p before) (c.run_all.ensures.keeps.on m b) (at_end (ending.Done) now _ _ same (c.in-Ok-run_all.ensures.gives m n known b (c.ended_whole.ensures.keeps.goes.left n (left_by last)) knows)) (late_pair g.A.Access.cost w p before)).0
 
 pub returns-in-Ok-run_all-clause-needs : goal.returns-in-Ok-run_all-clause-needs
 returns-in-Ok-run_all-clause-needs g c = λ m known b knows.
@@ -44,10 +44,10 @@ returns-in-Ok-run_all-clause-needs g c = λ m known b knows.
     let after = known_part known (g.K.Sink.written c.run_all.new.sink) in
     let now = state_of c.run_all.new.held (g.A.Access.reported c.run_all.new.access).asks after in
     let same = at_start g.A.Access.cost w p c.in-Ok.held (g.A.Access.reported c.args.access.now).asks before c.requires.fresh (c.in-Ok.ensures.state g.A.Access.cost w before) in
-    (c.ended_whole.ensures.answer m after (late_meaning g.A.Access.cost w p before) (meaning w p before) (c.run_all.ensures.on m b) (at_end (ending.Done) now _ _ same (c.in-Ok-run_all.ensures.gives m n known b (c.ended_whole.ensures.goes.left n (left_by last)) knows)) (late_pair g.A.Access.cost w p before)).1
+    (c.ended_whole.ensures.answer m after (late_meaning g.A.Access.cost w p before) (meaning w p before) (c.run_all.ensures.keeps.on m b) (at_end (ending.Done) now _ _ same (c.in-Ok-run_all.ensures.gives m n known b (c.ended_whole.ensures.keeps.goes.left n (left_by last)) knows)) (late_pair g.A.Access.cost w p before)).1
 
 pub returns-in-Ok-run_all-clause-cause : goal.returns-in-Ok-run_all-clause-cause
-returns-in-Ok-run_all-clause-cause g c = quiet_ending _ _ _ c.in-Ok-run_all.ensures.cause c.ended_whole.ensures.cause
+returns-in-Ok-run_all-clause-cause g c = quiet_ending _ _ _ c.in-Ok-run_all.ensures.ends.cause c.ended_whole.ensures.cause
 
 pub returns-in-Err-Halted-clause-answer : goal.returns-in-Err-Halted-clause-answer
 returns-in-Err-Halted-clause-answer g c = λ m known b knows.
@@ -59,7 +59,7 @@ returns-in-Err-Halted-clause-answer g c = λ m known b knows.
     let after = known_part known (g.K.Sink.written c.run_all.new.sink) in
     let now = state_of c.run_all.new.held (g.A.Access.reported c.run_all.new.access).asks after in
     let same = at_start g.A.Access.cost w p c.in-Ok.held (g.A.Access.reported c.args.access.now).asks before c.requires.fresh (c.in-Ok.ensures.state g.A.Access.cost w before) in
-    (c.ended_whole-in-Err-Halted.ensures.answer m after (late_meaning g.A.Access.cost w p before) (meaning w p before) (c.run_all.ensures.on m b) (at_end (ending.Halted c.in-Err-Halted.cause) now _ _ same (rw c.in-Err-Halted.field-0-is at (c.in-Err-Halted.ensures.gives m n known b (c.ended_whole-in-Err-Halted.ensures.goes.left n (left_by last)) knows))) (late_pair g.A.Access.cost w p before)).0
+    (c.ended_whole-in-Err-Halted.ensures.answer m after (late_meaning g.A.Access.cost w p before) (meaning w p before) (c.run_all.ensures.keeps.on m b) (at_end (ending.Halted c.in-Err-Halted.cause) now _ _ same (rw c.in-Err-Halted.field-0-is at (c.in-Err-Halted.ensures.gives m n known b (c.ended_whole-in-Err-Halted.ensures.keeps.goes.left n (left_by last)) knows))) (late_pair g.A.Access.cost w p before)).0
 
 pub returns-in-Err-Halted-clause-needs : goal.returns-in-Err-Halted-clause-needs
 returns-in-Err-Halted-clause-needs g c = λ m known b knows.
@@ -71,10 +71,10 @@ returns-in-Err-Halted-clause-needs g c = λ m known b knows.
     let after = known_part known (g.K.Sink.written c.run_all.new.sink) in
     let now = state_of c.run_all.new.held (g.A.Access.reported c.run_all.new.access).asks after in
     let same = at_start g.A.Access.cost w p c.in-Ok.held (g.A.Access.reported c.args.access.now).asks before c.requires.fresh (c.in-Ok.ensures.state g.A.Access.cost w before) in
-    (c.ended_whole-in-Err-Halted.ensures.answer m after (late_meaning g.A.Access.cost w p before) (meaning w p before) (c.run_all.ensures.on m b) (at_end (ending.Halted c.in-Err-Halted.cause) now _ _ same (rw c.in-Err-Halted.field-0-is at (c.in-Err-Halted.ensures.gives m n known b (c.ended_whole-in-Err-Halted.ensures.goes.left n (left_by last)) knows))) (late_pair g.A.Access.cost w p before)).1
+    (c.ended_whole-in-Err-Halted.ensures.answer m after (late_meaning g.A.Access.cost w p before) (meaning w p before) (c.run_all.ensures.keeps.on m b) (at_end (ending.Halted c.in-Err-Halted.cause) now _ _ same (rw c.in-Err-Halted.field-0-is at (c.in-Err-Halted.ensures.gives m n known b (c.ended_whole-in-Err-Halted.ensures.keeps.goes.left n (left_by last)) knows))) (late_pair g.A.Access.cost w p before)).1
 
 pub returns-in-Err-Halted-clause-cause : goal.returns-in-Err-Halted-clause-cause
-returns-in-Err-Halted-clause-cause g c = quiet_ending _ _ _ (rw c.in-Err-Halted.field-0-is at c.in-Err-Halted.ensures.cause) c.ended_whole-in-Err-Halted.ensures.cause
+returns-in-Err-Halted-clause-cause g c = quiet_ending _ _ _ (rw c.in-Err-Halted.field-0-is at c.in-Err-Halted.ensures.ends.cause) c.ended_whole-in-Err-Halted.ensures.cause
 
 pub returns-in-Err-Stopped-clause-answer : goal.returns-in-Err-Stopped-clause-answer
 returns-in-Err-Stopped-clause-answer g c = λ m known b knows.
@@ -89,7 +89,7 @@ returns-in-Err-Stopped-clause-answer g c = λ m known b knows.
     let r = ran c.ended_early-in-Err-Stopped.result a.asks after in
     let same = at_start g.A.Access.cost w p c.in-Ok.held (g.A.Access.reported c.args.access.now).asks before c.requires.fresh (c.in-Ok.ensures.state g.A.Access.cost w before) in
     subst (λ x. EndsAs x a.lines (outcome_of (meaning w p before)) r) (sym (c.ended_early-in-Err-Stopped.ensures.ending ∙ c.from.ensures))
-    (stopped_ends w st a.lines r now (late_meaning g.A.Access.cost w p before) (meaning w p before) (late_pair g.A.Access.cost w p before) (answered_as st a (rw c.in-Err-Stopped.field-0-is at c.in-Err-Stopped.ensures.end))
+    (stopped_ends w st a.lines r now (late_meaning g.A.Access.cost w p before) (meaning w p before) (late_pair g.A.Access.cost w p before) (answered_as st a (rw c.in-Err-Stopped.field-0-is at c.in-Err-Stopped.ensures.ends.end))
     (left_end w a.lines st now _ _ same (rw c.in-Err-Stopped.field-0-is at (c.in-Err-Stopped.ensures.gives m n known b (left_by a) knows))) refl refl)
 
 pub returns-clause-answer : goal.returns-clause-answer

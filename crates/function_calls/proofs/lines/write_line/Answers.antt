@@ -4,13 +4,15 @@ use Rattle.access_calls.specs.Reported.{world_from}
 use Rattle.sequence_rules.specs.Known.{known_part}
 use Rattle.function_calls.specs.Held.{seen}
 use Rattle.sequence_rules.proofs.KnownLemmas.{known_more}
+use Rattle.function_calls.proofs.Leaves.{passed}
 use Rattle.function_calls.proofs.LineLemmas.{line_on, line_fails, line_stops, line_refused}
 use Rattle.function_calls.proofs.lines.write_line.Goals as goal
 
-pub returns-in-Err-clause-gives : goal.returns-in-Err-clause-gives
-returns-in-Err-clause-gives g c = λ m answered known text is b l knows.
-    line_stops g.A.Access.cost (world_from m answered) text c.args.value (seen known c.args.held.now (g.A.Access.reported c.args.access.now).asks (g.K.Sink.written c.args.sink.now)) (g.A.Access.reported c.confirm.new.access).asks _ c.in-Err.end
-    c.in-Err.ensures.calls (c.in-Err.ensures.stops m answered b l)
+pub returns-in_err-confirm-clause-gives : goal.returns-in_err-confirm-clause-gives
+returns-in_err-confirm-clause-gives g c = λ m answered known text is b l knows.
+    passed _ _ _ _ _ c.from_residual.result c.from_residual.ensures.1
+    (line_stops g.A.Access.cost (world_from m answered) text c.args.value (seen known c.args.held.now (g.A.Access.reported c.args.access.now).asks (g.K.Sink.written c.args.sink.now)) (g.A.Access.reported c.confirm.new.access).asks _ c.in_err-confirm.field-0.0
+    c.in_err-confirm.ensures.ends.calls (c.in_err-confirm.ensures.stops m answered b l))
 
 pub returns-in_default-clause-gives : goal.returns-in_default-clause-gives
 returns-in_default-clause-gives g c = λ m answered known text is b l knows.
@@ -23,7 +25,7 @@ returns-in-Ok-put-clause-gives g c = λ m answered known text is b l knows.
     let old = g.K.Sink.written c.args.sink.now in
     let new = g.K.Sink.written c.put.new.self in
     line_on g.A.Access.cost (world_from m answered) text c.args.value (seen known c.args.held.now (g.A.Access.reported c.args.access.now).asks old) (g.A.Access.reported c.confirm.new.access).asks (known_part known new) some
-    (c.in-Ok-confirm.ensures.whole m answered b l) c.in-Ok-confirm.ensures.asks (known_more known old new text (subst (λ x. Appends old new x) (c.as_bytes.ensures ∙ line) c.in-Ok-put.ensures.bytes) knows)
+    (c.in_ok-confirm.ensures.whole m answered b l) c.in_ok-confirm.ensures.asks (known_more known old new text (subst (λ x. Appends old new x) (c.as_bytes.ensures ∙ line) c.in-Ok-put.ensures.bytes) knows)
 
 pub returns-clause-gives : goal.returns-clause-gives
 returns-clause-gives g c = λ m answered known text is b l knows.
@@ -31,6 +33,6 @@ returns-clause-gives g c = λ m answered known text is b l knows.
     let line : c.in-Ok.line ≡ text = rw c.in-Ok.is at is in
     let old = g.K.Sink.written c.args.sink.now in
     let new = g.K.Sink.written c.put.new.self in
-    let part = c.in-Err-put.ensures.bytes in
+    let part = c.in-Err.ensures.bytes in
     line_fails g.A.Access.cost (world_from m answered) text c.args.value (seen known c.args.held.now (g.A.Access.reported c.args.access.now).asks old) (g.A.Access.reported c.confirm.new.access).asks (known_part known new) part.0 some
-    (c.in-Ok-confirm.ensures.whole m answered b l) c.in-Ok-confirm.ensures.calls (known_more known old new (take part.0 text) (subst (λ x. Appends old new (take part.0 x)) (c.as_bytes.ensures ∙ line) part.1) knows)
+    (c.in_ok-confirm.ensures.whole m answered b l) c.in_ok-confirm.ensures.ends.calls (known_more known old new (take part.0 text) (subst (λ x. Appends old new (take part.0 x)) (c.as_bytes.ensures ∙ line) part.1) knows)

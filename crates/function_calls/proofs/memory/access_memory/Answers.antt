@@ -2,13 +2,14 @@ use Rattle.access_calls.specs.Reported.{world_from}
 use Rattle.sequence_rules.specs.Calls.{port, memory}
 use Rattle.sequence_rules.specs.Late.{late}
 use Rattle.function_calls.specs.Held.{state_of}
-use Rattle.function_calls.proofs.Leaves.{ends_on, later_memory_at}
+use Rattle.function_calls.proofs.Leaves.{ends_on, later_memory_at, passed}
 use Rattle.function_calls.proofs.memory.access_memory.Goals as goal
 
-pub returns-in-Err-clause-gives : goal.returns-in-Err-clause-gives
+pub returns-in_err-port-clause-gives : goal.returns-in_err-port-clause-gives
 unfolding memory
-returns-in-Err-clause-gives g c = λ m answered written b l.
+returns-in_err-port-clause-gives g c = λ m answered written b l.
     let w = world_from m answered in
     let s = state_of c.args.held.now (g.A.Access.reported c.args.access.now).asks written in
-    ends_on w (g.A.Access.reported c.use_port.new.access).lines c.in-Err.end (state_of c.args.held.now (g.A.Access.reported c.use_port.new.access).asks written) (port (late g.A.Access.cost w) s) _
-    (c.in-Err.ensures.gives m answered written b l) (λ x. later_memory_at g.A.Access.cost w c.args.size c.args.read c.args.address c.args.value x.0 x.1)
+    passed _ _ _ _ _ c.from_residual.result c.from_residual.ensures.1
+    (ends_on w (g.A.Access.reported c.use_port.new.access).lines c.in_err-port.field-0.0 (state_of c.args.held.now (g.A.Access.reported c.use_port.new.access).asks written) (port (late g.A.Access.cost w) s) _
+    (c.in_err-port.ensures.gives m answered written b l) (λ x. later_memory_at g.A.Access.cost w c.args.size c.args.read c.args.address c.args.value x.0 x.1))

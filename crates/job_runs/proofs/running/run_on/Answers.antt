@@ -19,13 +19,13 @@ returns-in-Ok-clause-run g c = λ is.
     let there = still_seen (λ m n. MayBegin m → g.A.Access.begun c.in-Ok.access (opened_bench c.config_of.result m)) (fresh job) _ _ is c.in-Ok.ensures.begun in
     let begun : g.A.Access.begun c.in-Ok.access first = subst (λ (k : Config). g.A.Access.begun c.in-Ok.access (opened_bench k (fresh c.args.run_of.now.job.bench))) c.config_of.ensures (there.2 may) in
     let a = g.A.Access.reported c.run-ended.new.access in
-    let stands = g.met.A.Access.stands c.run-ended.new.access first (answered_by a) (c.run-ended.ensures.on first begun) (left_by a) in
-    let spares = g.met.A.Access.spares c.run-ended.new.access first (answered_by a) (c.run-ended.ensures.on first begun) (left_by a) in
+    let stands = g.met.A.Access.stands c.run-ended.new.access first (answered_by a) (c.run-ended.ensures.keeps.on first begun) (left_by a) in
+    let spares = g.met.A.Access.spares c.run-ended.new.access first (answered_by a) (c.run-ended.ensures.keeps.on first begun) (left_by a) in
     let began_limits = c.in-Ok.ensures.goes.limits in
     let r = opened_run (access_kind g.A.Access.journal g.A.Access.cost g.A.Access.is_sparing) g.met.A.Access.grows g.met.A.Access.settles (config_of c.args.run_of.now.job.settings) c.args.run_of.now.job.bench
     (task_in c.args.run_of.now c.args.sequence.now) (g.K.Sink.written c.args.sink.now) (g.K.Sink.written c.run-ended.new.sink) a c.run-ended.result
     (stands, (λ known knows. c.run-ended.ensures.answer first known begun knows), (λ known knows none. c.run-ended.ensures.needs first known begun knows), spares)
-    c.run-ended.ensures.end c.run-ended.ensures.skipped (c.run-ended.ensures.goes.limits ∙ began_limits ∙ sym c.requires.limits) in
+    c.run-ended.ensures.end c.run-ended.ensures.skipped (c.run-ended.ensures.keeps.goes.limits ∙ began_limits ∙ sym c.requires.limits) in
     (r.0, c.into_bench-bench.ensures.state ∙ r.1, r.2)
 
 pub returns-in-Err-clause-run : goal.returns-in-Err-clause-run

@@ -1,6 +1,5 @@
-use Rattle.std.proofs.Common.{◌≡◌, ℕ, ◌+◌, ◌*◌, List, length, Bool, Option, None, option_map, drop}
+use Rattle.std.proofs.Common.{◌≡◌, ℕ, ◌+◌, ◌*◌, Bool, Option, option_map, drop, Ok}
 use Rattle.probe_core.specs.Bench.{BenchState}
-use Rattle.access_calls.specs.GoesOn.{GoesOn}
 use Rattle.access_calls.specs.Left.{IsLeft}
 use Rattle.access_calls.specs.Reported.{world_from}
 use Rattle.expr_grammar.specs.Tree.{tree, arg_tree, arg_trees, stmt_tree, code_trees}
@@ -8,6 +7,7 @@ use Rattle.seq_check.specs.Answers.{checked_trees}
 use Rattle.sequence_trees.specs.Trees.{step_tree, steps_tree}
 use Rattle.sequence_rules.specs.Late.{late}
 use Rattle.sequence_rules.specs.Known.{Knows}
+use Rattle.function_calls.specs.Frame.{EndsWriting, Keeps}
 use Rattle.function_calls.specs.Held.{seen}
 use Rattle.control_flow.specs.Calls.{calls_of}
 use Rattle.sequence_rules.specs.Steps as st
@@ -118,56 +118,32 @@ abbrev pub invariant-evaluate_arguments-loop-arg : goal.invariant-evaluate_argum
 invariant-evaluate_arguments-loop-arg g l = record {
   same : (m : BenchState) (answered : Option ℕ) (known : Bool) → g.A.Access.begun l.fn.access m → IsLeft (g.A.Access.reported l.access) answered → Knows known (g.K.Sink.written l.fn.sink)
       → v.arguments (late g.A.Access.cost (world_from m answered)) (calls_of g.A.Access.cost (world_from m answered) l.self l.depth) (arg_trees l.args) l.fn.values.items (seen known l.fn.held (g.A.Access.reported l.fn.access).asks (g.K.Sink.written l.fn.sink)) ≡ v.arguments (late g.A.Access.cost (world_from m answered)) (calls_of g.A.Access.cost (world_from m answered) l.self l.depth) (arg_trees (drop l.arg-index l.args)) l.values.items (seen known l.held (g.A.Access.reported l.access).asks (g.K.Sink.written l.sink));
-  knows : (known : Bool) → Knows known (g.K.Sink.written l.fn.sink) → Knows known (g.K.Sink.written l.sink);
-  counted : l.held.units ≡ length (g.A.Access.reported l.access).asks.calls;
-  ended : (g.A.Access.reported l.access).end ≡ None;
-  cause : g.K.Sink.faults l.sink ≡ g.K.Sink.faults l.fn.sink;
-  on : (m : BenchState) → g.A.Access.begun l.fn.access m → g.A.Access.begun l.access m;
-  left : (answered : Option ℕ) → IsLeft (g.A.Access.reported l.access) answered → IsLeft (g.A.Access.reported l.fn.access) answered;
-  identity : g.A.Access.identity l.access ≡ g.A.Access.identity l.fn.access;
-  goes : GoesOn (g.A.Access.reported l.fn.access) (g.A.Access.reported l.access);
+  keeps : Keeps g.A.Access.begun g.A.Access.reported g.A.Access.identity l.fn.access l.access;
+  ends : EndsWriting {T = Unit {0}} g.K.Sink.written g.K.Sink.faults (Ok tt) l.held.units (g.A.Access.reported l.access) l.fn.sink l.sink;
 }
 
 abbrev pub invariant-run_block-loop-one : goal.invariant-run_block-loop-one
 invariant-run_block-loop-one g l = record {
   same : (m : BenchState) (answered : Option ℕ) (known : Bool) → g.A.Access.begun l.fn.access m → IsLeft (g.A.Access.reported l.access) answered → Knows known (g.K.Sink.written l.fn.sink)
       → st.block (late g.A.Access.cost (world_from m answered)) l.self.turn_us (calls_of g.A.Access.cost (world_from m answered) l.self l.depth) (code_trees l.code) (seen known l.fn.held (g.A.Access.reported l.fn.access).asks (g.K.Sink.written l.fn.sink)) ≡ st.block (late g.A.Access.cost (world_from m answered)) l.self.turn_us (calls_of g.A.Access.cost (world_from m answered) l.self l.depth) (code_trees (drop l.one-index l.code)) (seen known l.held (g.A.Access.reported l.access).asks (g.K.Sink.written l.sink));
-  knows : (known : Bool) → Knows known (g.K.Sink.written l.fn.sink) → Knows known (g.K.Sink.written l.sink);
-  counted : l.held.units ≡ length (g.A.Access.reported l.access).asks.calls;
-  ended : (g.A.Access.reported l.access).end ≡ None;
-  cause : g.K.Sink.faults l.sink ≡ g.K.Sink.faults l.fn.sink;
-  on : (m : BenchState) → g.A.Access.begun l.fn.access m → g.A.Access.begun l.access m;
-  left : (answered : Option ℕ) → IsLeft (g.A.Access.reported l.access) answered → IsLeft (g.A.Access.reported l.fn.access) answered;
-  identity : g.A.Access.identity l.access ≡ g.A.Access.identity l.fn.access;
-  goes : GoesOn (g.A.Access.reported l.fn.access) (g.A.Access.reported l.access);
+  keeps : Keeps g.A.Access.begun g.A.Access.reported g.A.Access.identity l.fn.access l.access;
+  ends : EndsWriting {T = Unit {0}} g.K.Sink.written g.K.Sink.faults (Ok tt) l.held.units (g.A.Access.reported l.access) l.fn.sink l.sink;
 }
 
 abbrev pub invariant-run_steps-loop-one : goal.invariant-run_steps-loop-one
 invariant-run_steps-loop-one g l = record {
   same : (m : BenchState) (answered : Option ℕ) (known : Bool) → g.A.Access.begun l.fn.access m → IsLeft (g.A.Access.reported l.access) answered → Knows known (g.K.Sink.written l.fn.sink)
       → st.steps_result (late g.A.Access.cost (world_from m answered)) l.self.turn_us (calls_of g.A.Access.cost (world_from m answered) l.self l.depth) (steps_tree l.steps) (seen known l.fn.held (g.A.Access.reported l.fn.access).asks (g.K.Sink.written l.fn.sink)) ≡ st.steps_result (late g.A.Access.cost (world_from m answered)) l.self.turn_us (calls_of g.A.Access.cost (world_from m answered) l.self l.depth) (steps_tree (drop l.one-index l.steps)) (seen known l.held (g.A.Access.reported l.access).asks (g.K.Sink.written l.sink));
-  knows : (known : Bool) → Knows known (g.K.Sink.written l.fn.sink) → Knows known (g.K.Sink.written l.sink);
-  counted : l.held.units ≡ length (g.A.Access.reported l.access).asks.calls;
-  ended : (g.A.Access.reported l.access).end ≡ None;
-  cause : g.K.Sink.faults l.sink ≡ g.K.Sink.faults l.fn.sink;
-  on : (m : BenchState) → g.A.Access.begun l.fn.access m → g.A.Access.begun l.access m;
-  left : (answered : Option ℕ) → IsLeft (g.A.Access.reported l.access) answered → IsLeft (g.A.Access.reported l.fn.access) answered;
-  identity : g.A.Access.identity l.access ≡ g.A.Access.identity l.fn.access;
-  goes : GoesOn (g.A.Access.reported l.fn.access) (g.A.Access.reported l.access);
+  keeps : Keeps g.A.Access.begun g.A.Access.reported g.A.Access.identity l.fn.access l.access;
+  ends : EndsWriting {T = Unit {0}} g.K.Sink.written g.K.Sink.faults (Ok tt) l.held.units (g.A.Access.reported l.access) l.fn.sink l.sink;
 }
 
 abbrev pub invariant-run_turns-loop-left : goal.invariant-run_turns-loop-left
 invariant-run_turns-loop-left g l = record {
   same : (m : BenchState) (answered : Option ℕ) (known : Bool) → g.A.Access.begun l.fn.access m → IsLeft (g.A.Access.reported l.access) answered → Knows known (g.K.Sink.written l.fn.sink)
       → st.turns (late g.A.Access.cost (world_from m answered)) (λ r. v.value (late g.A.Access.cost (world_from m answered)) (calls_of g.A.Access.cost (world_from m answered) l.self l.depth) (tree l.expr) r) (λ r. st.inside (late g.A.Access.cost (world_from m answered)) (λ q. st.steps_result (late g.A.Access.cost (world_from m answered)) l.self.turn_us (calls_of g.A.Access.cost (world_from m answered) l.self l.depth) (steps_tree l.steps) q) r) l.count (seen known l.fn.held (g.A.Access.reported l.fn.access).asks (g.K.Sink.written l.fn.sink)) ≡ st.turns (late g.A.Access.cost (world_from m answered)) (λ r. v.value (late g.A.Access.cost (world_from m answered)) (calls_of g.A.Access.cost (world_from m answered) l.self l.depth) (tree l.expr) r) (λ r. st.inside (late g.A.Access.cost (world_from m answered)) (λ q. st.steps_result (late g.A.Access.cost (world_from m answered)) l.self.turn_us (calls_of g.A.Access.cost (world_from m answered) l.self l.depth) (steps_tree l.steps) q) r) l.left (seen known l.held (g.A.Access.reported l.access).asks (g.K.Sink.written l.sink));
-  knows : (known : Bool) → Knows known (g.K.Sink.written l.fn.sink) → Knows known (g.K.Sink.written l.sink);
-  counted : l.held.units ≡ length (g.A.Access.reported l.access).asks.calls;
-  ended : (g.A.Access.reported l.access).end ≡ None;
-  cause : g.K.Sink.faults l.sink ≡ g.K.Sink.faults l.fn.sink;
-  on : (m : BenchState) → g.A.Access.begun l.fn.access m → g.A.Access.begun l.access m;
-  left : (answered : Option ℕ) → IsLeft (g.A.Access.reported l.access) answered → IsLeft (g.A.Access.reported l.fn.access) answered;
-  identity : g.A.Access.identity l.access ≡ g.A.Access.identity l.fn.access;
-  goes : GoesOn (g.A.Access.reported l.fn.access) (g.A.Access.reported l.access);
+  keeps : Keeps g.A.Access.begun g.A.Access.reported g.A.Access.identity l.fn.access l.access;
+  ends : EndsWriting {T = Unit {0}} g.K.Sink.written g.K.Sink.faults (Ok tt) l.held.units (g.A.Access.reported l.access) l.fn.sink l.sink;
 }
 
 abbrev pub decreases-run_turns-loop-left : goal.decreases-run_turns-loop-left

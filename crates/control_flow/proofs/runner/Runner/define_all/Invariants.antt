@@ -1,13 +1,13 @@
-use Rattle.std.proofs.Common.{◌≡◌, ℕ, Bool, List, Option, None, length, drop}
+use Rattle.std.proofs.Common.{◌≡◌, ℕ, Bool, Option, drop, Ok}
 use Rattle.expr_grammar.specs.Tree.{code_trees}
 use Rattle.probe_core.specs.Bench.{BenchState}
-use Rattle.access_calls.specs.GoesOn.{GoesOn}
 use Rattle.access_calls.specs.Left.{IsLeft}
 use Rattle.access_calls.specs.Reported.{world_from}
 use Rattle.seq_check.specs.Answers.{checked_trees}
 use Rattle.sequence_rules.specs.Late.{late}
 use Rattle.sequence_rules.specs.Steps.{debugged}
 use Rattle.sequence_rules.specs.Known.{Knows}
+use Rattle.function_calls.specs.Frame.{EndsWriting, Keeps}
 use Rattle.function_calls.specs.Held.{seen}
 use Rattle.control_flow.proofs.runner.Runner.define_all.Given as goal
 
@@ -16,12 +16,6 @@ invariant-loop-one g l = record {
   same : (m : BenchState) (answered : Option ℕ) (known : Bool) → g.A.Access.begun l.fn.access m → IsLeft (g.A.Access.reported l.access) answered → Knows known (g.K.Sink.written l.fn.sink)
       → debugged (late g.A.Access.cost (world_from m answered)) l.self.turn_us (checked_trees l.self.set.now) (code_trees l.code) (seen known l.fn.held (g.A.Access.reported l.fn.access).asks (g.K.Sink.written l.fn.sink))
       ≡ debugged (late g.A.Access.cost (world_from m answered)) l.self.turn_us (checked_trees l.self.set.now) (code_trees (drop l.one-index l.code)) (seen known l.held (g.A.Access.reported l.access).asks (g.K.Sink.written l.sink));
-  knows : (known : Bool) → Knows known (g.K.Sink.written l.fn.sink) → Knows known (g.K.Sink.written l.sink);
-  counted : l.held.units ≡ length (g.A.Access.reported l.access).asks.calls;
-  ended : (g.A.Access.reported l.access).end ≡ None;
-  cause : g.K.Sink.faults l.sink ≡ g.K.Sink.faults l.fn.sink;
-  on : (m : BenchState) → g.A.Access.begun l.fn.access m → g.A.Access.begun l.access m;
-  left : (answered : Option ℕ) → IsLeft (g.A.Access.reported l.access) answered → IsLeft (g.A.Access.reported l.fn.access) answered;
-  identity : g.A.Access.identity l.access ≡ g.A.Access.identity l.fn.access;
-  goes : GoesOn (g.A.Access.reported l.fn.access) (g.A.Access.reported l.access);
+  keeps : Keeps g.A.Access.begun g.A.Access.reported g.A.Access.identity l.fn.access l.access;
+  ends : EndsWriting {T = Unit {0}} g.K.Sink.written g.K.Sink.faults (Ok tt) l.held.units (g.A.Access.reported l.access) l.fn.sink l.sink;
 }

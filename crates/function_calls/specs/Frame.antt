@@ -1,0 +1,42 @@
+-- The frame of a call of a run: what it keeps of its access, and how it ends.
+use Rattle.std.specs.Prelude.{◌≡◌, ℕ, Bool, List, length, Option, None, Result}
+use Rattle.probe_core.specs.Bench.{BenchState}
+use Rattle.access_calls.specs.GoesOn.{GoesOn}
+use Rattle.access_calls.specs.Reported.{AccessView}
+use Rattle.sequence_rules.specs.Known.{Knows}
+use Rattle.function_calls.specs.declared.end.End.{End}
+use Rattle.function_calls.specs.Ends.{Counted, EndIs, HasSinkCause, NoWriteFault}
+
+-- What each call keeps of its access, and so each row of calls: where it began, which loan its bench is, and what each call of an
+-- access keeps, the number of calls that may still be answered among it.
+pub record Keeps {S : Type 0} (begun : S → BenchState → Type 0) (reported : S → AccessView) (identity : S → ℕ) (old new : S) : Type 0 where
+  pub on : (m : BenchState) → begun old m → begun new m
+  pub same_bench : identity new ≡ identity old
+  pub goes : GoesOn (reported old) (reported new)
+
+-- A call may be made: the access has no end, and one call was asked for each unit that is counted.
+pub record IsReady (units : ℕ) (a : AccessView) : Type 0 where
+  pub no_end : a.end ≡ None
+  pub counted : units ≡ length a.asks.calls
+
+-- How a call ends that only uses values: the access has the end that is answered, and else none; nothing was asked; and no answer
+-- says that a sink failed.
+pub record EndsUse {T : Type 0} (result : Result T End) (old new : AccessView) : Type 0 where
+  pub end : EndIs result new.end
+  pub calls : new.asks.calls ≡ old.asks.calls
+  pub cause : NoWriteFault result
+
+-- How a call ends that has no sink: the access has the end that is answered, and else none; one call was asked for each unit that is
+-- counted, except after a stop; and no answer says that a sink failed.
+pub record EndsCall {T : Type 0} (result : Result T End) (units : ℕ) (a : AccessView) : Type 0 where
+  pub end : EndIs result a.end
+  pub counted : Counted result units a.asks.calls
+  pub cause : NoWriteFault result
+
+-- How a call ends that may write lines: the access and the count of units are as at a call without a sink; what the sink holds
+-- stays known; and its count of faults rose where the answer says that it failed, and else it is the same.
+pub record EndsWriting {T K : Type 0} (written : K → Option (List ℕ)) (faults : K → ℕ) (result : Result T End) (units : ℕ) (a : AccessView) (old new : K) : Type 0 where
+  pub end : EndIs result a.end
+  pub counted : Counted result units a.asks.calls
+  pub knows : (known : Bool) → Knows known (written old) → Knows known (written new)
+  pub cause : HasSinkCause result (faults old) (faults new)
