@@ -1,6 +1,7 @@
-//! Tries the rows of the tables that standard input names: the sequence language, the levels of a pack, and sets of sequences.
+//! Tries the rows of the tables that standard input names: the sequence language, starting values of debug variables, the levels of a pack, and sets of sequences.
 #![tactic(auto)]
 
+mod conf;
 mod grammar;
 mod levels;
 mod sets;
@@ -23,6 +24,16 @@ fn grammar_of(alloc: Global, kind: &str, text: &str) -> Result<String, AllocErro
     }
 }
 
+// What comes of a text of names and values.
+fn conf_of(alloc: Global, kind: &str, text: &str) -> Result<String, AllocError> {
+    match kind {
+        "conf" => conf::read(alloc, text),
+        "conf_text" => conf::written(alloc, text),
+        "replace" => conf::replaced(alloc, text),
+        _ => grammar_of(alloc, kind, text),
+    }
+}
+
 // What comes of a text whose form is one word.
 fn text_of(alloc: Global, kind: &str, text: &str) -> Result<String, AllocError> {
     match kind {
@@ -30,7 +41,7 @@ fn text_of(alloc: Global, kind: &str, text: &str) -> Result<String, AllocError> 
         "debugvars" => texts::first_fault(alloc, text, true),
         "code" => texts::code(alloc, text),
         "condition" => texts::condition(alloc, text),
-        _ => grammar_of(alloc, kind, text),
+        _ => conf_of(alloc, kind, text),
     }
 }
 

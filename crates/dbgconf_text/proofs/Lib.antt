@@ -1,0 +1,17 @@
+pub mod Numbers
+pub mod Splice
+pub mod Changed
+pub mod Whole
+pub mod Items
+pub mod Turns
+pub mod OneRefusal
+pub mod OneConf
+pub mod SomeConf
+pub mod Statements
+pub mod Stepping
+pub mod Undefined
+pub mod Replaced
+pub mod OneReplacement
+pub mod Written
+pub mod Spelled
+pub mod Sizes
