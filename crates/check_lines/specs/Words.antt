@@ -6,6 +6,8 @@ use Rattle.sequence_trees.specs.declared.spot.Part.{Part}
 use Rattle.sequence_trees.specs.declared.spot.Part.TheVariants as parts
 use Rattle.sequence_resolve.specs.declared.entry.LevelKind.{LevelKind}
 use Rattle.sequence_resolve.specs.declared.entry.LevelKind.TheVariants as levels
+use Rattle.job_check.specs.declared.answer.DbgconfKind.{DbgconfKind}
+use Rattle.job_check.specs.declared.answer.DbgconfKind.TheVariants as values
 
 abbrev pub level_word : LevelKind → List ℕ
 level_word levels.Defaults = codes "defaults"
@@ -37,6 +39,12 @@ kind_word kinds.TimeoutTooLong = codes "TimeoutTooLong"
 kind_word kinds.NestedTooDeep = codes "NestedTooDeep"
 kind_word kinds.CallCycle = codes "CallCycle"
 kind_word kinds.CallsTooDeep = codes "CallsTooDeep"
+
+abbrev pub dbgconf_word : DbgconfKind → List ℕ
+dbgconf_word values.BadToken = codes "BadToken"
+dbgconf_word values.Unexpected = codes "Unexpected"
+dbgconf_word values.Repeated = codes "Repeated"
+dbgconf_word values.UndefinedName = codes "UndefinedName"
 
 abbrev pub disabled_word : Bool → List ℕ
 disabled_word true = codes " disabled"

@@ -65,7 +65,8 @@ fn with_where(line: Line, spot: &Spot) -> Result<Line, OutOfMemory>
     }
 }
 
-fn with_place(line: Line, place: Place) -> Result<Line, OutOfMemory>
+/// The line with a space and the place after it.
+pub fn with_place(line: Line, place: Place) -> Result<Line, OutOfMemory>
     ensures { IfOk result (λ l. l ≡ line ++ place_words place) }
 {
     line.labelled(" ", place.line)?.labelled(":", place.column)

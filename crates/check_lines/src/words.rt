@@ -1,8 +1,9 @@
 //! The words of the texts.
 ghost use Rattle.std.specs.Prelude.{◌≡◌};
-ghost use Rattle.check_lines.specs.Words.{level_word, part_word, kind_word, disabled_word};
+ghost use Rattle.check_lines.specs.Words.{level_word, part_word, kind_word, dbgconf_word, disabled_word};
 
 use code_check::FaultKind;
+use job_check::DbgconfKind;
 use sequence_resolve::LevelKind;
 use sequence_trees::Part;
 
@@ -49,6 +50,17 @@ pub fn kind_text(kind: FaultKind) -> &'static str
         FaultKind::NestedTooDeep => "NestedTooDeep",
         FaultKind::CallCycle => "CallCycle",
         FaultKind::CallsTooDeep => "CallsTooDeep",
+    }
+}
+
+pub fn dbgconf_kind_text(kind: DbgconfKind) -> &'static str
+    ensures { result.now ≡ dbgconf_word kind }
+{
+    match kind {
+        DbgconfKind::BadToken => "BadToken",
+        DbgconfKind::Unexpected => "Unexpected",
+        DbgconfKind::Repeated => "Repeated",
+        DbgconfKind::UndefinedName => "UndefinedName",
     }
 }
 

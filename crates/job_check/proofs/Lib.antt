@@ -1,5 +1,8 @@
+pub mod OneValues
 pub mod OneAnswer
 pub mod OneRun
+pub mod PutIn
+pub mod ValueLemmas
 pub mod AnswerLemmas
 pub mod RunningLemmas
 pub mod Least
@@ -14,6 +17,7 @@ pub mod SomeStepFault
 pub mod SomeSetFault
 pub mod SomeSet
 pub mod SomeJob
+pub mod SomeValues
 pub mod SomeAnswer
 pub mod TextBytes
 pub mod Short

@@ -1,5 +1,5 @@
 -- The bytes of a job and a selection have one answer at most.
-use Rattle.std.proofs.Common.{◌≡◌, ◌∙◌, ℕ, List, Some, Result, Ok, Err, ap, ap₂, sym, subst, refl}
+use Rattle.std.proofs.Common.{◌≡◌, ◌∙◌, ℕ, List, Option, Some, Result, Ok, Err, ap, ap₂, sym, subst, refl}
 use Rattle.serde_json.specs.Data.{Data}
 use Rattle.json_form.specs.declared.fault.JobFault.{JobFault}
 use Rattle.device_tree.specs.declared.pack.Pack.{Pack}
@@ -20,7 +20,9 @@ use Rattle.job_check.specs.declared.answer.Refusal.TheVariants as refusals
 use Rattle.job_check.specs.declared.answer.ValidSet.{ValidSet}
 use Rattle.job_check.specs.declared.answer.CheckRefusal.{CheckRefusal}
 use Rattle.job_check.specs.declared.answer.CheckRefusal.TheVariants as ends
-use Rattle.job_check.specs.Answers.{NoJob, NoSet, NoValid, AnswersSet, valid, not_valid, AnswersPack, resolved, not_resolved, IsAnswer, described, not_described, AnswersJob, AnswersAs}
+use Rattle.dbgconf_text.specs.declared.conf.ConfItem.{ConfItem}
+use Rattle.job_check.specs.Answers.{NoJob, NoSet, NoValid, AnswersSet, valid, not_valid, AnswersPlain, with_values, without_values, AnswersConf, resolved, not_resolved, IsAnswerOf, has_conf, no_conf, IsAnswer, described, not_described, OnAnswer, AnswersAs}
+use Rattle.job_check.proofs.OneValues.{one_conf, conf_and_none, one_no_conf, one_with_values, values_and_none, one_no_values}
 
 abbrev Answer : Type 0
 Answer = Result SeqSet Refusal
@@ -31,6 +33,7 @@ pub valid_and_not : (s : SeqSet) (r : Refusal) → IsValid s → NoValid s r →
 valid_and_not s (refusals.Check kind spot) is none = valid_or_faulty s kind spot is none
 valid_and_not s refusals.BadJson is none = none
 valid_and_not s (refusals.Job fault) is none = none
+valid_and_not s (refusals.Dbgconf kind at) is none = none
 valid_and_not s refusals.NoDevice is none = none
 valid_and_not s refusals.AmbiguousDevice is none = none
 valid_and_not s refusals.NoVariant is none = none
@@ -41,11 +44,13 @@ one_not_valid s (refusals.Check kind spot) (refusals.Check other there) p q =
     ap₂ refusals.Check same.0 same.1
 one_not_valid s (refusals.Check kind spot) refusals.BadJson p q = absurd q
 one_not_valid s (refusals.Check kind spot) (refusals.Job fault) p q = absurd q
+one_not_valid s (refusals.Check kind spot) (refusals.Dbgconf what at) p q = absurd q
 one_not_valid s (refusals.Check kind spot) refusals.NoDevice p q = absurd q
 one_not_valid s (refusals.Check kind spot) refusals.AmbiguousDevice p q = absurd q
 one_not_valid s (refusals.Check kind spot) refusals.NoVariant p q = absurd q
 one_not_valid s refusals.BadJson b p q = absurd p
 one_not_valid s (refusals.Job fault) b p q = absurd p
+one_not_valid s (refusals.Dbgconf what at) b p q = absurd p
 one_not_valid s refusals.NoDevice b p q = absurd p
 one_not_valid s refusals.AmbiguousDevice b p q = absurd p
 one_not_valid s refusals.NoVariant b p q = absurd p
@@ -64,6 +69,7 @@ set_and_none pack s found refusals.AmbiguousDevice is none = (let e = set_or_ref
 set_and_none pack s found refusals.NoVariant is none = (let e = set_or_refusal pack s.device s.variant s.pname found resolving.NoVariant is none in cc)
 set_and_none pack s found refusals.BadJson is none = none
 set_and_none pack s found (refusals.Job fault) is none = none
+set_and_none pack s found (refusals.Dbgconf kind at) is none = none
 set_and_none pack s found (refusals.Check kind spot) is none = none
 
 -- two causes are one
@@ -91,19 +97,12 @@ one_none pack s refusals.NoVariant refusals.AmbiguousDevice p q = (let e = same_
 one_none pack s refusals.NoVariant refusals.NoVariant p q = refl
 one_none pack s a refusals.BadJson p q = absurd q
 one_none pack s a (refusals.Job fault) p q = absurd q
+one_none pack s a (refusals.Dbgconf kind at) p q = absurd q
 one_none pack s a (refusals.Check kind spot) p q = absurd q
 one_none pack s refusals.BadJson b p q = absurd p
 one_none pack s (refusals.Job fault) b p q = absurd p
+one_none pack s (refusals.Dbgconf kind at) b p q = absurd p
 one_none pack s (refusals.Check kind spot) b p q = absurd p
-
-of_sets : (pack : Pack) (s : Selection) (x y : Answer) (a b : SeqSet) → IsEffectiveSet pack s.device s.variant s.pname a → IsEffectiveSet pack s.device s.variant s.pname b → AnswersSet a x → AnswersSet b y → x ≡ y
-of_sets pack s x y a b is_a is_b p q = of_set a x y p (subst (λ (c : SeqSet). AnswersSet c y) (one_set pack s.device s.variant s.pname b a is_b is_a) q)
-
-of_pack : (pack : Pack) (s : Selection) (x y : Answer) → AnswersPack pack s x → AnswersPack pack s y → x ≡ y
-of_pack pack s x y p q = elim p [
-  | resolved a is x_of ↦ elim q [ resolved b too y_of ↦ of_sets pack s x y a b is too x_of y_of | not_resolved r none y_is ↦ absurd (set_and_none pack s a r is none) ]
-  | not_resolved r none x_is ↦ elim q [ resolved b is y_of ↦ absurd (set_and_none pack s b r is none) | not_resolved other too y_is ↦ x_is ∙ ap Err (one_none pack s r other none too) ∙ sym y_is ]
-]
 
 -- ---- the job
 
@@ -135,6 +134,7 @@ one_job bytes a b p q = same_job a b (sym (reads_as bytes a p.0 p p.1) ∙ reads
 pub job_and_none : (bytes : List ℕ) (j : Job) (r : Refusal) → Describes bytes j → NoJob bytes r → ⊥
 job_and_none bytes j refusals.BadJson is none = none is.0 is.1
 job_and_none bytes j (refusals.Job fault) is none = no_fault j fault (sym (reads_as bytes j none.0 is none.1) ∙ none.2)
+job_and_none bytes j (refusals.Dbgconf kind at) is none = none
 job_and_none bytes j refusals.NoDevice is none = none
 job_and_none bytes j refusals.AmbiguousDevice is none = none
 job_and_none bytes j refusals.NoVariant is none = none
@@ -146,17 +146,65 @@ one_no_job bytes refusals.BadJson (refusals.Job fault) p q = absurd (p q.0 q.1)
 one_no_job bytes (refusals.Job fault) refusals.BadJson p q = absurd (q p.0 p.1)
 one_no_job bytes (refusals.Job fault) (refusals.Job other) p q =
     ap refusals.Job (same_fault fault other (sym p.2 ∙ ap job_in (one_value bytes p.0 q.0 p.1 q.1) ∙ q.2))
+one_no_job bytes a (refusals.Dbgconf kind at) p q = absurd q
 one_no_job bytes a refusals.NoDevice p q = absurd q
 one_no_job bytes a refusals.AmbiguousDevice p q = absurd q
 one_no_job bytes a refusals.NoVariant p q = absurd q
 one_no_job bytes a (refusals.Check kind spot) p q = absurd q
+one_no_job bytes (refusals.Dbgconf kind at) b p q = absurd p
 one_no_job bytes refusals.NoDevice b p q = absurd p
 one_no_job bytes refusals.AmbiguousDevice b p q = absurd p
 one_no_job bytes refusals.NoVariant b p q = absurd p
 one_no_job bytes (refusals.Check kind spot) b p q = absurd p
 
-of_jobs : (bytes : List ℕ) (s : Selection) (x y : Answer) (a b : Job) → Describes bytes a → Describes bytes b → AnswersPack a.pack s x → AnswersPack b.pack s y → x ≡ y
-of_jobs bytes s x y a b is_a is_b p q = of_pack a.pack s x y p (subst (λ (j : Job). AnswersPack j.pack s y) (one_job bytes b a is_b is_a) q)
+-- ---- the set with the values
+
+of_sets : (x y : Answer) (a b : SeqSet) → a ≡ b → AnswersSet a x → AnswersSet b y → x ≡ y
+of_sets x y a b same p q = of_set a x y p (subst (λ (c : SeqSet). AnswersSet c y) (sym same) q)
+
+module _ (dbgconf : Option (List ℕ)) (items : List ConfItem) (plain : SeqSet) where
+  of_plain : (x y : Answer) → AnswersPlain dbgconf items plain x → AnswersPlain dbgconf items plain y → x ≡ y
+  of_plain x y p q = elim p [
+    | with_values a is x_of ↦ elim q [
+      | with_values b too y_of ↦ of_sets x y a b (one_with_values dbgconf items plain a b is too) x_of y_of
+      | without_values r none y_is ↦ absurd (values_and_none dbgconf items plain a r is none)
+    ]
+    | without_values r none x_is ↦ elim q [
+      | with_values b is y_of ↦ absurd (values_and_none dbgconf items plain b r is none)
+      | without_values other too y_is ↦ x_is ∙ ap Err (one_no_values dbgconf items plain r other none too) ∙ sym y_is
+    ]
+  ]
+
+-- ---- the job with its values
+
+module _ (job : Job) (s : Selection) where
+  of_plains : (items : List ConfItem) (x y : Answer) (a b : SeqSet) → IsEffectiveSet job.pack s.device s.variant s.pname a → IsEffectiveSet job.pack s.device s.variant s.pname b
+      → AnswersPlain job.dbgconf items a x → AnswersPlain job.dbgconf items b y → x ≡ y
+  of_plains items x y a b is_a is_b p q =
+      of_plain job.dbgconf items a x y p (subst (λ (c : SeqSet). AnswersPlain job.dbgconf items c y) (one_set job.pack s.device s.variant s.pname b a is_b is_a) q)
+
+  of_conf : (items : List ConfItem) (x y : Answer) → AnswersConf job items s x → AnswersConf job items s y → x ≡ y
+  of_conf items x y p q = elim p [
+    | resolved a is x_of ↦ elim q [ resolved b too y_of ↦ of_plains items x y a b is too x_of y_of | not_resolved r none y_is ↦ absurd (set_and_none job.pack s a r is none) ]
+    | not_resolved r none x_is ↦ elim q [
+      | resolved b is y_of ↦ absurd (set_and_none job.pack s b r is none)
+      | not_resolved other too y_is ↦ x_is ∙ ap Err (one_none job.pack s r other none too) ∙ sym y_is
+    ]
+  ]
+
+  of_confs : (x y : Answer) (a b : List ConfItem) → a ≡ b → AnswersConf job a s x → AnswersConf job b s y → x ≡ y
+  of_confs x y a b same p q = of_conf a x y p (subst (λ (c : List ConfItem). AnswersConf job c s y) (sym same) q)
+
+  pub one_answer_of : (x y : Answer) → IsAnswerOf job s x → IsAnswerOf job s y → x ≡ y
+  one_answer_of x y p q = elim p [
+    | has_conf a is x_of ↦ elim q [ has_conf b too y_of ↦ of_confs x y a b (one_conf job.dbgconf a b is too) x_of y_of | no_conf r none y_is ↦ absurd (conf_and_none job.dbgconf a r is none) ]
+    | no_conf r none x_is ↦ elim q [ has_conf b is y_of ↦ absurd (conf_and_none job.dbgconf b r is none) | no_conf other too y_is ↦ x_is ∙ ap Err (one_no_conf job.dbgconf r other none too) ∙ sym y_is ]
+  ]
+
+-- ---- the bytes
+
+of_jobs : (bytes : List ℕ) (s : Selection) (x y : Answer) (a b : Job) → Describes bytes a → Describes bytes b → IsAnswerOf a s x → IsAnswerOf b s y → x ≡ y
+of_jobs bytes s x y a b is_a is_b p q = one_answer_of a s x y p (subst (λ (j : Job). IsAnswerOf j s y) (one_job bytes b a is_b is_a) q)
 
 pub one_answer : (bytes : List ℕ) (s : Selection) (x y : Answer) → IsAnswer bytes s x → IsAnswer bytes s y → x ≡ y
 one_answer bytes s x y p q = elim p [
@@ -166,8 +214,14 @@ one_answer bytes s x y p q = elim p [
 
 -- ---- what a call answers
 
--- the answer is what is answered, unless memory is refused
-pub only : (bytes : List ℕ) (s : Selection) (r : Result ValidSet CheckRefusal) → AnswersJob bytes s r → (answer : Answer) → IsAnswer bytes s answer → AnswersAs answer r
-only bytes s (Ok v) given answer is = one_answer bytes s answer (Ok v.set) is given
-only bytes s (Err (ends.Refused r)) given answer is = one_answer bytes s answer (Err r) is given
-only bytes s (Err ends.OutOfMemory) given answer is = tt
+-- the one answer that there is, is what is answered, unless memory is refused
+answered_as : (P : Answer → Type 0) → ((x y : Answer) → P x → P y → x ≡ y) → (r : Result ValidSet CheckRefusal) → OnAnswer P r → (answer : Answer) → P answer → AnswersAs answer r
+answered_as P one (Ok v) given answer is = one answer (Ok v.set) is given
+answered_as P one (Err (ends.Refused r)) given answer is = one answer (Err r) is given
+answered_as P one (Err ends.OutOfMemory) given answer is = tt
+
+pub only_of : (job : Job) (s : Selection) (r : Result ValidSet CheckRefusal) → OnAnswer (IsAnswerOf job s) r → (answer : Answer) → IsAnswerOf job s answer → AnswersAs answer r
+only_of job s r given answer is = answered_as (IsAnswerOf job s) (one_answer_of job s) r given answer is
+
+pub only : (bytes : List ℕ) (s : Selection) (r : Result ValidSet CheckRefusal) → OnAnswer (IsAnswer bytes s) r → (answer : Answer) → IsAnswer bytes s answer → AnswersAs answer r
+only bytes s r given answer is = answered_as (IsAnswer bytes s) (one_answer bytes s) r given answer is

@@ -1,32 +1,105 @@
 -- Why no sequence of a job runs.
-use Rattle.std.proofs.Common.{◌≡◌, ℕ, Bool, true, false, List, refl}
+use Rattle.std.proofs.Common.{◌≡◌, ◌≢◌, ◌∙◌, ℕ, Bool, true, false, List, Result, Ok, Err, refl, sym, subst}
+use Rattle.std.specs.Prelude.{IfOk, IfErr}
 use Rattle.sequence_resolve.specs.declared.entry.SeqSet.{SeqSet}
 use Rattle.sequence_resolve.specs.declared.selection.Selection.{Selection}
 use Rattle.sequence_resolve.specs.Resolving.{IsEffectiveSet}
 use Rattle.job_text.specs.declared.job.Job.{Job}
 use Rattle.job_text.specs.Answers.{Describes}
-use Rattle.job_check.specs.Answers.{NoJob, NoSet, NoValid, OnRefusal}
-use Rattle.job_check.specs.Running.{IsRefusedRun, IsSetOf, OnEnd, has_sequence, not_described, not_named, not_resolved, not_valid, run_refusal_of}
+use Rattle.dbgconf_text.specs.declared.conf.ConfItem.{ConfItem}
+use Rattle.job_check.specs.Values.{HasConf, HasValues, NoConf, NoValues}
+use Rattle.job_check.specs.Answers.{AreTreesOf, NoJob, NoSet, NoValid, OnRefusal}
+use Rattle.job_check.specs.Running.{HasPlain, IsRefusedRun, IsRefusedRunOf, IsRunOfJob, IsSetOfJob, IsValidRun, OnEnd, described, has_sequence, no_conf, no_values, not_described, not_named, not_resolved, not_valid, run_refusal_of}
 use Rattle.job_check.specs.declared.answer.CheckRefusal.{CheckRefusal}
 use Rattle.job_check.specs.declared.answer.CheckRefusal.TheVariants as checks
+use Rattle.job_check.specs.declared.answer.Refusal.{Refusal}
+use Rattle.job_check.specs.declared.running.RunRefusal.{RunRefusal}
 use Rattle.job_check.specs.declared.running.RunRefusal.TheVariants as ends
+use Rattle.job_check.specs.declared.running.ValidRun.{ValidRun}
+use Rattle.seq_check.specs.declared.checked.Checked.{Checked}
+use Rattle.job_check.proofs.OneRun.{same_names}
 
-pub no_job : (bytes : List ℕ) (s : Selection) (name : List ℕ) (r : CheckRefusal) → OnRefusal (NoJob bytes) r → OnEnd (IsRefusedRun bytes s name) (run_refusal_of r)
-no_job bytes s name (checks.Refused r) h = not_described r h refl
-no_job bytes s name checks.OutOfMemory h = tt
+-- ---- of a job
 
-pub no_set : (bytes : List ℕ) (s : Selection) (name : List ℕ) (job : Job) (r : CheckRefusal) → Describes bytes job → OnRefusal (NoSet job.pack s) r
-    → OnEnd (IsRefusedRun bytes s name) (run_refusal_of r)
-no_set bytes s name job (checks.Refused r) described h = not_resolved job r described h refl
-no_set bytes s name job checks.OutOfMemory described h = tt
+module _ (job : Job) (s : Selection) (name : List ℕ) where
+  pub unread : (r : CheckRefusal) → OnRefusal (NoConf job.dbgconf) r → OnEnd (IsRefusedRunOf job s name) (run_refusal_of r)
+  unread (checks.Refused r) h = no_conf r h refl
+  unread checks.OutOfMemory h = tt
 
-pub set_of : (bytes : List ℕ) (s : Selection) (job : Job) (set : SeqSet) → Describes bytes job → IsEffectiveSet job.pack s.device s.variant s.pname set → IsSetOf bytes s set
-set_of bytes s job set described resolved = record { job = job; described = described; resolved = resolved }
+  pub no_set : (items : List ConfItem) (r : CheckRefusal) → HasConf job.dbgconf items → OnRefusal (NoSet job.pack s) r → OnEnd (IsRefusedRunOf job s name) (run_refusal_of r)
+  no_set items (checks.Refused r) has h = not_resolved items r has h refl
+  no_set items checks.OutOfMemory has h = tt
 
-pub no_sequence : (bytes : List ℕ) (s : Selection) (name : List ℕ) (set : SeqSet) → IsSetOf bytes s set → has_sequence set name ≡ false → IsRefusedRun bytes s name ends.NoSequence
-no_sequence bytes s name set is none = not_named set is none refl
+  pub plain_of : (items : List ConfItem) (plain : SeqSet) → HasConf job.dbgconf items → IsEffectiveSet job.pack s.device s.variant s.pname plain → HasPlain job s items plain
+  plain_of items plain has at = record { values = has; resolved = at }
 
-pub no_valid : (bytes : List ℕ) (s : Selection) (name : List ℕ) (set : SeqSet) (r : CheckRefusal) → IsSetOf bytes s set → has_sequence set name ≡ true → OnRefusal (NoValid set) r
-    → OnEnd (IsRefusedRun bytes s name) (run_refusal_of r)
-no_valid bytes s name set (checks.Refused r) is named h = not_valid set r is named h refl
-no_valid bytes s name set checks.OutOfMemory is named h = tt
+  pub no_sequence : (items : List ConfItem) (plain : SeqSet) → HasPlain job s items plain → has_sequence plain name ≡ false → IsRefusedRunOf job s name ends.NoSequence
+  no_sequence items plain of none = not_named items plain of none refl
+
+  pub unreplaced : (items : List ConfItem) (plain : SeqSet) (r : CheckRefusal) → HasPlain job s items plain → has_sequence plain name ≡ true → OnRefusal (NoValues job.dbgconf items plain) r
+      → OnEnd (IsRefusedRunOf job s name) (run_refusal_of r)
+  unreplaced items plain (checks.Refused r) of named h = no_values items plain r of named h refl
+  unreplaced items plain checks.OutOfMemory of named h = tt
+
+  pub set_of : (items : List ConfItem) (plain set : SeqSet) → HasPlain job s items plain → HasValues job.dbgconf items plain set → IsSetOfJob job s set
+  set_of items plain set of is = record { items = items; plain = plain; of = of; replaced = is }
+
+  pub no_valid : (set : SeqSet) (r : CheckRefusal) → IsSetOfJob job s set → has_sequence set name ≡ true → OnRefusal (NoValid set) r → OnEnd (IsRefusedRunOf job s name) (run_refusal_of r)
+  no_valid set (checks.Refused r) is named h = not_valid set r is named h refl
+  no_valid set checks.OutOfMemory is named h = tt
+
+  -- what runs
+  pub found : (items : List ConfItem) (plain set valid : SeqSet) (trees : Checked) → HasPlain job s items plain → HasValues job.dbgconf items plain set → valid ≡ set → has_sequence plain name ≡ true
+      → AreTreesOf valid trees → IsRunOfJob s name (record { job = job; set = valid; trees = trees })
+  found items plain set valid trees of is same named are = record {
+    set = subst (IsSetOfJob job s) (sym same) (set_of items plain set of is);
+    named = subst (λ (x : SeqSet). has_sequence x name ≡ true) (sym same) (same_names job s items plain set name is ∙ named);
+    trees = are;
+  }
+
+-- ---- of bytes
+
+module _ (bytes : List ℕ) (s : Selection) (name : List ℕ) where
+  pub no_job : (r : CheckRefusal) → OnRefusal (NoJob bytes) r → OnEnd (IsRefusedRun bytes s name) (run_refusal_of r)
+  no_job (checks.Refused r) h = not_described r h refl
+  no_job checks.OutOfMemory h = tt
+
+  pub of_job : (job : Job) (end : RunRefusal) → Describes bytes job → OnEnd (IsRefusedRunOf job s name) end → OnEnd (IsRefusedRun bytes s name) end
+  of_job job (ends.Refused r) is h = described job is h
+  of_job job ends.NoSequence is h = described job is h
+  of_job job ends.OutOfMemory is h = tt
+
+  -- the run of the job is that of the bytes
+  pub of_run : (job : Job) (r : Result ValidRun RunRefusal) → Describes bytes job → IfOk r (λ v. v.job ≡ job) → IfOk r (IsRunOfJob s name) → IfOk r (IsValidRun bytes s name)
+  of_run job (Ok v) is same run = record { job = subst (Describes bytes) (sym same) is; run = run }
+  of_run job (Err end) is same run = tt
+
+  pub of_refusal : (job : Job) (r : Result ValidRun RunRefusal) → Describes bytes job → IfErr r (OnEnd (IsRefusedRunOf job s name)) → IfErr r (OnEnd (IsRefusedRun bytes s name))
+  of_refusal job (Ok v) is refused = tt
+  of_refusal job (Err end) is refused = of_job job end is refused
+
+-- a fact on the job is one on the job of the run
+pub on_job : (P : Job → Type 0) (job : Job) (r : Result ValidRun RunRefusal) → P job → IfOk r (λ v. v.job ≡ job) → IfOk r (λ v. P v.job)
+on_job P job (Ok v) is same = subst P (sym same) is
+on_job P job (Err end) is same = tt
+
+-- ---- memory is no reason
+
+refused_some : (r : Refusal) (end : RunRefusal) → end ≡ ends.Refused r → end ≢ ends.OutOfMemory
+refused_some r end is e = absurd cc
+
+unnamed_some : (end : RunRefusal) → end ≡ ends.NoSequence → end ≢ ends.OutOfMemory
+unnamed_some end is e = absurd cc
+
+never_memory_of : (job : Job) (s : Selection) (name : List ℕ) (end : RunRefusal) → IsRefusedRunOf job s name end → end ≢ ends.OutOfMemory
+never_memory_of job s name end is = elim is [
+  | no_conf r none e ↦ refused_some r end e
+  | not_resolved items r has none e ↦ refused_some r end e
+  | not_named items plain of none e ↦ unnamed_some end e
+  | no_values items plain r of named none e ↦ refused_some r end e
+  | not_valid set r of named none e ↦ refused_some r end e
+]
+
+-- no run is refused for refused memory
+pub never_memory : (bytes : List ℕ) (s : Selection) (name : List ℕ) (end : RunRefusal) → IsRefusedRun bytes s name end → end ≢ ends.OutOfMemory
+never_memory bytes s name end is = elim is [ not_described r none e ↦ refused_some r end e | described job here of ↦ never_memory_of job s name end of ]

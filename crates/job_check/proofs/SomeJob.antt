@@ -9,17 +9,18 @@ use Rattle.json_form.specs.declared.fault.JobFault.{JobFault}
 use Rattle.json_form.specs.declared.fault.JobFault.TheVariants.{OutOfMemory}
 use Rattle.json_form.specs.Faults.{IsDecided, IsValueFault}
 use Rattle.json_form.specs.Reading.{number, such, never, repeats_by}
-use Rattle.json_form.proofs.FaultLaws.{bind_decided, cond_decided, flag_decided, choice_decided, number_decided, such_decided, only_keys_decided, required_decided, or_else_decided, list_decided}
+use Rattle.json_form.proofs.FaultLaws.{bind_decided, cond_decided, text_decided, flag_decided, choice_decided, number_decided, such_decided, only_keys_decided, required_decided, optional_decided, or_else_decided, list_decided}
 use Rattle.device_tree.proofs.FaultLaws.{pack_decided}
 use Rattle.function_table.specs.Variables.{predefined}
 use Rattle.target_machine.specs.declared.job.RegionJob.{RegionJob}
 use Rattle.target_machine.specs.declared.job.WordJob.{WordJob}
 use Rattle.target_machine.specs.declared.unit.Variable.{Variable}
+use Rattle.trace_audit.specs.Texts.{is_entry_text}
 use Rattle.job_text.specs.declared.job.Job.{Job}
 use Rattle.job_text.specs.Tests.{has_bit_0, lacks_bits_4_and_6, is_aligned, is_word_in, is_length_after, are_words_in, same_ap, overlap, same_word, repeats_script, is_filled}
 use Rattle.job_text.specs.RunReading.{variable_in, values_after, variables_in, run_in}
 use Rattle.job_text.specs.TargetReading.{ap_in, region_in, word_in, values_in, script_in, power_reads_in, port_in, aps_in, regions_in, words_in, listed_in, reset_in, scripts_in, target_in, packet_size_in, packet_count_in, limits_in, bench_in}
-use Rattle.job_text.specs.JobReading.{watch_item_in, watch_in, job_in}
+use Rattle.job_text.specs.JobReading.{watch_item_in, watch_in, dbgconf_in, entry_text_in, trace_in, optional_in, job_in}
 use Rattle.job_text.specs.Answers.{IsTextOf, Describes}
 use Rattle.job_text.proofs.JobLaws.{job_reads}
 use Rattle.job_check.specs.declared.answer.Refusal.{Refusal}
@@ -162,12 +163,29 @@ watch_decided : (regions : List RegionJob) (d : Data) → IsDecided (watch_in re
 unfolding watch_in
 watch_decided regions d = or_else_decided _ _ _ (list_decided (Some 1024) _ never (λ earlier. watch_item_decided regions)) d
 
+dbgconf_decided : (d : Data) → IsDecided (dbgconf_in d)
+unfolding dbgconf_in
+dbgconf_decided d = optional_decided _ _ text_decided d
+
+entry_decided : (d : Data) → IsDecided (entry_text_in d)
+unfolding entry_text_in
+entry_decided d = bind_decided _ _ (text_decided d) (λ word. cond_decided (is_entry_text word) _ _ tt tt)
+
+trace_decided : (d : Data) → IsDecided (trace_in d)
+unfolding trace_in
+trace_decided d = optional_decided _ _ (list_decided (Some 65536) _ never (λ earlier. entry_decided)) d
+
+optional_decides : (regions : List RegionJob) (d : Data) → IsDecided (optional_in regions d)
+unfolding optional_in
+optional_decides regions d =
+    bind_decided _ _ (watch_decided regions d) (λ watch. bind_decided _ _ (dbgconf_decided d) (λ dbgconf. bind_decided _ _ (trace_decided d) (λ trace. tt)))
+
 job_decided : (d : Data) → IsDecided (job_in d)
 unfolding job_in
 job_decided d =
     bind_decided _ _ (only_keys_decided _ d) (λ known. bind_decided _ _ (required_decided _ _ pack_decided d) (λ pack.
     bind_decided _ _ (or_else_decided _ _ _ run_decided d) (λ settings. bind_decided _ _ (required_decided _ _ bench_decided d) (λ bench.
-    bind_decided _ _ (watch_decided bench.target.memory d) (λ watch. tt)))))
+    bind_decided _ _ (optional_decides bench.target.memory d) (λ own. tt)))))
 
 -- ---- the bytes
 

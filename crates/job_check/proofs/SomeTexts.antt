@@ -38,7 +38,7 @@ module _ {X : Type 0} (R : List Lexeme → X → Type 0) (span : Span) (parsed :
   read_text : Read R span text
   read_text = elim (cut text) [ inl c ↦ of_tokens c.0 c.1 (parsed c.0) | inr b ↦ inr (place_at text b.0, bad_token b.0 b.1 refl) ]
 
-read_code : (text : List ℕ) → ((x : List StmtTree) × IsCodeOf text x) ⊎ ((at : Place) × IsFaultyCode text at)
+pub read_code : (text : List ℕ) → ((x : List StmtTree) × IsCodeOf text x) ⊎ ((at : Place) × IsFaultyCode text at)
 read_code text = read_text ReadsCode spans.Statement (code spans.Statement) text
 
 read_condition : (text : List ℕ) → ((e : Tree) × IsConditionOf text e) ⊎ ((at : Place) × IsFaultyCondition text at)

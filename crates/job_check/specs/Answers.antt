@@ -1,7 +1,5 @@
 -- What the check of a job's sequences answers.
-use Rattle.std.specs.Prelude.{◌≡◌, ◌≢◌, ℕ, List, Result, Ok, Err}
-use Rattle.serde_json.specs.Data.{Data}
-use Rattle.json_form.specs.declared.fault.JobFault.TheVariants as faults
+use Rattle.std.specs.Prelude.{◌≡◌, ℕ, List, Option, Result, Ok, Err}
 use Rattle.device_tree.specs.declared.pack.Pack.{Pack}
 use Rattle.sequence_resolve.specs.declared.selection.Selection.{Selection}
 use Rattle.sequence_resolve.specs.declared.entry.SeqSet.{SeqSet}
@@ -14,6 +12,8 @@ use Rattle.seq_check.specs.Answers.{checked_trees}
 use Rattle.job_text.specs.declared.job.Job.{Job}
 use Rattle.job_text.specs.declared.job.JobRefusal.TheVariants as jobs
 use Rattle.job_text.specs.Answers.{Describes, IsRefused}
+use Rattle.dbgconf_text.specs.declared.conf.ConfItem.{ConfItem}
+use Rattle.job_check.specs.Values.{HasConf, NoConf, HasValues, NoValues}
 use Rattle.job_check.specs.declared.answer.Refusal.{Refusal}
 use Rattle.job_check.specs.declared.answer.Refusal.TheVariants as refusals
 use Rattle.job_check.specs.declared.answer.ValidSet.{ValidSet}
@@ -29,6 +29,7 @@ NoJob bytes (refusals.Job fault) = IsRefused bytes (jobs.Fault fault)
 NoJob bytes refusals.NoDevice = ⊥
 NoJob bytes refusals.AmbiguousDevice = ⊥
 NoJob bytes refusals.NoVariant = ⊥
+NoJob bytes (refusals.Dbgconf kind at) = ⊥
 NoJob bytes (refusals.Check kind spot) = ⊥
 
 -- the pack has no set for the selection: no device of the name, several, or no variant of the name
@@ -38,6 +39,7 @@ NoSet pack s refusals.AmbiguousDevice = HasNone pack s.device s.variant resolvin
 NoSet pack s refusals.NoVariant = HasNone pack s.device s.variant resolving.NoVariant
 NoSet pack s refusals.BadJson = ⊥
 NoSet pack s (refusals.Job fault) = ⊥
+NoSet pack s (refusals.Dbgconf kind at) = ⊥
 NoSet pack s (refusals.Check kind spot) = ⊥
 
 -- the set is not valid, and this is its first fault
@@ -45,6 +47,7 @@ abbrev pub NoValid : SeqSet → Refusal → Type 0
 NoValid set (refusals.Check kind spot) = IsFirstFaultOf set kind spot
 NoValid set refusals.BadJson = ⊥
 NoValid set (refusals.Job fault) = ⊥
+NoValid set (refusals.Dbgconf kind at) = ⊥
 NoValid set refusals.NoDevice = ⊥
 NoValid set refusals.AmbiguousDevice = ⊥
 NoValid set refusals.NoVariant = ⊥
@@ -56,15 +59,27 @@ pub data AnswersSet (set : SeqSet) (answer : Result SeqSet Refusal) : Type 0 whe
   valid : IsValid set → answer ≡ Ok set → AnswersSet set answer
   not_valid : (r : Refusal) → NoValid set r → answer ≡ Err r → AnswersSet set answer
 
--- the answer to a pack: that to the set of the selection, and else why there is none
-pub data AnswersPack (pack : Pack) (s : Selection) (answer : Result SeqSet Refusal) : Type 0 where
-  resolved : (set : SeqSet) → IsEffectiveSet pack s.device s.variant s.pname set → AnswersSet set answer → AnswersPack pack s answer
-  not_resolved : (r : Refusal) → NoSet pack s r → answer ≡ Err r → AnswersPack pack s answer
+-- The answer to the set of a selection, before the values of the job are put into it: that to the set with the values, and else why
+-- they can not be put in.
+pub data AnswersPlain (dbgconf : Option (List ℕ)) (items : List ConfItem) (plain : SeqSet) (answer : Result SeqSet Refusal) : Type 0 where
+  with_values : (set : SeqSet) → HasValues dbgconf items plain set → AnswersSet set answer → AnswersPlain dbgconf items plain answer
+  without_values : (r : Refusal) → NoValues dbgconf items plain r → answer ≡ Err r → AnswersPlain dbgconf items plain answer
 
--- The answer to the bytes of a job and a selection: that to the pack of the job, and else why the bytes are no job.
+-- the answer to a job whose values are read: that to the set of the selection, and else why there is none
+pub data AnswersConf (job : Job) (items : List ConfItem) (s : Selection) (answer : Result SeqSet Refusal) : Type 0 where
+  resolved : (plain : SeqSet) → IsEffectiveSet job.pack s.device s.variant s.pname plain → AnswersPlain job.dbgconf items plain answer → AnswersConf job items s answer
+  not_resolved : (r : Refusal) → NoSet job.pack s r → answer ≡ Err r → AnswersConf job items s answer
+
+-- The answer to a job and a selection: that to the job with its values, and else why they can not be read. There is one such answer at
+-- most (`laws::one_answer`).
+pub data IsAnswerOf (job : Job) (s : Selection) (answer : Result SeqSet Refusal) : Type 0 where
+  has_conf : (items : List ConfItem) → HasConf job.dbgconf items → AnswersConf job items s answer → IsAnswerOf job s answer
+  no_conf : (r : Refusal) → NoConf job.dbgconf r → answer ≡ Err r → IsAnswerOf job s answer
+
+-- The answer to the bytes of a job and a selection: that to the job, and else why the bytes are no job.
 -- There is one such answer at most (`laws::one_answer`).
 pub data IsAnswer (bytes : List ℕ) (s : Selection) (answer : Result SeqSet Refusal) : Type 0 where
-  described : (job : Job) → Describes bytes job → AnswersPack job.pack s answer → IsAnswer bytes s answer
+  described : (job : Job) → Describes bytes job → IsAnswerOf job s answer → IsAnswer bytes s answer
   not_described : (r : Refusal) → NoJob bytes r → answer ≡ Err r → IsAnswer bytes s answer
 
 -- ---- what a call answers
@@ -79,11 +94,11 @@ abbrev pub OnRefusal : (Refusal → Type 0) → CheckRefusal → Type 0
 OnRefusal P (ends.Refused r) = P r
 OnRefusal P ends.OutOfMemory = Unit {0}
 
--- the answer, unless memory ran out
-abbrev pub AnswersJob : List ℕ → Selection → Result ValidSet CheckRefusal → Type 0
-AnswersJob bytes s (Ok found) = IsAnswer bytes s (Ok found.set)
-AnswersJob bytes s (Err (ends.Refused r)) = IsAnswer bytes s (Err r)
-AnswersJob bytes s (Err ends.OutOfMemory) = Unit {0}
+-- what is answered is so, unless memory ran out
+abbrev pub OnAnswer : (Result SeqSet Refusal → Type 0) → Result ValidSet CheckRefusal → Type 0
+OnAnswer P (Ok found) = P (Ok found.set)
+OnAnswer P (Err (ends.Refused r)) = P (Err r)
+OnAnswer P (Err ends.OutOfMemory) = Unit {0}
 
 -- this answer, unless memory ran out
 abbrev pub AnswersAs : Result SeqSet Refusal → Result ValidSet CheckRefusal → Type 0

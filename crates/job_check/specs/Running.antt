@@ -10,6 +10,8 @@ use Rattle.job_text.specs.declared.job.Job.{Job}
 use Rattle.job_text.specs.Answers.{Describes}
 use Rattle.seq_check.specs.Valid.{IsValid}
 use Rattle.seq_check.specs.Answers.{checked_trees}
+use Rattle.dbgconf_text.specs.declared.conf.ConfItem.{ConfItem}
+use Rattle.job_check.specs.Values.{HasConf, NoConf, HasValues, NoValues}
 use Rattle.job_check.specs.Answers.{NoJob, NoSet, NoValid, AreTreesOf}
 use Rattle.job_check.specs.declared.answer.Refusal.{Refusal}
 use Rattle.job_check.specs.declared.answer.CheckRefusal.{CheckRefusal}
@@ -22,34 +24,62 @@ use Rattle.job_check.specs.declared.running.RunRefusal.TheVariants as ends
 abbrev pub has_sequence : SeqSet → List ℕ → Bool
 has_sequence set name = list_any (λ (e : SeqEntry). bytes_eq e.name name) set.entries
 
--- The job is that of the bytes, and the set that of the selection; a sequence of the set has the name; and the trees are those
--- of the set, in which nothing is wrong.
-pub record IsValidRun (bytes : List ℕ) (s : Selection) (name : List ℕ) (r : ValidRun) : Type 0 where
-  pub job : Describes bytes r.job
-  pub set : IsEffectiveSet r.job.pack s.device s.variant s.pname r.set
+-- ---- of a job
+
+-- the values of the job, and the set of the selection as it is before they are put into it
+pub record HasPlain (job : Job) (s : Selection) (items : List ConfItem) (plain : SeqSet) : Type 0 where
+  pub values : HasConf job.dbgconf items
+  pub resolved : IsEffectiveSet job.pack s.device s.variant s.pname plain
+
+-- this set is that of the selection, with the values of the job
+pub record IsSetOfJob (job : Job) (s : Selection) (set : SeqSet) : Type 0 where
+  pub items : List ConfItem
+  pub plain : SeqSet
+  pub of : HasPlain job s items plain
+  pub replaced : HasValues job.dbgconf items plain set
+
+-- The set is that of the selection, with the values of the job; a sequence of the set has the name; and the trees are those of the
+-- set, in which nothing is wrong.
+pub record IsRunOfJob (s : Selection) (name : List ℕ) (r : ValidRun) : Type 0 where
+  pub set : IsSetOfJob r.job s r.set
   pub named : has_sequence r.set name ≡ true
   pub trees : AreTreesOf r.set r.trees
 
--- this set is that of the selection of the job that the bytes describe
-pub record IsSetOf (bytes : List ℕ) (s : Selection) (set : SeqSet) : Type 0 where
-  pub job : Job
-  pub described : Describes bytes job
-  pub resolved : IsEffectiveSet job.pack s.device s.variant s.pname set
-
--- The set of the selection is valid, and a sequence of it has the name: all of a run, except where its trees lie in memory.
-pub record HasRun (bytes : List ℕ) (s : Selection) (name : List ℕ) : Type 0 where
+-- The set of the selection, with the values of the job, is valid, and a sequence of it has the name: all of a run, except where its
+-- trees lie in memory.
+pub record HasRunOf (job : Job) (s : Selection) (name : List ℕ) : Type 0 where
   pub set : SeqSet
-  pub of : IsSetOf bytes s set
+  pub of : IsSetOfJob job s set
   pub named : has_sequence set name ≡ true
   pub valid : IsValid set
 
--- Why no sequence runs: the bytes are no job; the job has no set for the selection; no sequence of the set has the name; or the
--- set is not valid.
+-- Why no sequence of a job runs: the values of the job can not be read; the job has no set for the selection; no sequence of the set
+-- has the name; the values can not be put into the set; or the set with the values is not valid.
+pub data IsRefusedRunOf (job : Job) (s : Selection) (name : List ℕ) (end : RunRefusal) : Type 0 where
+  no_conf : (r : Refusal) → NoConf job.dbgconf r → end ≡ ends.Refused r → IsRefusedRunOf job s name end
+  not_resolved : (items : List ConfItem) (r : Refusal) → HasConf job.dbgconf items → NoSet job.pack s r → end ≡ ends.Refused r → IsRefusedRunOf job s name end
+  not_named : (items : List ConfItem) (plain : SeqSet) → HasPlain job s items plain → has_sequence plain name ≡ false → end ≡ ends.NoSequence → IsRefusedRunOf job s name end
+  no_values : (items : List ConfItem) (plain : SeqSet) (r : Refusal) → HasPlain job s items plain → has_sequence plain name ≡ true → NoValues job.dbgconf items plain r
+      → end ≡ ends.Refused r → IsRefusedRunOf job s name end
+  not_valid : (set : SeqSet) (r : Refusal) → IsSetOfJob job s set → has_sequence set name ≡ true → NoValid set r → end ≡ ends.Refused r → IsRefusedRunOf job s name end
+
+-- ---- of bytes
+
+-- the job is that of the bytes, and its sequence runs
+pub record IsValidRun (bytes : List ℕ) (s : Selection) (name : List ℕ) (r : ValidRun) : Type 0 where
+  pub job : Describes bytes r.job
+  pub run : IsRunOfJob s name r
+
+-- the bytes describe a job that has all of a run
+pub record HasRun (bytes : List ℕ) (s : Selection) (name : List ℕ) : Type 0 where
+  pub job : Job
+  pub of : Describes bytes job
+  pub run : HasRunOf job s name
+
+-- why no sequence runs: the bytes are no job; or no sequence of the job that they describe runs
 pub data IsRefusedRun (bytes : List ℕ) (s : Selection) (name : List ℕ) (end : RunRefusal) : Type 0 where
   not_described : (r : Refusal) → NoJob bytes r → end ≡ ends.Refused r → IsRefusedRun bytes s name end
-  not_resolved : (job : Job) (r : Refusal) → Describes bytes job → NoSet job.pack s r → end ≡ ends.Refused r → IsRefusedRun bytes s name end
-  not_named : (set : SeqSet) → IsSetOf bytes s set → has_sequence set name ≡ false → end ≡ ends.NoSequence → IsRefusedRun bytes s name end
-  not_valid : (set : SeqSet) (r : Refusal) → IsSetOf bytes s set → has_sequence set name ≡ true → NoValid set r → end ≡ ends.Refused r → IsRefusedRun bytes s name end
+  described : (job : Job) → Describes bytes job → IsRefusedRunOf job s name end → IsRefusedRun bytes s name end
 
 -- a fact on why no sequence runs, unless memory ran out
 abbrev pub OnEnd : (RunRefusal → Type 0) → RunRefusal → Type 0

@@ -1,5 +1,5 @@
 //! The valid set of a job for one device, and why a job has none.
-use dap_base::OutOfMemory;
+use dap_base::{OutOfMemory, Place};
 use device_tree::JobFault;
 use seq_check::{Checked, FaultKind};
 use sequence_resolve::SeqSet;
@@ -14,6 +14,19 @@ pub struct ValidSet {
     pub trees: Checked,
 }
 
+/// What is wrong with the starting values of a job.
+#[derive(Clone, Copy, Debug, PartialEq, Eq)]
+pub enum DbgconfKind {
+    /// No token, blank or comment can be taken there.
+    BadToken,
+    /// No names and values begin with the tokens up to there, or they break off there.
+    Unexpected,
+    /// The name stands before.
+    Repeated,
+    /// No `__var` of the debug variables declares the name.
+    UndefinedName,
+}
+
 /// Why the sequences of a device are refused.
 #[derive(Debug, Drop)]
 pub enum Refusal {
@@ -21,6 +34,9 @@ pub enum Refusal {
     BadJson,
     /// The JSON value stands for no job; this is its first fault, never `OutOfMemory`.
     Job(JobFault),
+    /// The starting values can not be read, or can not be put in; with their first fault, and its place in
+    /// their text.
+    Dbgconf(DbgconfKind, Place),
     /// No device of the pack has the name.
     NoDevice,
     /// Two or more devices of the pack have the name.

@@ -5,7 +5,8 @@ mod answer;
 mod checking;
 pub mod laws;
 mod running;
+mod values;
 
-pub use answer::{CheckRefusal, Refusal, ValidSet};
-pub use checking::valid_set;
-pub use running::{RunRefusal, ValidRun, valid_run};
+pub use answer::{CheckRefusal, DbgconfKind, Refusal, ValidSet};
+pub use checking::{read_job, valid_set, valid_set_of};
+pub use running::{RunRefusal, ValidRun, valid_run, valid_run_of};

@@ -1,16 +1,12 @@
 //! From the bytes of a job to a sequence that can run.
-ghost use Rattle.std.specs.Prelude.{◌≡◌, ℕ, List, IfOk, IfErr, map};
-ghost use Rattle.std.specs.List.{IsDistinct};
-ghost use Rattle.std.specs.Str.{bytes_eq};
-ghost use Rattle.sequence_resolve.specs.Resolving.{IsEffectiveSet};
-ghost use Rattle.job_text.specs.Answers.{Describes};
+ghost use Rattle.std.specs.Prelude.{◌≡◌, IfOk, IfErr};
 ghost use Rattle.job_text.specs.Ranges.{AreSettings, AreWatched};
 ghost use Rattle.probe_core.specs.Ranges.{IsBenchJob};
-ghost use Rattle.job_check.specs.Answers.{AreTreesOf, OnRefusal, NoValid};
-ghost use Rattle.job_check.specs.Running.{IsValidRun, IsRefusedRun, OnEnd, run_refusal_of, has_sequence};
+ghost use Rattle.job_check.specs.Running.{IsRefusedRun, IsRefusedRunOf, IsRunOfJob, IsValidRun, OnEnd, has_sequence, run_refusal_of};
 
 use crate::answer::{CheckRefusal, Refusal, ValidSet};
 use crate::checking::{check_set, read_job, resolve_set};
+use crate::values::{put_values, read_conf};
 use job_text::Job;
 use seq_check::Checked;
 use sequence_resolve::{Selection, SeqSet};
@@ -57,12 +53,50 @@ fn has_sequence(set: &SeqSet, name: &str) -> bool
         .any(|entry| entry.name.as_str() == name)
 }
 
-/// The job of these bytes with the set that it has for the selected device, where a sequence of the
-/// set has the name and the set is valid, and with the trees of its texts.
+/// The job with the set that it has for the selected device, with the starting values of the job in its debug
+/// variables, where a sequence of the set has the name and the set is valid, and with the trees of its texts.
 ///
-/// Else the first of these: the refusals of `valid_set` that come before a check; `NoSequence` exactly
-/// where no sequence of the set has the name; `Check` exactly where the set is not valid, with its
-/// first fault. `OutOfMemory` where memory is refused. The limit on the number of bytes is the caller's.
+/// Else the first of these: the refusals of `valid_set_of` up to `NoVariant`; `NoSequence` exactly where no sequence
+/// of the set has the name; `Dbgconf` with `UndefinedName`, and `Check`, as in `valid_set_of`. `OutOfMemory` where
+/// memory is refused.
+pub fn valid_run_of(
+    alloc: Global,
+    job: Job,
+    selection: &Selection,
+    name: &str,
+) -> Result<ValidRun, RunRefusal>
+    // What is answered can run.
+    ensures found { IfOk result (IsRunOfJob selection.now name.now) }
+    // It is the job.
+    ensures same { IfOk result (λ r. r.job ≡ job) }
+    // Which refusal it is.
+    ensures refused { IfErr result (OnEnd (IsRefusedRunOf job selection.now name.now)) }
+{
+    let conf = match read_conf(alloc, &job.dbgconf) {
+        Ok(conf) => conf,
+        Err(refusal) => return Err(refuse_run(refusal)),
+    };
+    let plain = match resolve_set(alloc, &job.pack, selection) {
+        Ok(plain) => plain,
+        Err(refusal) => return Err(refuse_run(refusal)),
+    };
+    if !has_sequence(&plain, name) {
+        return Err(RunRefusal::NoSequence);
+    }
+    let set = match put_values(alloc, &job.dbgconf, &conf, plain) {
+        Ok(set) => set,
+        Err(refusal) => return Err(refuse_run(refusal)),
+    };
+    match check_set(alloc, set) {
+        Ok(ValidSet { set, trees }) => Ok(ValidRun { job, set, trees }),
+        Err(refusal) => Err(refuse_run(refusal)),
+    }
+}
+
+/// The job of these bytes with its set and the trees of its texts, as `valid_run_of` answers them.
+///
+/// Else the first of these: `BadJson` and `Job`, as in `valid_set`; and then the refusals of `valid_run_of`.
+/// `OutOfMemory` where memory is refused. The limit on the number of bytes is the caller's.
 pub fn valid_run(
     alloc: Global,
     bytes: &[u8],
@@ -82,15 +116,5 @@ pub fn valid_run(
         Ok(job) => job,
         Err(refusal) => return Err(refuse_run(refusal)),
     };
-    let set = match resolve_set(alloc, &job.pack, selection) {
-        Ok(set) => set,
-        Err(refusal) => return Err(refuse_run(refusal)),
-    };
-    if !has_sequence(&set, name) {
-        return Err(RunRefusal::NoSequence);
-    }
-    match check_set(alloc, set) {
-        Ok(ValidSet { set, trees }) => Ok(ValidRun { job, set, trees }),
-        Err(refusal) => Err(refuse_run(refusal)),
-    }
+    valid_run_of(alloc, job, selection, name)
 }

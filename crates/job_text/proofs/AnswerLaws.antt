@@ -10,9 +10,9 @@ use Rattle.job_text.specs.declared.job.JobRefusal.TheVariants as refusals
 use Rattle.job_text.specs.JobReading.{job_in}
 use Rattle.job_text.specs.Answers.{IsTextOf, Describes, IsRefused, Answers, IsAnswer}
 use Rattle.job_text.proofs.JobLaws.{job_reads}
-use Rattle.job_text.specs.Ranges.{AreSettings, AreWatched}
+use Rattle.job_text.specs.Ranges.{AreSettings, AreWatched, AreEntryTexts}
 use Rattle.job_text.proofs.RangeLaws.{bench_ranges}
-use Rattle.job_text.proofs.SettingLaws.{settings_in_range, watch_in_range}
+use Rattle.job_text.proofs.SettingLaws.{settings_in_range, watch_in_range, trace_entries}
 
 -- bytes are the text of one value
 one_value : (bytes : List ℕ) (d e : Data) → IsTextOf bytes d → IsTextOf bytes e → d ≡ e
@@ -59,3 +59,7 @@ settings_in bytes (Err refusal) given = tt
 pub watch_in : (bytes : List ℕ) (r : Result Job JobRefusal) → Answers bytes r → IfOk r (λ job. AreWatched job.bench.target.memory job.watch)
 watch_in bytes (Ok job) given = watch_in_range given.0 job (job_reads.sound given.0 job given.2)
 watch_in bytes (Err refusal) given = tt
+
+pub trace_in : (bytes : List ℕ) (r : Result Job JobRefusal) → Answers bytes r → IfOk r (λ job. AreEntryTexts job.trace)
+trace_in bytes (Ok job) given = trace_entries given.0 job (job_reads.sound given.0 job given.2)
+trace_in bytes (Err refusal) given = tt

@@ -4,6 +4,7 @@ pub mod WatchLemmas
 pub mod RunLaws
 pub mod TargetLaws
 pub mod JobLaws
+pub mod JobFaults
 pub mod RangeLaws
 pub mod SettingLaws
 pub mod AnswerLaws

@@ -1,10 +1,11 @@
 -- The settings and the watched words of a job that a value stands for are in their ranges.
-use Rattle.std.proofs.Common.{◌≡◌, ℕ, ◌≤◌, codes, List, [], ◌∷◌, map, length, Some, refl, ap, sym, subst, ◌∙◌, arith}
+use Rattle.std.proofs.Common.{◌≡◌, ℕ, ◌≤◌, codes, List, [], ◌∷◌, map, length, Option, Some, None, inl, inr, refl, ap, sym, subst, ◌∙◌, arith}
 use Rattle.std.specs.List.{All}
 use Rattle.serde_json.specs.Data.{Data}
 use Rattle.json_form.specs.Reading.{never}
-use Rattle.json_form.specs.Form.{IsNumber, HasOr, IsListOf, Alone}
+use Rattle.json_form.specs.Form.{IsNumber, HasOr, MayHave, IsListOf, Alone}
 use Rattle.json_form.proofs.ItemLaws.{list_holds, list_length}
+use Rattle.trace_audit.specs.Texts.{IsEntry}
 use Rattle.target_machine.specs.declared.job.RegionJob.{RegionJob}
 use Rattle.target_machine.specs.declared.unit.Settings.{Settings}
 use Rattle.target_machine.specs.declared.unit.Variable.{Variable}
@@ -13,8 +14,8 @@ use Rattle.job_text.specs.declared.job.WatchItem.{WatchItem}
 use Rattle.job_text.specs.RunReading.{with_value, zeros, default_settings}
 use Rattle.function_table.specs.Variables.{predefined}
 use Rattle.job_text.specs.RunForm.{HasValues, AreVariables, IsRun}
-use Rattle.job_text.specs.JobForm.{IsWatchItem, IsJob}
-use Rattle.job_text.specs.Ranges.{AreSettings, IsWatched, AreWatched}
+use Rattle.job_text.specs.JobForm.{IsWatchItem, IsEntryOf, IsJob}
+use Rattle.job_text.specs.Ranges.{AreSettings, IsWatched, AreWatched, AreEntryTexts}
 use Rattle.job_text.proofs.RangeLaws.{or_default, is_equal}
 
 names-values : (names : List (List ℕ)) (d : Data) (variables : List Variable) → HasValues names d variables → map (λ variable. variable.name) variables ≡ names
@@ -50,3 +51,14 @@ watch_in_range d job is =
       each = list_holds (Some 1024) (Alone (IsWatchItem regions)) never (IsWatched regions) v items (λ before e x r fresh. watched regions e x r) h;
     })
     (record { few = omega arith; each = λ k e lt. absurd (omega arith) }) is.watch
+
+entries_of : (o : Option (List (List ℕ))) → (d : Data) → MayHave (codes "trace") (IsListOf (Some 65536) (Alone IsEntryOf) never) d o → AreEntryTexts o
+entries_of None d has = tt
+entries_of (Some texts) d (inl has) =
+    let same : has.0 ≡ texts = cc in
+    subst (All IsEntry) same (list_holds (Some 65536) (Alone IsEntryOf) never IsEntry has.2.0 has.0 (λ before e x r fresh. r.1) has.2.2)
+entries_of (Some texts) d (inr has) = absurd cc
+
+-- each text of a trace is that of an entry
+pub trace_entries : (d : Data) (job : Job) → IsJob d job → AreEntryTexts job.trace
+trace_entries d job is = entries_of job.trace d is.trace

@@ -1,10 +1,11 @@
 -- Which JSON value stands for which job, said apart from any order of reading.
-use Rattle.std.specs.Prelude.{codes, List, [], ◌∷◌, Some}
+use Rattle.std.specs.Prelude.{ℕ, codes, List, [], ◌∷◌, Some}
 use Rattle.serde_json.specs.Data.{Data}
 use Rattle.json_form.specs.Reading.{never}
-use Rattle.json_form.specs.Form.{IsNumber, Such, HasOnly, Has, HasOr, IsListOf, Alone}
+use Rattle.json_form.specs.Form.{IsText, IsNumber, Such, HasOnly, Has, HasOr, MayHave, IsListOf, Alone}
 use Rattle.device_tree.specs.PackForm.{IsPack}
 use Rattle.target_machine.specs.declared.job.RegionJob.{RegionJob}
+use Rattle.trace_audit.specs.Texts.{IsEntry}
 use Rattle.job_text.specs.declared.job.Job.{Job}
 use Rattle.job_text.specs.declared.job.WatchItem.{WatchItem}
 use Rattle.job_text.specs.Tests.{is_aligned, are_words_in}
@@ -17,9 +18,15 @@ pub record IsWatchItem (regions : List RegionJob) (d : Data) (x : WatchItem) : T
   pub address : Has (codes "address") (Such is_aligned IsAddress) d x.address
   pub words : Has (codes "words") (Such (are_words_in regions x.address) (IsNumber 1 65536)) d x.words
 
+-- a text that is that of an entry of a trace
+abbrev pub IsEntryOf : Data → List ℕ → Type 0
+IsEntryOf d text = IsText d text × IsEntry text
+
 pub record IsJob (d : Data) (job : Job) : Type 0 where
-  pub known : HasOnly (codes "pack" ∷ codes "run" ∷ codes "bench" ∷ codes "watch" ∷ []) d
+  pub known : HasOnly (codes "pack" ∷ codes "run" ∷ codes "bench" ∷ codes "watch" ∷ codes "dbgconf" ∷ codes "trace" ∷ []) d
   pub pack : Has (codes "pack") IsPack d job.pack
   pub settings : HasOr (codes "run") IsRun default_settings d job.settings
   pub bench : Has (codes "bench") IsBench d job.bench
   pub watch : HasOr (codes "watch") (IsListOf (Some 1024) (Alone (IsWatchItem job.bench.target.memory)) never) [] d job.watch
+  pub dbgconf : MayHave (codes "dbgconf") IsText d job.dbgconf
+  pub trace : MayHave (codes "trace") (IsListOf (Some 65536) (Alone IsEntryOf) never) d job.trace

@@ -1,13 +1,16 @@
 -- Reading a job.
-use Rattle.std.specs.Prelude.{codes, List, [], Some, Result, Ok}
+use Rattle.std.specs.Prelude.{ℕ, codes, List, [], Option, Some, Result, Ok, Err, if◌then◌else◌}
 use Rattle.serde_json.specs.Data.{Data}
 use Rattle.json_form.specs.declared.fault.JobFault.{JobFault}
+use Rattle.json_form.specs.declared.fault.JobFault.TheVariants.{WrongKind}
 use Rattle.dap_base.specs.Outcome.{◌>>=◌}
-use Rattle.json_form.specs.Reading.{number, such, only_keys, required, or_else, list_of, alone, never}
+use Rattle.json_form.specs.Reading.{text, number, such, only_keys, required, optional, or_else, list_of, alone, never}
 use Rattle.device_tree.specs.PackReading.{pack_in}
 use Rattle.target_machine.specs.declared.job.RegionJob.{RegionJob}
+use Rattle.trace_audit.specs.Texts.{is_entry_text}
 use Rattle.job_text.specs.declared.job.Job.{Job}
 use Rattle.job_text.specs.declared.job.WatchItem.{WatchItem}
+use Rattle.job_text.specs.declared.reading.Optional.{Optional}
 use Rattle.job_text.specs.Keys.{watch_keys, job_keys}
 use Rattle.job_text.specs.Tests.{is_aligned, are_words_in}
 use Rattle.job_text.specs.RunReading.{run_in, default_settings}
@@ -23,11 +26,31 @@ watch_item_in regions d = do
 unfoldable pub watch_in : List RegionJob → Data → Result (List WatchItem) JobFault
 watch_in regions d = or_else (codes "watch") (list_of (Some 1024) (alone (watch_item_in regions)) never) [] d
 
+unfoldable pub dbgconf_in : Data → Result (Option (List ℕ)) JobFault
+dbgconf_in d = optional (codes "dbgconf") text d
+
+-- a text that is that of an entry of a trace
+unfoldable pub entry_text_in : Data → Result (List ℕ) JobFault
+entry_text_in d = do
+  word ← text d
+  if is_entry_text word then Ok word else Err (WrongKind [])
+
+unfoldable pub trace_in : Data → Result (Option (List (List ℕ))) JobFault
+trace_in d = optional (codes "trace") (list_of (Some 65536) (alone entry_text_in) never) d
+
+-- the members that may be absent, apart from `run`
+unfoldable pub optional_in : List RegionJob → Data → Result Optional JobFault
+optional_in regions d = do
+  watch ← watch_in regions d
+  dbgconf ← dbgconf_in d
+  trace ← trace_in d
+  Ok (record { watch = watch; dbgconf = dbgconf; trace = trace })
+
 unfoldable pub job_in : Data → Result Job JobFault
 job_in d = do
   known ← only_keys job_keys d
   pack ← required (codes "pack") pack_in d
   settings ← or_else (codes "run") run_in default_settings d
   bench ← required (codes "bench") bench_in d
-  watch ← watch_in bench.target.memory d
-  Ok (record { pack = pack; settings = settings; bench = bench; watch = watch })
+  own ← optional_in bench.target.memory d
+  Ok (record { pack = pack; settings = settings; bench = bench; watch = own.watch; dbgconf = own.dbgconf; trace = own.trace })

@@ -1,10 +1,11 @@
 -- What holds of the settings and the watched words of every job that is read.
-use Rattle.std.specs.Prelude.{◌≡◌, ℕ, ◌%◌, ◌≤◌, true, List, map, length}
+use Rattle.std.specs.Prelude.{◌≡◌, ℕ, ◌%◌, ◌≤◌, true, List, Option, IfSome, map, length}
 use Rattle.std.specs.List.{All}
 use Rattle.target_machine.specs.declared.job.RegionJob.{RegionJob}
 use Rattle.target_machine.specs.declared.unit.Settings.{Settings}
 use Rattle.job_text.specs.declared.job.WatchItem.{WatchItem}
 use Rattle.function_table.specs.Variables.{predefined}
+use Rattle.trace_audit.specs.Texts.{IsEntry}
 use Rattle.job_text.specs.Tests.{are_words_in}
 
 -- 1 to 60,000,000 microseconds a turn, and a value for each predefined variable, in their order
@@ -23,3 +24,7 @@ pub record IsWatched (regions : List RegionJob) (item : WatchItem) : Type 0 wher
 pub record AreWatched (regions : List RegionJob) (watch : List WatchItem) : Type 0 where
   pub few : length watch ≤ 1024
   pub each : All (IsWatched regions) watch
+
+-- each text of a trace is that of an entry
+abbrev pub AreEntryTexts : Option (List (List ℕ)) → Type 0
+AreEntryTexts trace = IfSome trace (All IsEntry)

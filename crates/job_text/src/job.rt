@@ -1,8 +1,9 @@
 //! A job, and why a text is none.
-use dap_base::ItemList;
+use dap_base::{ItemList, NameText};
 use device_tree::{JobFault, Pack};
 use probe_core::BenchJob;
 use target_machine::Settings;
+use trace_audit::TraceTexts;
 
 /// Words of memory whose values are printed at the end.
 #[derive(Clone, Copy, Debug, PartialEq, Eq)]
@@ -23,6 +24,10 @@ pub struct Job {
     pub settings: Settings,
     pub bench: BenchJob,
     pub watch: Watch,
+    /// Starting values of debug variables, as text, where the job has any. What it says is not read.
+    pub dbgconf: Option<NameText>,
+    /// The entries of a kept trace, at most 65,536, where the job has one.
+    pub trace: Option<TraceTexts>,
 }
 
 /// Why bytes are no job.

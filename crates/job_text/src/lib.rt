@@ -7,6 +7,7 @@ mod memory;
 mod reading;
 mod run;
 mod target;
+mod trace;
 mod watch;
 
 pub use job::{Job, JobRefusal, Watch, WatchItem};

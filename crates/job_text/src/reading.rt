@@ -3,21 +3,23 @@ ghost use Rattle.std.specs.Prelude.{IfOk, IfErr};
 ghost use Rattle.serde_json.specs.View.{view};
 ghost use Rattle.json_form.specs.Faults.{Gives};
 ghost use Rattle.probe_core.specs.Ranges.{IsBenchJob};
-ghost use Rattle.job_text.specs.JobReading.{watch_in, job_in};
+ghost use Rattle.job_text.specs.JobReading.{dbgconf_in, job_in, optional_in, watch_in};
 ghost use Rattle.job_text.specs.Answers.{Answers, Describes, IsRefused, IsAnswer};
-ghost use Rattle.job_text.specs.Ranges.{AreSettings, AreWatched};
+ghost use Rattle.job_text.specs.Ranges.{AreSettings, AreWatched, AreEntryTexts};
 ghost use Rattle.job_text.specs.declared.job.Job.{Job};
 
 use crate::bench::BenchReader;
 use crate::job::{Job, JobRefusal, Watch};
 use crate::run::settings_of;
+use crate::trace::trace_of;
 use crate::watch::WatchReader;
-use dap_base::ItemList;
+use dap_base::{ItemList, NameText};
 use device_tree::{JobFault, PackReader};
-use json_form::{Each, ListOf, member_or, only_keys_of, required_of};
+use json_form::{Each, ListOf, Text, member_or, only_keys_of, optional_of, required_of};
 use serde_json::Value;
 use std::alloc::Global;
 use target_machine::RegionJobs;
+use trace_audit::TraceTexts;
 
 const WATCH_LIMIT: usize = 1024;
 
@@ -36,7 +38,36 @@ fn watch_of(alloc: Global, job: &Value, regions: &RegionJobs) -> Result<Watch, J
     member_or(alloc, job, "watch", &list, ItemList::new(alloc))
 }
 
-const JOB_KEYS: [&str; 4] = ["pack", "run", "bench", "watch"];
+#[tactic(auto, unfolding(crate::specs::JobReading::dbgconf_in))]
+fn dbgconf_of(alloc: Global, job: &Value) -> Result<Option<NameText>, JobFault>
+    ensures { Gives result (dbgconf_in (view job.now)) }
+{
+    optional_of(alloc, job, "dbgconf", &Text)
+}
+
+// The members of a job that may be absent, apart from `run`.
+#[derive(Drop)]
+struct Optional {
+    watch: Watch,
+    dbgconf: Option<NameText>,
+    trace: Option<TraceTexts>,
+}
+
+#[tactic(auto, unfolding(crate::specs::JobReading::optional_in))]
+fn optional_in_value(alloc: Global, job: &Value, regions: &RegionJobs) -> Result<Optional, JobFault>
+    ensures { Gives result (optional_in regions.now (view job.now)) }
+{
+    let watch = watch_of(alloc, job, regions)?;
+    let dbgconf = dbgconf_of(alloc, job)?;
+    let trace = trace_of(alloc, job)?;
+    Ok(Optional {
+        watch,
+        dbgconf,
+        trace,
+    })
+}
+
+const JOB_KEYS: [&str; 6] = ["pack", "run", "bench", "watch", "dbgconf", "trace"];
 
 #[tactic(auto, unfolding(crate::specs::JobReading::job_in))]
 fn job_in_value(alloc: Global, value: &Value) -> Result<Job, JobFault>
@@ -46,12 +77,14 @@ fn job_in_value(alloc: Global, value: &Value) -> Result<Job, JobFault>
     let pack = required_of(alloc, value, "pack", &PackReader)?;
     let settings = settings_of(alloc, value)?;
     let bench = required_of(alloc, value, "bench", &BenchReader)?;
-    let watch = watch_of(alloc, value, &bench.target.memory)?;
+    let own = optional_in_value(alloc, value, &bench.target.memory)?;
     Ok(Job {
         pack,
         settings,
         bench,
-        watch,
+        watch: own.watch,
+        dbgconf: own.dbgconf,
+        trace: own.trace,
     })
 }
 
@@ -86,6 +119,8 @@ pub fn job_of(alloc: Global, bytes: &[u8]) -> Result<Job, JobRefusal>
     ensures only { (job : Job) → Describes bytes.now job → IsAnswer job result }
     // Which refusal it is, and the first fault.
     ensures refused { IfErr result (IsRefused bytes.now) }
+    // Each text of a trace is that of an entry.
+    ensures trace { IfOk result (λ job. AreEntryTexts job.trace) }
     // The settings, the bench and the watched words are in their ranges; the bench can be loaded.
     ensures settings { IfOk result (λ job. AreSettings job.settings) }
     ensures watch { IfOk result (λ job. AreWatched job.bench.target.memory job.watch) }

@@ -1,4 +1,4 @@
-use Rattle.job_text.proofs.AnswerLaws.{found_in, only_in, refused_in, ranges_in, settings_in, watch_in}
+use Rattle.job_text.proofs.AnswerLaws.{found_in, only_in, refused_in, ranges_in, settings_in, watch_in, trace_in}
 use Rattle.job_text.proofs.reading.job_of.Goals as goal
 
 pub returns-clause-found : goal.returns-clause-found
@@ -18,3 +18,6 @@ returns-clause-settings c = settings_in _ _ c.answer_of.ensures
 
 pub returns-clause-watch : goal.returns-clause-watch
 returns-clause-watch c = watch_in _ _ c.answer_of.ensures
+
+pub returns-clause-trace : goal.returns-clause-trace
+returns-clause-trace c = trace_in _ _ c.answer_of.ensures
