@@ -1,0 +1,11 @@
+pub mod DifferenceLemmas
+pub mod CallLemmas
+pub mod FoundLemmas
+pub mod SequelLemmas
+pub mod MeetLemmas
+pub mod LaneLemmas
+pub mod CellLemmas
+pub mod ByteLemmas
+pub mod AccessLemmas
+pub mod LaidLemmas
+pub mod RiseLemmas

@@ -1,0 +1,17 @@
+use Rattle.std.proofs.Common.{◌≡◌, ◌+◌, ◌<◌, ◌++◌, None, length, take}
+use Rattle.probe_core.specs.Bench.{BenchState}
+use Rattle.access_calls.specs.GoesOn.{GoesOn}
+use Rattle.image_load.specs.Pieces.{asked_all}
+use Rattle.image_load.proofs.loading.ask_all.Given as goal
+
+abbrev pub invariant-loop-i : goal.invariant-loop-i
+invariant-loop-i g l = record {
+  calls : (g.A.Access.reported l.access).asks.calls ≡ (g.A.Access.reported l.fn.access).asks.calls ++ asked_all l.read l.ap (take l.i l.pieces);
+  count : length (g.A.Access.reported l.access).asks.calls ≡ length (g.A.Access.reported l.fn.access).asks.calls + l.i;
+  some : 0 < l.i → l.first ≡ length (g.A.Access.reported l.fn.access).asks.calls;
+  none : l.i ≡ 0 → l.first ≡ 0;
+  ended : (g.A.Access.reported l.access).end ≡ None;
+  on : (m : BenchState) → g.A.Access.begun l.fn.access m → g.A.Access.begun l.access m;
+  identity : g.A.Access.identity l.access ≡ g.A.Access.identity l.fn.access;
+  goes : GoesOn (g.A.Access.reported l.fn.access) (g.A.Access.reported l.access);
+}

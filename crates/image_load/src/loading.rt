@@ -1,0 +1,235 @@
+//! The load of an image over an access.
+ghost use Rattle.std.specs.Prelude.{◌≡◌, ◌+◌, ◌*◌, ◌<◌, ◌≤◌, ◌++◌, ◌∷◌, [], ◌^◌, ℕ, List, Option, None, false, true, map, drop, length, slice_index, OnOk, IfOk, IfErr};
+ghost use Rattle.std.specs.List.{All};
+ghost use Rattle.probe_core.specs.Bench.{BenchState};
+ghost use Rattle.target_machine.specs.Sound.{IsSound};
+ghost use Rattle.target_calls.specs.Asks.{is_wide, settled_last, unit_ask};
+ghost use Rattle.target_calls.specs.World.{results};
+ghost use Rattle.access_calls.specs.Answers.{StopsCalls};
+ghost use Rattle.access_calls.specs.GoesOn.{GoesOn};
+ghost use Rattle.access_calls.specs.Left.{IsLeft};
+ghost use Rattle.access_calls.specs.Reported.{world_from};
+ghost use Rattle.image_load.specs.Loading.{AskedPart, AsksLoad, EndIs, LoadEndIs, LoadedAs, StopsLoad, read_back};
+ghost use Rattle.image_load.specs.Pieces.{IsPiece, asked_all, first_difference, load_calls, piece_ask, pieces};
+
+use crate::comparing::difference;
+use crate::ends::{LoadEnd, Loaded};
+use crate::piece::{Difference, Piece, pieces_of};
+use access_calls::{Access, Stop};
+use hex_image::Image;
+use std::alloc::Global;
+use target_calls::{Asked, Slot};
+use target_machine::Unit;
+
+// The most bytes that an image has. `image_of` answers no larger one.
+const MOST_BYTES: usize = 262_144;
+
+// The memory access that reads or writes a piece.
+fn unit_of(read: bool, ap: u8, piece: Piece) -> Unit
+    requires { IsPiece piece }
+    ensures asks { unit_ask result false ≡ piece_ask read ap piece }
+    ensures sound { IsSound result }
+    ensures narrow { is_wide result ≡ false }
+{
+    Unit::Memory {
+        size: piece.size,
+        read,
+        ap,
+        address: u64::from(piece.address),
+        value: if read { 0 } else { piece.value },
+    }
+}
+
+// Asks for an access at an address of 32 bits, whose fault is not forgiven.
+fn ask<A: Access>(unit: Unit, access: &mut A) -> Result<Slot, Stop>
+    requires sound { IsSound unit }
+    requires narrow { is_wide unit ≡ false }
+    requires few { length (A.reported access.old).asks.calls < 10000000 }
+    requires open { (A.reported access.old).end ≡ None }
+    ensures slot { IfOk result (λ slot. slot.index ≡ length (A.reported access.old).asks.calls) }
+    ensures calls { OnOk result ((A.reported access.new).asks.calls ≡ (A.reported access.old).asks.calls ++ unit_ask unit false ∷ []) }
+    ensures part { IfErr result (λ e. AskedPart (unit_ask unit false ∷ []) (A.reported access.old).asks.calls (A.reported access.new).asks.calls) }
+    ensures stops { (m : BenchState) (answered : Option ℕ) → A.begun access.old m → IsLeft (A.reported access.new) answered
+        → IfErr result (StopsCalls (world_from m answered) (A.reported access.new).asks.calls (A.reported access.new).lines) }
+    ensures end { EndIs result (A.reported access.new).end }
+    ensures on { (m : BenchState) → A.begun access.old m → A.begun access.new m }
+    ensures identity { A.identity access.new ≡ A.identity access.old }
+    ensures goes { GoesOn (A.reported access.old) (A.reported access.new) }
+{
+    match access.ask(unit, false) {
+        Ok(Asked::Slot(slot)) => Ok(slot),
+        Ok(Asked::Small) => unreachable!(),
+        Err(stop) => Err(stop),
+    }
+}
+
+// Asks for all pieces, as writes or as reads. Answers the place of the first result, 0 where there is no piece: the others follow it.
+#[tactic(auto, using(access_calls::proofs::KeepLemmas::goes_trans, access_calls::proofs::KeepLemmas::goes_same))]
+fn ask_all<A: Access>(read: bool, ap: u8, pieces: &[Piece], access: &mut A) -> Result<u32, Stop>
+    requires pieces { All IsPiece pieces.now }
+    requires few { length (A.reported access.old).asks.calls + length pieces.now ≤ 9000000 }
+    requires open { (A.reported access.old).end ≡ None }
+    ensures first { IfOk result (λ first. 0 < length pieces.now → first ≡ length (A.reported access.old).asks.calls) }
+    ensures none { IfOk result (λ first. length pieces.now ≡ 0 → first ≡ 0) }
+    ensures calls { OnOk result ((A.reported access.new).asks.calls ≡ (A.reported access.old).asks.calls ++ asked_all read ap pieces.now) }
+    ensures part { IfErr result (λ e. AskedPart (asked_all read ap pieces.now) (A.reported access.old).asks.calls (A.reported access.new).asks.calls) }
+    ensures stops { (m : BenchState) (answered : Option ℕ) → A.begun access.old m → IsLeft (A.reported access.new) answered
+        → IfErr result (StopsCalls (world_from m answered) (A.reported access.new).asks.calls (A.reported access.new).lines) }
+    ensures end { EndIs result (A.reported access.new).end }
+    ensures on { (m : BenchState) → A.begun access.old m → A.begun access.new m }
+    ensures identity { A.identity access.new ≡ A.identity access.old }
+    ensures goes { GoesOn (A.reported access.old) (A.reported access.new) }
+{
+    let mut first = 0;
+    for i in 0..pieces.len() {
+        match ask(unit_of(read, ap, pieces[i]), access) {
+            Ok(slot) => {
+                if i == 0 {
+                    first = slot.index;
+                }
+            }
+            Err(stop) => return Err(stop),
+        }
+    }
+    Ok(first)
+}
+
+// The first byte that was read as another one, by the results from a place on, all of which have come.
+#[tactic(auto, using(access_calls::proofs::KeepLemmas::goes_trans, access_calls::proofs::KeepLemmas::goes_same))]
+fn compare_all<A: Access>(pieces: &[Piece], first: u32, access: &mut A) -> Option<Difference>
+    requires pieces { All IsPiece pieces.now }
+    requires few { first + length pieces.now ≤ 9000000 }
+    requires known { first + length pieces.now ≤ (A.reported access.old).known }
+    requires open { (A.reported access.old).end ≡ None }
+    ensures differs { (m : BenchState) (answered : Option ℕ) → A.begun access.old m → IsLeft (A.reported access.new) answered
+        → result ≡ first_difference pieces.now (λ i. slice_index (results (world_from m answered) (A.reported access.old).asks.calls) (first + i)) }
+    ensures calls { (A.reported access.new).asks.calls ≡ (A.reported access.old).asks.calls }
+    ensures open { (A.reported access.new).end ≡ None }
+    ensures on { (m : BenchState) → A.begun access.old m → A.begun access.new m }
+    ensures identity { A.identity access.new ≡ A.identity access.old }
+    ensures goes { GoesOn (A.reported access.old) (A.reported access.new) }
+{
+    for i in 0..pieces.len() {
+        let slot = Slot {
+            index: first + i as u32,
+        };
+        let found = match access.value(slot) {
+            Ok(value) => value as u32,
+            Err(_) => unreachable!(),
+        };
+        match difference(pieces[i], found) {
+            Some(differs) => return Some(differs),
+            None => {}
+        }
+    }
+    None
+}
+
+// Asks for all writes, and then for all reads. Answers the place of the result of the first read, 0 where there is no piece.
+#[tactic(auto, using(crate::proofs::CallLemmas::count_all, access_calls::proofs::KeepLemmas::goes_trans, access_calls::proofs::KeepLemmas::goes_same))]
+fn ask_both<A: Access>(ap: u8, pieces: &[Piece], access: &mut A) -> Result<u32, Stop>
+    requires pieces { All IsPiece pieces.now }
+    requires many { length pieces.now ≤ 262144 }
+    requires few { length (A.reported access.old).asks.calls ≤ 1000000 }
+    requires open { (A.reported access.old).end ≡ None }
+    ensures first { IfOk result (λ first. 0 < length pieces.now → first ≡ length (A.reported access.old).asks.calls + length pieces.now) }
+    ensures none { IfOk result (λ first. length pieces.now ≡ 0 → first ≡ 0) }
+    ensures calls { OnOk result ((A.reported access.new).asks.calls ≡ (A.reported access.old).asks.calls ++ load_calls ap pieces.now) }
+    ensures part { IfErr result (λ e. AskedPart (load_calls ap pieces.now) (A.reported access.old).asks.calls (A.reported access.new).asks.calls) }
+    ensures stops { (m : BenchState) (answered : Option ℕ) → A.begun access.old m → IsLeft (A.reported access.new) answered
+        → IfErr result (StopsCalls (world_from m answered) (A.reported access.new).asks.calls (A.reported access.new).lines) }
+    ensures end { EndIs result (A.reported access.new).end }
+    ensures on { (m : BenchState) → A.begun access.old m → A.begun access.new m }
+    ensures identity { A.identity access.new ≡ A.identity access.old }
+    ensures goes { GoesOn (A.reported access.old) (A.reported access.new) }
+{
+    match ask_all(false, ap, pieces, access) {
+        Ok(_) => ask_all(true, ap, pieces, access),
+        Err(stop) => Err(stop),
+    }
+}
+
+// Writes pieces in order, reads them back in the same order, and finishes.
+#[tactic(auto, using(access_calls::proofs::KeepLemmas::goes_trans, access_calls::proofs::KeepLemmas::goes_same))]
+fn load_pieces<A: Access>(ap: u8, pieces: &[Piece], access: &mut A) -> Result<(), LoadEnd>
+    requires pieces { All IsPiece pieces.now }
+    requires many { length pieces.now ≤ 262144 }
+    requires few { length (A.reported access.old).asks.calls ≤ 1000000 }
+    requires open { (A.reported access.old).end ≡ None }
+    ensures asks { AsksLoad result (load_calls ap pieces.now) (A.reported access.old).asks.calls (A.reported access.new).asks.calls }
+    ensures loads { (m : BenchState) (answered : Option ℕ) → A.begun access.old m → IsLeft (A.reported access.new) answered
+        → LoadedAs result (first_difference pieces.now
+        (read_back (world_from m answered) (A.reported access.old).asks.calls (load_calls ap pieces.now) (length pieces.now))) }
+    ensures stops { (m : BenchState) (answered : Option ℕ) → A.begun access.old m → IsLeft (A.reported access.new) answered
+        → StopsLoad (world_from m answered) result (load_calls ap pieces.now)
+        (A.reported access.old).asks.calls (A.reported access.new).asks.calls (A.reported access.new).lines }
+    ensures end { LoadEndIs result (A.reported access.new).end }
+    ensures on { (m : BenchState) → A.begun access.old m → A.begun access.new m }
+    ensures identity { A.identity access.new ≡ A.identity access.old }
+    ensures goes { GoesOn (A.reported access.old) (A.reported access.new) }
+{
+    let first = match ask_both(ap, pieces, access) {
+        Ok(first) => first,
+        Err(stop) => return Err(LoadEnd::Stop(stop)),
+    };
+    match access.finish() {
+        Ok(()) => {}
+        Err(stop) => return Err(LoadEnd::Stop(stop)),
+    }
+    match compare_all(pieces, first, access) {
+        None => Ok(()),
+        Some(differs) => Err(LoadEnd::Differs {
+            address: differs.address,
+            wanted: differs.wanted,
+            found: differs.found,
+        }),
+    }
+}
+
+/// Writes an image through an access port, reads it back, and finishes. At most 1,000,000 calls were asked of the access before, and it has no end.
+///
+/// The writes come first, in rising order: a word for each word with all four bytes in the image, a byte for each other byte. Then the
+/// same words and bytes are read, in the same order. No fault is forgiven.
+///
+/// # Errors
+///
+/// `Differs` exactly where a byte was read as another one, with the first of them. Then all was written and read, and the access goes on. `Stop`
+/// where the access stopped, which is its end, or where memory was refused. Then the first of the calls were asked, or none. An image of more
+/// than 262,144 bytes, which `image_of` does not answer, is refused as memory is.
+pub fn load<A: Access>(
+    alloc: Global,
+    image: &Image,
+    ap: u8,
+    access: &mut A,
+) -> Result<Loaded, LoadEnd>
+    requires few { length (A.reported access.old).asks.calls ≤ 1000000 }
+    requires open { (A.reported access.old).end ≡ None }
+    ensures asks { AsksLoad result (load_calls ap (pieces image.now)) (A.reported access.old).asks.calls (A.reported access.new).asks.calls }
+    ensures loads { (m : BenchState) (answered : Option ℕ) → A.begun access.old m → IsLeft (A.reported access.new) answered
+        → LoadedAs result (first_difference (pieces image.now)
+        (read_back (world_from m answered) (A.reported access.old).asks.calls (load_calls ap (pieces image.now)) (length (pieces image.now)))) }
+    ensures stops { (m : BenchState) (answered : Option ℕ) → A.begun access.old m → IsLeft (A.reported access.new) answered
+        → StopsLoad (world_from m answered) result (load_calls ap (pieces image.now))
+        (A.reported access.old).asks.calls (A.reported access.new).asks.calls (A.reported access.new).lines }
+    ensures counts { IfOk result (λ l. (l.bytes ≡ length image.now) × (l.writes ≡ length (pieces image.now))) }
+    ensures end { LoadEndIs result (A.reported access.new).end }
+    ensures on { (m : BenchState) → A.begun access.old m → A.begun access.new m }
+    ensures identity { A.identity access.new ≡ A.identity access.old }
+    ensures goes { GoesOn (A.reported access.old) (A.reported access.new) }
+{
+    let bytes = image.bytes().len();
+    if bytes > MOST_BYTES {
+        return Err(LoadEnd::Stop(Stop::OutOfMemory));
+    }
+    let pieces = match pieces_of(alloc, image) {
+        Ok(pieces) => pieces,
+        Err(_) => return Err(LoadEnd::Stop(Stop::OutOfMemory)),
+    };
+    match load_pieces(ap, &pieces, access) {
+        Ok(()) => Ok(Loaded {
+            bytes: bytes as u32,
+            writes: pieces.len() as u32,
+        }),
+        Err(end) => Err(end),
+    }
+}
