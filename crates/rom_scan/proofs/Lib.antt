@@ -1,0 +1,13 @@
+pub mod WalkLemmas
+pub mod AskLemmas
+pub mod StopLemmas
+pub mod ReadLemmas
+pub mod ArriveLemmas
+pub mod StepLemmas
+pub mod LineLemmas
+pub mod ScanLemmas
+pub mod ListLemmas
+pub mod PortLemmas
+pub mod OnlyLemmas
+pub mod ShowLemmas
+pub mod TargetLemmas

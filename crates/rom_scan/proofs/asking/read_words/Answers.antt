@@ -1,0 +1,61 @@
+use Rattle.std.proofs.Common.{◌∙◌, ◌+◌, ◌-◌, ◌*◌, ◌∷◌, ℕ, List, [], length, refl, sym, ap, subst, arith}
+use Rattle.std.proofs.lemmas.List.{length-append}
+use Rattle.access_calls.proofs.KeepLemmas.{goes_same, goes_trans}
+use Rattle.access_calls.specs.Reported.{world_from}
+use Rattle.sequels.specs.Meeting.{Reaches}
+use Rattle.sequels.proofs.MeetingLemmas.{whole_after}
+use Rattle.rom_scan.specs.Components.{words}
+use Rattle.rom_scan.proofs.ReadLemmas.{next_word, stops_word, words_end, words_start}
+use Rattle.rom_scan.proofs.asking.read_words.Goals as goal
+
+pub loop-i-init : goal.loop-i-init
+loop-i-init g c = record {
+  so_far = λ m answered written b l whole. words_start (world_from m answered) c.args.ap c.args.count c.args.address c.new-read.result.items (g.A.Access.reported c.args.access.now).asks.calls written c.new-read.ensures;
+  items = ap (λ (x : List ℕ). length x) c.new-read.ensures;
+  calls = omega arith;
+  ended = c.requires.open;
+  on = λ m b. b;
+  identity = refl;
+  goes = goes_same _;
+}
+
+pub loop-i-preserved : goal.loop-i-preserved
+loop-i-preserved g c =
+    let inv = c.loop-i.invariant in
+    let e = c.in-Ok.ensures in
+    let old = (g.A.Access.reported c.args.access.now).asks.calls in
+    let mid = (g.A.Access.reported c.loop-i.access).asks.calls in
+    let new = (g.A.Access.reported c.ask_now.new.access).asks.calls in
+    record {
+      so_far = λ m answered written b l whole.
+          let w = world_from m answered in
+          let r = inv.so_far m answered written b (e.goes.left answered l) whole in
+          subst (λ (x : List ℕ). Reaches w (words c.args.ap c.args.count c.args.address []) old new written written (words c.args.ap (c.args.count - (c.loop-i.i + 1)) (c.args.address + 4 * (c.loop-i.i + 1)) x)) (sym c.push.ensures.items)
+          (next_word w c.args.ap c.args.count c.loop-i.i c.args.address c.loop-i.read.items _ old mid new written c.loop-i-test.true c.word_unit.ensures.asks whole r c.in-Ok.word
+          (e.gives m answered written (inv.on m b) l (whole_after w (words c.args.ap c.args.count c.args.address []) _ old mid written written whole r)));
+      items =
+          let a = ap (λ (x : List ℕ). length x) c.push.ensures.items in
+          let b = length-append c.loop-i.read.items (c.in-Ok.word ∷ []) in
+          let d = inv.items in
+          omega (arith, a, b, d);
+      calls = (let a = e.count in let b = inv.calls in omega (arith, a, b));
+      ended = e.end;
+      on = λ m b. e.on m (inv.on m b);
+      identity = e.identity ∙ inv.identity;
+      goes = goes_trans _ _ _ inv.goes e.goes;
+    }
+
+pub returns-in-Err-clause-gives : goal.returns-in-Err-clause-gives
+returns-in-Err-clause-gives g c = λ m answered written b l whole.
+    let inv = c.loop-i.invariant in
+    let w = world_from m answered in
+    let e = c.in-Err.ensures in
+    let r = inv.so_far m answered written b (e.goes.left answered l) whole in
+    stops_word w c.args.ap c.args.count c.loop-i.i c.args.address c.loop-i.read.items _ (g.A.Access.reported c.args.access.now).asks.calls (g.A.Access.reported c.loop-i.access).asks.calls (g.A.Access.reported c.ask_now.new.access).asks.calls written
+    c.loop-i-test.true c.word_unit.ensures.asks whole r (g.A.Access.reported c.ask_now.new.access).lines c.in-Err.stop
+    (e.gives m answered written (inv.on m b) l (whole_after w (words c.args.ap c.args.count c.args.address []) _ _ _ written written whole r))
+
+pub returns-clause-gives : goal.returns-clause-gives
+returns-clause-gives g c = λ m answered written b l whole.
+    words_end (world_from m answered) c.args.ap c.args.count c.loop-i.i c.args.address c.loop-i.read.items (g.A.Access.reported c.args.access.now).asks.calls (g.A.Access.reported c.loop-i.access).asks.calls written c.loop-i-test.false
+    (c.loop-i.invariant.so_far m answered written b l whole)

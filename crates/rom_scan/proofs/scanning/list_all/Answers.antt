@@ -1,0 +1,51 @@
+use Rattle.std.proofs.Common.{◌∙◌, ◌+◌, [], Ok, Err, true, sym}
+use Rattle.access_calls.specs.Reported.{world_from}
+use Rattle.target_calls.specs.Asks.{unit_ask}
+use Rattle.sequels.proofs.MeetingLemmas.{whole_after}
+use Rattle.rom_scan.specs.Walk.{component, scanned}
+use Rattle.rom_scan.proofs.ScanLemmas.{base_none, base_some, base_stops, lists_on}
+use Rattle.rom_scan.proofs.scanning.list_all.Goals as goal
+
+pub returns-in-Err-clause-gives : goal.returns-in-Err-clause-gives
+returns-in-Err-clause-gives g c = λ m answered b l whole.
+    let a = g.A.Access.reported c.ask_now.new.access in
+    let before = g.K.Sink.written c.args.sink.now in
+    base_stops (world_from m answered) c.args.ap (g.A.Access.reported c.args.access.now).asks.calls before (unit_ask c.base_unit.result true) c.base_unit.ensures.asks a.lines a.asks.calls c.in-Err.stop
+    (c.in-Err.ensures.gives m answered before b l whole)
+
+pub returns-then-is_no_base-clause-gives : goal.returns-then-is_no_base-clause-gives
+returns-then-is_no_base-clause-gives g c = λ m answered b l whole.
+    let a = g.A.Access.reported c.ask_now.new.access in
+    let before = g.K.Sink.written c.args.sink.now in
+    base_none (world_from m answered) c.args.ap (g.A.Access.reported c.args.access.now).asks.calls before (unit_ask c.base_unit.result true) c.base_unit.ensures.asks a.asks.calls c.in-Ok.base
+    (c.in-Ok.ensures.gives m answered before b l whole) a.lines 1 (sym c.is_no_base.ensures ∙ c.if-is_no_base.true)
+
+pub returns-in-Ok-list_from-clause-gives : goal.returns-in-Ok-list_from-clause-gives
+returns-in-Ok-list_from-clause-gives g c = λ m answered b l whole.
+    let w = world_from m answered in
+    let e = c.in-Ok-list_from.ensures in
+    let old = (g.A.Access.reported c.args.access.now).asks.calls in
+    let mid = (g.A.Access.reported c.ask_now.new.access).asks.calls in
+    let a = g.A.Access.reported c.list_from.new.access in
+    let before = g.K.Sink.written c.args.sink.now in
+    let now = g.K.Sink.written c.list_from.new.sink in
+    let rest = component 1024 c.args.ap 7 c.page_of.result [] in
+    let r = base_some w c.args.ap old before (unit_ask c.base_unit.result true) c.base_unit.ensures.asks mid c.in-Ok.base (c.in-Ok.ensures.gives m answered before b (e.goes.left answered l) whole) c.page_of.result
+    (sym c.is_no_base.ensures ∙ c.if-is_no_base.false) c.page_of.ensures.page in
+    lists_on w a.lines (scanned 1024 c.args.ap) rest (Ok (1 + c.in-Ok-list_from.more)) old mid a.asks.calls before before now whole r
+    (e.gives m answered (c.in-Ok.ensures.on m b) l (whole_after w (scanned 1024 c.args.ap) rest old mid before before whole r))
+
+pub returns-in-Err-list_from-clause-gives : goal.returns-in-Err-list_from-clause-gives
+returns-in-Err-list_from-clause-gives g c = λ m answered b l whole.
+    let w = world_from m answered in
+    let e = c.in-Err-list_from.ensures in
+    let old = (g.A.Access.reported c.args.access.now).asks.calls in
+    let mid = (g.A.Access.reported c.ask_now.new.access).asks.calls in
+    let a = g.A.Access.reported c.list_from.new.access in
+    let before = g.K.Sink.written c.args.sink.now in
+    let now = g.K.Sink.written c.list_from.new.sink in
+    let rest = component 1024 c.args.ap 7 c.page_of.result [] in
+    let r = base_some w c.args.ap old before (unit_ask c.base_unit.result true) c.base_unit.ensures.asks mid c.in-Ok.base (c.in-Ok.ensures.gives m answered before b (e.goes.left answered l) whole) c.page_of.result
+    (sym c.is_no_base.ensures ∙ c.if-is_no_base.false) c.page_of.ensures.page in
+    lists_on w a.lines (scanned 1024 c.args.ap) rest (Err c.in-Err-list_from.end) old mid a.asks.calls before before now whole r
+    (e.gives m answered (c.in-Ok.ensures.on m b) l (whole_after w (scanned 1024 c.args.ap) rest old mid before before whole r))

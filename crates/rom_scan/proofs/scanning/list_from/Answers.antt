@@ -1,0 +1,87 @@
+use Rattle.std.proofs.Common.{◌+◌, [], Ok, Err, sym, arith}
+use Rattle.access_calls.specs.Reported.{world_from}
+use Rattle.sequels.specs.Meeting.{Reaches}
+use Rattle.sequels.proofs.MeetingLemmas.{reaches_as, whole_after}
+use Rattle.rom_scan.specs.Tables.{reached, unwound}
+use Rattle.rom_scan.specs.Walk.{component}
+use Rattle.rom_scan.proofs.ScanLemmas.{caused_on, left_start, lists_as, lists_done, lists_end, none_open, root_at}
+use Rattle.rom_scan.proofs.StepLemmas.{walks_on}
+use Rattle.rom_scan.proofs.scanning.list_from.Goals as goal
+
+pub walk-requires-clause-tables : goal.walk-requires-clause-tables
+walk-requires-clause-tables g c = c.in-Ok.ensures.open (none_open c.new-tables.result c.new-tables.ensures)
+
+pub walk-requires-clause-few : goal.walk-requires-clause-few
+walk-requires-clause-few g c =
+    let start = left_start c.new-tables.result c.new-listed.result c.new-tables.ensures c.new-listed.ensures in
+    let count = c.in-Ok.ensures.count in
+    let few = c.requires.few in
+    omega (arith, start, count, few)
+
+pub returns-in-Err-clause-gives : goal.returns-in-Err-clause-gives
+returns-in-Err-clause-gives g c = λ m answered b l whole.
+    let w = world_from m answered in
+    let a = g.A.Access.reported c.arrive.new.access in
+    let old = (g.A.Access.reported c.args.access.now).asks.calls in
+    let before = g.K.Sink.written c.args.sink.now in
+    let now = g.K.Sink.written c.arrive.new.sink in
+    lists_as w a.lines (component 1024 c.args.ap 7 c.args.address []) (reached 1024 c.args.ap c.new-tables.result c.args.address c.new-listed.result) (Err c.in-Err.end) old a.asks.calls before now
+    (root_at c.args.ap c.args.address c.new-tables.result c.new-listed.result c.new-tables.ensures c.new-listed.ensures)
+    (lists_end w a.lines c.args.ap (reached 1024 c.args.ap c.new-tables.result c.args.address c.new-listed.result) c.in-Err.end c.arrive.new.tables c.arrive.new.listed old a.asks.calls before now
+    (c.in-Err.ensures.gives m answered b l whole))
+
+pub returns-in-Ok-walk-clause-gives : goal.returns-in-Ok-walk-clause-gives
+returns-in-Ok-walk-clause-gives g c = λ m answered b l whole.
+    let w = world_from m answered in
+    let n = c.args.ap in
+    let e = c.in-Ok-walk.ensures in
+    let old = (g.A.Access.reported c.args.access.now).asks.calls in
+    let mid = (g.A.Access.reported c.arrive.new.access).asks.calls in
+    let a = g.A.Access.reported c.walk.new.access in
+    let before = g.K.Sink.written c.args.sink.now in
+    let then = g.K.Sink.written c.arrive.new.sink in
+    let now = g.K.Sink.written c.walk.new.sink in
+    let s = component 1024 n 7 c.args.address [] in
+    let rest = unwound 1024 n c.arrive.new.tables c.arrive.new.listed in
+    let r : Reaches w (component 1024 n 7 c.args.address []) old mid before then (unwound 1024 n c.arrive.new.tables c.arrive.new.listed) =
+    reaches_as w (reached 1024 n c.new-tables.result c.args.address c.new-listed.result) s rest old mid before then
+    (sym (root_at n c.args.address c.new-tables.result c.new-listed.result c.new-tables.ensures c.new-listed.ensures))
+    (c.in-Ok.ensures.gives m answered b (e.goes.left answered l) whole) in
+    lists_done w a.lines n (c.in-Ok.words + c.in-Ok-walk.more) s c.walk.new.tables c.walk.new.listed old a.asks.calls before now
+    (walks_on w a.lines n s rest (Ok c.in-Ok-walk.more) c.walk.new.tables c.walk.new.listed old mid a.asks.calls before then now whole r
+    (e.gives m answered (c.in-Ok.ensures.on m b) l (whole_after w s rest old mid before then whole r)))
+    e.none
+
+pub returns-clause-gives : goal.returns-clause-gives
+returns-clause-gives g c = λ m answered b l whole.
+    let w = world_from m answered in
+    let n = c.args.ap in
+    let e = c.in-Err-walk.ensures in
+    let old = (g.A.Access.reported c.args.access.now).asks.calls in
+    let mid = (g.A.Access.reported c.arrive.new.access).asks.calls in
+    let a = g.A.Access.reported c.walk.new.access in
+    let before = g.K.Sink.written c.args.sink.now in
+    let then = g.K.Sink.written c.arrive.new.sink in
+    let now = g.K.Sink.written c.walk.new.sink in
+    let s = component 1024 n 7 c.args.address [] in
+    let rest = unwound 1024 n c.arrive.new.tables c.arrive.new.listed in
+    let r : Reaches w (component 1024 n 7 c.args.address []) old mid before then (unwound 1024 n c.arrive.new.tables c.arrive.new.listed) =
+    reaches_as w (reached 1024 n c.new-tables.result c.args.address c.new-listed.result) s rest old mid before then
+    (sym (root_at n c.args.address c.new-tables.result c.new-listed.result c.new-tables.ensures c.new-listed.ensures))
+    (c.in-Ok.ensures.gives m answered b (e.goes.left answered l) whole) in
+    lists_end w a.lines n s c.in-Err-walk.end c.walk.new.tables c.walk.new.listed old a.asks.calls before now
+    (walks_on w a.lines n s rest (Err c.in-Err-walk.end) c.walk.new.tables c.walk.new.listed old mid a.asks.calls before then now whole r
+    (e.gives m answered (c.in-Ok.ensures.on m b) l (whole_after w s rest old mid before then whole r)))
+
+pub returns-in-Ok-walk-clause-few : goal.returns-in-Ok-walk-clause-few
+returns-in-Ok-walk-clause-few g c =
+    let start = left_start c.new-tables.result c.new-listed.result c.new-tables.ensures c.new-listed.ensures in
+    let count = c.in-Ok.ensures.count in
+    let asked = c.in-Ok.ensures.asked in
+    let more = c.in-Ok-walk.ensures.count in
+    let all = c.in-Ok-walk.ensures.asked in
+    omega (arith, start, count, asked, more, all)
+
+pub returns-clause-cause : goal.returns-clause-cause
+returns-clause-cause g c =
+    caused_on (Err c.in-Err-walk.end) (g.K.Sink.faults c.args.sink.now) (g.K.Sink.faults c.arrive.new.sink) (g.K.Sink.faults c.walk.new.sink) c.in-Ok.ensures.cause c.in-Err-walk.ensures.cause

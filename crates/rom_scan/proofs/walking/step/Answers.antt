@@ -1,0 +1,58 @@
+use Rattle.std.proofs.Common.{◌∙◌, ◌∷◌, true, Ok, Err, refl, sym}
+use Rattle.access_calls.specs.Reported.{world_from}
+use Rattle.target_calls.specs.Asks.{unit_ask}
+use Rattle.sequels.proofs.MeetingLemmas.{whole_after}
+use Rattle.rom_scan.specs.Tables.{reached, unwound}
+use Rattle.rom_scan.proofs.StepLemmas.{step_ends, step_knows, step_passes, step_stops, step_visits, walks_on}
+use Rattle.rom_scan.proofs.walking.step.Goals as goal
+
+pub returns-in-Err-clause-gives : goal.returns-in-Err-clause-gives
+returns-in-Err-clause-gives g c = λ m answered b l whole.
+    step_stops (world_from m answered) c.args.ap c.args.table c.args.tables.now c.args.listed.now (g.A.Access.reported c.args.access.now).asks.calls (g.K.Sink.written c.args.sink.now) (unit_ask c.word_unit.result true) c.requires.some c.word_unit.ensures.asks
+    (g.A.Access.reported c.ask_now.new.access).lines (g.A.Access.reported c.ask_now.new.access).asks.calls c.in-Err.stop (c.in-Err.ensures.gives m answered (g.K.Sink.written c.args.sink.now) b l whole)
+
+pub returns-then-entry-eq0-clause-gives : goal.returns-then-entry-eq0-clause-gives
+returns-then-entry-eq0-clause-gives g c = λ m answered b l whole.
+    step_ends (world_from m answered) c.args.ap c.args.table c.args.tables.now c.args.listed.now (g.A.Access.reported c.args.access.now).asks.calls (g.K.Sink.written c.args.sink.now) (unit_ask c.word_unit.result true) c.requires.some c.word_unit.ensures.asks
+    (g.A.Access.reported c.ask_now.new.access).asks.calls c.in-Ok.entry (c.in-Ok.ensures.gives m answered (g.K.Sink.written c.args.sink.now) b l whole) c.args.tables.now refl c.if-entry-eq0.true
+
+pub returns-then-entry-eq0-2-clause-gives : goal.returns-then-entry-eq0-2-clause-gives
+returns-then-entry-eq0-2-clause-gives g c = λ m answered b l whole.
+    step_passes (world_from m answered) c.args.ap c.args.table c.args.tables.now c.args.listed.now (g.A.Access.reported c.args.access.now).asks.calls (g.K.Sink.written c.args.sink.now) (unit_ask c.word_unit.result true) c.requires.some c.word_unit.ensures.asks
+    (g.A.Access.reported c.ask_now.new.access).asks.calls c.in-Ok.entry (c.in-Ok.ensures.gives m answered (g.K.Sink.written c.args.sink.now) b l whole) c.push.new.self c.push.ensures c.if-entry-eq0.false c.if-entry-eq0-2.true
+
+pub returns-then-is_listed-clause-gives : goal.returns-then-is_listed-clause-gives
+returns-then-is_listed-clause-gives g c = λ m answered b l whole.
+    step_knows (world_from m answered) c.args.ap c.args.table c.args.tables.now c.args.listed.now (g.A.Access.reported c.args.access.now).asks.calls (g.K.Sink.written c.args.sink.now) (unit_ask c.word_unit.result true) c.requires.some c.word_unit.ensures.asks
+    (g.A.Access.reported c.ask_now.new.access).asks.calls c.in-Ok.entry (c.in-Ok.ensures.gives m answered (g.K.Sink.written c.args.sink.now) b l whole) c.push.new.self c.push.ensures c.if-entry-eq0.false c.if-entry-eq0-2.false
+    (rw (← c.named_by-address.ensures.named) (rw (← c.as_slice.ensures) (sym c.is_listed.ensures ∙ c.if-is_listed.true)))
+
+pub returns-in-Ok-arrive-clause-gives : goal.returns-in-Ok-arrive-clause-gives
+returns-in-Ok-arrive-clause-gives g c = λ m answered b l whole.
+    let w = world_from m answered in
+    let old = (g.A.Access.reported c.args.access.now).asks.calls in
+    let mid = (g.A.Access.reported c.ask_now.new.access).asks.calls in
+    let before = g.K.Sink.written c.args.sink.now in
+    let l2 = c.in-Ok-arrive.ensures.goes.left answered l in
+    let r = step_visits w c.args.ap c.args.table c.args.tables.now c.args.listed.now old before (unit_ask c.word_unit.result true) c.requires.some c.word_unit.ensures.asks
+    mid c.in-Ok.entry (c.in-Ok.ensures.gives m answered before b l2 whole) c.push.new.self c.named_by-address.result c.push.ensures c.named_by-address.ensures.named c.if-entry-eq0.false c.if-entry-eq0-2.false
+    (rw (← c.named_by-address.ensures.named) (rw (← c.as_slice.ensures) (sym c.is_listed.ensures ∙ c.if-is_listed.false))) in
+    walks_on w (g.A.Access.reported c.arrive.new.access).lines c.args.ap (unwound 1024 c.args.ap (c.args.table ∷ c.args.tables.now) c.args.listed.now) (reached 1024 c.args.ap c.push.new.self c.named_by-address.result c.args.listed.now) (Ok c.in-Ok-arrive.words)
+    c.arrive.new.tables c.arrive.new.listed old mid (g.A.Access.reported c.arrive.new.access).asks.calls before before (g.K.Sink.written c.arrive.new.sink) whole r
+    (c.in-Ok-arrive.ensures.gives m answered (c.in-Ok.ensures.on m b) l
+    (whole_after w (unwound 1024 c.args.ap (c.args.table ∷ c.args.tables.now) c.args.listed.now) (reached 1024 c.args.ap c.push.new.self c.named_by-address.result c.args.listed.now) old mid before before whole r))
+
+pub returns-in-Err-arrive-clause-gives : goal.returns-in-Err-arrive-clause-gives
+returns-in-Err-arrive-clause-gives g c = λ m answered b l whole.
+    let w = world_from m answered in
+    let old = (g.A.Access.reported c.args.access.now).asks.calls in
+    let mid = (g.A.Access.reported c.ask_now.new.access).asks.calls in
+    let before = g.K.Sink.written c.args.sink.now in
+    let l2 = c.in-Err-arrive.ensures.goes.left answered l in
+    let r = step_visits w c.args.ap c.args.table c.args.tables.now c.args.listed.now old before (unit_ask c.word_unit.result true) c.requires.some c.word_unit.ensures.asks
+    mid c.in-Ok.entry (c.in-Ok.ensures.gives m answered before b l2 whole) c.push.new.self c.named_by-address.result c.push.ensures c.named_by-address.ensures.named c.if-entry-eq0.false c.if-entry-eq0-2.false
+    (rw (← c.named_by-address.ensures.named) (rw (← c.as_slice.ensures) (sym c.is_listed.ensures ∙ c.if-is_listed.false))) in
+    walks_on w (g.A.Access.reported c.arrive.new.access).lines c.args.ap (unwound 1024 c.args.ap (c.args.table ∷ c.args.tables.now) c.args.listed.now) (reached 1024 c.args.ap c.push.new.self c.named_by-address.result c.args.listed.now) (Err c.in-Err-arrive.end)
+    c.arrive.new.tables c.arrive.new.listed old mid (g.A.Access.reported c.arrive.new.access).asks.calls before before (g.K.Sink.written c.arrive.new.sink) whole r
+    (c.in-Err-arrive.ensures.gives m answered (c.in-Ok.ensures.on m b) l
+    (whole_after w (unwound 1024 c.args.ap (c.args.table ∷ c.args.tables.now) c.args.listed.now) (reached 1024 c.args.ap c.push.new.self c.named_by-address.result c.args.listed.now) old mid before before whole r))

@@ -1,0 +1,104 @@
+use Rattle.std.proofs.Common.{◌≡◌, ◌∙◌, ◌∷◌, ℕ, List, suc, length, Err, refl, ap, subst, arith}
+use Rattle.std.specs.List.{All}
+use Rattle.std.proofs.lemmas.List.Elements.{All-tail}
+use Rattle.access_calls.proofs.KeepLemmas.{goes_same, goes_trans}
+use Rattle.access_calls.specs.Reported.{world_from}
+use Rattle.sequels.specs.Meeting.{Reaches}
+use Rattle.sequels.proofs.MeetingLemmas.{reaches_on, reaches_same, reaches_to, whole_after}
+use Rattle.rom_scan.specs.Arrivals.{HasSinkCause, IsOpen, left_of}
+use Rattle.rom_scan.specs.Tables.{unwound}
+use Rattle.rom_scan.specs.declared.tables.Table.{Table}
+use Rattle.rom_scan.proofs.StepLemmas.{closed_table, left_tail, walks_on}
+use Rattle.rom_scan.proofs.walking.walk.Goals as goal
+
+pub tables-init : goal.tables-init
+tables-init g c = record {
+  so_far = λ m answered b l whole. reaches_same (world_from m answered) (unwound 1024 c.args.ap c.args.tables.now c.args.listed.now) (g.A.Access.reported c.args.access.now).asks.calls (g.K.Sink.written c.args.sink.now);
+  sound = c.requires.tables;
+  deep = c.requires.deep;
+  count = omega arith;
+  asked = omega arith;
+  faults = refl;
+  ended = c.requires.open;
+  on = λ m b. b;
+  identity = refl;
+  goes = goes_same _;
+}
+
+pub tables-preserved-in-Ok : goal.tables-preserved-in-Ok
+tables-preserved-in-Ok g c =
+    let inv = c.tables.invariant in
+    let e = c.in-Ok.ensures in
+    let n = c.args.ap in
+    let old = (g.A.Access.reported c.args.access.now).asks.calls in
+    let mid = (g.A.Access.reported c.tables.access).asks.calls in
+    let new = (g.A.Access.reported c.step.new.access).asks.calls in
+    let all = unwound 1024 n c.args.tables.now c.args.listed.now in
+    record {
+      so_far = λ m answered b l whole.
+          let w = world_from m answered in
+          let r = inv.so_far m answered b (e.goes.left answered l) whole in
+          let q = subst (λ (ts : List Table). Reaches w (unwound 1024 n c.args.tables.now c.args.listed.now) old mid (g.K.Sink.written c.args.sink.now) (g.K.Sink.written c.tables.sink) (unwound 1024 n ts c.tables.listed)) c.in-Some.ensures r in
+          reaches_on w (unwound 1024 n c.args.tables.now c.args.listed.now) (unwound 1024 n (c.in-Some.table ∷ c.pop.new.self) c.tables.listed) (unwound 1024 n c.step.new.tables c.step.new.listed) old mid new
+          (g.K.Sink.written c.args.sink.now) (g.K.Sink.written c.tables.sink) (g.K.Sink.written c.step.new.sink) whole q
+          (e.gives m answered (inv.on m b) l (whole_after w (unwound 1024 n c.args.tables.now c.args.listed.now) (unwound 1024 n c.tables.tables c.tables.listed) old mid (g.K.Sink.written c.args.sink.now) (g.K.Sink.written c.tables.sink) whole r));
+      sound = e.open (All-tail IsOpen c.in-Some.table c.pop.new.self (subst (λ (ts : List Table). All IsOpen ts) c.in-Some.ensures inv.sound));
+      deep = e.deep;
+      count =
+          let a = e.count in
+          let d = inv.count in
+          let same : left_of c.tables.tables c.tables.listed ≡ left_of (c.in-Some.table ∷ c.pop.new.self) c.tables.listed = ap (λ (ts : List Table). left_of ts c.tables.listed) c.in-Some.ensures in
+          omega (arith, a, d, same);
+      asked = (let a = e.asked in let b = inv.asked in omega (arith, a, b));
+      faults = e.cause ∙ inv.faults;
+      ended = e.end;
+      on = λ m b. e.on m (inv.on m b);
+      identity = e.identity ∙ inv.identity;
+      goes = goes_trans _ _ _ inv.goes e.goes;
+    }
+
+pub returns-in-Err-clause-gives : goal.returns-in-Err-clause-gives
+returns-in-Err-clause-gives g c = λ m answered b l whole.
+    let inv = c.tables.invariant in
+    let e = c.in-Err.ensures in
+    let w = world_from m answered in
+    let n = c.args.ap in
+    let old = (g.A.Access.reported c.args.access.now).asks.calls in
+    let mid = (g.A.Access.reported c.tables.access).asks.calls in
+    let new = (g.A.Access.reported c.step.new.access).asks.calls in
+    let r = inv.so_far m answered b (e.goes.left answered l) whole in
+    let q = subst (λ (ts : List Table). Reaches w (unwound 1024 n c.args.tables.now c.args.listed.now) old mid (g.K.Sink.written c.args.sink.now) (g.K.Sink.written c.tables.sink) (unwound 1024 n ts c.tables.listed)) c.in-Some.ensures r in
+    walks_on w (g.A.Access.reported c.step.new.access).lines n (unwound 1024 n c.args.tables.now c.args.listed.now) (unwound 1024 n (c.in-Some.table ∷ c.pop.new.self) c.tables.listed) (Err c.in-Err.end) c.step.new.tables c.step.new.listed old mid new
+    (g.K.Sink.written c.args.sink.now) (g.K.Sink.written c.tables.sink) (g.K.Sink.written c.step.new.sink) whole q
+    (e.gives m answered (inv.on m b) l (whole_after w (unwound 1024 n c.args.tables.now c.args.listed.now) (unwound 1024 n c.tables.tables c.tables.listed) old mid (g.K.Sink.written c.args.sink.now) (g.K.Sink.written c.tables.sink) whole r))
+
+pub returns-in-Err-clause-cause : goal.returns-in-Err-clause-cause
+returns-in-Err-clause-cause g c = subst (λ (k : ℕ). HasSinkCause (Err c.in-Err.end) k (g.K.Sink.faults c.step.new.sink)) c.tables.invariant.faults c.in-Err.ensures.cause
+
+pub tables-preserved : goal.tables-preserved
+tables-preserved g c =
+    let inv = c.tables.invariant in
+    let n = c.args.ap in
+    let none : c.in-Some.table.left ≡ 0 = (let le = c.if-table-gt0.false in omega (arith, le)) in
+    let old = (g.A.Access.reported c.args.access.now).asks.calls in
+    let mid = (g.A.Access.reported c.tables.access).asks.calls in
+    record {
+      so_far = λ m answered b l whole.
+          let w = world_from m answered in
+          reaches_to w (unwound 1024 n c.args.tables.now c.args.listed.now) (unwound 1024 n c.tables.tables c.tables.listed) (unwound 1024 n c.pop.new.self c.tables.listed) old mid (g.K.Sink.written c.args.sink.now) (g.K.Sink.written c.tables.sink)
+          (ap (λ (ts : List Table). unwound 1024 n ts c.tables.listed) c.in-Some.ensures ∙ closed_table n c.in-Some.table c.pop.new.self c.tables.listed none)
+          (inv.so_far m answered b l whole);
+      sound = All-tail IsOpen c.in-Some.table c.pop.new.self (subst (λ (ts : List Table). All IsOpen ts) c.in-Some.ensures inv.sound);
+      deep = (let long : length c.tables.tables ≡ suc (length c.pop.new.self) = ap (λ (ts : List Table). length ts) c.in-Some.ensures in let le = inv.deep in omega (arith, long, le));
+      count =
+          let d = inv.count in
+          let same : left_of c.tables.tables c.tables.listed ≡ left_of (c.in-Some.table ∷ c.pop.new.self) c.tables.listed = ap (λ (ts : List Table). left_of ts c.tables.listed) c.in-Some.ensures in
+          let less = left_tail c.in-Some.table c.pop.new.self c.tables.listed in
+          omega (arith, d, same, less);
+      asked = inv.asked;
+      faults = inv.faults;
+      ended = inv.ended;
+      on = inv.on;
+      identity = inv.identity;
+      goes = inv.goes;
+    }

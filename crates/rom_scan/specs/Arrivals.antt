@@ -1,0 +1,46 @@
+-- How a walk goes on, and how much of it is left.
+use Rattle.std.specs.Prelude.{◌≡◌, ℕ, ◌+◌, ◌-◌, ◌*◌, ◌%◌, ◌≤◌, sum_by, length, List, Option, None, Result, Ok, Err}
+use Rattle.dap_base.specs.Causes.{Rose}
+use Rattle.target_calls.specs.World.{World}
+use Rattle.target_calls.specs.declared.calls.Ask.{Ask}
+use Rattle.access_calls.specs.declared.stop.Stop.{Stop}
+use Rattle.sequels.specs.Meeting.{Gave, LeftOff, Reaches}
+use Rattle.rom_scan.specs.Meets.{EndsBy, StopsIn}
+use Rattle.sequels.specs.Sequel.{Sequel}
+use Rattle.rom_scan.specs.Tables.{unwound}
+use Rattle.rom_scan.specs.Walk as walk
+use Rattle.rom_scan.specs.Walk.{Walked}
+use Rattle.rom_scan.specs.declared.component.Component.{Component}
+use Rattle.rom_scan.specs.declared.tables.Table.{Table}
+use Rattle.rom_scan.specs.declared.scan_end.ScanEnd.{ScanEnd}
+use Rattle.rom_scan.specs.declared.scan_end.ScanEnd.TheVariants as e
+
+-- a sequel goes on with the tables that are open now; or there were too many; or it was left off
+abbrev pub Walks : World → ℕ → ℕ → Sequel Walked → Result ℕ ScanEnd → List Table → List Component → List Ask → List Ask → Option (List ℕ) → Option (List ℕ) → Type 0
+Walks w lines ap s (Ok n) opening more old new before now = Reaches w s old new before now (unwound 1024 ap opening more)
+Walks w lines ap s (Err e.Full) opening more old new before now = Gave w s old new before now walk.Full
+Walks w lines ap s (Err e.WriteFault) opening more old new before now = LeftOff w s old new before now
+Walks w lines ap s (Err (e.Stop st)) opening more old new before now = StopsIn w lines s old new before now st
+
+-- the access has ended where it stopped, and else it goes on
+abbrev pub ScanEndIs : {A : Type 0} → Result A ScanEnd → Option Stop → Type 0
+ScanEndIs (Ok x) end = end ≡ None
+ScanEndIs (Err e.Full) end = end ≡ None
+ScanEndIs (Err e.WriteFault) end = end ≡ None
+ScanEndIs (Err (e.Stop s)) end = EndsBy s end
+
+-- the sink's count of faults rose, or stands at its last value, where the sink failed, and else it is the same
+abbrev pub HasSinkCause : Result ℕ ScanEnd → ℕ → ℕ → Type 0
+HasSinkCause (Ok n) before now = now ≡ before
+HasSinkCause (Err e.Full) before now = now ≡ before
+HasSinkCause (Err e.WriteFault) before now = Rose before now
+HasSinkCause (Err (e.Stop s)) before now = now ≡ before
+
+-- how many entries and components are left to be read, at most: a component that is read takes 970, and its table gives 961
+abbrev pub left_of : List Table → List Component → ℕ
+left_of tables listed = 970 * (1024 - length listed) + sum_by (λ (t : Table). t.left + 1) tables
+
+-- the table stands at a page, and has at most 960 entries left
+pub record IsOpen (t : Table) : Type 0 where
+  pub page : t.address % 4096 ≡ 0
+  pub few : t.left ≤ 960

@@ -1,0 +1,17 @@
+//! The components of an access port: its ROM tables, walked over any access.
+#![tactic(auto)]
+
+mod asking;
+mod component;
+pub mod laws;
+mod lines;
+mod reading;
+mod scan_end;
+mod scanning;
+mod tables;
+mod walking;
+
+pub use component::{Component, Known};
+pub use scan_end::ScanEnd;
+pub use scanning::scan;
+pub use tables::Table;

@@ -1,0 +1,111 @@
+//! One component.
+ghost use Rattle.std.specs.Prelude.{◌≡◌, ◌+◌, ◌≤◌, ◌%◌, ◌^◌, ℕ, List, Option, None, length, slice_index, IfOk};
+ghost use Rattle.probe_core.specs.Bench.{BenchState};
+ghost use Rattle.target_calls.specs.World.{stop};
+ghost use Rattle.access_calls.specs.GoesOn.{GoesOn};
+ghost use Rattle.access_calls.specs.Left.{IsLeft};
+ghost use Rattle.access_calls.specs.Reported.{world_from};
+ghost use Rattle.rom_scan.specs.Components.{component_at, is_known, known_as, words_of};
+ghost use Rattle.rom_scan.specs.Meets.{EndIs, Gives};
+
+use crate::asking::read_words;
+use crate::component::{Component, Known};
+use access_calls::{Access, Stop};
+
+// The low byte of a word.
+fn low(word: u32) -> u8
+    ensures { result ≡ word % 256 }
+{
+    (word % 256) as u8
+}
+
+// Whether the words are those of a component that is known.
+fn is_known(cidr: &[u32]) -> bool
+    requires { length cidr.now ≡ 4 }
+    ensures { result ≡ is_known cidr.now }
+{
+    low(cidr[0]) == 0x0D && low(cidr[1]) % 16 == 0 && low(cidr[2]) == 0x05 && low(cidr[3]) == 0xB1
+}
+
+// A component by its words.
+fn known_as(address: u32, depth: u8, cidr: &[u32], fourth: &[u32], first: &[u32]) -> Component
+    requires cidr { length cidr.now ≡ 4 }
+    requires fourth { length fourth.now ≡ 1 }
+    requires first { length first.now ≡ 4 }
+    ensures { result ≡ known_as address depth cidr.now fourth.now first.now }
+{
+    Component {
+        address,
+        depth,
+        known: Some(Known {
+            class: low(cidr[1]) / 16,
+            id: [
+                low(fourth[0]),
+                low(first[3]),
+                low(first[2]),
+                low(first[1]),
+                low(first[0]),
+            ],
+        }),
+    }
+}
+
+// How many words are read of a component.
+pub(crate) fn words_of(component: Component) -> u32
+    ensures words { result ≡ words_of component.known }
+    ensures few { result ≤ 9 }
+{
+    match component.known {
+        Some(_) => 9,
+        None => 4,
+    }
+}
+
+// What is read of a component.
+#[tactic(auto, using(access_calls::proofs::KeepLemmas::goes_trans))]
+pub(crate) fn read_component<A: Access>(
+    ap: u8,
+    address: u32,
+    depth: u8,
+    access: &mut A,
+) -> Result<Component, Stop>
+    requires page { address % 4096 ≡ 0 }
+    requires few { length (A.reported access.old).asks.calls ≤ 8000000 }
+    requires open { (A.reported access.old).end ≡ None }
+    ensures gives { (m : BenchState) (answered : Option ℕ) (written : Option (List ℕ)) → A.begun access.old m → IsLeft (A.reported access.new) answered
+        → stop (world_from m answered) (A.reported access.old).asks.calls ≡ None
+        → Gives (world_from m answered) (A.reported access.new).lines (component_at ap address depth) result (A.reported access.old).asks.calls (A.reported access.new).asks.calls written written }
+    ensures address { IfOk result (λ c. c.address ≡ address) }
+    ensures count { IfOk result (λ c. length (A.reported access.new).asks.calls ≡ length (A.reported access.old).asks.calls + words_of c.known) }
+    ensures end { EndIs result (A.reported access.new).end }
+    ensures on { (m : BenchState) → A.begun access.old m → A.begun access.new m }
+    ensures identity { A.identity access.new ≡ A.identity access.old }
+    ensures goes { GoesOn (A.reported access.old) (A.reported access.new) }
+{
+    let cidr = match read_words(ap, address + 0xFF0, 4, access) {
+        Ok(words) => words,
+        Err(stop) => return Err(stop),
+    };
+    if !is_known(cidr.as_slice()) {
+        return Ok(Component {
+            address,
+            depth,
+            known: None,
+        });
+    }
+    let fourth = match read_words(ap, address + 0xFD0, 1, access) {
+        Ok(words) => words,
+        Err(stop) => return Err(stop),
+    };
+    let first = match read_words(ap, address + 0xFE0, 4, access) {
+        Ok(words) => words,
+        Err(stop) => return Err(stop),
+    };
+    Ok(known_as(
+        address,
+        depth,
+        cidr.as_slice(),
+        fourth.as_slice(),
+        first.as_slice(),
+    ))
+}

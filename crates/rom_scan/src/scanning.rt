@@ -1,0 +1,146 @@
+//! A whole scan.
+ghost use Rattle.std.specs.Prelude.{◌≡◌, ◌+◌, ◌≤◌, ◌%◌, ℕ, List, Option, None, [], length, IfOk};
+ghost use Rattle.probe_core.specs.Bench.{BenchState};
+ghost use Rattle.target_calls.specs.World.{stop};
+ghost use Rattle.access_calls.specs.GoesOn.{GoesOn};
+ghost use Rattle.access_calls.specs.Left.{IsLeft};
+ghost use Rattle.access_calls.specs.Reported.{world_from};
+ghost use Rattle.rom_scan.specs.Arrivals.{HasSinkCause, ScanEndIs};
+ghost use Rattle.rom_scan.specs.Components.{is_no_base, page};
+ghost use Rattle.rom_scan.specs.Scans.{Lists, Scans};
+ghost use Rattle.rom_scan.specs.Walk.{component, scanned};
+
+use crate::asking::{ask_now, base_unit};
+use crate::scan_end::ScanEnd;
+use crate::tables::OpenTables;
+use crate::walking::{arrive, walk};
+use access_calls::Access;
+use dap_base::{ItemList, Sink};
+use std::alloc::Global;
+
+// Whether the base of a table names no component.
+fn is_no_base(base: u32) -> bool
+    ensures { result ≡ is_no_base base }
+{
+    base == 0xFFFF_FFFF || base % 4 == 2 || base == 0
+}
+
+// The page of a base: its low 12 bits are 0.
+fn page_of(base: u32) -> u32
+    ensures page { result ≡ page base }
+    ensures aligned { result % 4096 ≡ 0 }
+{
+    base / 4096 * 4096
+}
+
+// The root at an address, and all below it. Answers how many units were asked.
+#[tactic(auto, using(access_calls::proofs::KeepLemmas::goes_trans))]
+fn list_from<A: Access, K: Sink>(
+    alloc: Global,
+    ap: u8,
+    address: u32,
+    access: &mut A,
+    sink: &mut K,
+) -> Result<u32, ScanEnd>
+    requires page { address % 4096 ≡ 0 }
+    requires few { length (A.reported access.old).asks.calls ≤ 1000001 }
+    requires open { (A.reported access.old).end ≡ None }
+    ensures gives { (m : BenchState) (answered : Option ℕ) → A.begun access.old m → IsLeft (A.reported access.new) answered
+        → stop (world_from m answered) (A.reported access.old).asks.calls ≡ None
+        → Lists (world_from m answered) (A.reported access.new).lines (component 1024 ap 7 address []) result (A.reported access.old).asks.calls (A.reported access.new).asks.calls (K.written sink.old) (K.written sink.new) }
+    ensures asked { IfOk result (λ n. length (A.reported access.new).asks.calls ≡ length (A.reported access.old).asks.calls + n) }
+    ensures few { IfOk result (λ n. n ≤ 993280) }
+    ensures cause { HasSinkCause result (K.faults sink.old) (K.faults sink.new) }
+    ensures end { ScanEndIs result (A.reported access.new).end }
+    ensures on { (m : BenchState) → A.begun access.old m → A.begun access.new m }
+    ensures identity { A.identity access.new ≡ A.identity access.old }
+    ensures goes { GoesOn (A.reported access.old) (A.reported access.new) }
+{
+    let mut tables = OpenTables::new();
+    let mut listed = ItemList::new(alloc);
+    let words = match arrive(alloc, ap, address, &mut tables, &mut listed, access, sink) {
+        Ok(words) => words,
+        Err(end) => return Err(end),
+    };
+    match walk(alloc, ap, &mut tables, &mut listed, access, sink) {
+        Ok(more) => Ok(words + more),
+        Err(end) => Err(end),
+    }
+}
+
+// A scan up to its last unit. Answers how many units were asked.
+#[tactic(auto, using(access_calls::proofs::KeepLemmas::goes_trans))]
+fn list_all<A: Access, K: Sink>(
+    alloc: Global,
+    ap: u8,
+    access: &mut A,
+    sink: &mut K,
+) -> Result<u32, ScanEnd>
+    requires few { length (A.reported access.old).asks.calls ≤ 1000000 }
+    requires open { (A.reported access.old).end ≡ None }
+    ensures gives { (m : BenchState) (answered : Option ℕ) → A.begun access.old m → IsLeft (A.reported access.new) answered
+        → stop (world_from m answered) (A.reported access.old).asks.calls ≡ None
+        → Lists (world_from m answered) (A.reported access.new).lines (scanned 1024 ap) result (A.reported access.old).asks.calls (A.reported access.new).asks.calls (K.written sink.old) (K.written sink.new) }
+    ensures asked { IfOk result (λ n. length (A.reported access.new).asks.calls ≡ length (A.reported access.old).asks.calls + n) }
+    ensures few { IfOk result (λ n. n ≤ 993281) }
+    ensures cause { HasSinkCause result (K.faults sink.old) (K.faults sink.new) }
+    ensures end { ScanEndIs result (A.reported access.new).end }
+    ensures on { (m : BenchState) → A.begun access.old m → A.begun access.new m }
+    ensures identity { A.identity access.new ≡ A.identity access.old }
+    ensures goes { GoesOn (A.reported access.old) (A.reported access.new) }
+{
+    let base = match ask_now(base_unit(ap), access) {
+        Ok(base) => base,
+        Err(stop) => return Err(ScanEnd::Stop(stop)),
+    };
+    if is_no_base(base) {
+        return Ok(1);
+    }
+    match list_from(alloc, ap, page_of(base), access, sink) {
+        Ok(more) => Ok(1 + more),
+        Err(end) => Err(end),
+    }
+}
+
+/// Reads the base of an access port, and then the component there and all that its ROM tables name, down to depth 8. Writes a line for
+/// each component. `ap` is the number of the access port. At most 1,000,000 calls may have been asked of the access before, and it has no
+/// end yet.
+///
+/// Each unit is read alone, and forgives a fault: a word that cannot be read counts as 0. Answers the number of units that it asked, at
+/// most 993,281. A `finish` is made after the last one, also at `Full`.
+///
+/// `Full` comes exactly where a component would be read after 1,024. `WriteFault` comes only where the sink failed; a part of the
+/// lines was then written, and the access goes on. `Stop` has the end of the access, or says that memory was refused.
+#[tactic(auto, using(access_calls::proofs::KeepLemmas::goes_trans))]
+pub fn scan<A: Access, K: Sink>(
+    alloc: Global,
+    ap: u8,
+    access: &mut A,
+    sink: &mut K,
+) -> Result<u32, ScanEnd>
+    requires few { length (A.reported access.old).asks.calls ≤ 1000000 }
+    requires open { (A.reported access.old).end ≡ None }
+    ensures gives { (m : BenchState) (answered : Option ℕ) → A.begun access.old m → IsLeft (A.reported access.new) answered
+        → stop (world_from m answered) (A.reported access.old).asks.calls ≡ None
+        → Scans (world_from m answered) (A.reported access.new).lines ap result (A.reported access.old).asks.calls (A.reported access.new).asks.calls (K.written sink.old) (K.written sink.new) }
+    ensures asked { IfOk result (λ n. length (A.reported access.new).asks.calls ≡ length (A.reported access.old).asks.calls + n) }
+    ensures few { IfOk result (λ n. n ≤ 993281) }
+    ensures cause { HasSinkCause result (K.faults sink.old) (K.faults sink.new) }
+    ensures end { ScanEndIs result (A.reported access.new).end }
+    ensures on { (m : BenchState) → A.begun access.old m → A.begun access.new m }
+    ensures identity { A.identity access.new ≡ A.identity access.old }
+    ensures goes { GoesOn (A.reported access.old) (A.reported access.new) }
+{
+    match list_all(alloc, ap, access, sink) {
+        Ok(units) => match access.finish() {
+            Ok(()) => Ok(units),
+            Err(stop) => Err(ScanEnd::Stop(stop)),
+        },
+        Err(ScanEnd::Full) => match access.finish() {
+            Ok(()) => Err(ScanEnd::Full),
+            Err(stop) => Err(ScanEnd::Stop(stop)),
+        },
+        Err(ScanEnd::WriteFault) => Err(ScanEnd::WriteFault),
+        Err(ScanEnd::Stop(stop)) => Err(ScanEnd::Stop(stop)),
+    }
+}
