@@ -7,7 +7,8 @@ use Rattle.command_words.specs.Table.{IsCommand}
 use Rattle.sequence_resolve.specs.declared.selection.Selection.{Selection}
 use Rattle.job_check.specs.declared.running.RunRefusal.{RunRefusal}
 use Rattle.job_check.specs.declared.running.RunRefusal.TheVariants as refusals
-use Rattle.job_check.specs.Running.{IsRefusedRun, not_described, not_resolved, not_named, not_valid}
+use Rattle.job_check.specs.Running.{IsRefusedRun}
+use Rattle.job_check.proofs.RunningLemmas.{never_memory}
 use Rattle.job_check.proofs.SomeAnswer.{some_answer}
 use Rattle.job_check.proofs.SomeRun.{run_or_refusal}
 use Rattle.dapseq_tool.specs.Generated.{its_device, its_sequence, job_text}
@@ -19,21 +20,12 @@ use Rattle.dapseq_tool.specs.Asked.{limit, ReadsSource, of_check, AsksOfRun, Ask
 use Rattle.dapseq_tool.proofs.JobLength.{job_few}
 use Rattle.command_words.proofs.SomeCommand.{command_or_none}
 
--- no run is refused for want of memory
-never_memory : (bytes : List ℕ) (s : Selection) (name : List ℕ) → IsRefusedRun bytes s name refusals.OutOfMemory → ⊥
-never_memory bytes s name is = elim is [
-  | not_described r none e ↦ absurd cc
-  | not_resolved job r described none e ↦ absurd cc
-  | not_named set of none e ↦ absurd cc
-  | not_valid set r of named none e ↦ absurd cc
-]
-
 module _ (s : Selection) (sequence : List ℕ) (traced : Bool) (bytes : List ℕ) where
   -- the answer where no sequence runs
   no_run : (end : RunRefusal) → IsRefusedRun bytes s sequence end → (what : What) × AsksOfRun s sequence traced bytes what
   no_run (refusals.Refused r) is = (whats.Answer (answers.Refused r), is)
   no_run refusals.NoSequence is = (whats.Answer answers.NoSequence, is)
-  no_run refusals.OutOfMemory is = absurd (never_memory bytes s sequence is)
+  no_run refusals.OutOfMemory is = absurd (never_memory bytes s sequence refusals.OutOfMemory is refl)
 
   of_run : length bytes < 2 ^ 63 → (what : What) × AsksOfRun s sequence traced bytes what
   of_run few = elim (run_or_refusal bytes s sequence few) [

@@ -1,3 +1,4 @@
 pub mod WatchLemmas
 pub mod RowLemmas
 pub mod TraceLemmas
+pub mod ViewLemmas

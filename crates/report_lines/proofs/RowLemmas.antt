@@ -1,5 +1,6 @@
--- Lines that are put in a row, each of what a bench shows.
-use Rattle.std.proofs.Common.{◌≡◌, ◌∙◌, ◌+◌, ◌-◌, ◌<◌, ℕ, zero, suc, List, ◌++◌, Option, None, Some, Result, Err, IfSome, take, slice_get, subst, refl, arith}
+-- Lines that are put in a row, each of a part of a target.
+use Rattle.std.proofs.Common.{◌≡◌, ◌∙◌, ◌+◌, ◌-◌, ◌<◌, ℕ, zero, suc, List, ◌++◌, Option, None, Some, Result, Ok, Err, IfSome, ap, take, slice_get, subst, refl, arith}
+use Rattle.std.specs.Prelude.{IfErr, ◌≢◌}
 use Rattle.std.proofs.KnownBytes.{Appends-trans}
 use Rattle.std.specs.Io.KnownBytes.{Appends}
 use Rattle.std.specs.List.{flat_map}
@@ -8,6 +9,10 @@ use Rattle.target_machine.specs.State.{TargetState}
 use Rattle.probe_core.specs.Bench.{BenchState, IsAsBefore, Seen}
 use Rattle.probe_core.specs.Probe.{target_of}
 use Rattle.report_lines.specs.Target.{lines_below}
+use Rattle.report_lines.specs.Views.{IsViewedAsBefore, View, target_in}
+use Rattle.text_lines.specs.Causes.{NamesFault}
+use Rattle.report_lines.specs.declared.put.TextEnd.{TextEnd}
+use Rattle.report_lines.specs.declared.put.TextEnd.TheVariants as ends
 use Rattle.text_lines.proofs.PutLemmas.{prefix_first, put_after}
 use Rattle.text_lines.proofs.RowLemmas.{row_cut}
 
@@ -15,22 +20,40 @@ use Rattle.text_lines.proofs.RowLemmas.{row_cut}
 pub before-trans : (a b c : Seen) → IsAsBefore a b → IsAsBefore b c → IsAsBefore a c
 before-trans a b c first second = record { reported = grind (arith, first.reported, second.reported); state = second.state ∙ first.state }
 
--- a text of a target, and a part of it, where the bench is observable
-abbrev pub Wrote : Option BenchState → (TargetState → List ℕ) → Option (List ℕ) → Option (List ℕ) → Type 0
-Wrote state text old new = IfSome state (λ m. Appends old new (text (target_of m.probe)))
+-- what shows a target that is twice as it was before
+pub viewed-trans : (a b c : View) → IsViewedAsBefore a b → IsViewedAsBefore b c → IsViewedAsBefore a c
+viewed-trans a b c first second = record {
+  target = second.target ∙ first.target;
+  bench = before-trans a.bench b.bench c.bench first.bench second.bench;
+  identity = second.identity ∙ first.identity;
+}
 
-abbrev pub Began : Option BenchState → (TargetState → List ℕ) → Option (List ℕ) → Option (List ℕ) → Type 0
-Began state text old new = IfSome state (λ m. AppendsPrefix old new (text (target_of m.probe)))
+-- what is known of the target of a bench
+pub of_bench : (s : Option BenchState) (P : TargetState → Type 0) → IfSome (target_in s) P → IfSome s (λ m. P (target_of m.probe))
+of_bench None P h = tt
+of_bench (Some m) P h = h
 
--- what is known of a state is known of one that is the same
-pub wrote_same : (s t : Option BenchState) (text : TargetState → List ℕ) (a b : Option (List ℕ)) → s ≡ t → Wrote s text a b → Wrote t text a b
+-- where no fault is counted, none is named
+pub never_fails : (r : Result (Unit {0}) TextEnd) → NamesFault ends.BenchFault 0 0 r → IfErr r (λ e. e ≢ ends.BenchFault)
+never_fails (Ok u) h = tt
+never_fails (Err e) h = λ is. (let rose = h.failed (ap Err is) in absurd (omega (arith, rose)))
+
+-- a text of a target, and a part of it, where it is observable
+abbrev pub Wrote : Option TargetState → (TargetState → List ℕ) → Option (List ℕ) → Option (List ℕ) → Type 0
+Wrote target text old new = IfSome target (λ t. Appends old new (text t))
+
+abbrev pub Began : Option TargetState → (TargetState → List ℕ) → Option (List ℕ) → Option (List ℕ) → Type 0
+Began target text old new = IfSome target (λ t. AppendsPrefix old new (text t))
+
+-- what is known of a target is known of one that is the same
+pub wrote_same : (s t : Option TargetState) (text : TargetState → List ℕ) (a b : Option (List ℕ)) → s ≡ t → Wrote s text a b → Wrote t text a b
 wrote_same s t text a b same wrote = subst (λ u. Wrote u text a b) same wrote
 
-pub began_same : (s t : Option BenchState) (text : TargetState → List ℕ) (a b : Option (List ℕ)) → s ≡ t → Began s text a b → Began t text a b
+pub began_same : (s t : Option TargetState) (text : TargetState → List ℕ) (a b : Option (List ℕ)) → s ≡ t → Began s text a b → Began t text a b
 began_same s t text a b same began = subst (λ u. Began u text a b) same began
 
-pub put_same : {E : Type 0} (s t : Option BenchState) (a b : Option (List ℕ)) (r : Result (Unit {0}) E) (text : TargetState → List ℕ) → s ≡ t → IfSome s (λ m. PutAppends a b r (text (target_of m.probe))) → IfSome t (λ m. PutAppends a b r (text (target_of m.probe)))
-put_same s t a b r text same put = subst (λ u. IfSome u (λ m. PutAppends a b r (text (target_of m.probe)))) same put
+pub put_same : {E : Type 0} (s t : Option TargetState) (a b : Option (List ℕ)) (r : Result (Unit {0}) E) (text : TargetState → List ℕ) → s ≡ t → IfSome s (λ t. PutAppends a b r (text t)) → IfSome t (λ t. PutAppends a b r (text t))
+put_same s t a b r text same put = subst (λ u. IfSome u (λ t. PutAppends a b r (text t))) same put
 
 -- ---- the lines of numbers
 
@@ -45,40 +68,40 @@ below_front line n (suc k) a b part =
     rw more (prefix_first a b (lines_below line (k + n)) (line (k + n)) (below_front line n k a b part))
 
 -- one number more
-pub below_more : (s : Option BenchState) (a b c : Option (List ℕ)) (line : TargetState → ℕ → List ℕ) (n : ℕ) → Wrote s (λ t. lines_below (line t) n) a b → Wrote s (λ t. line t n) b c → Wrote s (λ t. lines_below (line t) (n + 1)) a c
+pub below_more : (s : Option TargetState) (a b c : Option (List ℕ)) (line : TargetState → ℕ → List ℕ) (n : ℕ) → Wrote s (λ t. lines_below (line t) n) a b → Wrote s (λ t. line t n) b c → Wrote s (λ t. lines_below (line t) (n + 1)) a c
 below_more None a b c line n first second = tt
-below_more (Some m) a b c line n first second =
-    rw (below-suc (line (target_of m.probe)) n) (Appends-trans a b c (lines_below (line (target_of m.probe)) n) (line (target_of m.probe) n) first second)
+below_more (Some t) a b c line n first second =
+    rw (below-suc (line t) n) (Appends-trans a b c (lines_below (line t) n) (line t n) first second)
 
 -- the numbers before one, and a part of its line
-pub below_cut : (s : Option BenchState) (a b c : Option (List ℕ)) (line : TargetState → ℕ → List ℕ) (i n : ℕ) → i < n → Wrote s (λ t. lines_below (line t) i) a b → Began s (λ t. line t i) b c → Began s (λ t. lines_below (line t) n) a c
+pub below_cut : (s : Option TargetState) (a b c : Option (List ℕ)) (line : TargetState → ℕ → List ℕ) (i n : ℕ) → i < n → Wrote s (λ t. lines_below (line t) i) a b → Began s (λ t. line t i) b c → Began s (λ t. lines_below (line t) n) a c
 below_cut None a b c line i n below first second = tt
-below_cut (Some m) a b c line i n below first second =
-    let g : ℕ → List ℕ = line (target_of m.probe) in
+below_cut (Some t) a b c line i n below first second =
+    let g : ℕ → List ℕ = line t in
     let so_far : AppendsPrefix a c (lines_below g (i + 1)) = rw (below-suc g i) (put_after {E = Unit {0}} a b c (Err tt) (lines_below g i) (g i) first second) in
     let all : n - (i + 1) + (i + 1) ≡ n = omega arith in
     subst (λ k. AppendsPrefix a c (lines_below g k)) all (below_front g (i + 1) (n - (i + 1)) a c so_far)
 
 -- ---- the lines of a list
 
-pub rows_cut : {X : Type 0} (s : Option BenchState) (a b c : Option (List ℕ)) (g : TargetState → X → List ℕ) (xs : List X) (i : ℕ) (x : X) → slice_get xs i ≡ Some x → Wrote s (λ t. flat_map (g t) (take i xs)) a b → Began s (λ t. g t x) b c → Began s (λ t. flat_map (g t) xs) a c
+pub rows_cut : {X : Type 0} (s : Option TargetState) (a b c : Option (List ℕ)) (g : TargetState → X → List ℕ) (xs : List X) (i : ℕ) (x : X) → slice_get xs i ≡ Some x → Wrote s (λ t. flat_map (g t) (take i xs)) a b → Began s (λ t. g t x) b c → Began s (λ t. flat_map (g t) xs) a c
 rows_cut None a b c g xs i x at first second = tt
-rows_cut (Some m) a b c g xs i x at first second = row_cut a b c (g (target_of m.probe)) xs i x at first second
+rows_cut (Some t) a b c g xs i x at first second = row_cut a b c (g t) xs i x at first second
 
 -- ---- two texts in a row
 
-pub parts_after : {E : Type 0} (s : Option BenchState) (a b c : Option (List ℕ)) (r : Result (Unit {0}) E) (f g : TargetState → List ℕ) → Wrote s f a b → IfSome s (λ m. PutAppends b c r (g (target_of m.probe))) → IfSome s (λ m. PutAppends a c r (f (target_of m.probe) ++ g (target_of m.probe)))
+pub parts_after : {E : Type 0} (s : Option TargetState) (a b c : Option (List ℕ)) (r : Result (Unit {0}) E) (f g : TargetState → List ℕ) → Wrote s f a b → IfSome s (λ t. PutAppends b c r (g t)) → IfSome s (λ t. PutAppends a c r (f t ++ g t))
 parts_after None a b c r f g first second = tt
-parts_after (Some m) a b c r f g first second = put_after a b c r (f (target_of m.probe)) (g (target_of m.probe)) first second
+parts_after (Some t) a b c r f g first second = put_after a b c r (f t) (g t) first second
 
-pub part_first : (s : Option BenchState) (a b : Option (List ℕ)) (f g : TargetState → List ℕ) → Began s f a b → Began s (λ t. f t ++ g t) a b
+pub part_first : (s : Option TargetState) (a b : Option (List ℕ)) (f g : TargetState → List ℕ) → Began s f a b → Began s (λ t. f t ++ g t) a b
 part_first None a b f g first = tt
-part_first (Some m) a b f g first = prefix_first a b (f (target_of m.probe)) (g (target_of m.probe)) first
+part_first (Some t) a b f g first = prefix_first a b (f t) (g t) first
 
 pub piece_after : {E : Type 0} (s : Option BenchState) (a b c : Option (List ℕ)) (r : Result (Unit {0}) E) (piece : List ℕ) (g : TargetState → List ℕ) → Appends a b piece → IfSome s (λ m. PutAppends b c r (g (target_of m.probe))) → IfSome s (λ m. PutAppends a c r (piece ++ g (target_of m.probe)))
 piece_after None a b c r piece g first second = tt
 piece_after (Some m) a b c r piece g first second = put_after a b c r piece (g (target_of m.probe)) first second
 
-pub piece_first : (s : Option BenchState) (a b : Option (List ℕ)) (piece : List ℕ) (g : TargetState → List ℕ) → AppendsPrefix a b piece → Began s (λ t. piece ++ g t) a b
+pub piece_first : (s : Option BenchState) (a b : Option (List ℕ)) (piece : List ℕ) (g : TargetState → List ℕ) → AppendsPrefix a b piece → IfSome s (λ m. AppendsPrefix a b (piece ++ g (target_of m.probe)))
 piece_first None a b piece g first = tt
 piece_first (Some m) a b piece g first = prefix_first a b piece (g (target_of m.probe)) first

@@ -1,5 +1,5 @@
 -- The lines of a log, one entry after the other.
-use Rattle.std.proofs.Common.{◌≡◌, ◌⊎◌, ◌+◌, ◌-◌, ◌<◌, ◌≤◌, ℕ, zero, suc, List, [], ◌∷◌, Option, None, Some, Result, Ok, Err, IfSome, inl, inr, length, min, take, drop, slice_get, subst, sym, ap, refl, arith}
+use Rattle.std.proofs.Common.{◌≡◌, ◌⊎◌, ◌+◌, ◌<◌, ◌≤◌, ℕ, zero, suc, List, [], ◌∷◌, Option, None, Some, Result, Ok, Err, IfSome, inl, inr, length, min, take, drop, slice_get, subst, sym, ap, refl, arith}
 use Rattle.std.proofs.lemmas.Grind.{common_steps, flat_map-append}
 use Rattle.std.proofs.lemmas.List.{take-append-drop}
 use Rattle.std.proofs.Math.Seq.{take-length}
@@ -8,7 +8,6 @@ use Rattle.std.specs.List.{flat_map}
 use Rattle.dap_base.specs.Streams.{AppendsPrefix, PutAppends}
 use Rattle.probe_core.specs.Bench.{BenchState}
 use Rattle.probe_core.specs.Log.{Entry, IsCountedLog, Log}
-use Rattle.probe_core.specs.declared.interface.Shown.TheVariants.{NotKept, Past}
 use Rattle.report_lines.specs.Trace.{EntriesPut, EntryPut, StepPut, entry_line, kept_line, trace}
 use Rattle.report_lines.specs.declared.put.TextEnd.{TextEnd}
 use Rattle.report_lines.specs.declared.trace.Seen.TheVariants as seen

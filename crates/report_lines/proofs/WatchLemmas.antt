@@ -1,11 +1,11 @@
 -- The addresses of watched words.
-use Rattle.std.proofs.Common.{◌≡◌, ◌+◌, ◌*◌, ◌^◌, ◌<◌, ◌≤◌, ℕ, zero, suc, Bool, true, false, List, [], ◌∷◌, length, slice_index_or, arith, refl}
+use Rattle.std.proofs.Common.{◌≡◌, ◌+◌, ◌*◌, ◌^◌, ◌<◌, ◌≤◌, ℕ, zero, suc, true, List, [], ◌∷◌, slice_index_or, arith}
 use Rattle.std.proofs.lemmas.Grind.{common_steps}
-use Rattle.std.specs.List.{All, list_any}
+use Rattle.std.specs.List.{All}
 use Rattle.target_machine.specs.Ranges.{IsRegion}
 use Rattle.target_machine.specs.declared.job.RegionJob.{RegionJob}
 use Rattle.job_text.specs.Ranges.{IsWatched}
-use Rattle.job_text.specs.Tests.{are_words_in, holds, is_held}
+use Rattle.job_text.specs.Tests.{are_words_in, is_held}
 use Rattle.job_text.specs.declared.job.WatchItem.{WatchItem}
 use Rattle.report_lines.specs.Target.{IsLow}
 

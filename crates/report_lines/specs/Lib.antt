@@ -3,5 +3,7 @@ pub mod Calls
 pub mod Lines
 pub mod Endings
 pub mod Target
+pub mod Views
+pub mod Audit
 pub mod Report
 pub mod Trace

@@ -1,5 +1,5 @@
 -- The report of a run.
-use Rattle.std.specs.Prelude.{ℕ, Bool, true, false, List, [], ◌++◌, if◌then◌else◌}
+use Rattle.std.specs.Prelude.{ℕ, Bool, List, [], ◌++◌, if◌then◌else◌}
 use Rattle.target_machine.specs.State.{TargetState}
 use Rattle.job_text.specs.declared.job.Job.{Job}
 use Rattle.access_calls.specs.declared.ended.Ended.{Ended}

@@ -1,6 +1,7 @@
 //! The report of a run and the trace of its packets, put into a sink line by line.
 #![tactic(auto)]
 
+mod audit;
 mod calls;
 mod endings;
 mod head;
@@ -9,8 +10,10 @@ mod put;
 mod report;
 mod target;
 mod trace;
+mod views;
 mod words;
 
+pub use audit::{audit_fault_text, audit_text, target_text};
 pub use put::TextEnd;
 pub use report::report_text;
 pub use trace::trace_text;

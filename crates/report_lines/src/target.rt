@@ -1,17 +1,16 @@
-//! The lines of a target: each part is shown by the bench directly before its line is put.
+//! The lines of a target: each part is shown directly before its line is put.
 ghost use Rattle.std.specs.Prelude.{◌≡◌, ◌+◌, ◌*◌, ◌^◌, ◌≤◌, ◌==◌, [], unwrap_or, IfOk, IfSome};
 ghost use Rattle.std.specs.List.{All, list_any};
 ghost use Rattle.dap_base.specs.Streams.{PutAppends};
-ghost use Rattle.probe_core.specs.Bench.{IsAsBefore, seen};
-ghost use Rattle.probe_core.specs.Probe.{target_of};
 ghost use Rattle.text_lines.specs.Causes.{NamesFault};
 ghost use Rattle.report_lines.specs.Target.{IsLow, outside_lines, part_line, part_of, port_lines, port_of, ports_on, target_lines, watch_lines, word_lines};
+ghost use Rattle.report_lines.specs.Views.{IsViewedAsBefore};
 
 use crate::lines::{ap_text, dp_text, lines_text, word_text};
 use crate::put::{TextEnd, put};
+use crate::views::ShowsTarget;
 use dap_base::{OutOfMemory, Sink};
 use job_text::WatchItem;
-use probe_core::Bench;
 use std::alloc::Global;
 use target_machine::{ApJob, ImageAsk, ImagePart};
 use text_lines::Line;
@@ -33,19 +32,18 @@ fn part_text(alloc: Global, ask: ImageAsk, part: &ImagePart) -> Result<Option<Li
 
 // Puts the line of a part of the target.
 #[tactic(auto, unfolding(crate::specs::Target::part_of), using(text_lines::proofs::PutLemmas::no_part, text_lines::proofs::PutLemmas::nothing))]
-fn write_part<K: Sink, B: Bench>(
+fn write_part<K: Sink, S: ShowsTarget>(
     alloc: Global,
     ask: ImageAsk,
-    bench: &mut B,
+    shower: &mut S,
     sink: &mut K,
 ) -> Result<(), TextEnd>
-    ensures text { IfSome (B.state bench.old) (λ m. PutAppends (K.written sink.old) (K.written sink.new) result (part_of (target_of m.probe) ask)) }
-    ensures same { IsAsBefore (seen B.reported B.state bench.old) (seen B.reported B.state bench.new) }
-    ensures identity { B.identity bench.new ≡ B.identity bench.old }
-    ensures bench { NamesFault TextEnd.BenchFault (B.reported bench.old).faults (B.reported bench.new).faults result }
+    ensures text { IfSome (S.known shower.old).target (λ t. PutAppends (K.written sink.old) (K.written sink.new) result (part_of t ask)) }
+    ensures same { IsViewedAsBefore (S.known shower.old) (S.known shower.new) }
+    ensures bench { NamesFault TextEnd.BenchFault (S.known shower.old).bench.reported.faults (S.known shower.new).bench.reported.faults result }
     ensures sink { NamesFault TextEnd.WriteFault (K.faults sink.old) (K.faults sink.new) result }
 {
-    let Ok(part) = bench.image(ask) else {
+    let Ok(part) = shower.part(ask) else {
         return Err(TextEnd::BenchFault);
     };
     match part_text(alloc, ask, &part) {
@@ -64,41 +62,39 @@ fn is_listed(aps: &[ApJob], number: u8) -> bool
 
 // Puts the line of an access port, where the job lists it.
 #[tactic(auto, using(text_lines::proofs::PutLemmas::nothing))]
-fn write_port<K: Sink, B: Bench>(
+fn write_port<K: Sink, S: ShowsTarget>(
     alloc: Global,
     aps: &[ApJob],
     number: u8,
-    bench: &mut B,
+    shower: &mut S,
     sink: &mut K,
 ) -> Result<(), TextEnd>
-    ensures text { IfSome (B.state bench.old) (λ m. PutAppends (K.written sink.old) (K.written sink.new) result (port_of (target_of m.probe) aps.now number)) }
-    ensures same { IsAsBefore (seen B.reported B.state bench.old) (seen B.reported B.state bench.new) }
-    ensures identity { B.identity bench.new ≡ B.identity bench.old }
-    ensures bench { NamesFault TextEnd.BenchFault (B.reported bench.old).faults (B.reported bench.new).faults result }
+    ensures text { IfSome (S.known shower.old).target (λ t. PutAppends (K.written sink.old) (K.written sink.new) result (port_of t aps.now number)) }
+    ensures same { IsViewedAsBefore (S.known shower.old) (S.known shower.new) }
+    ensures bench { NamesFault TextEnd.BenchFault (S.known shower.old).bench.reported.faults (S.known shower.new).bench.reported.faults result }
     ensures sink { NamesFault TextEnd.WriteFault (K.faults sink.old) (K.faults sink.new) result }
 {
     if is_listed(aps, number) {
-        write_part(alloc, ImageAsk::Ap(number), bench, sink)
+        write_part(alloc, ImageAsk::Ap(number), shower, sink)
     } else {
         Ok(())
     }
 }
 
 // Puts the lines of the access ports that the job lists, in rising order.
-fn write_ports<K: Sink, B: Bench>(
+fn write_ports<K: Sink, S: ShowsTarget>(
     alloc: Global,
     aps: &[ApJob],
-    bench: &mut B,
+    shower: &mut S,
     sink: &mut K,
 ) -> Result<(), TextEnd>
-    ensures text { IfSome (B.state bench.old) (λ m. PutAppends (K.written sink.old) (K.written sink.new) result (port_lines (target_of m.probe) aps.now)) }
-    ensures same { IsAsBefore (seen B.reported B.state bench.old) (seen B.reported B.state bench.new) }
-    ensures identity { B.identity bench.new ≡ B.identity bench.old }
-    ensures bench { NamesFault TextEnd.BenchFault (B.reported bench.old).faults (B.reported bench.new).faults result }
+    ensures text { IfSome (S.known shower.old).target (λ t. PutAppends (K.written sink.old) (K.written sink.new) result (port_lines t aps.now)) }
+    ensures same { IsViewedAsBefore (S.known shower.old) (S.known shower.new) }
+    ensures bench { NamesFault TextEnd.BenchFault (S.known shower.old).bench.reported.faults (S.known shower.new).bench.reported.faults result }
     ensures sink { NamesFault TextEnd.WriteFault (K.faults sink.old) (K.faults sink.new) result }
 {
     for number in 0..256u32 {
-        match write_port(alloc, aps, number as u8, bench, sink) {
+        match write_port(alloc, aps, number as u8, shower, sink) {
             Ok(()) => {}
             Err(end) => return Err(end),
         }
@@ -107,22 +103,21 @@ fn write_ports<K: Sink, B: Bench>(
 }
 
 // Puts the lines of words in a row.
-fn write_words<K: Sink, B: Bench>(
+fn write_words<K: Sink, S: ShowsTarget>(
     alloc: Global,
     item: WatchItem,
-    bench: &mut B,
+    shower: &mut S,
     sink: &mut K,
 ) -> Result<(), TextEnd>
     requires { IsLow item }
-    ensures text { IfSome (B.state bench.old) (λ m. PutAppends (K.written sink.old) (K.written sink.new) result (word_lines (target_of m.probe) item.address item.words)) }
-    ensures same { IsAsBefore (seen B.reported B.state bench.old) (seen B.reported B.state bench.new) }
-    ensures identity { B.identity bench.new ≡ B.identity bench.old }
-    ensures bench { NamesFault TextEnd.BenchFault (B.reported bench.old).faults (B.reported bench.new).faults result }
+    ensures text { IfSome (S.known shower.old).target (λ t. PutAppends (K.written sink.old) (K.written sink.new) result (word_lines t item.address item.words)) }
+    ensures same { IsViewedAsBefore (S.known shower.old) (S.known shower.new) }
+    ensures bench { NamesFault TextEnd.BenchFault (S.known shower.old).bench.reported.faults (S.known shower.new).bench.reported.faults result }
     ensures sink { NamesFault TextEnd.WriteFault (K.faults sink.old) (K.faults sink.new) result }
 {
     for number in 0..item.words {
         let ask = ImageAsk::Word(item.address + 4 * number as u64);
-        match write_part(alloc, ask, bench, sink) {
+        match write_part(alloc, ask, shower, sink) {
             Ok(()) => {}
             Err(end) => return Err(end),
         }
@@ -131,21 +126,20 @@ fn write_words<K: Sink, B: Bench>(
 }
 
 // Puts the lines of the words that are watched.
-fn write_watch<K: Sink, B: Bench>(
+fn write_watch<K: Sink, S: ShowsTarget>(
     alloc: Global,
     watch: &[WatchItem],
-    bench: &mut B,
+    shower: &mut S,
     sink: &mut K,
 ) -> Result<(), TextEnd>
     requires { All IsLow watch.now }
-    ensures text { IfSome (B.state bench.old) (λ m. PutAppends (K.written sink.old) (K.written sink.new) result (watch_lines (target_of m.probe) watch.now)) }
-    ensures same { IsAsBefore (seen B.reported B.state bench.old) (seen B.reported B.state bench.new) }
-    ensures identity { B.identity bench.new ≡ B.identity bench.old }
-    ensures bench { NamesFault TextEnd.BenchFault (B.reported bench.old).faults (B.reported bench.new).faults result }
+    ensures text { IfSome (S.known shower.old).target (λ t. PutAppends (K.written sink.old) (K.written sink.new) result (watch_lines t watch.now)) }
+    ensures same { IsViewedAsBefore (S.known shower.old) (S.known shower.new) }
+    ensures bench { NamesFault TextEnd.BenchFault (S.known shower.old).bench.reported.faults (S.known shower.new).bench.reported.faults result }
     ensures sink { NamesFault TextEnd.WriteFault (K.faults sink.old) (K.faults sink.new) result }
 {
     for item in watch {
-        match write_words(alloc, *item, bench, sink) {
+        match write_words(alloc, *item, shower, sink) {
             Ok(()) => {}
             Err(end) => return Err(end),
         }
@@ -154,64 +148,61 @@ fn write_watch<K: Sink, B: Bench>(
 }
 
 // Puts the lines of the probe, and those of the words that are watched.
-fn write_outside<K: Sink, B: Bench>(
+fn write_outside<K: Sink, S: ShowsTarget>(
     alloc: Global,
     watch: &[WatchItem],
-    bench: &mut B,
+    shower: &mut S,
     sink: &mut K,
 ) -> Result<(), TextEnd>
     requires { All IsLow watch.now }
-    ensures text { IfSome (B.state bench.old) (λ m. PutAppends (K.written sink.old) (K.written sink.new) result (outside_lines (target_of m.probe) watch.now)) }
-    ensures same { IsAsBefore (seen B.reported B.state bench.old) (seen B.reported B.state bench.new) }
-    ensures identity { B.identity bench.new ≡ B.identity bench.old }
-    ensures bench { NamesFault TextEnd.BenchFault (B.reported bench.old).faults (B.reported bench.new).faults result }
+    ensures text { IfSome (S.known shower.old).target (λ t. PutAppends (K.written sink.old) (K.written sink.new) result (outside_lines t watch.now)) }
+    ensures same { IsViewedAsBefore (S.known shower.old) (S.known shower.new) }
+    ensures bench { NamesFault TextEnd.BenchFault (S.known shower.old).bench.reported.faults (S.known shower.new).bench.reported.faults result }
     ensures sink { NamesFault TextEnd.WriteFault (K.faults sink.old) (K.faults sink.new) result }
 {
-    match write_part(alloc, ImageAsk::Lines, bench, sink) {
-        Ok(()) => write_watch(alloc, watch, bench, sink),
+    match write_part(alloc, ImageAsk::Lines, shower, sink) {
+        Ok(()) => write_watch(alloc, watch, shower, sink),
         Err(end) => Err(end),
     }
 }
 
 // Puts the lines of the access ports and what follows them.
-fn write_ports_on<K: Sink, B: Bench>(
+fn write_ports_on<K: Sink, S: ShowsTarget>(
     alloc: Global,
     aps: &[ApJob],
     watch: &[WatchItem],
-    bench: &mut B,
+    shower: &mut S,
     sink: &mut K,
 ) -> Result<(), TextEnd>
     requires { All IsLow watch.now }
-    ensures text { IfSome (B.state bench.old) (λ m. PutAppends (K.written sink.old) (K.written sink.new) result (ports_on (target_of m.probe) aps.now watch.now)) }
-    ensures same { IsAsBefore (seen B.reported B.state bench.old) (seen B.reported B.state bench.new) }
-    ensures identity { B.identity bench.new ≡ B.identity bench.old }
-    ensures bench { NamesFault TextEnd.BenchFault (B.reported bench.old).faults (B.reported bench.new).faults result }
+    ensures text { IfSome (S.known shower.old).target (λ t. PutAppends (K.written sink.old) (K.written sink.new) result (ports_on t aps.now watch.now)) }
+    ensures same { IsViewedAsBefore (S.known shower.old) (S.known shower.new) }
+    ensures bench { NamesFault TextEnd.BenchFault (S.known shower.old).bench.reported.faults (S.known shower.new).bench.reported.faults result }
     ensures sink { NamesFault TextEnd.WriteFault (K.faults sink.old) (K.faults sink.new) result }
 {
-    match write_ports(alloc, aps, bench, sink) {
-        Ok(()) => write_outside(alloc, watch, bench, sink),
+    match write_ports(alloc, aps, shower, sink) {
+        Ok(()) => write_outside(alloc, watch, shower, sink),
         Err(end) => Err(end),
     }
 }
 
 /// Puts the lines of a target: the debug port, the access ports of the job in rising order, the lines
 /// of the probe, and the words that are watched.
-pub fn write_target<K: Sink, B: Bench>(
+pub fn write_target<K: Sink, S: ShowsTarget>(
     alloc: Global,
     aps: &[ApJob],
     watch: &[WatchItem],
-    bench: &mut B,
+    shower: &mut S,
     sink: &mut K,
 ) -> Result<(), TextEnd>
     requires { All IsLow watch.now }
-    ensures text { IfSome (B.state bench.old) (λ m. PutAppends (K.written sink.old) (K.written sink.new) result (target_lines (target_of m.probe) aps.now watch.now)) }
-    ensures same { IsAsBefore (seen B.reported B.state bench.old) (seen B.reported B.state bench.new) }
-    ensures identity { B.identity bench.new ≡ B.identity bench.old }
-    ensures bench { NamesFault TextEnd.BenchFault (B.reported bench.old).faults (B.reported bench.new).faults result }
+    ensures text { IfSome (S.known shower.old).target (λ t. PutAppends (K.written sink.old) (K.written sink.new) result (target_lines t aps.now watch.now)) }
+    ensures same { IsViewedAsBefore (S.known shower.old) (S.known shower.new) }
+    ensures bench { NamesFault TextEnd.BenchFault (S.known shower.old).bench.reported.faults (S.known shower.new).bench.reported.faults result }
     ensures sink { NamesFault TextEnd.WriteFault (K.faults sink.old) (K.faults sink.new) result }
 {
-    match write_part(alloc, ImageAsk::Dp, bench, sink) {
-        Ok(()) => write_ports_on(alloc, aps, watch, bench, sink),
+    match write_part(alloc, ImageAsk::Dp, shower, sink) {
+        Ok(()) => write_ports_on(alloc, aps, watch, shower, sink),
         Err(end) => Err(end),
     }
 }

@@ -6,7 +6,7 @@ use Rattle.report_lines.proofs.target.write_outside.Goals as goal
 pub returns-in-Ok-clause-text : goal.returns-in-Ok-clause-text
 returns-in-Ok-clause-text g c =
     parts_after _ _ _ _ _ (λ t. part_of t ask.Lines) (λ t. watch_lines t c.args.watch.now) c.in-Ok.ensures.text
-    (put_same _ _ _ _ _ (λ t. watch_lines t c.args.watch.now) c.in-Ok.ensures.same.state c.write_watch.ensures.text)
+    (put_same _ _ _ _ _ (λ t. watch_lines t c.args.watch.now) c.in-Ok.ensures.same.target c.write_watch.ensures.text)
 
 pub returns-in-Err-clause-text : goal.returns-in-Err-clause-text
 returns-in-Err-clause-text g c = part_first _ _ _ (λ t. part_of t ask.Lines) (λ t. watch_lines t c.args.watch.now) c.in-Err.ensures.text

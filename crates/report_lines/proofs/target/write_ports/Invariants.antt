@@ -1,15 +1,13 @@
 use Rattle.std.proofs.Common.{◌≡◌, IfSome}
 use Rattle.std.specs.Io.KnownBytes.{Appends}
-use Rattle.probe_core.specs.Bench.{IsAsBefore, seen}
-use Rattle.probe_core.specs.Probe.{target_of}
 use Rattle.report_lines.specs.Target.{lines_below, port_of}
+use Rattle.report_lines.specs.Views.{IsViewedAsBefore}
 use Rattle.report_lines.proofs.target.write_ports.Given as goal
 
 abbrev pub invariant-loop-number : goal.invariant-loop-number
 invariant-loop-number g l = record {
-  text : IfSome (g.B.Bench.state l.fn.bench) (λ m. Appends (g.K.Sink.written l.fn.sink) (g.K.Sink.written l.sink) (lines_below (port_of (target_of m.probe) l.aps) l.number));
-  same : IsAsBefore (seen g.B.Bench.reported g.B.Bench.state l.fn.bench) (seen g.B.Bench.reported g.B.Bench.state l.bench);
-  identity : g.B.Bench.identity l.bench ≡ g.B.Bench.identity l.fn.bench;
-  bench : (g.B.Bench.reported l.bench).faults ≡ (g.B.Bench.reported l.fn.bench).faults;
+  text : IfSome (g.S.ShowsTarget.known l.fn.shower).target (λ t. Appends (g.K.Sink.written l.fn.sink) (g.K.Sink.written l.sink) (lines_below (port_of t l.aps) l.number));
+  same : IsViewedAsBefore (g.S.ShowsTarget.known l.fn.shower) (g.S.ShowsTarget.known l.shower);
+  bench : (g.S.ShowsTarget.known l.shower).bench.reported.faults ≡ (g.S.ShowsTarget.known l.fn.shower).bench.reported.faults;
   sink : g.K.Sink.faults l.sink ≡ g.K.Sink.faults l.fn.sink;
 }

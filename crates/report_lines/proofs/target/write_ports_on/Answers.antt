@@ -5,7 +5,7 @@ use Rattle.report_lines.proofs.target.write_ports_on.Goals as goal
 pub returns-in-Ok-clause-text : goal.returns-in-Ok-clause-text
 returns-in-Ok-clause-text g c =
     parts_after _ _ _ _ _ (λ t. port_lines t c.args.aps.now) (λ t. outside_lines t c.args.watch.now) c.in-Ok.ensures.text
-    (put_same _ _ _ _ _ (λ t. outside_lines t c.args.watch.now) c.in-Ok.ensures.same.state c.write_outside.ensures.text)
+    (put_same _ _ _ _ _ (λ t. outside_lines t c.args.watch.now) c.in-Ok.ensures.same.target c.write_outside.ensures.text)
 
 pub returns-in-Err-clause-text : goal.returns-in-Err-clause-text
 returns-in-Err-clause-text g c = part_first _ _ _ (λ t. port_lines t c.args.aps.now) (λ t. outside_lines t c.args.watch.now) c.in-Err.ensures.text

@@ -6,7 +6,7 @@ use Rattle.report_lines.proofs.target.write_target.Goals as goal
 pub returns-in-Ok-clause-text : goal.returns-in-Ok-clause-text
 returns-in-Ok-clause-text g c =
     parts_after _ _ _ _ _ (λ t. part_of t ask.Dp) (λ t. ports_on t c.args.aps.now c.args.watch.now) c.in-Ok.ensures.text
-    (put_same _ _ _ _ _ (λ t. ports_on t c.args.aps.now c.args.watch.now) c.in-Ok.ensures.same.state c.write_ports_on.ensures.text)
+    (put_same _ _ _ _ _ (λ t. ports_on t c.args.aps.now c.args.watch.now) c.in-Ok.ensures.same.target c.write_ports_on.ensures.text)
 
 pub returns-in-Err-clause-text : goal.returns-in-Err-clause-text
 returns-in-Err-clause-text g c = part_first _ _ _ (λ t. part_of t ask.Dp) (λ t. ports_on t c.args.aps.now c.args.watch.now) c.in-Err.ensures.text

@@ -8,5 +8,5 @@ use Rattle.report_lines.proofs.target.write_watch.Goals as goal
 pub returns-in-Err-clause-text : goal.returns-in-Err-clause-text
 returns-in-Err-clause-text g c =
     let item : WatchItem = get_or c.args.watch.now c.loop-item.item-index (record { address = 0; words = 0 }) in
-    rows_cut (g.B.Bench.state c.args.bench.now) _ _ _ (λ t item. word_lines t item.address item.words) c.args.watch.now c.loop-item.item-index item (slice_get-in c.args.watch.now c.loop-item.item-index _ c.loop-item-test.true) c.loop-item.invariant.text
-    (began_same _ _ (λ t. word_lines t item.address item.words) _ _ c.loop-item.invariant.same.state c.in-Err.ensures.text)
+    rows_cut (g.S.ShowsTarget.known c.args.shower.now).target _ _ _ (λ t item. word_lines t item.address item.words) c.args.watch.now c.loop-item.item-index item (slice_get-in c.args.watch.now c.loop-item.item-index _ c.loop-item-test.true) c.loop-item.invariant.text
+    (began_same _ _ (λ t. word_lines t item.address item.words) _ _ c.loop-item.invariant.same.target c.in-Err.ensures.text)

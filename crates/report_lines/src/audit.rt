@@ -1,0 +1,138 @@
+//! The text of an audit: the target that an accepted trace leads to, or the first entry that cannot come.
+ghost use Rattle.std.specs.Prelude.{◌≡◌, ◌≢◌, IfErr, IfOk};
+ghost use Rattle.std.specs.List.{All};
+ghost use Rattle.dap_base.specs.Streams.{PutAppends};
+ghost use Rattle.probe_core.specs.Ranges.{IsBenchJob};
+ghost use Rattle.job_text.specs.Ranges.{AreWatched};
+ghost use Rattle.text_lines.specs.Causes.{NamesFault};
+ghost use Rattle.report_lines.specs.Audit.{audit_fault_line, audit_ok_line, audited_lines, refusal_word, refused_line};
+ghost use Rattle.report_lines.specs.Target.{IsLow, target_lines};
+
+use crate::put::{TextEnd, put_line};
+use crate::target::write_target;
+use crate::views::OwnTarget;
+use dap_base::{OutOfMemory, Sink};
+use job_text::Job;
+use probe_core::ProbeRefusal;
+use std::alloc::Global;
+use target_machine::Target;
+use text_lines::Line;
+use trace_audit::{AuditFault, Audited};
+
+/// Puts the lines of a target, each by one `put`, as a report has them: the debug port, the access ports of the job in rising
+/// order, the lines of the probe, and the watched words, whose addresses are below 2^64. A part that is not in the target has no
+/// line.
+///
+/// `WriteFault` where the sink failed, `OutOfMemory` where memory is refused: a prefix of the lines was then appended. Never
+/// `BenchFault`.
+#[tactic(auto, using(crate::proofs::RowLemmas::never_fails))]
+pub fn target_text<K: Sink>(
+    alloc: Global,
+    target: &Target,
+    job: &Job,
+    sink: &mut K,
+) -> Result<(), TextEnd>
+    requires { All IsLow job.now.watch }
+    ensures text { PutAppends (K.written sink.old) (K.written sink.new) result (target_lines target.now job.now.bench.target.aps job.now.watch) }
+    ensures never { IfErr result (λ e. e ≢ TextEnd.BenchFault) }
+    ensures sink { NamesFault TextEnd.WriteFault (K.faults sink.old) (K.faults sink.new) result }
+{
+    let mut own = OwnTarget { target };
+    write_target(
+        alloc,
+        job.bench.target.aps.as_slice(),
+        job.watch.as_slice(),
+        &mut own,
+        sink,
+    )
+}
+
+// How many entries of an accepted trace are packets, and how many are replies.
+fn audit_ok_text(alloc: Global, audited: &Audited) -> Result<Line, OutOfMemory>
+    ensures { IfOk result (λ line. line ≡ audit_ok_line audited.now) }
+{
+    let line = Line::begin(alloc, "audit ok packets ")?.decimal(u64::from(audited.packets))?;
+    line.labelled(" replies ", u64::from(audited.replies))?
+        .text("\n")
+}
+
+/// Puts the text of a trace that is accepted, each line by one `put`: how many of its entries are packets and replies, and the
+/// target that it leads to, as `target_text` has it.
+///
+/// `WriteFault` where the sink failed, `OutOfMemory` where memory is refused: a prefix of the text was then appended. Never
+/// `BenchFault`.
+pub fn audit_text<K: Sink>(
+    alloc: Global,
+    audited: &Audited,
+    job: &Job,
+    sink: &mut K,
+) -> Result<(), TextEnd>
+    requires bench { IsBenchJob job.now.bench }
+    requires watch { AreWatched job.now.bench.target.memory job.now.watch }
+    ensures text { PutAppends (K.written sink.old) (K.written sink.new) result (audited_lines audited.now job.now) }
+    ensures never { IfErr result (λ e. e ≢ TextEnd.BenchFault) }
+    ensures sink { NamesFault TextEnd.WriteFault (K.faults sink.old) (K.faults sink.new) result }
+{
+    match put_line(audit_ok_text(alloc, audited), sink) {
+        Ok(()) => target_text(alloc, audited.probe.target(), job, sink),
+        Err(end) => Err(end),
+    }
+}
+
+// Why a probe does not take a packet.
+fn refusal_text(refusal: ProbeRefusal) -> &'static str
+    ensures { result.now ≡ refusal_word refusal }
+{
+    match refusal {
+        ProbeRefusal::TooLong => "TooLong",
+        ProbeRefusal::Held => "Held",
+        ProbeRefusal::Unread => "Unread",
+    }
+}
+
+// The first entry that cannot come.
+fn refused_text(alloc: Global, kind: &str, number: u32) -> Result<Line, OutOfMemory>
+    ensures { IfOk result (λ line. line ≡ refused_line kind.now number) }
+{
+    let line = Line::begin(alloc, "refused audit ")?.text(kind)?;
+    line.labelled(" ", u64::from(number))?.text("\n")
+}
+
+// Puts the line of a trace that is refused.
+fn write_refused<K: Sink>(
+    alloc: Global,
+    kind: &str,
+    number: u32,
+    sink: &mut K,
+) -> Result<(), TextEnd>
+    ensures text { PutAppends (K.written sink.old) (K.written sink.new) result (refused_line kind.now number) }
+    ensures never { IfErr result (λ e. e ≢ TextEnd.BenchFault) }
+    ensures sink { NamesFault TextEnd.WriteFault (K.faults sink.old) (K.faults sink.new) result }
+{
+    put_line(refused_text(alloc, kind, number), sink)
+}
+
+/// Puts the line of a trace that is refused, by one `put`: why, and the number of the first entry that cannot come. At the fault
+/// `OutOfMemory` nothing is put.
+///
+/// `WriteFault` where the sink failed, `OutOfMemory` where memory is refused: a prefix of the line was then appended. Never
+/// `BenchFault`.
+#[tactic(auto, using(text_lines::proofs::PutLemmas::nothing))]
+pub fn audit_fault_text<K: Sink>(
+    alloc: Global,
+    fault: AuditFault,
+    sink: &mut K,
+) -> Result<(), TextEnd>
+    ensures text { PutAppends (K.written sink.old) (K.written sink.new) result (audit_fault_line fault) }
+    ensures never { IfErr result (λ e. e ≢ TextEnd.BenchFault) }
+    ensures sink { NamesFault TextEnd.WriteFault (K.faults sink.old) (K.faults sink.new) result }
+{
+    match fault {
+        AuditFault::Refused(number, refusal) => {
+            write_refused(alloc, refusal_text(refusal), number, sink)
+        }
+        AuditFault::NoReply(number) => write_refused(alloc, "NoReply", number, sink),
+        AuditFault::WrongReply(number) => write_refused(alloc, "WrongReply", number, sink),
+        AuditFault::OutOfMemory => Ok(()),
+    }
+}
