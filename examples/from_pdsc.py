@@ -1,66 +1,91 @@
-"""Writes the job of a .pdsc: all levels with their sequences and debug variables, and the smallest bench.
+"""from_pdsc: the job of a .pdsc.
 
-    python3 from_pdsc.py VENDOR.NAME_DFP.pdsc > JOB
+    python3 from_pdsc.py [--device NAME [--variant NAME]] [--pname NAME] [--no-defaults] [--dbgconf FILE] [--places FILE] FILE.pdsc > JOB
 
-What a job has no place for (Pname of <debugvars>, ports, configurations) is left out. docs/JOB.md, "From a .pdsc", has the rules.
-This is a help for a start; it is no part of the program, and nothing of it is proved.
+It writes the levels of the pack with their sequences and debug variables. With --device, or where the pack has one device,
+it writes the ports, the memory and the starting values of that device too. docs/JOB.md, "From a .pdsc", has the rules.
+
+Warnings and refusals go to standard error, by line and column of the .pdsc. The exit status is 0 where a job is written,
+1 where the .pdsc is refused, and 2 where the command line is wrong. This is a helper beside the program: nothing is proved.
 """
 
+import argparse
 import json
 import sys
-import xml.etree.ElementTree as xml
 
-BENCH = {"packet_size": 64, "packet_count": 1, "target": {"aps": [], "memory": []}}
-FLAGS = {"true": True, "1": True, "false": False, "0": False}
-# For each level the attribute that names it, and the key and the tag of the levels inside.
-LEVELS = {
-    "family": ("Dfamily", [("subFamilies", "subFamily"), ("devices", "device")]),
-    "subFamily": ("DsubFamily", [("devices", "device")]),
-    "device": ("Dname", [("variants", "variant")]),
-    "variant": ("Dvariant", []),
-}
+from pdsc import conversion
+from pdsc.document import Refused
 
 
-def texts(element, *names):
-    """Returns the attributes of these names that the element has."""
-    return {name: element.get(name) for name in names if name in element.attrib}
+def parser_of_options():
+    parser = argparse.ArgumentParser(prog="from_pdsc.py", allow_abbrev=False, description="Writes the job of a .pdsc to standard output.")
+    parser.add_argument("file", metavar="FILE.pdsc")
+    parser.add_argument("--device", metavar="NAME", help="the device (Dname) whose levels, ports and memory the job has")
+    parser.add_argument("--variant", metavar="NAME", help="the variant (Dvariant) of that device, for its ports and memory")
+    parser.add_argument("--pname", metavar="NAME", help="the processor (Pname) whose debug variables, port and memory the job has")
+    parser.add_argument("--no-defaults", action="store_true", help="leave out the twelve default sequences of a debugger")
+    parser.add_argument("--dbgconf", metavar="FILE", help="a .dbgconf file: its text becomes the key dbgconf, starting values of debug variables")
+    parser.add_argument("--places", metavar="FILE", help="write where each text of the job is in the .pdsc, as JSON")
+    return parser
 
 
-def flags(element, *names):
-    return {name: FLAGS[element.get(name)] for name in names if name in element.attrib}
+def write_json(value, file):
+    """Writes a JSON text in UTF-8, to a path or an open file descriptor."""
+    with open(file, "wb", closefd=file != sys.stdout.fileno()) as to:
+        to.write((json.dumps(value, indent=2, ensure_ascii=False) + "\n").encode())
 
 
-def steps(element):
-    return [step(it) for it in element if it.tag in ("block", "control")]
+def text_of(path):
+    """The text of a file in UTF-8, without a byte order mark, or else in ISO-8859-1."""
+    with open(path, "rb") as file:
+        content = file.read()
+    try:
+        return content.decode("utf-8-sig")
+    except UnicodeDecodeError:
+        return content.decode("latin-1")
 
 
-def step(element):
-    if element.tag == "block":
-        return {"block": element.text or "", **flags(element, "atomic"), **texts(element, "info")}
-    return {"control": steps(element), **texts(element, "if", "while", "timeout", "info")}
+def run(options, pack):
+    """Converts a pack. Raises Refused, and OSError where a file cannot be read or written."""
+    choice = pack.choose(options.device, options.variant, options.pname)
+    defaults = None if options.no_defaults else conversion.default_sequences()
+    result = conversion.convert(pack, defaults, choice)
+    keys = conversion.run_and_bench(pack, choice, result.notes)
+    if options.dbgconf:
+        keys["dbgconf"] = text_of(options.dbgconf)
+    for note in result.notes.notes:
+        print(note, file=sys.stderr)
+    if result.notes.has_refusal():
+        return 1
+    if options.places:
+        write_json(result.places.value(), options.places)
+    write_json({"pack": result.pack, **keys}, sys.stdout.fileno())
+    return 0
 
 
-def sequence(element):
-    return {**texts(element, "name", "Pname"), **flags(element, "disable"), **texts(element, "info"), "steps": steps(element)}
+def main(arguments=None):
+    parser = parser_of_options()
+    options = parser.parse_args(arguments)
+    if options.variant and not options.device:
+        parser.error("--variant needs --device")
+    try:
+        pack = conversion.read(options.file)
+    except OSError as error:
+        parser.error(f"{options.file}: {error.strerror}")
+    except Refused as error:
+        return say(error)
+    try:
+        return run(options, pack)
+    except Refused as error:
+        return say(error)
+    except OSError as error:
+        return say(f"{error.filename or 'standard output'}: {error.strerror}")
 
 
-def level(element):
-    name, inner = LEVELS[element.tag]
-    job = {name: element.get(name)}
-    debugvars = element.find("debugvars")
-    if debugvars is not None:
-        job["debugvars"] = debugvars.text or ""
-    sequences = [sequence(it) for it in element.findall("sequences/sequence")]
-    if sequences:
-        job["sequences"] = sequences
-    for key, tag in inner:
-        items = [level(it) for it in element.findall(tag)]
-        if items:
-            job[key] = items
-    return job
+def say(text):
+    print(text, file=sys.stderr)
+    return 1
 
 
 if __name__ == "__main__":
-    families = [level(it) for it in xml.parse(sys.argv[1]).getroot().findall("devices/family")]
-    json.dump({"pack": {"families": families}, "bench": BENCH}, sys.stdout, indent=2, ensure_ascii=False)
-    print()
+    sys.exit(main())
