@@ -1,10 +1,10 @@
 -- Counts of steps in a row.
-use Rattle.std.proofs.Common.{◌≡◌, ℕ, ◌+◌, ◌<◌, Bool, true, false, List, [], ◌∷◌, length, take, get_or, sym, ap, ◌∙◌, arith, if◌then◌else◌}
+use Rattle.std.proofs.Common.{◌≡◌, ℕ, ◌+◌, ◌<◌, Bool, true, false, List, length, take, get_or, sym, ap, ◌∙◌, arith, if◌then◌else◌}
 use Rattle.std.proofs.lemmas.List.{take_more}
 use Rattle.device_tree.specs.StepTree.{StepTree, no_steps, block, control}
 use Rattle.device_tree.specs.StepsView.{steps_view, then_step, cons_step}
 use Rattle.device_tree.specs.declared.steps.Step.{Step}
-use Rattle.device_tree.specs.declared.steps.Step.TheVariants.{Block, Control}
+use Rattle.device_tree.specs.declared.steps.Step.TheVariants.{Block}
 use Rattle.device_tree.proofs.StepsLemmas.{steps_view-append}
 use Rattle.check_lines.specs.declared.counts.StepCounts.{StepCounts}
 use Rattle.check_lines.specs.Counts.{sum_over, AreCounts, IsSum}

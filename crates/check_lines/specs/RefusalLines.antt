@@ -1,15 +1,16 @@
 -- The lines of refusals, and the line of words that are no command. Each ends with a line feed.
-use Rattle.std.specs.Prelude.{ℕ, List, [], ◌++◌, codes, option_map, unwrap_or}
+use Rattle.std.specs.Prelude.{ℕ, List, [], ◌++◌, codes, decimal, option_map, unwrap_or}
 use Rattle.dap_base.specs.declared.text.Place.{Place}
 use Rattle.json_form.specs.declared.path.PathStep.{PathStep}
 use Rattle.json_form.specs.declared.fault.JobFault.{JobFault}
 use Rattle.json_form.specs.Faults.{fault_name, fault_path}
+use Rattle.hex_image.specs.declared.fault.ImageKind.{ImageKind}
 use Rattle.text_lines.specs.Shown.{shown}
 use Rattle.job_check.specs.declared.answer.DbgconfKind.{DbgconfKind}
 use Rattle.job_check.specs.declared.answer.Refusal.{Refusal}
 use Rattle.job_check.specs.declared.answer.Refusal.TheVariants as refusals
 use Rattle.check_lines.specs.PathText.{path_text}
-use Rattle.check_lines.specs.Words.{dbgconf_word}
+use Rattle.check_lines.specs.Words.{dbgconf_word, image_word}
 use Rattle.check_lines.specs.CheckLines.{fault_line, place_words}
 
 -- the name of a job's fault and its path, each byte of which is shown
@@ -20,14 +21,19 @@ path_line name path = codes "refused " ++ name ++ codes " " ++ shown (path_text 
 abbrev pub job_fault_line : JobFault → List ℕ
 job_fault_line fault = unwrap_or (option_map (path_line (fault_name fault)) (fault_path fault)) []
 
+-- the line of the first fault of an image, with the number of the line in its text
+abbrev pub image_line : ImageKind → ℕ → List ℕ
+image_line kind number = codes "refused image " ++ image_word kind ++ codes " " ++ decimal number ++ codes "\n"
+
 -- the line of a fault of the starting values, with its place in their text
 abbrev pub dbgconf_line : DbgconfKind → Place → List ℕ
 dbgconf_line kind at = codes "refused dbgconf " ++ dbgconf_word kind ++ place_words at ++ codes "\n"
 
--- the line of a refusal: its name, or the fault of the job, of the starting values or of the set
+-- the line of a refusal: its name, or the fault of the job, of its image, of the starting values or of the set
 abbrev pub refusal_line : Refusal → List ℕ
 refusal_line refusals.BadJson = codes "refused BadJson\n"
 refusal_line (refusals.Job fault) = job_fault_line fault
+refusal_line (refusals.Image kind number) = image_line kind number
 refusal_line (refusals.Dbgconf kind at) = dbgconf_line kind at
 refusal_line refusals.NoDevice = codes "refused NoDevice\n"
 refusal_line refusals.AmbiguousDevice = codes "refused AmbiguousDevice\n"

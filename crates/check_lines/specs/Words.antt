@@ -6,6 +6,8 @@ use Rattle.sequence_trees.specs.declared.spot.Part.{Part}
 use Rattle.sequence_trees.specs.declared.spot.Part.TheVariants as parts
 use Rattle.sequence_resolve.specs.declared.entry.LevelKind.{LevelKind}
 use Rattle.sequence_resolve.specs.declared.entry.LevelKind.TheVariants as levels
+use Rattle.hex_image.specs.declared.fault.ImageKind.{ImageKind}
+use Rattle.hex_image.specs.declared.fault.ImageKind.TheVariants as images
 use Rattle.job_check.specs.declared.answer.DbgconfKind.{DbgconfKind}
 use Rattle.job_check.specs.declared.answer.DbgconfKind.TheVariants as values
 
@@ -39,6 +41,15 @@ kind_word kinds.TimeoutTooLong = codes "TimeoutTooLong"
 kind_word kinds.NestedTooDeep = codes "NestedTooDeep"
 kind_word kinds.CallCycle = codes "CallCycle"
 kind_word kinds.CallsTooDeep = codes "CallsTooDeep"
+
+abbrev pub image_word : ImageKind → List ℕ
+image_word images.AfterEnd = codes "AfterEnd"
+image_word images.BadRecord = codes "BadRecord"
+image_word images.BadSum = codes "BadSum"
+image_word images.BadKind = codes "BadKind"
+image_word images.BadLength = codes "BadLength"
+image_word images.TooMany = codes "TooMany"
+image_word images.NoEnd = codes "NoEnd"
 
 abbrev pub dbgconf_word : DbgconfKind → List ℕ
 dbgconf_word values.BadToken = codes "BadToken"

@@ -2,14 +2,15 @@
 ghost use Rattle.std.specs.Prelude.{◌≡◌, IfOk};
 ghost use Rattle.dap_base.specs.Streams.{PutAppends};
 ghost use Rattle.text_lines.specs.Causes.{NamesFault};
-ghost use Rattle.check_lines.specs.RefusalLines.{path_line, job_fault_line, dbgconf_line, refusal_line, too_long_line, no_sequence_line, usage_line};
+ghost use Rattle.check_lines.specs.RefusalLines.{path_line, job_fault_line, image_line, dbgconf_line, refusal_line, too_long_line, no_sequence_line, usage_line};
 
 use crate::lines::with_place;
 use crate::path::with_path;
-use crate::words::dbgconf_kind_text;
+use crate::words::{dbgconf_kind_text, image_kind_text};
 use crate::writing::write_check_fault;
 use dap_base::{OutOfMemory, Place, Sink};
 use device_tree::{JobFault, Path};
+use hex_image::ImageKind;
 use job_check::{DbgconfKind, Refusal};
 use std::alloc::Global;
 use text_lines::{Line, TextError, put_line, put_text};
@@ -30,6 +31,15 @@ fn job_fault_text(alloc: Global, fault: &JobFault) -> Result<Line, OutOfMemory>
     }
 }
 
+fn image_fault_text(alloc: Global, kind: ImageKind, number: u64) -> Result<Line, OutOfMemory>
+    ensures { IfOk result (λ line. line ≡ image_line kind number) }
+{
+    Line::begin(alloc, "refused image ")?
+        .text(image_kind_text(kind))?
+        .labelled(" ", number)?
+        .text("\n")
+}
+
 fn dbgconf_fault_text(alloc: Global, kind: DbgconfKind, at: Place) -> Result<Line, OutOfMemory>
     ensures { IfOk result (λ line. line ≡ dbgconf_line kind at) }
 {
@@ -38,7 +48,8 @@ fn dbgconf_fault_text(alloc: Global, kind: DbgconfKind, at: Place) -> Result<Lin
 }
 
 /// Puts the line of a refusal by one `put`: `refused` and its name; for a fault of the job its name and
-/// the path, each byte as names are shown; for a fault of the starting values `dbgconf`, its name, and line
+/// the path, each byte as names are shown; for a fault of an image `image`, its name and the number of the line in
+/// its text; for a fault of the starting values `dbgconf`, its name, and line
 /// and column in their text; for a fault of the set `check`, its name and its place.
 ///
 /// `Failed` where the sink failed, `OutOfMemory` where memory is refused, or was while the job was
@@ -54,6 +65,7 @@ pub fn write_refusal<K: Sink>(
     match refusal {
         Refusal::BadJson => put_text(b"refused BadJson\n", sink),
         Refusal::Job(fault) => put_line(job_fault_text(alloc, fault), sink),
+        Refusal::Image(kind, number) => { put_line(image_fault_text(alloc, *kind, *number), sink) }
         Refusal::Dbgconf(kind, at) => put_line(dbgconf_fault_text(alloc, *kind, *at), sink),
         Refusal::NoDevice => put_text(b"refused NoDevice\n", sink),
         Refusal::AmbiguousDevice => put_text(b"refused AmbiguousDevice\n", sink),

@@ -1,8 +1,9 @@
 //! The words of the texts.
 ghost use Rattle.std.specs.Prelude.{◌≡◌};
-ghost use Rattle.check_lines.specs.Words.{level_word, part_word, kind_word, dbgconf_word, disabled_word};
+ghost use Rattle.check_lines.specs.Words.{level_word, part_word, kind_word, dbgconf_word, image_word, disabled_word};
 
 use code_check::FaultKind;
+use hex_image::ImageKind;
 use job_check::DbgconfKind;
 use sequence_resolve::LevelKind;
 use sequence_trees::Part;
@@ -50,6 +51,20 @@ pub fn kind_text(kind: FaultKind) -> &'static str
         FaultKind::NestedTooDeep => "NestedTooDeep",
         FaultKind::CallCycle => "CallCycle",
         FaultKind::CallsTooDeep => "CallsTooDeep",
+    }
+}
+
+pub fn image_kind_text(kind: ImageKind) -> &'static str
+    ensures { result.now ≡ image_word kind }
+{
+    match kind {
+        ImageKind::AfterEnd => "AfterEnd",
+        ImageKind::BadRecord => "BadRecord",
+        ImageKind::BadSum => "BadSum",
+        ImageKind::BadKind => "BadKind",
+        ImageKind::BadLength => "BadLength",
+        ImageKind::TooMany => "TooMany",
+        ImageKind::NoEnd => "NoEnd",
     }
 }
 

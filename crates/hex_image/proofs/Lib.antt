@@ -2,3 +2,4 @@ pub mod RecordLemmas
 pub mod PlaceLemmas
 pub mod SplitLemmas
 pub mod TextLemmas
+mod FewLemmas

@@ -1,5 +1,5 @@
 //! A text of Intel HEX records, read line by line.
-ghost use Rattle.std.specs.Prelude.{◌≡◌, ◌+◌, ◌*◌, ◌^◌, ◌≤◌, Ok, Some, length, sum, OnOk, IfErr};
+ghost use Rattle.std.specs.Prelude.{◌≡◌, ◌+◌, ◌*◌, ◌^◌, ◌≤◌, true, Ok, Some, length, sum, OnOk, IfErr};
 ghost use Rattle.hex_image.specs.Image.{at_end, at_start, by_type, image, placed, where_length, with_base, with_data, with_end, with_line, with_record, with_content};
 ghost use Rattle.hex_image.specs.Reads.{IsFault, IsImage, IsRead};
 ghost use Rattle.hex_image.specs.Records.{count_of, type_of, word_of};
@@ -198,6 +198,7 @@ fn fault_at(fault: LineFault, line: u64) -> ImageFault
 
 // The image that was read, after so many lines.
 fn ended(reader: Reader, lines: u64) -> Result<Image, ImageFault>
+    requires { reader.is_ended ≡ true → length reader.image ≤ 262144 }
     ensures { IsImage result (at_end reader lines) }
 {
     if reader.is_ended {

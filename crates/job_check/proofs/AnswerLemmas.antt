@@ -8,7 +8,6 @@ use Rattle.seq_check.specs.Valid.{IsValid}
 use Rattle.seq_check.specs.Answers.{checked_trees}
 use Rattle.job_text.specs.declared.job.Job.{Job}
 use Rattle.job_text.specs.Answers.{Describes}
-use Rattle.job_check.specs.declared.answer.Refusal.{Refusal}
 use Rattle.job_check.specs.declared.answer.ValidSet.{ValidSet}
 use Rattle.job_check.specs.declared.answer.CheckRefusal.{CheckRefusal}
 use Rattle.job_check.specs.declared.answer.CheckRefusal.TheVariants as ends

@@ -9,7 +9,7 @@ use Rattle.sequence_resolve.specs.declared.fault.ResolveFault.{ResolveFault}
 use Rattle.sequence_resolve.specs.declared.fault.ResolveFault.TheVariants as resolving
 use Rattle.sequence_resolve.specs.Resolving.{IsEffectiveSet, HasNone}
 use Rattle.sequence_resolve.proofs.OneSet.{one_set, set_or_refusal, one_refusal}
-use Rattle.seq_check.specs.Valid.{IsValid, IsFirstFaultOf}
+use Rattle.seq_check.specs.Valid.{IsValid}
 use Rattle.seq_check.proofs.OneFault.{one_first_fault, valid_or_faulty}
 use Rattle.job_text.specs.declared.job.Job.{Job}
 use Rattle.job_text.specs.JobReading.{job_in}
@@ -34,6 +34,7 @@ valid_and_not s (refusals.Check kind spot) is none = valid_or_faulty s kind spot
 valid_and_not s refusals.BadJson is none = none
 valid_and_not s (refusals.Job fault) is none = none
 valid_and_not s (refusals.Dbgconf kind at) is none = none
+valid_and_not s (refusals.Image what line) is none = none
 valid_and_not s refusals.NoDevice is none = none
 valid_and_not s refusals.AmbiguousDevice is none = none
 valid_and_not s refusals.NoVariant is none = none
@@ -45,12 +46,14 @@ one_not_valid s (refusals.Check kind spot) (refusals.Check other there) p q =
 one_not_valid s (refusals.Check kind spot) refusals.BadJson p q = absurd q
 one_not_valid s (refusals.Check kind spot) (refusals.Job fault) p q = absurd q
 one_not_valid s (refusals.Check kind spot) (refusals.Dbgconf what at) p q = absurd q
+one_not_valid s (refusals.Check kind spot) (refusals.Image what line) p q = absurd q
 one_not_valid s (refusals.Check kind spot) refusals.NoDevice p q = absurd q
 one_not_valid s (refusals.Check kind spot) refusals.AmbiguousDevice p q = absurd q
 one_not_valid s (refusals.Check kind spot) refusals.NoVariant p q = absurd q
 one_not_valid s refusals.BadJson b p q = absurd p
 one_not_valid s (refusals.Job fault) b p q = absurd p
 one_not_valid s (refusals.Dbgconf what at) b p q = absurd p
+one_not_valid s (refusals.Image what line) b p q = absurd p
 one_not_valid s refusals.NoDevice b p q = absurd p
 one_not_valid s refusals.AmbiguousDevice b p q = absurd p
 one_not_valid s refusals.NoVariant b p q = absurd p
@@ -70,6 +73,7 @@ set_and_none pack s found refusals.NoVariant is none = (let e = set_or_refusal p
 set_and_none pack s found refusals.BadJson is none = none
 set_and_none pack s found (refusals.Job fault) is none = none
 set_and_none pack s found (refusals.Dbgconf kind at) is none = none
+set_and_none pack s found (refusals.Image what line) is none = none
 set_and_none pack s found (refusals.Check kind spot) is none = none
 
 -- two causes are one
@@ -98,10 +102,12 @@ one_none pack s refusals.NoVariant refusals.NoVariant p q = refl
 one_none pack s a refusals.BadJson p q = absurd q
 one_none pack s a (refusals.Job fault) p q = absurd q
 one_none pack s a (refusals.Dbgconf kind at) p q = absurd q
+one_none pack s a (refusals.Image what line) p q = absurd q
 one_none pack s a (refusals.Check kind spot) p q = absurd q
 one_none pack s refusals.BadJson b p q = absurd p
 one_none pack s (refusals.Job fault) b p q = absurd p
 one_none pack s (refusals.Dbgconf kind at) b p q = absurd p
+one_none pack s (refusals.Image what line) b p q = absurd p
 one_none pack s (refusals.Check kind spot) b p q = absurd p
 
 -- ---- the job
@@ -135,6 +141,7 @@ pub job_and_none : (bytes : List ℕ) (j : Job) (r : Refusal) → Describes byte
 job_and_none bytes j refusals.BadJson is none = none is.0 is.1
 job_and_none bytes j (refusals.Job fault) is none = no_fault j fault (sym (reads_as bytes j none.0 is none.1) ∙ none.2)
 job_and_none bytes j (refusals.Dbgconf kind at) is none = none
+job_and_none bytes j (refusals.Image what line) is none = none
 job_and_none bytes j refusals.NoDevice is none = none
 job_and_none bytes j refusals.AmbiguousDevice is none = none
 job_and_none bytes j refusals.NoVariant is none = none
@@ -147,11 +154,13 @@ one_no_job bytes (refusals.Job fault) refusals.BadJson p q = absurd (q p.0 p.1)
 one_no_job bytes (refusals.Job fault) (refusals.Job other) p q =
     ap refusals.Job (same_fault fault other (sym p.2 ∙ ap job_in (one_value bytes p.0 q.0 p.1 q.1) ∙ q.2))
 one_no_job bytes a (refusals.Dbgconf kind at) p q = absurd q
+one_no_job bytes a (refusals.Image what line) p q = absurd q
 one_no_job bytes a refusals.NoDevice p q = absurd q
 one_no_job bytes a refusals.AmbiguousDevice p q = absurd q
 one_no_job bytes a refusals.NoVariant p q = absurd q
 one_no_job bytes a (refusals.Check kind spot) p q = absurd q
 one_no_job bytes (refusals.Dbgconf kind at) b p q = absurd p
+one_no_job bytes (refusals.Image what line) b p q = absurd p
 one_no_job bytes refusals.NoDevice b p q = absurd p
 one_no_job bytes refusals.AmbiguousDevice b p q = absurd p
 one_no_job bytes refusals.NoVariant b p q = absurd p

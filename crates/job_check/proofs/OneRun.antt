@@ -1,22 +1,23 @@
 -- A job, a selection and a name have one run at most, or one reason why none runs; and so have the bytes of a job.
-use Rattle.std.proofs.Common.{◌≡◌, ◌∙◌, ℕ, Bool, true, false, List, ap, sym, subst, refl}
+use Rattle.std.proofs.Common.{◌≡◌, ◌∙◌, ℕ, Bool, true, false, List, Option, Result, Ok, Err, ap, sym, subst}
 use Rattle.std.specs.List.{list_any}
 use Rattle.std.specs.Str.{bytes_eq}
 use Rattle.sequence_resolve.specs.declared.selection.Selection.{Selection}
 use Rattle.sequence_resolve.specs.declared.entry.SeqEntry.{SeqEntry}
 use Rattle.sequence_resolve.specs.declared.entry.SeqSet.{SeqSet}
-use Rattle.sequence_resolve.specs.Resolving.{IsEffectiveSet}
 use Rattle.sequence_resolve.proofs.OneSet.{one_set}
 use Rattle.sequence_trees.specs.Reading.{ReadsSet}
-use Rattle.sequence_trees.specs.Trees.{SetTrees}
 use Rattle.sequence_trees.proofs.SetLaws as trees
 use Rattle.seq_check.specs.Answers.{checked_trees}
 use Rattle.job_text.specs.declared.job.Job.{Job}
 use Rattle.job_text.specs.Answers.{Describes}
 use Rattle.dbgconf_text.specs.declared.conf.ConfItem.{ConfItem}
-use Rattle.job_check.specs.Values.{HasConf, HasValues, NoConf, NoValues}
-use Rattle.job_check.specs.Answers.{NoJob, NoSet, NoValid}
-use Rattle.job_check.specs.Running.{HasPlain, IsRefusedRun, IsRefusedRunOf, IsRunOfJob, IsSameRun, IsSetOfJob, IsValidRun, described, has_sequence, no_conf, no_values, not_described, not_named, not_resolved, not_valid}
+use Rattle.job_check.specs.Values.{HasValues, NoConf, NoValues}
+use Rattle.job_check.specs.Answers.{NoSet, NoValid}
+use Rattle.job_check.specs.Running.{HasPlain, IsRefusedRun, IsRefusedRunFor, IsRefusedRunOf, IsRunFor, IsRunOfJob, IsSameRun, IsSetOfJob, IsValidRun, described, has_own, has_sequence, no_conf, no_own, no_values, not_described, not_named, not_resolved, not_valid}
+use Rattle.job_check.specs.Own.{own_of}
+use Rattle.job_check.specs.declared.own.JobImage.{JobImage}
+use Rattle.job_check.specs.declared.own.Own.{Own}
 use Rattle.job_check.specs.declared.answer.Refusal.{Refusal}
 use Rattle.job_check.specs.declared.running.RunRefusal.{RunRefusal}
 use Rattle.job_check.specs.declared.running.RunRefusal.TheVariants as ends
@@ -146,26 +147,62 @@ module _ (job : Job) (s : Selection) where
 same_sets : (s : Selection) (a b : Job) (x y : SeqSet) → a ≡ b → IsSetOfJob a s x → IsSetOfJob b s y → x ≡ y
 same_sets s a b x y same p q = same_set a s x y p (subst (λ (j : Job). IsSetOfJob j s y) (sym same) q)
 
-pub one_run_of : (s : Selection) (name : List ℕ) (x y : ValidRun) → x.job ≡ y.job → IsRunOfJob s name x → IsRunOfJob s name y → IsSameRun x y
-one_run_of s name x y job p q =
-    let set = same_sets s x.job y.job x.set y.set job p.set q.set in
+run_or_refusal_of : (s : Selection) (name : List ℕ) (x : ValidRun) (y : RunRefusal) → IsRunOfJob s name x → IsRefusedRunOf x.job s name y → ⊥
+run_or_refusal_of s name x y p q = run_and_refusal x.job s name x x.set p.set p.named p.trees.reads p y q
+
+-- ---- with what a mode needs
+
+abbrev found : Option JobImage → Result (Option JobImage) Refusal
+found image = Ok image
+
+abbrev refused : Refusal → Result (Option JobImage) Refusal
+refused r = Err r
+
+same_found : (a b : Option JobImage) → found a ≡ found b → a ≡ b
+same_found a b e = cc
+
+same_refused : (r q : Refusal) → refused r ≡ refused q → r ≡ q
+same_refused r q e = cc
+
+found_and_refused : (image : Option JobImage) (r : Refusal) → found image ≡ refused r → ⊥
+found_and_refused image r e = cc
+
+pub one_run_for : (own : Own) (s : Selection) (name : List ℕ) (x y : ValidRun) → x.job ≡ y.job → IsRunFor own s name x → IsRunFor own s name y → IsSameRun x y
+one_run_for own s name x y job p q =
+    let set = same_sets s x.job y.job x.set y.set job p.run.set q.run.set in
     record {
       job = job;
+      image = same_found x.image y.image (sym p.image ∙ ap (λ (j : Job). own_of own j.image) job ∙ q.image);
       set = set;
-      trees = trees.one_set x.set (checked_trees x.trees) (checked_trees y.trees) p.trees.reads
-          (subst (λ (z : SeqSet). ReadsSet z (checked_trees y.trees)) (sym set) q.trees.reads);
+      trees = trees.one_set x.set (checked_trees x.trees) (checked_trees y.trees) p.run.trees.reads
+          (subst (λ (z : SeqSet). ReadsSet z (checked_trees y.trees)) (sym set) q.run.trees.reads);
     }
 
-pub run_or_refusal_of : (s : Selection) (name : List ℕ) (x : ValidRun) (y : RunRefusal) → IsRunOfJob s name x → IsRefusedRunOf x.job s name y → ⊥
-run_or_refusal_of s name x y p q = run_and_refusal x.job s name x x.set p.set p.named p.trees.reads p y q
+pub one_refusal_for : (job : Job) (own : Own) (s : Selection) (name : List ℕ) (x y : RunRefusal) → IsRefusedRunFor job own s name x → IsRefusedRunFor job own s name y → x ≡ y
+one_refusal_for job own s name x y p q = elim p [
+  | no_own r none is ↦ elim q [
+    | no_own t too is_too ↦ refused_as x y r t is is_too (same_refused r t (sym none ∙ too))
+    | has_own image has of ↦ absurd (found_and_refused image r (sym has ∙ none))
+  ]
+  | has_own image has of ↦ elim q [
+    | no_own t none is ↦ absurd (found_and_refused image t (sym has ∙ none))
+    | has_own other has_too of_too ↦ one_refusal_of job s name x y of of_too
+  ]
+]
+
+pub run_or_refusal_for : (own : Own) (s : Selection) (name : List ℕ) (x : ValidRun) (y : RunRefusal) → IsRunFor own s name x → IsRefusedRunFor x.job own s name y → ⊥
+run_or_refusal_for own s name x y p q = elim q [
+  | no_own r none is ↦ found_and_refused x.image r (sym p.image ∙ none)
+  | has_own image has of ↦ run_or_refusal_of s name x y p.run of
+]
 
 -- ---- of bytes
 
-module _ (bytes : List ℕ) (s : Selection) (name : List ℕ) where
-  refused_job : (a b : Job) (y : RunRefusal) → Describes bytes a → Describes bytes b → IsRefusedRunOf b s name y → IsRefusedRunOf a s name y
-  refused_job a b y p q is = subst (λ (j : Job). IsRefusedRunOf j s name y) (one_job bytes b a q p) is
+module _ (bytes : List ℕ) (own : Own) (s : Selection) (name : List ℕ) where
+  refused_job : (a b : Job) (y : RunRefusal) → Describes bytes a → Describes bytes b → IsRefusedRunFor b own s name y → IsRefusedRunFor a own s name y
+  refused_job a b y p q is = subst (λ (j : Job). IsRefusedRunFor j own s name y) (one_job bytes b a q p) is
 
-  pub one_refusal : (x y : RunRefusal) → IsRefusedRun bytes s name x → IsRefusedRun bytes s name y → x ≡ y
+  pub one_refusal : (x y : RunRefusal) → IsRefusedRun bytes own s name x → IsRefusedRun bytes own s name y → x ≡ y
   one_refusal x y p q = elim p [
     | not_described r none is ↦ elim q [
       | not_described t too is_too ↦ refused_as x y r t is is_too (one_no_job bytes r t none too)
@@ -173,15 +210,15 @@ module _ (bytes : List ℕ) (s : Selection) (name : List ℕ) where
     ]
     | described job here of ↦ elim q [
       | not_described t too is_too ↦ absurd (job_and_none bytes job t here too)
-      | described other there of_other ↦ one_refusal_of job s name x y of (refused_job job other y here there of_other)
+      | described other there of_other ↦ one_refusal_for job own s name x y of (refused_job job other y here there of_other)
     ]
   ]
 
-  pub one_run : (x y : ValidRun) → IsValidRun bytes s name x → IsValidRun bytes s name y → IsSameRun x y
-  one_run x y p q = one_run_of s name x y (one_job bytes x.job y.job p.job q.job) p.run q.run
+  pub one_run : (x y : ValidRun) → IsValidRun bytes own s name x → IsValidRun bytes own s name y → IsSameRun x y
+  one_run x y p q = one_run_for own s name x y (one_job bytes x.job y.job p.job q.job) p.run q.run
 
-  pub run_or_refusal : (x : ValidRun) (y : RunRefusal) → IsValidRun bytes s name x → IsRefusedRun bytes s name y → ⊥
+  pub run_or_refusal : (x : ValidRun) (y : RunRefusal) → IsValidRun bytes own s name x → IsRefusedRun bytes own s name y → ⊥
   run_or_refusal x y p q = elim q [
     | not_described t none is ↦ job_and_none bytes x.job t p.job none
-    | described job there of ↦ run_or_refusal_of s name x y p.run (refused_job x.job job y p.job there of)
+    | described job there of ↦ run_or_refusal_for own s name x y p.run (refused_job x.job job y p.job there of)
   ]

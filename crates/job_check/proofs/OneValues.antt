@@ -1,6 +1,6 @@
 -- A job has one list of starting values, or one fault of their text; and a set has one set with these values, or one name that it does
 -- not declare.
-use Rattle.std.proofs.Common.{◌≡◌, ◌≢◌, ◌∙◌, ℕ, List, [], Option, Some, None, Result, Ok, Err, ap, refl, sym, subst}
+use Rattle.std.proofs.Common.{◌≡◌, ◌≢◌, ◌∙◌, ℕ, List, Option, Some, None, Result, Ok, Err, ap, refl, sym, subst}
 use Rattle.dap_base.specs.declared.text.Place.{Place}
 use Rattle.expr_grammar.specs.declared.token_list.TokenError.TheVariants as tokens
 use Rattle.expr_grammar.specs.Lexeme.{Lexeme}
@@ -39,6 +39,7 @@ conf_and_fault text items (refusals.Job fault) p q = q
 conf_and_fault text items refusals.NoDevice p q = q
 conf_and_fault text items refusals.AmbiguousDevice p q = q
 conf_and_fault text items refusals.NoVariant p q = q
+conf_and_fault text items (refusals.Image what line) p q = q
 conf_and_fault text items (refusals.Check kind spot) p q = q
 
 pub conf_and_none : (dbgconf : Option (List ℕ)) (items : List ConfItem) (r : Refusal) → HasConf dbgconf items → NoConf dbgconf r → ⊥
@@ -124,6 +125,7 @@ fault_of text (refusals.Job fault) p = absurd p
 fault_of text refusals.NoDevice p = absurd p
 fault_of text refusals.AmbiguousDevice p = absurd p
 fault_of text refusals.NoVariant p = absurd p
+fault_of text (refusals.Image what line) p = absurd p
 fault_of text (refusals.Check kind spot) p = absurd p
 
 pub one_no_conf : (dbgconf : Option (List ℕ)) (a b : Refusal) → NoConf dbgconf a → NoConf dbgconf b → a ≡ b
@@ -154,6 +156,7 @@ values_and_undefined items text fresh (refusals.Job fault) p q = q
 values_and_undefined items text fresh refusals.NoDevice p q = q
 values_and_undefined items text fresh refusals.AmbiguousDevice p q = q
 values_and_undefined items text fresh refusals.NoVariant p q = q
+values_and_undefined items text fresh (refusals.Image what line) p q = q
 values_and_undefined items text fresh (refusals.Check kind spot) p q = q
 
 pub values_and_none : (dbgconf : Option (List ℕ)) (items : List ConfItem) (plain set : SeqSet) (r : Refusal) → HasValues dbgconf items plain set → NoValues dbgconf items plain r → ⊥
@@ -176,6 +179,7 @@ name_of items text (refusals.Job fault) p = absurd p
 name_of items text refusals.NoDevice p = absurd p
 name_of items text refusals.AmbiguousDevice p = absurd p
 name_of items text refusals.NoVariant p = absurd p
+name_of items text (refusals.Image what line) p = absurd p
 name_of items text (refusals.Check kind spot) p = absurd p
 
 pub one_no_values : (dbgconf : Option (List ℕ)) (items : List ConfItem) (plain : SeqSet) (a b : Refusal) → NoValues dbgconf items plain a → NoValues dbgconf items plain b → a ≡ b

@@ -19,7 +19,7 @@ use Rattle.dbgconf_text.specs.Replacing.{settings_of}
 use Rattle.dbgconf_text.proofs.Replaced.{has_values}
 use Rattle.dbgconf_text.proofs.Spelled.{small_values}
 use Rattle.job_check.specs.Values.{HasConf, HasValues}
-use Rattle.job_check.specs.Running.{HasPlain, IsRunOfJob, IsSetOfJob}
+use Rattle.job_check.specs.Running.{HasPlain, IsRunOfJob}
 use Rattle.job_check.specs.declared.running.ValidRun.{ValidRun}
 use Rattle.job_check.proofs.OneRun.{same_items, same_plain}
 use Rattle.job_check.proofs.OneValues.{same_entries}

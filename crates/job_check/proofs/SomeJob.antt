@@ -20,7 +20,7 @@ use Rattle.job_text.specs.declared.job.Job.{Job}
 use Rattle.job_text.specs.Tests.{has_bit_0, lacks_bits_4_and_6, is_aligned, is_word_in, is_length_after, are_words_in, same_ap, overlap, same_word, repeats_script, is_filled}
 use Rattle.job_text.specs.RunReading.{variable_in, values_after, variables_in, run_in}
 use Rattle.job_text.specs.TargetReading.{ap_in, region_in, word_in, values_in, script_in, power_reads_in, port_in, aps_in, regions_in, words_in, listed_in, reset_in, scripts_in, target_in, packet_size_in, packet_count_in, limits_in, bench_in}
-use Rattle.job_text.specs.JobReading.{watch_item_in, watch_in, dbgconf_in, entry_text_in, trace_in, optional_in, job_in}
+use Rattle.job_text.specs.JobReading.{watch_item_in, watch_in, image_job_in, image_in, dbgconf_in, entry_text_in, trace_in, optional_in, job_in}
 use Rattle.job_text.specs.Answers.{IsTextOf, Describes}
 use Rattle.job_text.proofs.JobLaws.{job_reads}
 use Rattle.job_check.specs.declared.answer.Refusal.{Refusal}
@@ -163,6 +163,16 @@ watch_decided : (regions : List RegionJob) (d : Data) → IsDecided (watch_in re
 unfolding watch_in
 watch_decided regions d = or_else_decided _ _ _ (list_decided (Some 1024) _ never (λ earlier. watch_item_decided regions)) d
 
+image_job_decided : (d : Data) → IsDecided (image_job_in d)
+unfolding image_job_in
+image_job_decided d =
+    bind_decided _ _ (only_keys_decided _ d) (λ known. bind_decided _ _ (or_else_decided _ _ _ (number_decided 0 255) d) (λ ap.
+    bind_decided _ _ (required_decided _ _ text_decided d) (λ hex. tt)))
+
+image_decided : (d : Data) → IsDecided (image_in d)
+unfolding image_in
+image_decided d = optional_decided _ _ image_job_decided d
+
 dbgconf_decided : (d : Data) → IsDecided (dbgconf_in d)
 unfolding dbgconf_in
 dbgconf_decided d = optional_decided _ _ text_decided d
@@ -178,7 +188,8 @@ trace_decided d = optional_decided _ _ (list_decided (Some 65536) _ never (λ ea
 optional_decides : (regions : List RegionJob) (d : Data) → IsDecided (optional_in regions d)
 unfolding optional_in
 optional_decides regions d =
-    bind_decided _ _ (watch_decided regions d) (λ watch. bind_decided _ _ (dbgconf_decided d) (λ dbgconf. bind_decided _ _ (trace_decided d) (λ trace. tt)))
+    bind_decided _ _ (watch_decided regions d) (λ watch. bind_decided _ _ (image_decided d) (λ image. bind_decided _ _ (dbgconf_decided d) (λ dbgconf.
+    bind_decided _ _ (trace_decided d) (λ trace. tt))))
 
 job_decided : (d : Data) → IsDecided (job_in d)
 unfolding job_in

@@ -1,5 +1,5 @@
 -- A job, a selection and a name have a valid set with a sequence of the name, or a reason why none runs; and so have the bytes of a job.
-use Rattle.std.proofs.Common.{◌≡◌, ◌⊎◌, inl, inr, ℕ, ◌<◌, ◌^◌, Bool, true, false, List, length, codes, refl, sym, subst, ◌∙◌, arith}
+use Rattle.std.proofs.Common.{◌≡◌, ◌⊎◌, inl, inr, ℕ, ◌<◌, ◌^◌, Bool, true, false, List, length, Option, Result, Ok, Err, codes, refl, sym, subst, ◌∙◌, arith}
 use Rattle.serde_json.specs.Read.{read}
 use Rattle.device_tree.specs.PackForm.{IsPack}
 use Rattle.sequence_resolve.specs.declared.selection.Selection.{Selection}
@@ -8,6 +8,10 @@ use Rattle.sequence_trees.specs.Reading.{ReadsSet}
 use Rattle.seq_check.specs.declared.checked.Checked.{Checked}
 use Rattle.seq_check.specs.Valid.{IsSound}
 use Rattle.seq_check.specs.Answers.{checked_trees}
+use Rattle.job_check.specs.Own.{own_of}
+use Rattle.job_check.specs.declared.own.JobImage.{JobImage}
+use Rattle.job_check.specs.declared.own.Own.{Own}
+use Rattle.job_check.specs.declared.answer.Refusal.{Refusal}
 use Rattle.job_check.specs.declared.answer.Refusal.TheVariants as refusals
 use Rattle.job_check.specs.declared.running.RunRefusal.{RunRefusal}
 use Rattle.job_check.specs.declared.running.RunRefusal.TheVariants as ends
@@ -16,7 +20,7 @@ use Rattle.job_text.specs.declared.job.Job.{Job}
 use Rattle.job_text.specs.Answers.{Describes}
 use Rattle.dbgconf_text.specs.declared.conf.ConfItem.{ConfItem}
 use Rattle.job_check.specs.Values.{HasConf}
-use Rattle.job_check.specs.Running.{has_sequence, HasPlain, HasRun, HasRunOf, IsRefusedRun, IsRefusedRunOf, IsRunOfJob, IsSetOfJob, IsValidRun, described, no_conf, no_values, not_described, not_named, not_resolved, not_valid}
+use Rattle.job_check.specs.Running.{has_sequence, HasPlain, HasRun, HasRunFor, HasRunOf, IsRefusedRun, IsRefusedRunFor, IsRefusedRunOf, IsRunFor, IsRunOfJob, IsSetOfJob, IsValidRun, described, has_own, no_conf, no_own, no_values, not_described, not_named, not_resolved, not_valid}
 use Rattle.job_check.proofs.Short.{AreShort}
 use Rattle.job_check.proofs.TextValues.{read_short}
 use Rattle.job_check.proofs.ShortNames.{some_is, has_short, PackShort, pack_short, EntriesShort, set_short}
@@ -63,8 +67,9 @@ module _ (job : Job) (s : Selection) (name : List ℕ) where
   ]
 
   -- the run, once a value holds the trees of the set
-  run_with : (has : HasRunOf job s name) (trees : Checked) → checked_trees trees ≡ has.valid.trees → IsRunOfJob s name (record { job = job; set = has.set; trees = trees })
-  run_with has trees same = record {
+  run_with : (image : Option JobImage) (has : HasRunOf job s name) (trees : Checked) → checked_trees trees ≡ has.valid.trees
+      → IsRunOfJob s name (record { job = job; image = image; set = has.set; trees = trees })
+  run_with image has trees same = record {
     set = has.of;
     named = has.named;
     trees = record {
@@ -73,14 +78,30 @@ module _ (job : Job) (s : Selection) (name : List ℕ) where
     };
   }
 
+-- ---- with what a mode needs
+
+module _ (job : Job) (own : Own) (s : Selection) (name : List ℕ) where
+  abbrev pub RunOrReasonFor : Type 0
+  RunOrReasonFor = HasRunFor job own s name ⊎ ((end : RunRefusal) × IsRefusedRunFor job own s name end)
+
+  by_own : (r : Result (Option JobImage) Refusal) → own_of own job.image ≡ r → RunOrReasonFor
+  by_own (Ok image) is = elim (run_or_reason_of job s name) [
+    | inl has ↦ inl (record { image = image; is = is; run = has })
+    | inr none ↦ inr (none.0, has_own image is none.1)
+  ]
+  by_own (Err r) is = inr (ends.Refused r, no_own r is refl)
+
+  pub run_or_reason_for : RunOrReasonFor
+  run_or_reason_for = by_own (own_of own job.image) refl
+
 -- ---- of bytes
 
-module _ (bytes : List ℕ) (s : Selection) (name : List ℕ) where
+module _ (bytes : List ℕ) (own : Own) (s : Selection) (name : List ℕ) where
   abbrev pub RunOrReason : Type 0
-  RunOrReason = HasRun bytes s name ⊎ ((end : RunRefusal) × IsRefusedRun bytes s name end)
+  RunOrReason = HasRun bytes own s name ⊎ ((end : RunRefusal) × IsRefusedRun bytes own s name end)
 
   of_job : (job : Job) → Describes bytes job → RunOrReason
-  of_job job is = elim (run_or_reason_of job s name) [
+  of_job job is = elim (run_or_reason_for job own s name) [
     | inl has ↦ inl (record { job = job; of = is; run = has })
     | inr none ↦ inr (none.0, described job is none.1)
   ]
@@ -104,18 +125,19 @@ module _ (bytes : List ℕ) (s : Selection) (name : List ℕ) where
       let plain : EntriesShort n of.plain.entries = set_short n job.pack s.device s.variant s.pname of.plain pack of.of.resolved in
       subst (EntriesShort n) (sym (same_entries job.dbgconf of.items of.plain set of.replaced)) plain
 
-  pub valid_run_of : length bytes < 2 ^ 63 → (job : Job) → Describes bytes job → HasRunOf job s name → (run : ValidRun) × (run.job ≡ job) × IsRunOfJob s name run
-  valid_run_of small job is has =
-      let trees = checked_of (length bytes) small has.set has.valid.trees has.valid.reads has.valid.sound (entries_short job is has.set has.of) in
-      (record { job = job; set = has.set; trees = trees.0 }, refl, run_with job s name has trees.0 trees.1)
+  valid_run_for : length bytes < 2 ^ 63 → (job : Job) → Describes bytes job → HasRunFor job own s name → (run : ValidRun) × (run.job ≡ job) × IsRunFor own s name run
+  valid_run_for small job is has =
+      let of = has.run in
+      let trees = checked_of (length bytes) small of.set of.valid.trees of.valid.reads of.valid.sound (entries_short job is of.set of.of) in
+      (record { job = job; image = has.image; set = of.set; trees = trees.0 }, refl, record { image = has.is; run = run_with job s name has.image of trees.0 trees.1 })
 
-  pub run_or_refusal_of : length bytes < 2 ^ 63 → (job : Job) → Describes bytes job → ((run : ValidRun) × (run.job ≡ job) × IsRunOfJob s name run) ⊎ ((end : RunRefusal) × IsRefusedRunOf job s name end)
-  run_or_refusal_of small job is = elim (run_or_reason_of job s name) [ inl has ↦ inl (valid_run_of small job is has) | inr none ↦ inr none ]
+  pub run_or_refusal_for : length bytes < 2 ^ 63 → (job : Job) → Describes bytes job → ((run : ValidRun) × (run.job ≡ job) × IsRunFor own s name run) ⊎ ((end : RunRefusal) × IsRefusedRunFor job own s name end)
+  run_or_refusal_for small job is = elim (run_or_reason_for job own s name) [ inl has ↦ inl (valid_run_for small job is has) | inr none ↦ inr none ]
 
-  valid_run : length bytes < 2 ^ 63 → HasRun bytes s name → (run : ValidRun) × IsValidRun bytes s name run
+  valid_run : length bytes < 2 ^ 63 → HasRun bytes own s name → (run : ValidRun) × IsValidRun bytes own s name run
   valid_run small has =
-      let r = valid_run_of small has.job has.of has.run in
+      let r = valid_run_for small has.job has.of has.run in
       (r.0, record { job = subst (Describes bytes) (sym r.1) has.of; run = r.2 })
 
-  pub run_or_refusal : length bytes < 2 ^ 63 → ((run : ValidRun) × IsValidRun bytes s name run) ⊎ ((end : RunRefusal) × IsRefusedRun bytes s name end)
+  pub run_or_refusal : length bytes < 2 ^ 63 → ((run : ValidRun) × IsValidRun bytes own s name run) ⊎ ((end : RunRefusal) × IsRefusedRun bytes own s name end)
   run_or_refusal small = elim run_or_reason [ inl has ↦ inl (valid_run small has) | inr none ↦ inr none ]

@@ -30,6 +30,7 @@ NoJob bytes refusals.NoDevice = ⊥
 NoJob bytes refusals.AmbiguousDevice = ⊥
 NoJob bytes refusals.NoVariant = ⊥
 NoJob bytes (refusals.Dbgconf kind at) = ⊥
+NoJob bytes (refusals.Image what line) = ⊥
 NoJob bytes (refusals.Check kind spot) = ⊥
 
 -- the pack has no set for the selection: no device of the name, several, or no variant of the name
@@ -40,6 +41,7 @@ NoSet pack s refusals.NoVariant = HasNone pack s.device s.variant resolving.NoVa
 NoSet pack s refusals.BadJson = ⊥
 NoSet pack s (refusals.Job fault) = ⊥
 NoSet pack s (refusals.Dbgconf kind at) = ⊥
+NoSet pack s (refusals.Image what line) = ⊥
 NoSet pack s (refusals.Check kind spot) = ⊥
 
 -- the set is not valid, and this is its first fault
@@ -48,6 +50,7 @@ NoValid set (refusals.Check kind spot) = IsFirstFaultOf set kind spot
 NoValid set refusals.BadJson = ⊥
 NoValid set (refusals.Job fault) = ⊥
 NoValid set (refusals.Dbgconf kind at) = ⊥
+NoValid set (refusals.Image what line) = ⊥
 NoValid set refusals.NoDevice = ⊥
 NoValid set refusals.AmbiguousDevice = ⊥
 NoValid set refusals.NoVariant = ⊥

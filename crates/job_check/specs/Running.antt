@@ -1,5 +1,5 @@
 -- Which sequence of a job runs, or why none does.
-use Rattle.std.specs.Prelude.{◌≡◌, ℕ, Bool, true, false, List}
+use Rattle.std.specs.Prelude.{◌≡◌, ℕ, Bool, true, false, List, Option, Ok, Err}
 use Rattle.std.specs.List.{list_any}
 use Rattle.std.specs.Str.{bytes_eq}
 use Rattle.sequence_resolve.specs.declared.entry.SeqEntry.{SeqEntry}
@@ -13,6 +13,9 @@ use Rattle.seq_check.specs.Answers.{checked_trees}
 use Rattle.dbgconf_text.specs.declared.conf.ConfItem.{ConfItem}
 use Rattle.job_check.specs.Values.{HasConf, NoConf, HasValues, NoValues}
 use Rattle.job_check.specs.Answers.{NoJob, NoSet, NoValid, AreTreesOf}
+use Rattle.job_check.specs.Own.{own_of}
+use Rattle.job_check.specs.declared.own.JobImage.{JobImage}
+use Rattle.job_check.specs.declared.own.Own.{Own}
 use Rattle.job_check.specs.declared.answer.Refusal.{Refusal}
 use Rattle.job_check.specs.declared.answer.CheckRefusal.{CheckRefusal}
 use Rattle.job_check.specs.declared.answer.CheckRefusal.TheVariants as checks
@@ -63,23 +66,41 @@ pub data IsRefusedRunOf (job : Job) (s : Selection) (name : List ℕ) (end : Run
       → end ≡ ends.Refused r → IsRefusedRunOf job s name end
   not_valid : (set : SeqSet) (r : Refusal) → IsSetOfJob job s set → has_sequence set name ≡ true → NoValid set r → end ≡ ends.Refused r → IsRefusedRunOf job s name end
 
+-- ---- with what a mode needs
+
+-- a sequence of the job runs, and the image is what the mode needs
+pub record IsRunFor (own : Own) (s : Selection) (name : List ℕ) (r : ValidRun) : Type 0 where
+  pub image : own_of own r.job.image ≡ Ok r.image
+  pub run : IsRunOfJob s name r
+
+-- the job has what the mode needs, and all of a run
+pub record HasRunFor (job : Job) (own : Own) (s : Selection) (name : List ℕ) : Type 0 where
+  pub image : Option JobImage
+  pub is : own_of own job.image ≡ Ok image
+  pub run : HasRunOf job s name
+
+-- why no sequence of a job runs: the job has not got what the mode needs; or it has, and no sequence of it runs
+pub data IsRefusedRunFor (job : Job) (own : Own) (s : Selection) (name : List ℕ) (end : RunRefusal) : Type 0 where
+  no_own : (r : Refusal) → own_of own job.image ≡ Err r → end ≡ ends.Refused r → IsRefusedRunFor job own s name end
+  has_own : (image : Option JobImage) → own_of own job.image ≡ Ok image → IsRefusedRunOf job s name end → IsRefusedRunFor job own s name end
+
 -- ---- of bytes
 
 -- the job is that of the bytes, and its sequence runs
-pub record IsValidRun (bytes : List ℕ) (s : Selection) (name : List ℕ) (r : ValidRun) : Type 0 where
+pub record IsValidRun (bytes : List ℕ) (own : Own) (s : Selection) (name : List ℕ) (r : ValidRun) : Type 0 where
   pub job : Describes bytes r.job
-  pub run : IsRunOfJob s name r
+  pub run : IsRunFor own s name r
 
 -- the bytes describe a job that has all of a run
-pub record HasRun (bytes : List ℕ) (s : Selection) (name : List ℕ) : Type 0 where
+pub record HasRun (bytes : List ℕ) (own : Own) (s : Selection) (name : List ℕ) : Type 0 where
   pub job : Job
   pub of : Describes bytes job
-  pub run : HasRunOf job s name
+  pub run : HasRunFor job own s name
 
 -- why no sequence runs: the bytes are no job; or no sequence of the job that they describe runs
-pub data IsRefusedRun (bytes : List ℕ) (s : Selection) (name : List ℕ) (end : RunRefusal) : Type 0 where
-  not_described : (r : Refusal) → NoJob bytes r → end ≡ ends.Refused r → IsRefusedRun bytes s name end
-  described : (job : Job) → Describes bytes job → IsRefusedRunOf job s name end → IsRefusedRun bytes s name end
+pub data IsRefusedRun (bytes : List ℕ) (own : Own) (s : Selection) (name : List ℕ) (end : RunRefusal) : Type 0 where
+  not_described : (r : Refusal) → NoJob bytes r → end ≡ ends.Refused r → IsRefusedRun bytes own s name end
+  described : (job : Job) → Describes bytes job → IsRefusedRunFor job own s name end → IsRefusedRun bytes own s name end
 
 -- a fact on why no sequence runs, unless memory ran out
 abbrev pub OnEnd : (RunRefusal → Type 0) → RunRefusal → Type 0
@@ -92,8 +113,9 @@ abbrev pub run_refusal_of : CheckRefusal → RunRefusal
 run_refusal_of (checks.Refused r) = ends.Refused r
 run_refusal_of checks.OutOfMemory = ends.OutOfMemory
 
--- two runs of one job, with the same set and the same trees
+-- two runs of one job, with the same image, the same set and the same trees
 pub record IsSameRun (x y : ValidRun) : Type 0 where
   pub job : x.job ≡ y.job
+  pub image : x.image ≡ y.image
   pub set : x.set ≡ y.set
   pub trees : checked_trees x.trees ≡ checked_trees y.trees

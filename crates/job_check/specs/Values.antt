@@ -40,6 +40,7 @@ HasConfFault text (refusals.Job fault) = ⊥
 HasConfFault text refusals.NoDevice = ⊥
 HasConfFault text refusals.AmbiguousDevice = ⊥
 HasConfFault text refusals.NoVariant = ⊥
+HasConfFault text (refusals.Image what line) = ⊥
 HasConfFault text (refusals.Check kind spot) = ⊥
 
 -- the job has a text of values, which is no list of names and values, with this fault
@@ -72,6 +73,7 @@ HasUndefined items debugvars (refusals.Job fault) = ⊥
 HasUndefined items debugvars refusals.NoDevice = ⊥
 HasUndefined items debugvars refusals.AmbiguousDevice = ⊥
 HasUndefined items debugvars refusals.NoVariant = ⊥
+HasUndefined items debugvars (refusals.Image what line) = ⊥
 HasUndefined items debugvars (refusals.Check kind spot) = ⊥
 
 -- the refusal of a name that is not declared, or that memory ran out

@@ -1,6 +1,7 @@
 //! The valid set of a job for one device, and why a job has none.
 use dap_base::{OutOfMemory, Place};
 use device_tree::JobFault;
+use hex_image::ImageKind;
 use seq_check::{Checked, FaultKind};
 use sequence_resolve::SeqSet;
 use sequence_trees::Spot;
@@ -32,8 +33,11 @@ pub enum DbgconfKind {
 pub enum Refusal {
     /// The bytes are no JSON text.
     BadJson,
-    /// The JSON value stands for no job; this is its first fault, never `OutOfMemory`.
+    /// The JSON value stands for no job, or has no image where the mode needs one; this is its first fault, never `OutOfMemory`.
     Job(JobFault),
+    /// The text of the image is none. With its first fault, and the number of that line, from 1. Only a mode that needs
+    /// the image is refused so.
+    Image(ImageKind, u64),
     /// The starting values can not be read, or can not be put in; with their first fault, and its place in
     /// their text.
     Dbgconf(DbgconfKind, Place),

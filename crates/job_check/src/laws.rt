@@ -15,7 +15,8 @@ ghost use Rattle.dbgconf_text.specs.Cuts.{with_values};
 ghost use Rattle.dbgconf_text.specs.Replacing.{settings_of};
 ghost use Rattle.job_check.specs.declared.answer.Refusal.{Refusal};
 ghost use Rattle.job_check.specs.Answers.{IsAnswer, IsAnswerOf};
-ghost use Rattle.job_check.specs.Running.{HasPlain, HasRun, HasRunOf, IsRefusedRun, IsRefusedRunOf, IsRunOfJob, IsSameRun, IsValidRun};
+ghost use Rattle.job_check.specs.Running.{HasPlain, HasRun, HasRunFor, IsRefusedRun, IsRefusedRunFor, IsRunFor, IsRunOfJob, IsSameRun, IsValidRun};
+ghost use Rattle.job_check.specs.declared.own.Own.{Own};
 ghost use Rattle.job_check.specs.declared.running.RunRefusal.{RunRefusal};
 ghost use Rattle.job_check.specs.declared.running.ValidRun.{ValidRun};
 
@@ -40,40 +41,42 @@ pub fn some_answer()
     ensures { (bytes : List ℕ) (selection : Selection) → (answer : Result SeqSet Refusal) × IsAnswer bytes selection answer }
 {}
 
-/// The bytes of a job, a selection and a name have one run at most, or one reason why none runs.
+/// The bytes of a job, what the mode needs of it, a selection and a name have one run at most, or one reason why none runs.
 pub fn one_run()
-    ensures run { (bytes : List ℕ) (selection : Selection) (name : List ℕ) (x y : ValidRun)
-        → IsValidRun bytes selection name x → IsValidRun bytes selection name y → IsSameRun x y }
-    ensures refusal { (bytes : List ℕ) (selection : Selection) (name : List ℕ) (x y : RunRefusal)
-        → IsRefusedRun bytes selection name x → IsRefusedRun bytes selection name y → x ≡ y }
-    ensures either { (bytes : List ℕ) (selection : Selection) (name : List ℕ) (x : ValidRun) (y : RunRefusal)
-        → IsValidRun bytes selection name x → IsRefusedRun bytes selection name y → ⊥ }
+    ensures run { (bytes : List ℕ) (own : Own) (selection : Selection) (name : List ℕ) (x y : ValidRun)
+        → IsValidRun bytes own selection name x → IsValidRun bytes own selection name y → IsSameRun x y }
+    ensures refusal { (bytes : List ℕ) (own : Own) (selection : Selection) (name : List ℕ) (x y : RunRefusal)
+        → IsRefusedRun bytes own selection name x → IsRefusedRun bytes own selection name y → x ≡ y }
+    ensures either { (bytes : List ℕ) (own : Own) (selection : Selection) (name : List ℕ) (x : ValidRun) (y : RunRefusal)
+        → IsValidRun bytes own selection name x → IsRefusedRun bytes own selection name y → ⊥ }
 {}
 
-/// The bytes of a job, a selection and a name have a run, or a reason why none runs. What runs is a `ValidRun` where there are fewer bytes than 2^63.
+/// The bytes of a job, what the mode needs of it, a selection and a name have a run, or a reason why none runs. What runs is a `ValidRun` where there
+/// are fewer bytes than 2^63.
 pub fn run_or_reason()
-    ensures either { (bytes : List ℕ) (selection : Selection) (name : List ℕ)
-        → HasRun bytes selection name ⊎ ((end : RunRefusal) × IsRefusedRun bytes selection name end) }
-    ensures run { (bytes : List ℕ) (selection : Selection) (name : List ℕ) → length bytes < 2 ^ 63
-        → ((run : ValidRun) × IsValidRun bytes selection name run) ⊎ ((end : RunRefusal) × IsRefusedRun bytes selection name end) }
+    ensures either { (bytes : List ℕ) (own : Own) (selection : Selection) (name : List ℕ)
+        → HasRun bytes own selection name ⊎ ((end : RunRefusal) × IsRefusedRun bytes own selection name end) }
+    ensures run { (bytes : List ℕ) (own : Own) (selection : Selection) (name : List ℕ) → length bytes < 2 ^ 63
+        → ((run : ValidRun) × IsValidRun bytes own selection name run) ⊎ ((end : RunRefusal) × IsRefusedRun bytes own selection name end) }
 {}
 
-/// A job, a selection and a name have one run at most, or one reason why none runs.
+/// A job, what the mode needs of it, a selection and a name have one run at most, or one reason why none runs.
 pub fn one_run_of_a_job()
-    ensures run { (selection : Selection) (name : List ℕ) (x y : ValidRun)
-        → x.job ≡ y.job → IsRunOfJob selection name x → IsRunOfJob selection name y → IsSameRun x y }
-    ensures refusal { (job : Job) (selection : Selection) (name : List ℕ) (x y : RunRefusal)
-        → IsRefusedRunOf job selection name x → IsRefusedRunOf job selection name y → x ≡ y }
-    ensures either { (selection : Selection) (name : List ℕ) (x : ValidRun) (y : RunRefusal)
-        → IsRunOfJob selection name x → IsRefusedRunOf x.job selection name y → ⊥ }
+    ensures run { (own : Own) (selection : Selection) (name : List ℕ) (x y : ValidRun)
+        → x.job ≡ y.job → IsRunFor own selection name x → IsRunFor own selection name y → IsSameRun x y }
+    ensures refusal { (job : Job) (own : Own) (selection : Selection) (name : List ℕ) (x y : RunRefusal)
+        → IsRefusedRunFor job own selection name x → IsRefusedRunFor job own selection name y → x ≡ y }
+    ensures either { (own : Own) (selection : Selection) (name : List ℕ) (x : ValidRun) (y : RunRefusal)
+        → IsRunFor own selection name x → IsRefusedRunFor x.job own selection name y → ⊥ }
 {}
 
-/// A job, a selection and a name have a run, or a reason why none runs. What runs is a `ValidRun` where the job is that of fewer bytes than 2^63.
+/// A job, what the mode needs of it, a selection and a name have a run, or a reason why none runs. What runs is a `ValidRun` where the job is that of
+/// fewer bytes than 2^63.
 pub fn run_or_reason_of_a_job()
-    ensures either { (job : Job) (selection : Selection) (name : List ℕ)
-        → HasRunOf job selection name ⊎ ((end : RunRefusal) × IsRefusedRunOf job selection name end) }
-    ensures run { (bytes : List ℕ) (job : Job) (selection : Selection) (name : List ℕ) → length bytes < 2 ^ 63 → Describes bytes job
-        → ((run : ValidRun) × (run.job ≡ job) × IsRunOfJob selection name run) ⊎ ((end : RunRefusal) × IsRefusedRunOf job selection name end) }
+    ensures either { (job : Job) (own : Own) (selection : Selection) (name : List ℕ)
+        → HasRunFor job own selection name ⊎ ((end : RunRefusal) × IsRefusedRunFor job own selection name end) }
+    ensures run { (bytes : List ℕ) (job : Job) (own : Own) (selection : Selection) (name : List ℕ) → length bytes < 2 ^ 63 → Describes bytes job
+        → ((run : ValidRun) × (run.job ≡ job) × IsRunFor own selection name run) ⊎ ((end : RunRefusal) × IsRefusedRunFor job own selection name end) }
 {}
 
 /// Where the debug variables of a selection are code as they are, those of a run are this code with the starting values of the job, apart from

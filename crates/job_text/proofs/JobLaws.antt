@@ -16,8 +16,8 @@ use Rattle.job_text.specs.declared.job.Job.{Job}
 use Rattle.job_text.specs.declared.reading.Optional.{Optional}
 use Rattle.job_text.specs.Tests.{are_words_in}
 use Rattle.job_text.specs.RunReading.{default_settings}
-use Rattle.job_text.specs.JobReading.{watch_item_in, watch_in, dbgconf_in, entry_text_in, trace_in, optional_in, job_in}
-use Rattle.job_text.specs.JobForm.{IsWatchItem, IsEntryOf, IsJob}
+use Rattle.job_text.specs.JobReading.{watch_item_in, watch_in, image_job_in, image_in, dbgconf_in, entry_text_in, trace_in, optional_in, job_in}
+use Rattle.job_text.specs.JobForm.{IsWatchItem, IsImageJob, IsEntryOf, IsJob}
 use Rattle.job_text.proofs.RunLaws.{run_reads}
 use Rattle.job_text.proofs.TargetLaws.{aligned_reads, bench_reads}
 
@@ -46,6 +46,24 @@ watch_law : (regions : List RegionJob) → Reads (watch_in regions) (HasOr (code
 unfolding watch_in
 watch_law regions = or_else_reads (codes "watch") _ _ [] (list_reads (Some 1024) _ _ never (alone_reads _ _ (watch_item_reads regions)))
 
+image_job_reads : Reads image_job_in IsImageJob
+unfolding image_job_in
+image_job_reads =
+    let ap = or_else_reads (codes "ap") _ _ 0 (number_reads 0 255) in
+    let hex = required_reads (codes "hex") _ _ text_reads in
+    record {
+      sound = λ d x e. (
+          let a = bind_ok _ _ x e in
+          let b = bind_ok _ _ x a.2 in
+          let c = bind_ok _ _ x b.2 in
+          subst (IsImageJob d) (ok_is _ x c.2) (record { known = only_keys_sound _ d a.0 a.1; ap = ap.sound d b.0 b.1; hex = hex.sound d c.0 c.1 }));
+      complete = λ d x p. rw (only_keys_complete _ d p.known, ap.complete d x.ap p.ap, hex.complete d x.hex p.hex) refl;
+    }
+
+image_reads : Reads image_in (MayHave (codes "image") IsImageJob)
+unfolding image_in
+image_reads = optional_reads (codes "image") _ _ image_job_reads
+
 dbgconf_reads : Reads dbgconf_in (MayHave (codes "dbgconf") IsText)
 unfolding dbgconf_in
 dbgconf_reads = optional_reads (codes "dbgconf") _ _ text_reads
@@ -71,6 +89,7 @@ trace_reads = optional_reads (codes "trace") _ _ (list_reads (Some 65536) _ _ ne
 
 record HasOptional (regions : List RegionJob) (d : Data) (x : Optional) : Type 0 where
   watch : HasOr (codes "watch") (IsListOf (Some 1024) (Alone (IsWatchItem regions)) never) [] d x.watch
+  image : MayHave (codes "image") IsImageJob d x.image
   dbgconf : MayHave (codes "dbgconf") IsText d x.dbgconf
   trace : MayHave (codes "trace") (IsListOf (Some 65536) (Alone IsEntryOf) never) d x.trace
 
@@ -79,15 +98,16 @@ unfolding optional_in
 optional_law regions = record {
   sound = λ d x e. (
       let w = bind_ok _ _ x e in
-      let c = bind_ok _ _ x w.2 in
+      let i = bind_ok _ _ x w.2 in
+      let c = bind_ok _ _ x i.2 in
       let t = bind_ok _ _ x c.2 in
       subst (HasOptional regions d) (ok_is _ x t.2)
-      (record { watch = (watch_law regions).sound d w.0 w.1; dbgconf = dbgconf_reads.sound d c.0 c.1; trace = trace_reads.sound d t.0 t.1 }));
-  complete = λ d x p. rw ((watch_law regions).complete d x.watch p.watch, dbgconf_reads.complete d x.dbgconf p.dbgconf, trace_reads.complete d x.trace p.trace) refl;
+      (record { watch = (watch_law regions).sound d w.0 w.1; image = image_reads.sound d i.0 i.1; dbgconf = dbgconf_reads.sound d c.0 c.1; trace = trace_reads.sound d t.0 t.1 }));
+  complete = λ d x p. rw ((watch_law regions).complete d x.watch p.watch, image_reads.complete d x.image p.image, dbgconf_reads.complete d x.dbgconf p.dbgconf, trace_reads.complete d x.trace p.trace) refl;
 }
 
 optional_of : Job → Optional
-optional_of x = record { watch = x.watch; dbgconf = x.dbgconf; trace = x.trace }
+optional_of x = record { watch = x.watch; image = x.image; dbgconf = x.dbgconf; trace = x.trace }
 
 pub job_reads : Reads job_in IsJob
 unfolding job_in optional_of
@@ -109,6 +129,7 @@ job_reads =
             settings = run.sound d r.0 r.1;
             bench = bench.sound d b.0 b.1;
             watch = own.watch;
+            image = own.image;
             dbgconf = own.dbgconf;
             trace = own.trace;
           }));
@@ -117,6 +138,6 @@ job_reads =
         pack.complete d x.pack p.pack,
         run.complete d x.settings p.settings,
         bench.complete d x.bench p.bench,
-        (optional_law x.bench.target.memory).complete d (optional_of x) (record { watch = p.watch; dbgconf = p.dbgconf; trace = p.trace }),
+        (optional_law x.bench.target.memory).complete d (optional_of x) (record { watch = p.watch; image = p.image; dbgconf = p.dbgconf; trace = p.trace }),
       ) refl;
     }

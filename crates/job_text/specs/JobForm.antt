@@ -6,6 +6,7 @@ use Rattle.json_form.specs.Form.{IsText, IsNumber, Such, HasOnly, Has, HasOr, Ma
 use Rattle.device_tree.specs.PackForm.{IsPack}
 use Rattle.target_machine.specs.declared.job.RegionJob.{RegionJob}
 use Rattle.trace_audit.specs.Texts.{IsEntry}
+use Rattle.job_text.specs.declared.job.ImageJob.{ImageJob}
 use Rattle.job_text.specs.declared.job.Job.{Job}
 use Rattle.job_text.specs.declared.job.WatchItem.{WatchItem}
 use Rattle.job_text.specs.Tests.{is_aligned, are_words_in}
@@ -22,11 +23,18 @@ pub record IsWatchItem (regions : List RegionJob) (d : Data) (x : WatchItem) : T
 abbrev pub IsEntryOf : Data → List ℕ → Type 0
 IsEntryOf d text = IsText d text × IsEntry text
 
+-- an image of memory, whose text may be any
+pub record IsImageJob (d : Data) (x : ImageJob) : Type 0 where
+  pub known : HasOnly (codes "ap" ∷ codes "hex" ∷ []) d
+  pub ap : HasOr (codes "ap") (IsNumber 0 255) 0 d x.ap
+  pub hex : Has (codes "hex") IsText d x.hex
+
 pub record IsJob (d : Data) (job : Job) : Type 0 where
-  pub known : HasOnly (codes "pack" ∷ codes "run" ∷ codes "bench" ∷ codes "watch" ∷ codes "dbgconf" ∷ codes "trace" ∷ []) d
+  pub known : HasOnly (codes "pack" ∷ codes "run" ∷ codes "bench" ∷ codes "watch" ∷ codes "image" ∷ codes "dbgconf" ∷ codes "trace" ∷ []) d
   pub pack : Has (codes "pack") IsPack d job.pack
   pub settings : HasOr (codes "run") IsRun default_settings d job.settings
   pub bench : Has (codes "bench") IsBench d job.bench
   pub watch : HasOr (codes "watch") (IsListOf (Some 1024) (Alone (IsWatchItem job.bench.target.memory)) never) [] d job.watch
+  pub image : MayHave (codes "image") IsImageJob d job.image
   pub dbgconf : MayHave (codes "dbgconf") IsText d job.dbgconf
   pub trace : MayHave (codes "trace") (IsListOf (Some 65536) (Alone IsEntryOf) never) d job.trace

@@ -8,10 +8,11 @@ use Rattle.json_form.specs.Reading.{text, number, such, only_keys, required, opt
 use Rattle.device_tree.specs.PackReading.{pack_in}
 use Rattle.target_machine.specs.declared.job.RegionJob.{RegionJob}
 use Rattle.trace_audit.specs.Texts.{is_entry_text}
+use Rattle.job_text.specs.declared.job.ImageJob.{ImageJob}
 use Rattle.job_text.specs.declared.job.Job.{Job}
 use Rattle.job_text.specs.declared.job.WatchItem.{WatchItem}
 use Rattle.job_text.specs.declared.reading.Optional.{Optional}
-use Rattle.job_text.specs.Keys.{watch_keys, job_keys}
+use Rattle.job_text.specs.Keys.{watch_keys, image_keys, job_keys}
 use Rattle.job_text.specs.Tests.{is_aligned, are_words_in}
 use Rattle.job_text.specs.RunReading.{run_in, default_settings}
 use Rattle.job_text.specs.TargetReading.{address_number, bench_in}
@@ -25,6 +26,16 @@ watch_item_in regions d = do
 
 unfoldable pub watch_in : List RegionJob → Data → Result (List WatchItem) JobFault
 watch_in regions d = or_else (codes "watch") (list_of (Some 1024) (alone (watch_item_in regions)) never) [] d
+
+unfoldable pub image_job_in : Data → Result ImageJob JobFault
+image_job_in d = do
+  known ← only_keys image_keys d
+  ap ← or_else (codes "ap") (number 0 255) 0 d
+  hex ← required (codes "hex") text d
+  Ok (record { ap = ap; hex = hex })
+
+unfoldable pub image_in : Data → Result (Option ImageJob) JobFault
+image_in d = optional (codes "image") image_job_in d
 
 unfoldable pub dbgconf_in : Data → Result (Option (List ℕ)) JobFault
 dbgconf_in d = optional (codes "dbgconf") text d
@@ -42,9 +53,10 @@ trace_in d = optional (codes "trace") (list_of (Some 65536) (alone entry_text_in
 unfoldable pub optional_in : List RegionJob → Data → Result Optional JobFault
 optional_in regions d = do
   watch ← watch_in regions d
+  image ← image_in d
   dbgconf ← dbgconf_in d
   trace ← trace_in d
-  Ok (record { watch = watch; dbgconf = dbgconf; trace = trace })
+  Ok (record { watch = watch; image = image; dbgconf = dbgconf; trace = trace })
 
 unfoldable pub job_in : Data → Result Job JobFault
 job_in d = do
@@ -53,4 +65,4 @@ job_in d = do
   settings ← or_else (codes "run") run_in default_settings d
   bench ← required (codes "bench") bench_in d
   own ← optional_in bench.target.memory d
-  Ok (record { pack = pack; settings = settings; bench = bench; watch = own.watch; dbgconf = own.dbgconf; trace = own.trace })
+  Ok (record { pack = pack; settings = settings; bench = bench; watch = own.watch; image = own.image; dbgconf = own.dbgconf; trace = own.trace })

@@ -2,7 +2,10 @@
 use Rattle.std.specs.Prelude.{ℕ, codes, List, [], ◌∷◌}
 
 abbrev pub job_keys : List (List ℕ)
-job_keys = codes "pack" ∷ codes "run" ∷ codes "bench" ∷ codes "watch" ∷ codes "dbgconf" ∷ codes "trace" ∷ []
+job_keys = codes "pack" ∷ codes "run" ∷ codes "bench" ∷ codes "watch" ∷ codes "image" ∷ codes "dbgconf" ∷ codes "trace" ∷ []
+
+abbrev pub image_keys : List (List ℕ)
+image_keys = codes "ap" ∷ codes "hex" ∷ []
 
 abbrev pub run_keys : List (List ℕ)
 run_keys = codes "turn_us" ∷ codes "retry" ∷ codes "idle" ∷ codes "variables" ∷ []

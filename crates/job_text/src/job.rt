@@ -17,6 +17,15 @@ pub struct WatchItem {
 /// What is printed at the end, in order, at most 1,024 items.
 pub type Watch = ItemList<WatchItem>;
 
+/// An image of memory that a mode loads.
+#[derive(Debug, Drop)]
+pub struct ImageJob {
+    /// The number of the access port through which it is loaded, 0 where the job has none.
+    pub ap: u8,
+    /// The text of its Intel HEX records. What it says is not read.
+    pub hex: NameText,
+}
+
 /// A job: the device pack, how its sequences are run, and the simulated probe and target.
 #[derive(Debug, Drop)]
 pub struct Job {
@@ -24,6 +33,8 @@ pub struct Job {
     pub settings: Settings,
     pub bench: BenchJob,
     pub watch: Watch,
+    /// An image of memory, where the job has one.
+    pub image: Option<ImageJob>,
     /// Starting values of debug variables, as text, where the job has any. What it says is not read.
     pub dbgconf: Option<NameText>,
     /// The entries of a kept trace, at most 65,536, where the job has one.

@@ -2,6 +2,7 @@
 #![tactic(auto)]
 
 mod bench;
+mod image;
 mod job;
 mod memory;
 mod reading;
@@ -10,5 +11,5 @@ mod target;
 mod trace;
 mod watch;
 
-pub use job::{Job, JobRefusal, Watch, WatchItem};
+pub use job::{ImageJob, Job, JobRefusal, Watch, WatchItem};
 pub use reading::job_of;

@@ -2,14 +2,17 @@
 ghost use Rattle.std.specs.Prelude.{IfOk, IfErr};
 ghost use Rattle.serde_json.specs.View.{view};
 ghost use Rattle.json_form.specs.Faults.{Gives};
+ghost use Rattle.json_form.specs.Reading.{only_keys};
 ghost use Rattle.probe_core.specs.Ranges.{IsBenchJob};
+ghost use Rattle.job_text.specs.Keys.{job_keys};
 ghost use Rattle.job_text.specs.JobReading.{dbgconf_in, job_in, optional_in, watch_in};
 ghost use Rattle.job_text.specs.Answers.{Answers, Describes, IsRefused, IsAnswer};
 ghost use Rattle.job_text.specs.Ranges.{AreSettings, AreWatched, AreEntryTexts};
 ghost use Rattle.job_text.specs.declared.job.Job.{Job};
 
 use crate::bench::BenchReader;
-use crate::job::{Job, JobRefusal, Watch};
+use crate::image::image_of;
+use crate::job::{ImageJob, Job, JobRefusal, Watch};
 use crate::run::settings_of;
 use crate::trace::trace_of;
 use crate::watch::WatchReader;
@@ -49,6 +52,7 @@ fn dbgconf_of(alloc: Global, job: &Value) -> Result<Option<NameText>, JobFault>
 #[derive(Drop)]
 struct Optional {
     watch: Watch,
+    image: Option<ImageJob>,
     dbgconf: Option<NameText>,
     trace: Option<TraceTexts>,
 }
@@ -58,22 +62,31 @@ fn optional_in_value(alloc: Global, job: &Value, regions: &RegionJobs) -> Result
     ensures { Gives result (optional_in regions.now (view job.now)) }
 {
     let watch = watch_of(alloc, job, regions)?;
+    let image = image_of(alloc, job)?;
     let dbgconf = dbgconf_of(alloc, job)?;
     let trace = trace_of(alloc, job)?;
     Ok(Optional {
         watch,
+        image,
         dbgconf,
         trace,
     })
 }
 
-const JOB_KEYS: [&str; 6] = ["pack", "run", "bench", "watch", "dbgconf", "trace"];
+const JOB_KEYS: [&str; 7] = ["pack", "run", "bench", "watch", "image", "dbgconf", "trace"];
+
+// That the value has no other keys than a job may have.
+fn only_job_keys(alloc: Global, job: &Value) -> Result<(), JobFault>
+    ensures { Gives result (only_keys job_keys (view job.now)) }
+{
+    only_keys_of(alloc, job, &JOB_KEYS)
+}
 
 #[tactic(auto, unfolding(crate::specs::JobReading::job_in))]
 fn job_in_value(alloc: Global, value: &Value) -> Result<Job, JobFault>
     ensures { Gives result (job_in (view value.now)) }
 {
-    only_keys_of(alloc, value, &JOB_KEYS)?;
+    only_job_keys(alloc, value)?;
     let pack = required_of(alloc, value, "pack", &PackReader)?;
     let settings = settings_of(alloc, value)?;
     let bench = required_of(alloc, value, "bench", &BenchReader)?;
@@ -83,6 +96,7 @@ fn job_in_value(alloc: Global, value: &Value) -> Result<Job, JobFault>
         settings,
         bench,
         watch: own.watch,
+        image: own.image,
         dbgconf: own.dbgconf,
         trace: own.trace,
     })

@@ -18,7 +18,7 @@ use serde_json::Value;
 use std::alloc::Global;
 use target_machine::{ApJob, ApJobs, RegionJobs, ScriptJobs, TargetJob, WordJobs};
 
-const ANY_BYTE: Number<u8> = Number {
+pub(crate) const ANY_BYTE: Number<u8> = Number {
     low: 0,
     high: u8::MAX,
 };

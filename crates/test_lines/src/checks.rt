@@ -43,7 +43,13 @@ pub fn checked(alloc: Global, job: &[u8], options: &Options<'_>) -> Result<Vec<u
 
 // Why the sequence does not run, where it does not.
 fn run_refusal(alloc: Global, job: &[u8], options: &Options<'_>) -> Option<RunRefusal> {
-    match valid_run(alloc, job, &options.selection, options.sequence) {
+    match valid_run(
+        alloc,
+        job,
+        options.own,
+        &options.selection,
+        options.sequence,
+    ) {
         Ok(_) => None,
         Err(refusal) => Some(refusal),
     }

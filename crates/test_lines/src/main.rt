@@ -2,6 +2,7 @@
 #![tactic(auto)]
 
 mod checks;
+mod images;
 mod options;
 mod reading;
 mod reports;
@@ -31,6 +32,8 @@ fn answer(alloc: Global, row: &Row) -> Result<Vec<u8>, AllocError> {
         "trees" => checks::trees(alloc, input, words),
         "read" => reading::read(alloc, input),
         "values" => reading::values(alloc, input),
+        "image" => images::image(alloc, input),
+        "filled" => images::filled(alloc, input),
         "report" => reports::reported(alloc, input),
         _ => checked(alloc, kind, words, input),
     }

@@ -1,5 +1,6 @@
 //! The words of a form.
 use dap_base::{NameText, OutOfMemory};
+use job_check::Own;
 use sequence_resolve::Selection;
 use std::alloc::{AllocError, Global};
 
@@ -10,6 +11,8 @@ pub struct Options<'a> {
     pub selection: Selection,
     /// The sequence that is to run.
     pub sequence: &'a str,
+    /// What the mode needs of the job besides.
+    pub own: Own,
     /// The number of the put of the sink that fails, from 1; 0 where none does.
     pub put: u32,
 }
@@ -53,12 +56,20 @@ fn number_of(text: &str) -> u32 {
     text.parse::<u32>().unwrap_or(0)
 }
 
-/// Reads words as `device=D1`, `variant=V1`, `pname=P`, `sequence=Main` and `put=1`, with commas between them, so that
+fn own_of(words: &str) -> Own {
+    match word_named(words, "own") {
+        Some("image") => Own::Image,
+        _ => Own::Nothing,
+    }
+}
+
+/// Reads words as `device=D1`, `variant=V1`, `pname=P`, `sequence=Main`, `own=image` and `put=1`, with commas between them, so that
 /// names may have spaces or be empty.
 pub fn options_of<'a>(alloc: Global, words: &'a str) -> Result<Options<'a>, AllocError> {
     Ok(Options {
         selection: selection_of(alloc, words)?,
         sequence: word_named(words, "sequence").unwrap_or(""),
+        own: own_of(words),
         put: word_named(words, "put").map_or(0, number_of),
     })
 }

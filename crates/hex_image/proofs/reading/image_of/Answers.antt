@@ -3,6 +3,7 @@ use Rattle.hex_image.specs.Image.{Reading, image, read_on}
 use Rattle.hex_image.specs.Reads.{IsImage}
 use Rattle.hex_image.specs.Records.{lines_of}
 use Rattle.hex_image.proofs.SplitLemmas.{feed, fronted, other}
+use Rattle.hex_image.proofs.FewLemmas.{ended_few}
 use Rattle.hex_image.proofs.TextLemmas.{closed_err, closed_ok, last_none, last_open, no_more, open_err, open_ok}
 use Rattle.hex_image.proofs.reading.image_of.Goals.{then-bytes-end-eq10+in-Ok, else-bytes-end-eq10, then-start-bytes+in-Ok-read_line, else-start-bytes}
 use Rattle.hex_image.proofs.reading.image_of.Goals as goal
@@ -89,3 +90,20 @@ returns c =
           let none = last_none t c.loop-end.start c.loop-end.end c.loop-end-test.false le in
           no_more t c.if-start-bytes.reader c.if-start-bytes.lines c.ended.result (rw (w.reader-is, w.lines-is) (inv.2 ∙ ap (read_on c.loop-end.reader c.loop-end.lines) none)) c.ended.ensures
     ])
+
+pub ended-requires : goal.ended-requires
+ended-requires c = λ ended.
+    let t : List ℕ = c.as_bytes-bytes.result.now in
+    let inv = c.loop-end.invariant in
+    elim c.if-start-bytes.branch [
+      | then-start-bytes+in-Ok-read_line w ↦
+          let line = last_open t c.loop-end.start c.loop-end.end c.loop-end-test.false c.loop-end.auto.end-end w.if-start-bytes.true in
+          let all = open_ok t c.loop-end.reader w.read_line-then-start-bytes.new.self c.loop-end.lines (take (length t - c.loop-end.start) (drop c.loop-end.start t)) (inv.2 ∙ ap (read_on c.loop-end.reader c.loop-end.lines) line) w.in-Ok-read_line.ensures in
+          ended_few t c.if-start-bytes.reader c.if-start-bytes.lines (rw (w.reader-is, w.lines-is) all) ended
+      | else-start-bytes w ↦
+          let high = c.loop-end.auto.end-end in
+          let past = w.if-start-bytes.false in
+          let le : c.loop-end.end ≤ c.loop-end.start = omega (arith, high, past) in
+          let none = last_none t c.loop-end.start c.loop-end.end c.loop-end-test.false le in
+          ended_few t c.if-start-bytes.reader c.if-start-bytes.lines (rw (w.reader-is, w.lines-is) (inv.2 ∙ ap (read_on c.loop-end.reader c.loop-end.lines) none)) ended
+    ]
