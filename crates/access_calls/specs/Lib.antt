@@ -7,6 +7,7 @@ pub mod GoesOn
 pub mod Growing
 pub mod Issued
 pub mod Left
+pub mod Made
 pub mod Numbers
 pub mod Opening
 pub mod Reported

@@ -15,6 +15,7 @@ use Rattle.target_calls.specs.Weights.{commands_in, performed, weight_in}
 use Rattle.target_calls.specs.World.{skips, start_world, stop, world_after}
 use Rattle.target_calls.specs.declared.calls.Ask.{Ask}
 use Rattle.access_calls.specs.Growing.{IsWithin}
+use Rattle.access_calls.specs.Made.{HasMemory, units_made}
 use Rattle.access_calls.specs.Numbers.{HasNumbers}
 use Rattle.access_calls.specs.Reported.{AccessView, Beginning, start_of, world_of}
 use Rattle.access_calls.specs.declared.stop.Report.{Report}
@@ -93,7 +94,8 @@ pub record IsFaulted (entries : List Entry) (r : Report) (a : AccessView) (b : B
   pub retries : ended_retries_of m.probe ≡ ended_retries_of b.state.probe
 
 -- Where a retry ended: the performed entries are confirmed, except the last where a read was outstanding or a write
--- unchecked; and no more work was done than up to the named entry. Just one retry ended. The transfer that it ended met more WAITs than the retry number of the beginning allows, and has
+-- unchecked; and no more work was done than up to the named entry. Just one retry ended. The transfer that it ended met
+-- more WAITs than the retry number of the beginning allows, and has
 -- at most the number of two for each register access and each read of a poll that was made: commands are no such transfers.
 pub record IsUnanswered (entries : List Entry) (r : Report) (a : AccessView) (b : Beginning) (m : BenchState) : Type 0 where
   pub performed : HasPerformed entries r.accesses b m
@@ -145,10 +147,17 @@ abbrev pub IsCutBy : StopCause → List Entry → Report → AccessView → Begi
 IsCutBy Faulted entries r a b m = IsFaulted entries r a b m
 IsCutBy NoAnswer entries r a b m = IsUnanswered entries r a b m
 
+-- At a cut: so it is by its cause. At a fault the named entry is an own one of its unit, the one after those that have their lines. The
+-- memory is the one that the units leave which were made.
+pub record IsCut (entries : List Entry) (r : Report) (a : AccessView) (b : Beginning) (m : BenchState) : Type 0 where
+  pub stands : IsCutBy r.cause entries r a b m
+  pub own : r.cause ≡ Faulted → r.unit ≡ a.lines + 1
+  pub memory : HasMemory (start_of b) a.asks.calls (units_made r.cause entries r a.lines) a.lines m
+
 -- By the end. An observable bench gives no bad reply, and refused memory is no end.
 abbrev pub StandsAt : Option Stop → List Entry → AccessView → Beginning → BenchState → Type 0
 StandsAt None entries a b m = IsOpen entries a b m
-StandsAt (Some (Cut r)) entries a b m = IsCutBy r.cause entries r a b m
+StandsAt (Some (Cut r)) entries a b m = IsCut entries r a b m
 StandsAt (Some (BenchFault issued confirmed)) entries a b m = IsBenchFault a.asks.calls entries issued confirmed b m
 StandsAt (Some ReplyBad) entries a b m = ⊥
 StandsAt (Some OutOfMemory) entries a b m = ⊥

@@ -37,6 +37,7 @@ pub mod LeadLemmas
 pub mod OneEnd
 pub mod ForgivingMemory
 pub mod MemoryPoints
+pub mod EntryMemory
 pub mod LightLemmas
 pub mod SkipLemmas
 pub mod CostLemmas

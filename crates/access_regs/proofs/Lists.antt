@@ -23,7 +23,7 @@ use Rattle.access_regs.specs.declared.planner.Planner.{Planner}
 
 -- ---- entries and steps
 
-actions_numbered : (n : ℕ) (forgiving : Bool) (steps : List Step) → actions_in (numbered n forgiving steps) ≡ actions_of steps
+pub actions_numbered : (n : ℕ) (forgiving : Bool) (steps : List Step) → actions_in (numbered n forgiving steps) ≡ actions_of steps
 actions_numbered n forgiving [] = refl
 actions_numbered n forgiving (s ∷ steps) = ap (λ (l : List Action). s.action ∷ l) (actions_numbered n forgiving steps)
 

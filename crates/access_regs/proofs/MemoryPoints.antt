@@ -30,7 +30,7 @@ use Rattle.access_regs.specs.declared.planner.Planner.{Planner}
 
 -- ---- what one call issues
 
-issue_keeps : (p : Planner) (k : Kept) (large : List ℕ) (t u : TargetState) → Follows k large t u → (c : Ask) → IsAskable c → Keeps IsNoEnd u (issue_of p u k c).steps
+pub issue_keeps : (p : Planner) (k : Kept) (large : List ℕ) (t u : TargetState) → Follows k large t u → (c : Ask) → IsAskable c → Keeps IsNoEnd u (issue_of p u k c).steps
 issue_keeps p k large t u f c ok = by_call c.call ok.range
   where
     by_mark : (asked : AccessUnit) (b : Bool) → (is_alone p c.forgive && may_forgive (Access asked)) ≡ b → IsCallInRange (Access asked) →
@@ -42,7 +42,7 @@ issue_keeps p k large t u f c ok = by_call c.call ok.range
     by_call (Access asked) range = by_mark asked (is_alone p c.forgive && may_forgive (Access asked)) refl range
     by_call (Probe x) range = record { memory = ((λ ne. absurd (ne refl)), tt); one = ((λ e. tt), tt) }
 
-finish_keeps : (b : Bool) (k : Kept) (large : List ℕ) (t u : TargetState) → Follows k large t u → KeepsMemory u (finish b k).steps
+pub finish_keeps : (b : Bool) (k : Kept) (large : List ℕ) (t u : TargetState) → Follows k large t u → KeepsMemory u (finish b k).steps
 finish_keeps false k large t u f = tt
 finish_keeps true k large t u f = by_unsettled k.unsettled refl
   where
@@ -53,13 +53,13 @@ finish_keeps true k large t u f = by_unsettled k.unsettled refl
 -- ---- the entries of one call
 
 -- each of these entries is such a part
-AllAre : (Part → Type 0) → List Entry → Type 0
+pub AllAre : (Part → Type 0) → List Entry → Type 0
 AllAre P [] = Unit {0}
 AllAre P (e ∷ es) = P e.part × AllAre P es
 
 -- The memory stays but at the access that the unit with this number is for. What closes a unit is this unit's, and after it come
 -- only such parts.
-EntriesKeep : (Part → Type 0) → ℕ → TargetState → List Entry → Type 0
+pub EntriesKeep : (Part → Type 0) → ℕ → TargetState → List Entry → Type 0
 EntriesKeep P n u [] = Unit {0}
 EntriesKeep P n u (e ∷ es) =
     (e.part ≢ Ends → (acted u e.action).next.words ≡ u.words) × ((closes e.part ≡ true → (e.unit ≡ n + 1) × AllAre P es) × EntriesKeep P n (acted u e.action).next es)
@@ -69,7 +69,7 @@ unfolding AllAre
 all_append P [] ys h k = k
 all_append P (x ∷ xs) ys h k = (h.0, all_append P xs ys h.1 k)
 
-all_numbered : (P : Part → Type 0) (n : ℕ) (b : Bool) (steps : List Step) → AllParts P steps → AllAre P (numbered n b steps)
+pub all_numbered : (P : Part → Type 0) (n : ℕ) (b : Bool) (steps : List Step) → AllParts P steps → AllAre P (numbered n b steps)
 unfolding AllAre
 all_numbered P n b [] h = tt
 all_numbered P n b (s ∷ steps) h = (h.0, all_numbered P n b steps h.1)
@@ -80,7 +80,7 @@ closing_unit Leads n e = absurd (cc)
 closing_unit Ends n e = refl
 closing_unit (Skips attempted) n e = refl
 
-keep_numbered : (P : Part → Type 0) (n m : ℕ) (b : Bool) (steps finishing : List Step) (u : TargetState) → KeepsMemory u steps → OneEnd P steps → AllParts P finishing →
+pub keep_numbered : (P : Part → Type 0) (n m : ℕ) (b : Bool) (steps finishing : List Step) (u : TargetState) → KeepsMemory u steps → OneEnd P steps → AllParts P finishing →
     EntriesKeep P n (after u (actions_of steps)) (numbered m false finishing) → EntriesKeep P n u (numbered n b steps ++ numbered m false finishing)
 unfolding EntriesKeep
 keep_numbered P n m b [] finishing u h one all k = k
@@ -92,14 +92,14 @@ keep_numbered P n m b (s ∷ steps) finishing u h one all k = (
   ),
 )
 
-settling_keep : (P : Part → Type 0) (n m : ℕ) (steps : List Step) (u : TargetState) → AllParts IsSettling steps → KeepsMemory u steps → EntriesKeep P n u (numbered m false steps)
+pub settling_keep : (P : Part → Type 0) (n m : ℕ) (steps : List Step) (u : TargetState) → AllParts IsSettling steps → KeepsMemory u steps → EntriesKeep P n u (numbered m false steps)
 unfolding EntriesKeep
 settling_keep P n m [] u only h = tt
 settling_keep P n m (s ∷ steps) u only h = (h.0, ((λ e. never (closes s.part) (ap closes only.0) e), settling_keep P n m steps (acted u s.action).next only.1 h.1))
 
 -- ---- a part of the entries of one call, from the front
 
-still : (n : ℕ) (u : TargetState) (es front more : List Entry) → EntriesKeep IsNoEnd n u es → AllAre IsNoEnd es → es ≡ front ++ more → (target_after u front).words ≡ u.words
+pub still : (n : ℕ) (u : TargetState) (es front more : List Entry) → EntriesKeep IsNoEnd n u es → AllAre IsNoEnd es → es ≡ front ++ more → (target_after u front).words ≡ u.words
 unfolding EntriesKeep AllAre
 still n u es [] more h none is = refl
 still n u [] (y ∷ front) more h none is = absurd (cc)
@@ -109,11 +109,11 @@ still n u (x ∷ es) (y ∷ front) more h none is =
     subst (λ (e : Entry). (target_after (acted u e.action).next front).words ≡ u.words) head (still n (acted u x.action).next es front more h.1.1 none.1 tail ∙ h.0 none.0)
 
 -- the unit is not closed, and the memory is that before it; or it is, and the memory is that after it
-data Cut (n units : ℕ) (u : TargetState) (es front : List Entry) : Type 0 where
+pub data Cut (n units : ℕ) (u : TargetState) (es front : List Entry) : Type 0 where
   open_ : closed_after units front ≡ units → (target_after u front).words ≡ u.words → Cut n units u es front
   shut : closed_after units front ≡ n + 1 → (target_after u front).words ≡ (target_after u es).words → Cut n units u es front
 
-cut : (n units : ℕ) (u : TargetState) (es front more : List Entry) → EntriesKeep IsNoEnd n u es → es ≡ front ++ more → Cut n units u es front
+pub cut : (n units : ℕ) (u : TargetState) (es front more : List Entry) → EntriesKeep IsNoEnd n u es → es ≡ front ++ more → Cut n units u es front
 unfolding EntriesKeep
 cut n units u es [] more h is = open_ refl refl
 cut n units u [] (y ∷ front) more h is = absurd (cc)
@@ -144,7 +144,7 @@ cut n units u (x ∷ es) (y ∷ front) more h is =
         by_rest (open_ count words) kept same = open_ (ap (λ (m : ℕ). closed_after m front) same ∙ count) (words ∙ kept)
         by_rest (shut count words) kept same = shut (ap (λ (m : ℕ). closed_after m front) same ∙ count) words
 
-entries_keep : (p : Planner) (n : ℕ) (k : Kept) (large : List ℕ) (t u : TargetState) → Follows k large t u → (c : Ask) → IsAskable c → (alone t large c).end ≢ Faulted → EntriesKeep IsNoEnd n u (entries_at p n u k c)
+pub entries_keep : (p : Planner) (n : ℕ) (k : Kept) (large : List ℕ) (t u : TargetState) → Follows k large t u → (c : Ask) → IsAskable c → (alone t large c).end ≢ Faulted → EntriesKeep IsNoEnd n u (entries_at p n u k c)
 entries_keep p n k large t u f c ok ne =
     let d : CallDone = alone t large c in
     let h = issue_keeps p k large t u f c ok in
@@ -173,7 +173,7 @@ seam (x ∷ xs) ys (y ∷ front) more is =
 -- ---- a call that ends at a fault
 
 -- a call that forgives nothing issues nothing after the access that it is for
-strict_one : (p : Planner) (k : Kept) (large : List ℕ) (t u : TargetState) → Follows k large t u → (c : Ask) → IsAskable c → is_forgiving c ≡ false → OneEnd IsSettling (issue_of p u k c).steps
+pub strict_one : (p : Planner) (k : Kept) (large : List ℕ) (t u : TargetState) → Follows k large t u → (c : Ask) → IsAskable c → is_forgiving c ≡ false → OneEnd IsSettling (issue_of p u k c).steps
 strict_one p k large t u f c ok strict = by_call c.call ok.range strict
   where
     by_mark : (asked : AccessUnit) (b : Bool) → (is_alone p c.forgive && may_forgive (Access asked)) ≡ b → IsCallInRange (Access asked) → (c.forgive && may_forgive (Access asked)) ≡ false →
@@ -193,12 +193,18 @@ unfolding AllAre
 among P [] e more h = h.0
 among P (x ∷ xs) e more h = among P xs e more h.1
 
--- before an entry that settles nothing its unit is not closed, and the memory is that before it
-record Open (units : ℕ) (u : TargetState) (front : List Entry) : Type 0 where
-  count : closed_after units front ≡ units
-  words : (target_after u front).words ≡ u.words
+-- an entry that is not the access of its unit leaves the memory
+pub kept_at : (n : ℕ) (u : TargetState) (front : List Entry) (e : Entry) (more : List Entry) → EntriesKeep IsSettling n u (front ++ e ∷ more) → e.part ≢ Ends → (acted (target_after u front) e.action).next.words ≡ (target_after u front).words
+unfolding EntriesKeep
+kept_at n u [] e more h ne = h.0 ne
+kept_at n u (x ∷ front) e more h ne = kept_at n (acted u x.action).next front e more h.1.1 ne
 
-stays_open : (n units : ℕ) (u : TargetState) (front back : List Entry) (e : Entry) (more : List Entry) → EntriesKeep IsSettling n u (front ++ (back ++ e ∷ more)) → e.part ≢ Settles → Open units u front
+-- before an entry that settles nothing its unit is not closed, and the memory is that before it
+pub record Open (units : ℕ) (u : TargetState) (front : List Entry) : Type 0 where
+  pub count : closed_after units front ≡ units
+  pub words : (target_after u front).words ≡ u.words
+
+pub stays_open : (n units : ℕ) (u : TargetState) (front back : List Entry) (e : Entry) (more : List Entry) → EntriesKeep IsSettling n u (front ++ (back ++ e ∷ more)) → e.part ≢ Settles → Open units u front
 unfolding EntriesKeep
 stays_open n units u [] back e more h own = record { count = refl; words = refl }
 stays_open n units u (x ∷ front) back e more h own = by_part (closes x.part) refl (stays_open n units (acted u x.action).next front back e more h.1.1 own)
@@ -212,7 +218,7 @@ stays_open n units u (x ∷ front) back e more h own = by_part (closes x.part) r
         let same : closed_by units x ≡ units = ap (λ (b : Bool). cond b x.unit units) p in
         record { count = ap (λ (m : ℕ). closed_after m front) same ∙ rest.count; words = rest.words ∙ h.0 (λ q. never (closes x.part) p (ap closes q)) }
 
-none_left : (n : ℕ) (u : TargetState) → EntriesKeep IsSettling n u []
+pub none_left : (n : ℕ) (u : TargetState) → EntriesKeep IsSettling n u []
 unfolding EntriesKeep
 none_left n u = tt
 
@@ -220,7 +226,7 @@ none_left n u = tt
 unmarked : Ask → Ask
 unmarked c = record c { settled = false }
 
-faulted_open : (p : Planner) (n units : ℕ) (k : Kept) (large : List ℕ) (t u : TargetState) → Follows k large t u → (c : Ask) → IsAskable c → (alone t large c).end ≡ Faulted → (front more rest : List Entry) →
+pub faulted_open : (p : Planner) (n units : ℕ) (k : Kept) (large : List ℕ) (t u : TargetState) → Follows k large t u → (c : Ask) → IsAskable c → (alone t large c).end ≡ Faulted → (front more rest : List Entry) →
     Passes u front → entries_at p n u k c ++ rest ≡ front ++ more → Open units u front
 unfolding unmarked
 faulted_open p n units k large t u f c ok bad front more rest pass is =
@@ -258,10 +264,10 @@ data Reached (n units : ℕ) (large : List ℕ) (t u : TargetState) (calls : Lis
   none : closed_after units front ≡ units → (target_after u front).words ≡ t.words → Reached n units large t u calls front
   some : n + 1 ≤ closed_after units front → (target_after u front).words ≡ (alone_after t large (take (closed_after units front - n) calls)).words → Reached n units large t u calls front
 
-same_words : (k : Kept) (large : List ℕ) (t u : TargetState) → Follows k large t u → u.words ≡ t.words
+pub same_words : (k : Kept) (large : List ℕ) (t u : TargetState) → Follows k large t u → u.words ≡ t.words
 same_words k large t u f = ap (λ (s : TargetState). s.words) f.rest
 
-closed_append : (units : ℕ) (xs ys : List Entry) → closed_after units (xs ++ ys) ≡ closed_after (closed_after units xs) ys
+pub closed_append : (units : ℕ) (xs ys : List Entry) → closed_after units (xs ++ ys) ≡ closed_after (closed_after units xs) ys
 closed_append units [] ys = refl
 closed_append units (x ∷ xs) ys = closed_append (closed_by units x) xs ys
 

@@ -55,7 +55,7 @@ first_break p base k large t u f c ok bad =
       own = s.own;
     }
 
-call_passes : (p : Planner) (base : ℕ) (k : Kept) (large : List ℕ) (t u : TargetState) → Follows k large t u → (c : Ask) → IsAskable c → (alone t large c).end ≢ Faulted → Passes u (entries_at p base u k c)
+pub call_passes : (p : Planner) (base : ℕ) (k : Kept) (large : List ℕ) (t u : TargetState) → Follows k large t u → (c : Ask) → IsAskable c → (alone t large c).end ≢ Faulted → Passes u (entries_at p base u k c)
 call_passes p base k large t u f c ok ne = subst (Passes u) (append-nil (entries_at p base u k c)) (list_passes p IsAskable (call_course p) base k large t u f (c ∷ []) (ok, tt) (ne, tt))
 
 -- the target after a call, by its entries
@@ -197,7 +197,7 @@ module _ (p : Planner) (base : ℕ) (k : Kept) (large : List ℕ) (t u : TargetS
 
   -- ---- no entry stops
 
-  not_faulted : Passes u (numbered base (is_forgiving ask) (issue_of p u k ask).steps) → d.end ≢ Faulted
+  pub not_faulted : Passes u (numbered base (is_forgiving ask) (issue_of p u k ask).steps) → d.end ≢ Faulted
   not_faulted pass end = by_place (first_break p base k large t u f ask ok end)
     where
       by_place : FirstBreak p base k u ask → ⊥

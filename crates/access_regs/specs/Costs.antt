@@ -92,7 +92,8 @@ PlannedReads = (t : TargetState) (k : Kept) (asked : AccessUnit) →
 -- A read that faults counts too.
 abbrev pub AloneReads : Type 0
 AloneReads = (t : TargetState) (k : Kept) (forgive : Bool) (size : ℕ) (read : Bool) (ap address value : ℕ) → t.sticky ≡ false → ap < 256 →
-    leading_reads (alone_at forgive (unit.Memory size read ap address value) t k).steps ≡ (if needs_cfg k (unit.Memory size read ap address value) then 1 + one_if (has_large t ap) else 1)
+    leading_reads (alone_at forgive (unit.Memory size read ap address value) t k).steps
+    ≡ (if needs_cfg k (unit.Memory size read ap address value) then 1 + one_if (has_large t ap) else 1)
 
 -- An AP unit that is made alone has none.
 abbrev pub PortReads : Type 0

@@ -39,7 +39,8 @@ JournalMarks = (p : Planner) (t : TargetState) (asks : List Ask) →
 
 -- The unit of each entry is one of the calls.
 abbrev pub UnitsInRange : Type 0
-UnitsInRange = (p : Planner) (t : TargetState) (asks : List Ask) (front : List Entry) (e : Entry) (more : List Entry) → issued p t asks ≡ front ++ e ∷ more → (1 ≤ e.unit) × (e.unit ≤ length asks)
+UnitsInRange = (p : Planner) (t : TargetState) (asks : List Ask) (front : List Entry) (e : Entry) (more : List Entry) → issued p t asks ≡ front ++ e ∷ more →
+    (1 ≤ e.unit) × (e.unit ≤ length asks)
 
 -- No entry is a poll of no turns.
 abbrev pub JournalWeighs : Type 0
@@ -56,7 +57,8 @@ pub record AnsweredAt (p : Planner) (t : TargetState) (entries : List Entry) (as
 
 -- Where no call before it ends at a fault, a call that has a result has it so.
 abbrev pub CallAnswers : Type 0
-CallAnswers = (p : Planner) (t : TargetState) (asks : List Ask) (ask : Ask) (more : List Ask) (v : ℕ) → IsFresh t → AreAskable (asks ++ ask ∷ more) → NoneFaults t [] asks →
+CallAnswers = (p : Planner) (t : TargetState) (asks : List Ask) (ask : Ask) (more : List Ask) (v : ℕ) → IsFresh t → AreAskable (asks ++ ask ∷ more) →
+    NoneFaults t [] asks →
     (alone (alone_after t [] asks) (large_of_all t [] asks) ask).end ≡ Answered v → AnsweredAt p t (issued p t (asks ++ ask ∷ more)) asks ask v
 
 -- None of these accesses faults.
@@ -71,7 +73,8 @@ SelectIsGood = (t : TargetState) (n bank : ℕ) → n < 256 → bank < 16 → t.
 -- CSW, the upper word and TAR: what a forgiving unit writes before DRW
 abbrev pub before_drw : ℕ → Bool → ℕ → List RegAccess
 before_drw csw large address =
-    ap_access_of false csw_register csw ∷ unless (not large) (ap_access_of false tar_high_register (address / 2 ^ 32)) ++ ap_access_of false tar_register (address % 2 ^ 32) ∷ []
+    ap_access_of false csw_register csw ∷ unless (not large) (ap_access_of false tar_high_register (address / 2 ^ 32))
+    ++ ap_access_of false tar_register (address % 2 ^ 32) ∷ []
 
 -- After a read of CSW that does not fault, none of them faults.
 abbrev pub LeadsAreGood : Type 0

@@ -19,7 +19,8 @@ use Rattle.target_calls.specs.declared.journal.Part.TheVariants.{Settles, Leads,
 use Rattle.access_regs.specs.Kept.{Kept, known, with_known, forgotten, nothing_kept}
 use Rattle.access_regs.specs.declared.planner.Planner.{Planner}
 use Rattle.access_regs.specs.declared.planner.Planner.TheVariants.{Managed, Plain}
-use Rattle.access_regs.specs.Plan.{leads, last_access, made, select_value, needs_csw, first_plan, learned, needs_cfg, cfg_plan, learned_cfg, settle, settled, needs_settle}
+use Rattle.access_regs.specs.Plan.{leads, last_access, made, select_value, needs_csw, first_plan, learned, needs_cfg, cfg_plan, learned_cfg, settle, settled}
+use Rattle.access_regs.specs.Plan.{needs_settle}
 
 -- accesses as actions
 abbrev pub making : List RegAccess → List Action

@@ -26,7 +26,8 @@ FreshFollows = (t : TargetState) → IsFresh t → Follows nothing_kept [] t t
 
 -- One call goes as it goes alone, from where the calls before it led.
 abbrev pub CallGoes : Type 0
-CallGoes = (p : Planner) (k : Kept) (large : List ℕ) (t u : TargetState) (c : Ask) → Follows k large t u → IsAskable c → Course (issue_of p u k c) (alone t large c) c.call u
+CallGoes = (p : Planner) (k : Kept) (large : List ℕ) (t u : TargetState) (c : Ask) → Follows k large t u → IsAskable c →
+    Course (issue_of p u k c) (alone t large c) c.call u
 
 -- Where it does not end at a fault, the next call may follow: it and the `finish` after it leave what it leaves alone.
 abbrev pub CallLeaves : Type 0
@@ -64,7 +65,8 @@ JournalAnswers = (p : Planner) (t : TargetState) (calls more : List Ask) (c : As
 -- The journal of more calls is that of the first ones, and then that of the others from the target and from what is kept.
 abbrev pub JournalJoins : Type 0
 JournalJoins = (p : Planner) (units : ℕ) (k : Kept) (t : TargetState) (xs ys : List Ask) →
-    issued_from p units k t (xs ++ ys) ≡ issued_from p units k t xs ++ issued_from p (units + length xs) (kept_from p k t xs) (target_after t (issued_from p units k t xs)) ys
+    issued_from p units k t (xs ++ ys) ≡ issued_from p units k t xs
+    ++ issued_from p (units + length xs) (kept_from p k t xs) (target_after t (issued_from p units k t xs)) ys
 
 -- Each entry of calls that are asked after so many others is issued for one of them, or settles what was asked before it.
 abbrev pub LaterEntries : Type 0
@@ -81,14 +83,16 @@ SettlingEnds = (k : Kept) → (settled k).unsettled ≡ None
 
 -- Of the steps of a unit that forgives nothing, settling with them, only the one that the unit is for changes the memory.
 abbrev pub UnitKeepsMemory : Type 0
-UnitKeepsMemory = (k : Kept) (large : List ℕ) (t u : TargetState) (asked : AccessUnit) → Follows k large t u → IsUnitInRange asked → KeepsMemory u (planned u k asked).steps
+UnitKeepsMemory = (k : Kept) (large : List ℕ) (t u : TargetState) (asked : AccessUnit) → Follows k large t u → IsUnitInRange asked →
+    KeepsMemory u (planned u k asked).steps
 
 -- After a memory unit that is made alone SELECT has bank 0, except where CFG was read and shows no large addresses: then it has
 -- bank F. What is known of its AP is whether that has large addresses.
 abbrev pub AloneKept : Type 0
 AloneKept = (t : TargetState) (k : Kept) (forgive : Bool) (size : ℕ) (read : Bool) (ap address value : ℕ) → t.sticky ≡ false → ap < 256 →
     (alone_at forgive (unit.Memory size read ap address value) t k).kept
-    ≡ (if needs_cfg k (unit.Memory size read ap address value) then kept_alone k ap (if has_large t ap then 0 else 15) (has_large t ap) else kept_alone k ap 0 (known k ap).large)
+    ≡ (if needs_cfg k (unit.Memory size read ap address value) then kept_alone k ap (if has_large t ap then 0 else 15) (has_large t ap) else kept_alone k ap 0
+    (known k ap).large)
 
 -- So it is after an AP unit, with the bank of its register.
 abbrev pub PortKept : Type 0
@@ -102,7 +106,8 @@ KeptBySelect = (k : Kept) (ap bank : ℕ) → forget (selected k (select_value a
 
 -- The CFG was read, and no SELECT written after it.
 abbrev pub KeptByCfg : Type 0
-KeptByCfg = (k : Kept) (select ap cfg : ℕ) → length k.ports ≡ 256 → ap < 256 → forget (learned_cfg (selected k select) ap cfg) ap ≡ kept_alone k ap 15 ((known k ap).large || has_bit cfg cfg_la)
+KeptByCfg = (k : Kept) (select ap cfg : ℕ) → length k.ports ≡ 256 → ap < 256 →
+    forget (learned_cfg (selected k select) ap cfg) ap ≡ kept_alone k ap 15 ((known k ap).large || has_bit cfg cfg_la)
 
 -- The CFG was read, and SELECT written after it.
 abbrev pub KeptAfterCfg : Type 0

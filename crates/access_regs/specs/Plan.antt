@@ -1,8 +1,10 @@
 -- The accesses of a unit except those that are not needed, and what is known after them.
-use Rattle.std.specs.Prelude.{ℕ, ◌+◌, ◌*◌, ◌/◌, ◌%◌, ◌^◌, Bool, true, false, not, ◌&&◌, ◌||◌, ◌==◌, nat_lt, if◌then◌else◌, List, [], ◌∷◌, ◌++◌, Option, Some, None, bit_and, is_some, is_none}
+use Rattle.std.specs.Prelude.{ℕ, ◌+◌, ◌*◌, ◌/◌, ◌%◌, ◌^◌, Bool, true, false, not, ◌&&◌, ◌||◌, ◌==◌, nat_lt, if◌then◌else◌, List, [], ◌∷◌, ◌++◌, Option, Some, None}
+use Rattle.std.specs.Prelude.{bit_and, is_some, is_none}
 use Rattle.dap_base.specs.Bits.{has_bit}
 use Rattle.target_machine.specs.Plain.{dp_read_of, dp_write_of, ap_access_of, select_of, drw_of, csw_for}
-use Rattle.target_machine.specs.Registers.{ctrl_stat_address, select_address, dpbanksel, csw_register, tar_register, tar_high_register, cfg_register, addrinc_single, cfg_la}
+use Rattle.target_machine.specs.Registers.{ctrl_stat_address, select_address, dpbanksel, csw_register, tar_register, tar_high_register, cfg_register, addrinc_single}
+use Rattle.target_machine.specs.Registers.{cfg_la}
 use Rattle.target_machine.specs.declared.access.RegAccess.{RegAccess}
 use Rattle.target_machine.specs.declared.unit.Unit.{Unit as AccessUnit}
 use Rattle.target_machine.specs.declared.unit.Unit.TheVariants as unit

@@ -25,4 +25,6 @@ FaultSkips = (p : Planner) (t : TargetState) (asks : List Ask) (ask : Ask) (lead
 -- Where none of its steps faults, a call is neither skipped, nor does it end at a fault.
 abbrev pub PassingIsMade : Type 0
 PassingIsMade = (p : Planner) (t : TargetState) (asks : List Ask) (ask : Ask) (at : TargetState) → IsFresh t → AreAskable (asks ++ ask ∷ []) → NoneFaults t [] asks →
-    PassTo (target_by p t asks) (actions_of (own_steps p t asks ask)) at → ((alone (alone_after t [] asks) (large_of_all t [] asks) ask).end ≢ Skipped) × ((alone (alone_after t [] asks) (large_of_all t [] asks) ask).end ≢ Faulted)
+    PassTo (target_by p t asks) (actions_of (own_steps p t asks ask)) at →
+    ((alone (alone_after t [] asks) (large_of_all t [] asks) ask).end ≢ Skipped)
+    × ((alone (alone_after t [] asks) (large_of_all t [] asks) ask).end ≢ Faulted)

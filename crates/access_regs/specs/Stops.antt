@@ -33,7 +33,8 @@ pub record StaysThere (base : ℕ) (t : TargetState) (large : List ℕ) (asks : 
   pub lines : lines_before e ≡ base + at
   pub within : at ≤ length asks
   pub none : NoneFaults t large (take at asks)
-  pub stops : (stop (world_at t large (Some at)) asks ≡ Some (suc at)) ⊎ ((stop (world_at t large (Some at)) asks ≡ None) × ((at ≡ length asks) × (is_settled asks ≡ true)))
+  pub stops : (stop (world_at t large (Some at)) asks ≡ Some (suc at))
+      ⊎ ((stop (world_at t large (Some at)) asks ≡ None) × ((at ≡ length asks) × (is_settled asks ≡ true)))
 
 -- No call stops, where all are answered.
 pub record NoneStops (t : TargetState) (large : List ℕ) (asks : List Ask) : Type 0 where
@@ -42,12 +43,14 @@ pub record NoneStops (t : TargetState) (large : List ℕ) (asks : List Ask) : Ty
 
 -- At the first entry that gives a fault which its unit does not forgive, its call stops, and no call before it.
 abbrev pub FaultStops : Type 0
-FaultStops = (p : Planner) (t : TargetState) (asks : List Ask) (front : List Entry) (e : Entry) (more : List Entry) → IsFresh t → AreAskable asks → issued p t asks ≡ front ++ e ∷ more →
+FaultStops = (p : Planner) (t : TargetState) (asks : List Ask) (front : List Entry) (e : Entry) (more : List Entry) → IsFresh t → AreAskable asks →
+    issued p t asks ≡ front ++ e ∷ more →
     Passes t front → is_fault (acted (target_after t front) e.action).outcome ≡ true → e.forgiving ≡ false → StopsThere 0 t [] asks e
 
 -- At an entry before which all pass, a retry that ends stops the calls after those that have lines before it.
 abbrev pub WaitStops : Type 0
-WaitStops = (p : Planner) (t : TargetState) (asks : List Ask) (front : List Entry) (e : Entry) (more : List Entry) → IsFresh t → AreAskable asks → issued p t asks ≡ front ++ e ∷ more →
+WaitStops = (p : Planner) (t : TargetState) (asks : List Ask) (front : List Entry) (e : Entry) (more : List Entry) → IsFresh t → AreAskable asks →
+    issued p t asks ≡ front ++ e ∷ more →
     Passes t front → StaysThere 0 t [] asks e
 
 -- Where all entries pass, no call stops.

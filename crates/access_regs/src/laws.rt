@@ -1,5 +1,5 @@
 //! What follows from the definitions: each law is the contract of a function that does nothing.
-ghost use Rattle.access_regs.specs.Closed.{MemoryFollowsCalls};
+ghost use Rattle.access_regs.specs.Closed.{MemoryAtEntry, MemoryFollowsCalls};
 ghost use Rattle.access_regs.specs.Costs.{AloneReads, PlannedReads, PortReads};
 ghost use Rattle.access_regs.specs.Entries.{CallAnswers, JournalGrows, JournalMarks, JournalWeighs, LeadsAreGood, SelectIsGood, UnitsInRange};
 ghost use Rattle.access_regs.specs.Laws.{AloneKept, CallGoes, CallLeaves, FreshFollows, JournalAgrees, JournalAnswers, JournalFollows, JournalJoins, JournalPasses, JournalStops, KeptAfterCfg, KeptByCfg, KeptBySelect, KeptJoins, LaterEntries, PlainIsAlone, PortKept, SettlingEnds, UnitKeepsMemory};
@@ -78,10 +78,11 @@ pub fn only_the_last_access_changes_memory()
     ensures { UnitKeepsMemory }
 {}
 
-/// After any first part of the journal the memory is that of the calls up to the last one whose own access or skip is in it.
-#[tactic(auto, using(crate::proofs::MemoryPoints::memory_follows))]
+/// After any first part of the journal the memory is that of the calls up to the last one whose own access or skip is in it. Before
+/// an entry, and after it, it is that of the units that have their lines before it, and of the next one where its own access came.
 pub fn memory_follows_calls()
-    ensures { MemoryFollowsCalls }
+    ensures calls { MemoryFollowsCalls }
+    ensures entry { MemoryAtEntry }
 {}
 
 /// A call that forgives a fault is skipped exactly where one of its accesses faults.

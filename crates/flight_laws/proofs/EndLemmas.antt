@@ -13,7 +13,8 @@ use Rattle.access_regs.specs.Journal.{issued}
 use Rattle.access_regs.specs.Kept.{Kept}
 use Rattle.access_calls.specs.Left.{IsLeft, IsLeftAt, IsLeftCut}
 use Rattle.access_calls.specs.Reported.{AccessView, began, world_from}
-use Rattle.access_calls.specs.Standing.{HasBroken, IsBenchFault, IsCutBy, StandsAt, WhereObservable}
+use Rattle.access_calls.specs.Made.{HasMemory, units_made}
+use Rattle.access_calls.specs.Standing.{HasBroken, IsBenchFault, IsCutBy, StandsAt, WhereObservable, pending_of}
 use Rattle.access_calls.specs.declared.stop.Report.{Report}
 use Rattle.access_calls.specs.declared.stop.Stop.{Stop}
 use Rattle.access_calls.specs.declared.stop.Stop.TheVariants.{BenchFault}
@@ -24,6 +25,7 @@ use Rattle.flight_laws.specs.Flights.{IsCutAt}
 use Rattle.flight_laws.specs.Sending.{IsSending}
 use Rattle.flight_laws.proofs.ActionLemmas.{action_bench_law, action_wait_law}
 use Rattle.flight_laws.proofs.CutLemmas.{bench_flies, fault_flies, wait_flies}
+use Rattle.flight_laws.proofs.MadeLemmas.{fault_memory, own_unit, wait_memory}
 use Rattle.flight_laws.proofs.OpenLemmas.{came_stands, open_stands}
 use Rattle.flight_laws.proofs.OwnLemmas.{begun_stay}
 use Rattle.flight_laws.proofs.StopLemmas.{lines_cut, stops_at_fault, stops_at_wait}
@@ -67,6 +69,8 @@ begun_came p a kept accesses came m0 n begun left = came_where p a.state a kept 
 -- what a cut makes of an access, by its cause
 record Cutting (p : Planner) (why : StopCause) (r : Report) (b : AccessView) (m0 o : BenchState) : Type 0 where
   stands : (n : Option ℕ) → IsCutBy why (issued p (target_of m0.probe) b.asks.calls) r b (began m0 n) o
+  own : why ≡ Faulted → r.unit ≡ b.lines + 1
+  memory : HasMemory (target_of m0.probe) b.asks.calls (units_made why (issued p (target_of m0.probe) b.asks.calls) r b.lines) b.lines o
   cut : IsCutAt (issued p (target_of m0.probe) b.asks.calls) r.confirmed (target_of m0.probe)
   stops : (n : Option ℕ) → IsLeftCut why b.lines b.lines n → StopsBy why (world_from m0 n) b.asks.calls b.lines
 
@@ -90,7 +94,7 @@ ends_cut p confirmed count flying rest accesses came m0 m o r b s low off c =
     let k = s.lines r.confirmed low c.cut in omega (arith, l, k)) in
     record {
       ended = record {
-        stands = λ n left. c.stands n;
+        stands = λ n left. record { stands = c.stands n; own = c.own; memory = c.memory };
         results_are = λ n left.
             ap (λ (k : ℕ). take k (results (world_from m0 n) b.asks.calls)) s.length_is
             ∙ s.results_are n (fewer_answered count b.lines n kept (lines_answered r.cause b.lines n (left_cut p r b m0 n off left)));
@@ -128,6 +132,8 @@ flight_ends p confirmed count flying rest accesses came m0 m o part r b s flies 
         let f = λ (n : Option ℕ). fault_flies (issued p (target_of m0.probe) b.asks.calls) s.made flying rest accesses n m0 m o part r b s.on flies bad strict performed known off.numbers in
         record {
           stands = λ n. (f n).0;
+          own = λ same. own_unit p m0 o b.asks.calls r b.skipped b.lines s.fresh s.askable (f None).1.cut off.numbers (f None).0.performed.target (f None).1.bad (f None).1.strict;
+          memory = fault_memory p m0 o b.asks.calls r b.skipped b.lines s.fresh s.askable (f None).1.cut off.numbers (f None).0.performed.target (f None).1.bad (f None).1.strict (f None).0.confirmed;
           cut = (f None).1.cut;
           stops = λ n left. stops_at_fault p (target_of m0.probe) b.asks.calls r b.skipped b.lines n s.fresh s.askable (f None).1 off.numbers left;
         }
@@ -135,6 +141,8 @@ flight_ends p confirmed count flying rest accesses came m0 m o part r b s flies 
         let f = λ (n : Option ℕ). wait_flies (issued p (target_of m0.probe) b.asks.calls) s.made flying rest accesses n m0 m o part r b s.on flies wait performed known off.numbers in
         record {
           stands = λ n. (f n).0;
+          own = λ same. absurd (let x : ◌≡◌ {A = StopCause} NoAnswer Faulted = same in cc);
+          memory = wait_memory p m0 o b.asks.calls r b.skipped b.lines s.fresh s.askable (f None).1 off.numbers (f None).0.performed.target (pending_of o) (f None).0.confirmed;
           cut = (f None).1;
           stops = λ n left. wait_stops_by p b m0 r confirmed count flying rest accesses came m s off (f None).1 n left;
         }
@@ -146,9 +154,14 @@ poll_ends p confirmed count e rest came m0 m o work r b s grown less same retrie
     cut : IsCutAt (issued p (target_of m0.probe) b.asks.calls) r.confirmed (target_of m0.probe)
     cut = record { front = s.made; entry = e; more = rest; is = s.on.are; at = s.confirmed_is ∙ sym confirmed_is; passes = s.on.passes }
 
+    stands : (n : Option ℕ) → IsCutBy NoAnswer (issued p (target_of m0.probe) b.asks.calls) r b (began m0 n) o
+    stands n = action_wait_law (issued p (target_of m0.probe) b.asks.calls) s.made e rest n m0 m o work r b s.on grown less same retries over number pending (accesses_is ∙ sym s.confirmed_is) (confirmed_is ∙ sym s.confirmed_is) off.numbers
+
     cutting : Cutting p NoAnswer r b m0 o
     cutting = record {
-      stands = λ n. action_wait_law (issued p (target_of m0.probe) b.asks.calls) s.made e rest n m0 m o work r b s.on grown less same retries over number pending (accesses_is ∙ sym s.confirmed_is) (confirmed_is ∙ sym s.confirmed_is) off.numbers;
+      stands = stands;
+      own = λ why. absurd (let x : ◌≡◌ {A = StopCause} NoAnswer Faulted = why in cc);
+      memory = wait_memory p m0 o b.asks.calls r b.skipped b.lines s.fresh s.askable cut off.numbers (stands None).performed.target (pending_of o) (stands None).confirmed;
       cut = cut;
       stops = λ n left. wait_stops_by p b m0 r confirmed count [] (e ∷ rest) [] came m s off cut n left;
     }

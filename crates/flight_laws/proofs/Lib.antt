@@ -5,6 +5,7 @@ pub mod OwnLemmas
 pub mod OpenLemmas
 pub mod PushLemmas
 pub mod StopLemmas
+pub mod MadeLemmas
 pub mod ActionLemmas
 pub mod GoLemmas
 pub mod SmallLemmas

@@ -23,7 +23,7 @@ use Rattle.flight_laws.specs.Stopping.{CameBefore, ResultsStay, StopsAtFault, St
 use Rattle.access_regs.specs.declared.planner.Planner.{Planner}
 
 -- the entry after the first ones
-entry_at : (front : List Entry) (e : Entry) (more : List Entry) → slice_get (front ++ e ∷ more) (length front) ≡ Some e
+pub entry_at : (front : List Entry) (e : Entry) (more : List Entry) → slice_get (front ++ e ∷ more) (length front) ≡ Some e
 entry_at [] e more = refl
 entry_at (x ∷ front) e more = entry_at front e more
 
@@ -34,7 +34,7 @@ lines_cut entries t asks skipped lines r cut numbers =
     ∙ (λ j. lines_at (slice_get (cut.is j) (sym cut.at j)))
     ∙ ap lines_at (entry_at cut.front cut.entry cut.more)
 
-not_settling : (p : Part) → p ≢ Settles → settles p ≡ false
+pub not_settling : (p : Part) → p ≢ Settles → settles p ≡ false
 not_settling Settles ne = absurd (ne refl)
 not_settling Leads ne = refl
 not_settling Ends ne = refl

@@ -27,7 +27,8 @@ ActionDone = (entries made : List Entry) (e : Entry) (rest : List Entry) (m0 m o
 
 -- Where the bench failed and less than the whole action was done, the entry counts as issued and not as performed.
 abbrev pub ActionBench : Type 0
-ActionBench = (entries made : List Entry) (e : Entry) (rest : List Entry) (n : Option ℕ) (m0 m o : BenchState) (work : ℕ) → IsUnderWay entries made [] (e ∷ rest) [] m0 m →
+ActionBench = (entries made : List Entry) (e : Entry) (rest : List Entry) (n : Option ℕ) (m0 m o : BenchState) (work : ℕ) →
+    IsUnderWay entries made [] (e ∷ rest) [] m0 m →
     work_of o.probe ≡ work_of m.probe + work → work < weight (target_of m.probe) e.action →
     Agree (target_of o.probe) (target_of m.probe) ⊎ IsPart e.action (target_of m.probe) (target_of o.probe) →
     HasBroken entries (length made + 1) (length made) (began m0 n) o

@@ -42,9 +42,11 @@ AllCame = (p : Planner) (calls : List Ask) (confirmed count : ℕ) (old came : L
 -- The result of a call that forgives nothing, and does not end because its AP has no large addresses, is given by the last entry
 -- that it issues itself.
 abbrev pub ResultGiven : Type 0
-ResultGiven = (p : Planner) (t : TargetState) (asks : List Ask) (ask : Ask) (more : List Ask) (front : List Entry) (e : Entry) (rest : List Entry) → IsFresh t → AreAskable (asks ++ ask ∷ more) →
+ResultGiven = (p : Planner) (t : TargetState) (asks : List Ask) (ask : Ask) (more : List Ask) (front : List Entry) (e : Entry) (rest : List Entry) → IsFresh t →
+    AreAskable (asks ++ ask ∷ more) →
     stop (start_world t None) (asks ++ ask ∷ more) ≡ None → is_forgiving ask ≡ false → small_now (start_world t None) asks ask ≡ false →
-    issued p t (asks ++ ask ∷ more) ≡ front ++ e ∷ rest → length front + 1 ≡ length (issued p t asks) + length (issue_of p (target_by p t asks) (kept_by p t asks) ask).steps →
+    issued p t (asks ++ ask ∷ more) ≡ front ++ e ∷ rest → length front + 1
+    ≡ length (issued p t asks) + length (issue_of p (target_by p t asks) (kept_by p t asks) ask).steps →
     slice_index (results (start_world t None) (asks ++ ask ∷ more)) (length asks) ≡ result_of ask.call (given (acted (target_after t front) e.action).outcome)
 
 -- ---- one call more
@@ -55,16 +57,19 @@ abbrev pub SkipComes : Type 0
 SkipComes = (p : Planner) (t : TargetState) (asks : List Ask) (ask : Ask) (leads : List Step) (step : Step) (more : List Step) (at : TargetState) →
     IsFresh t → AreAskable (asks ++ ask ∷ []) → stop (start_world t None) asks ≡ None → is_forgiving ask ≡ true → own_steps p t asks ask ≡ leads ++ step ∷ more →
     PassTo (target_by p t asks) (actions_of leads) at → is_fault (acted at step.action).outcome ≡ true →
-    (skips (start_world t None) (asks ++ ask ∷ []) ≡ skips (start_world t None) asks + 1) × (results (start_world t None) (asks ++ ask ∷ []) ≡ results (start_world t None) asks ++ 0 ∷ [])
+    (skips (start_world t None) (asks ++ ask ∷ []) ≡ skips (start_world t None) asks + 1)
+    × (results (start_world t None) (asks ++ ask ∷ []) ≡ results (start_world t None) asks ++ 0 ∷ [])
 
 -- A call none of whose steps faults does not.
 abbrev pub PassComes : Type 0
-PassComes = (p : Planner) (t : TargetState) (asks : List Ask) (ask : Ask) (at : TargetState) → IsFresh t → AreAskable (asks ++ ask ∷ []) → stop (start_world t None) asks ≡ None →
+PassComes = (p : Planner) (t : TargetState) (asks : List Ask) (ask : Ask) (at : TargetState) → IsFresh t → AreAskable (asks ++ ask ∷ []) →
+    stop (start_world t None) asks ≡ None →
     PassTo (target_by p t asks) (actions_of (own_steps p t asks ask)) at → skips (start_world t None) (asks ++ ask ∷ []) ≡ skips (start_world t None) asks
 
 -- Its result is given by the last entry that it issues itself, where it does not end because its AP has no large addresses.
 abbrev pub PassGiven : Type 0
-PassGiven = (p : Planner) (t : TargetState) (asks : List Ask) (ask : Ask) (front : List Entry) (e : Entry) (rest : List Entry) (at : TargetState) → IsFresh t → AreAskable (asks ++ ask ∷ []) →
+PassGiven = (p : Planner) (t : TargetState) (asks : List Ask) (ask : Ask) (front : List Entry) (e : Entry) (rest : List Entry) (at : TargetState) → IsFresh t →
+    AreAskable (asks ++ ask ∷ []) →
     stop (start_world t None) asks ≡ None → PassTo (target_by p t asks) (actions_of (own_steps p t asks ask)) at → small_now (start_world t None) asks ask ≡ false →
     issued p t (asks ++ ask ∷ []) ≡ front ++ e ∷ rest → length front + 1 ≡ length (issued p t asks) + length (own_steps p t asks ask) →
     results (start_world t None) (asks ++ ask ∷ []) ≡ results (start_world t None) asks ++ result_of ask.call (given (acted (target_after t front) e.action).outcome) ∷ []
@@ -72,4 +77,5 @@ PassGiven = (p : Planner) (t : TargetState) (asks : List Ask) (ask : Ask) (front
 -- Where it ends so, its result is 0.
 abbrev pub SmallGiven : Type 0
 SmallGiven = (t : TargetState) (asks : List Ask) (ask : Ask) → stop (start_world t None) asks ≡ None → small_now (start_world t None) asks ask ≡ true →
-    (skips (start_world t None) (asks ++ ask ∷ []) ≡ skips (start_world t None) asks) × (results (start_world t None) (asks ++ ask ∷ []) ≡ results (start_world t None) asks ++ 0 ∷ [])
+    (skips (start_world t None) (asks ++ ask ∷ []) ≡ skips (start_world t None) asks)
+    × (results (start_world t None) (asks ++ ask ∷ []) ≡ results (start_world t None) asks ++ 0 ∷ [])

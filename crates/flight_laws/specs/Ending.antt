@@ -85,7 +85,8 @@ pub record EndsCut (p : Planner) (r : Report) (b : AccessView) (count : ℕ) (ca
 
 -- A flight was cut.
 abbrev pub FlightEnds : Type 0
-FlightEnds = (p : Planner) (confirmed count : ℕ) (flying rest : List Entry) (accesses : List RegAccess) (came : List ℕ) (m0 m o : BenchState) (part : Part) (r : Report) (b : AccessView) →
+FlightEnds = (p : Planner) (confirmed count : ℕ) (flying rest : List Entry) (accesses : List RegAccess) (came : List ℕ) (m0 m o : BenchState) (part : Part)
+    (r : Report) (b : AccessView) →
     IsSending p b.asks.calls confirmed count flying rest accesses came m0 m → Flies accesses part m o → part.response ≡ response_of_cause r.cause →
     IsStrictAt r.cause flying → r.accesses ≡ confirmed + part.performed → r.confirmed ≡ confirmed + part.confirmed → IsCutOff p r b m0 →
     EndsCut p r b count came m0 o
@@ -107,7 +108,8 @@ pub record IsBenchEnd (issued confirmed count : ℕ) (b : AccessView) : Type 0 w
 
 -- The bench failed in a flight.
 abbrev pub FlightFails : Type 0
-FlightFails = (p : Planner) (confirmed count : ℕ) (flying rest : List Entry) (accesses : List RegAccess) (came : List ℕ) (m0 m o : BenchState) (part : Part) (b : AccessView) →
+FlightFails = (p : Planner) (confirmed count : ℕ) (flying rest : List Entry) (accesses : List RegAccess) (came : List ℕ) (m0 m o : BenchState) (part : Part)
+    (b : AccessView) →
     IsSending p b.asks.calls confirmed count flying rest accesses came m0 m →
     (transfers_of o ≡ transfers_of m) ⊎ DoesPart (transfers_of m) (transfers_of o) accesses part → (part.response ≡ Mismatch → ⊥) →
     IsBenchEnd (confirmed + length flying) confirmed count b → IsEnded p (BenchFault (confirmed + length flying) confirmed) b came m0 o

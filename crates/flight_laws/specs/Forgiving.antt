@@ -33,7 +33,9 @@ after_fault forgive asked accesses = if forgive then abort_after asked accesses 
 -- write of ABORT follows for a unit that forgives it, and nothing else; and where it does not, the rest follows. So a flight may be
 -- sent after it, before it is known how the unit goes on.
 abbrev pub AloneFlight : Type 0
-AloneFlight = (forgive : Bool) (asked : AccessUnit) (t : TargetState) (k : Kept) (lead : List RegAccess) (a : RegAccess) (rest : List Action) → may_forgive (Access asked) ≡ true →
+AloneFlight = (forgive : Bool) (asked : AccessUnit) (t : TargetState) (k : Kept) (lead : List RegAccess) (a : RegAccess) (rest : List Action) →
+    may_forgive (Access asked) ≡ true →
     call_actions t (large_of k asked) (Access asked) ≡ making (lead ++ a ∷ []) ++ rest → NoneFault t lead →
-    (is_fault (acted (after t (making lead)) (Makes a)).outcome ≡ true → (alone_at forgive asked t k).steps ≡ steps_of_unit asked (lead ++ a ∷ []) ++ after_fault forgive asked (lead ++ a ∷ []))
+    (is_fault (acted (after t (making lead)) (Makes a)).outcome ≡ true →
+    (alone_at forgive asked t k).steps ≡ steps_of_unit asked (lead ++ a ∷ []) ++ after_fault forgive asked (lead ++ a ∷ []))
     × (is_fault (acted (after t (making lead)) (Makes a)).outcome ≡ false → BeginsWith (alone_at forgive asked t k).steps asked (lead ++ a ∷ []) rest)

@@ -64,7 +64,8 @@ pub record IsBlockwise (full block needs : ℕ) (first split : Bool) (made : Lis
 
 -- So the starting packets keep their bound for writes, with at most two need points.
 abbrev pub FewBlocks : Type 0
-FewBlocks = (full block needs writes : ℕ) (first split : Bool) (made more : List Entry) (b : Beginning) (m : BenchState) → IsBlockwise full block needs first split made b m →
+FewBlocks = (full block needs writes : ℕ) (first split : Bool) (made more : List Entry) (b : Beginning) (m : BenchState) →
+    IsBlockwise full block needs first split made b m →
     drw_writes_in (made ++ more) ≤ writes → 0 < writes → needs ≤ 2 → starting_since b m ≤ 6 + (writes + block - 1) / block
 
 -- One more flight was sent because there was no room, by one starting packet: the first, one that the settling splits, or one more.
@@ -79,12 +80,14 @@ SplitBlock = (full block needs : ℕ) (first : Bool) (made flying : List Entry) 
 
 -- it has a block of writes
 abbrev pub NextBlock : Type 0
-NextBlock = (full block needs : ℕ) (first split : Bool) (made flying : List Entry) (b : Beginning) (m o : BenchState) → IsBlockwise full block needs first split made b m →
+NextBlock = (full block needs : ℕ) (first split : Bool) (made flying : List Entry) (b : Beginning) (m o : BenchState) →
+    IsBlockwise full block needs first split made b m →
     block ≤ drw_writes_in flying → starting_since b o ≤ starting_since b m + 1 → IsBlockwise (full + 1) block needs first split (made ++ flying) b o
 
 -- need points came
 abbrev pub NeedBlock : Type 0
-NeedBlock = (full block needs more : ℕ) (first split : Bool) (made flying : List Entry) (b : Beginning) (m o : BenchState) → IsBlockwise full block needs first split made b m →
+NeedBlock = (full block needs more : ℕ) (first split : Bool) (made flying : List Entry) (b : Beginning) (m o : BenchState) →
+    IsBlockwise full block needs first split made b m →
     starting_since b o ≤ starting_since b m + more → o.starting < 2 ^ 64 → IsBlockwise full block (capped_sum needs more) first split (made ++ flying) b o
 
 -- No call issues more than one write of DRW.
@@ -108,9 +111,11 @@ pub record SomeBlockwise (block needs : ℕ) (made : List Entry) (b : Beginning)
 -- The starting packets of an access are few by its flights; and so they are for writes, where all its calls are such writes.
 pub record IsSparingAccess (a : AccessView) (made : List Entry) (b : Beginning) (m : BenchState) : Type 0 where
   pub sparing : SomeSparing (bounds.capacity a.bench.limits) a.asks.needs made b m
-  pub blocks : (size ap address : ℕ) → bounds.AreNextWrites (address / 1024) size ap address a.asks.calls → address < 2 ^ 32 → a.asks.needs ≤ 2 → SomeBlockwise (bounds.block_words a.bench.limits) a.asks.needs made b m
+  pub blocks : (size ap address : ℕ) → bounds.AreNextWrites (address / 1024) size ap address a.asks.calls → address < 2 ^ 32 → a.asks.needs ≤ 2 →
+      SomeBlockwise (bounds.block_words a.bench.limits) a.asks.needs made b m
 
 -- So the bounds of the contract of accesses are kept.
 abbrev pub SparingKeeps : Type 0
-SparingKeeps = (p : Planner) (t : TargetState) (a : AccessView) (made more : List Entry) (b : Beginning) (m : BenchState) → issued p t a.asks.calls ≡ made ++ more → IsSparingAccess a made b m →
+SparingKeeps = (p : Planner) (t : TargetState) (a : AccessView) (made more : List Entry) (b : Beginning) (m : BenchState) →
+    issued p t a.asks.calls ≡ made ++ more → IsSparingAccess a made b m →
     bounds.KeepsBounds (issued p t a.asks.calls) a b m

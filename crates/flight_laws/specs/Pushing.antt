@@ -34,7 +34,8 @@ value_at values place = value_in (slice_get values place)
 
 -- In a flight that came whole, the value of a read is what its entry gives.
 abbrev pub ValueGiven : Type 0
-ValueGiven = (entries made flying rest : List Entry) (accesses : List RegAccess) (m0 m o : BenchState) (part : Part) (front : List Entry) (e : Entry) (more : List Entry) (a : RegAccess) (place : ℕ) →
+ValueGiven = (entries made flying rest : List Entry) (accesses : List RegAccess) (m0 m o : BenchState) (part : Part) (front : List Entry) (e : Entry)
+    (more : List Entry) (a : RegAccess) (place : ℕ) →
     IsUnderWay entries made flying rest accesses m0 m → Flies accesses part m o → part.response ≡ Good →
     entries ≡ front ++ e ∷ more → length front ≡ length made + place → place < length flying → e.action ≡ Makes a → a.read ≡ true →
     value_at part.values place ≡ Some (given (acted (target_after (target_of m0.probe) front) e.action).outcome)

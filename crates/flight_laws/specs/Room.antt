@@ -24,7 +24,8 @@ HasRoom calls m0 = work_of m0.probe + 60000012 * length calls < 2 ^ 64
 
 -- There is room for one more entry in the flight.
 abbrev pub PushRoom : Type 0
-PushRoom = (p : Planner) (calls : List Ask) (confirmed count : ℕ) (flying : List Entry) (e : Entry) (rest : List Entry) (accesses : List RegAccess) (came : List ℕ) (m0 m : BenchState) →
+PushRoom = (p : Planner) (calls : List Ask) (confirmed count : ℕ) (flying : List Entry) (e : Entry) (rest : List Entry) (accesses : List RegAccess)
+    (came : List ℕ) (m0 m : BenchState) →
     IsSending p calls confirmed count flying (e ∷ rest) accesses came m0 m → HasRoom calls m0 → work_of m.probe + length flying + 1 < 2 ^ 64
 
 -- There is room for a poll or a command of the probe.
@@ -34,11 +35,14 @@ ActionRoom = (p : Planner) (calls : List Ask) (confirmed count : ℕ) (e : Entry
 
 -- There is room for the write of ABORT after a flight.
 abbrev pub ForgivenRoom : Type 0
-ForgivenRoom = (p : Planner) (calls : List Ask) (confirmed count : ℕ) (flying : List Entry) (abort : Entry) (rest : List Entry) (accesses : List RegAccess) (came : List ℕ) (m0 m o q : BenchState) (part : Part) →
-    IsSending p calls confirmed count flying (abort ∷ rest) accesses came m0 m → Flies accesses part m o → DoesAction (Commands forgives) o q → HasRoom calls m0 → work_of q.probe < 2 ^ 64
+ForgivenRoom = (p : Planner) (calls : List Ask) (confirmed count : ℕ) (flying : List Entry) (abort : Entry) (rest : List Entry) (accesses : List RegAccess)
+    (came : List ℕ) (m0 m o q : BenchState) (part : Part) →
+    IsSending p calls confirmed count flying (abort ∷ rest) accesses came m0 m → Flies accesses part m o → DoesAction (Commands forgives) o q →
+    HasRoom calls m0 → work_of q.probe < 2 ^ 64
 
 -- There is room for the accesses of a call.
 abbrev pub CallRoom : Type 0
-CallRoom = (p : Planner) (a : AccessView) (kept : Kept) (accesses : List RegAccess) (came : List ℕ) (ask : Ask) (more : List RegAccess) (m0 m : BenchState) → IsFlying p a kept accesses came m0 m →
+CallRoom = (p : Planner) (a : AccessView) (kept : Kept) (accesses : List RegAccess) (came : List ℕ) (ask : Ask) (more : List RegAccess) (m0 m : BenchState) →
+    IsFlying p a kept accesses came m0 m →
     IsAskable ask → ask.settled ≡ false → actions_of (issue_of p (target_by p (target_of m0.probe) a.asks.calls) kept ask).steps ≡ making more →
     HasRoom (a.asks.calls ++ ask ∷ []) m0 → work_of m.probe + (a.issued - a.confirmed) + length more < 2 ^ 64

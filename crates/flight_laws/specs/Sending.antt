@@ -28,7 +28,8 @@ use Rattle.flight_laws.specs.UnderWay.{IsUnderWay}
 -- Of the entries of these calls so many are confirmed, the next lie in the flight as these accesses, and the rest is still to be
 -- pushed. So many calls are known to have come, to these results in each world that is left; each later entry has their lines
 -- before it.
-pub record IsSending (p : Planner) (calls : List Ask) (confirmed count : ℕ) (flying rest : List Entry) (accesses : List RegAccess) (came : List ℕ) (m0 m : BenchState) : Type 0 where
+pub record IsSending (p : Planner) (calls : List Ask) (confirmed count : ℕ) (flying rest : List Entry) (accesses : List RegAccess) (came : List ℕ)
+    (m0 m : BenchState) : Type 0 where
   pub fresh : IsFresh (target_of m0.probe)
   pub askable : AreAskable calls
   pub made : List Entry
@@ -54,7 +55,8 @@ FlyingSends = (p : Planner) (a : AccessView) (kept : Kept) (accesses : List RegA
 
 -- A call is asked: what it issues is to be pushed.
 abbrev pub CallSends : Type 0
-CallSends = (p : Planner) (a : AccessView) (kept : Kept) (accesses : List RegAccess) (came : List ℕ) (ask : Ask) (m0 m : BenchState) → (f : IsFlying p a kept accesses came m0 m) →
+CallSends = (p : Planner) (a : AccessView) (kept : Kept) (accesses : List RegAccess) (came : List ℕ) (ask : Ask) (m0 m : BenchState) →
+    (f : IsFlying p a kept accesses came m0 m) →
     IsAskable ask → ask.settled ≡ false →
     IsSending p (a.asks.calls ++ ask ∷ []) a.confirmed a.came f.flying (entries_of_call p m0 a kept ask) accesses came m0 m
 
@@ -65,13 +67,15 @@ FinishSends = (p : Planner) (a : AccessView) (kept : Kept) (accesses : List RegA
 
 -- The next entry, which is a register access, is pushed.
 abbrev pub PushSends : Type 0
-PushSends = (p : Planner) (calls : List Ask) (confirmed count : ℕ) (flying : List Entry) (e : Entry) (rest : List Entry) (accesses : List RegAccess) (a : RegAccess) (came : List ℕ) (m0 m : BenchState) →
+PushSends = (p : Planner) (calls : List Ask) (confirmed count : ℕ) (flying : List Entry) (e : Entry) (rest : List Entry) (accesses : List RegAccess)
+    (a : RegAccess) (came : List ℕ) (m0 m : BenchState) →
     IsSending p calls confirmed count flying (e ∷ rest) accesses came m0 m → e.action ≡ Makes a → work_of m.probe + length flying + 1 < 2 ^ 64 →
     IsSending p calls confirmed count (flying ++ e ∷ []) rest (accesses ++ a ∷ []) came m0 m
 
 -- The flight came whole.
 abbrev pub WholeSends : Type 0
-WholeSends = (p : Planner) (calls : List Ask) (confirmed count : ℕ) (flying rest : List Entry) (accesses : List RegAccess) (came : List ℕ) (m0 m o : BenchState) (part : Part) →
+WholeSends = (p : Planner) (calls : List Ask) (confirmed count : ℕ) (flying rest : List Entry) (accesses : List RegAccess) (came : List ℕ) (m0 m o : BenchState)
+    (part : Part) →
     IsSending p calls confirmed count flying rest accesses came m0 m → Flies accesses part m o → part.response ≡ Good →
     IsSending p calls (confirmed + length flying) count [] rest [] came m0 o
 
@@ -83,7 +87,8 @@ ActionSends = (p : Planner) (calls : List Ask) (confirmed count : ℕ) (e : Entr
 
 -- A fault of the flight's last access was forgiven, and ABORT written.
 abbrev pub ForgivenSends : Type 0
-ForgivenSends = (p : Planner) (calls : List Ask) (confirmed count : ℕ) (flying : List Entry) (abort : Entry) (rest : List Entry) (lead : List RegAccess) (a : RegAccess) (came : List ℕ) (m0 m o q : BenchState) (part : Part) →
+ForgivenSends = (p : Planner) (calls : List Ask) (confirmed count : ℕ) (flying : List Entry) (abort : Entry) (rest : List Entry) (lead : List RegAccess)
+    (a : RegAccess) (came : List ℕ) (m0 m o q : BenchState) (part : Part) →
     IsSending p calls confirmed count flying (abort ∷ rest) (lead ++ a ∷ []) came m0 m → Flies (lead ++ a ∷ []) part m o → part.response ≡ Fault →
     NoneFault (target_of m.probe) lead → AreForgiving flying → abort.action ≡ Commands forgives → abort.forgiving ≡ true →
     DoesAction (Commands forgives) o q → work_of q.probe < 2 ^ 64 →

@@ -23,14 +23,16 @@ use Rattle.flight_laws.specs.Flying.{IsFlying}
 
 -- A unit for which CFG is not read does not end so, in each world that is left.
 abbrev pub NotSmall : Type 0
-NotSmall = (p : Planner) (a : AccessView) (kept : Kept) (accesses : List RegAccess) (came : List ℕ) (n : Option ℕ) (m0 m : BenchState) (asked : AccessUnit) (forgive : Bool) →
+NotSmall = (p : Planner) (a : AccessView) (kept : Kept) (accesses : List RegAccess) (came : List ℕ) (n : Option ℕ) (m0 m : BenchState) (asked : AccessUnit)
+    (forgive : Bool) →
     IsFlying p a kept accesses came m0 m → AtLeast a.came n → IsUnitInRange asked → needs_cfg kept asked ≡ false →
     small_now (world_from m0 n) a.asks.calls (unit_ask asked forgive) ≡ false
 
 -- After calls that do not stop, a memory unit for which CFG is read once the unsettled port is settled, and whose read does not
 -- fault, ends so exactly where bit 1 of CFG is clear.
 abbrev pub SmallByCfg : Type 0
-SmallByCfg = (p : Planner) (t : TargetState) (asks : List Ask) (n : Option ℕ) (size : ℕ) (read : Bool) (ap address value : ℕ) (forgive : Bool) → IsFresh t → AreAskable asks →
+SmallByCfg = (p : Planner) (t : TargetState) (asks : List Ask) (n : Option ℕ) (size : ℕ) (read : Bool) (ap address value : ℕ) (forgive : Bool) → IsFresh t →
+    AreAskable asks →
     stop (start_world t n) asks ≡ None → ap < 256 →
     let k : Kept = settled (kept_by p t asks) in
     let u : TargetState = after (target_by p t asks) (making (settle (kept_by p t asks))) in
@@ -39,7 +41,8 @@ SmallByCfg = (p : Planner) (t : TargetState) (asks : List Ask) (n : Option ℕ) 
 
 -- So it is of one that is made alone, where SELECT is written before the read whatever it was.
 abbrev pub SmallAlone : Type 0
-SmallAlone = (p : Planner) (t : TargetState) (asks : List Ask) (n : Option ℕ) (size : ℕ) (read : Bool) (ap address value : ℕ) (forgive : Bool) → IsFresh t → AreAskable asks →
+SmallAlone = (p : Planner) (t : TargetState) (asks : List Ask) (n : Option ℕ) (size : ℕ) (read : Bool) (ap address value : ℕ) (forgive : Bool) → IsFresh t →
+    AreAskable asks →
     stop (start_world t n) asks ≡ None → ap < 256 →
     let k : Kept = settled (kept_by p t asks) in
     let u : TargetState = after (target_by p t asks) (making (settle (kept_by p t asks))) in

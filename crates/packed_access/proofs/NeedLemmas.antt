@@ -48,7 +48,7 @@ cut_needs Faulted entries r a needs fence b m h = record { performed = h.perform
 cut_needs NoAnswer entries r a needs fence b m h = record { performed = h.performed; confirmed = h.confirmed; up_to = h.up_to; numbers = h.numbers; retries = h.retries; over = h.over; number = h.number }
 
 stands_needs : (s : Stop) (entries : List Entry) (a : AccessView) (needs fence : ℕ) (b : Beginning) (m : BenchState) → StandsAt (Some s) entries a b m → StandsAt (Some s) entries (record a { asks = record a.asks { needs = needs; fence = fence } }) b m
-stands_needs (stops.Cut r) entries a needs fence b m h = cut_needs r.cause entries r a needs fence b m h
+stands_needs (stops.Cut r) entries a needs fence b m h = record { stands = cut_needs r.cause entries r a needs fence b m h.stands; own = h.own; memory = h.memory }
 stands_needs (stops.BenchFault issued confirmed) entries a needs fence b m h = h
 stands_needs stops.ReplyBad entries a needs fence b m h = h
 stands_needs stops.OutOfMemory entries a needs fence b m h = h

@@ -1,5 +1,6 @@
 -- How far an access has come with the calls that were asked of it, and where it began.
-use Rattle.std.specs.Prelude.{◌≡◌, ℕ, zero, suc, ◌+◌, ◌-◌, ◌*◌, ◌^◌, ◌<◌, ◌≤◌, Bool, true, false, List, [], ◌∷◌, ◌++◌, length, map, take, slice_index, Option, Some, None, refl}
+use Rattle.std.specs.Prelude.{◌≡◌, ℕ, zero, suc, ◌+◌, ◌-◌, ◌*◌, ◌^◌, ◌<◌, ◌≤◌, Bool, true, false, List, [], ◌∷◌, ◌++◌, length, map, take, slice_index, Option, Some}
+use Rattle.std.specs.Prelude.{None, refl}
 use Rattle.std.specs.List.{AllByRecursion}
 use Rattle.target_machine.specs.Plain.{Makes}
 use Rattle.target_machine.specs.State.{TargetState}
@@ -106,7 +107,8 @@ IsSince p None a log kept accesses m0 m = IsOpenAt p log kept accesses m0 m
 IsSince p (Some s) a log kept accesses m0 m = IsEnded p s a (take log.known log.results) m0 m
 
 -- The access began when its bench had this state.
-pub record HasBegun (p : Planner) (bench : BenchReported) (state : Option BenchState) (log : LogState) (sent got : List ℕ) (kept : Kept) (accesses : List RegAccess) (m0 : BenchState) : Type 0 where
+pub record HasBegun (p : Planner) (bench : BenchReported) (state : Option BenchState) (log : LogState) (sent got : List ℕ) (kept : Kept)
+    (accesses : List RegAccess) (m0 : BenchState) : Type 0 where
   pub so : WhereObservable state (λ m. IsSince p log.end (reported_by bench state log sent got) log kept accesses m0 m)
 
 -- It has ended.
@@ -122,7 +124,8 @@ abbrev pub own_entries : Planner → TargetState → List Ask → Kept → Ask �
 own_entries p t calls kept ask = numbered (length calls) (is_forgiving ask) (issue_of p (target_by p t calls) kept ask).steps
 
 -- The last call was asked after these, and nothing of it is issued; this is known of the registers after those before it.
-pub record HasAsked (p : Planner) (state : Option BenchState) (log : LogState) (accesses : List RegAccess) (kept : Kept) (calls : List Ask) (ask : Ask) (m0 : BenchState) : Type 0 where
+pub record HasAsked (p : Planner) (state : Option BenchState) (log : LogState) (accesses : List RegAccess) (kept : Kept) (calls : List Ask) (ask : Ask)
+    (m0 : BenchState) : Type 0 where
   pub are : log.calls ≡ calls ++ ask ∷ []
   pub unmarked : ask.settled ≡ false
   pub kept_is : kept_by p (target_of m0.probe) calls ≡ kept

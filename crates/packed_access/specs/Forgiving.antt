@@ -1,5 +1,6 @@
 -- How far a unit that is made alone has come, in flights of its own, which forgives a fault or not.
-use Rattle.std.specs.Prelude.{◌≡◌, ◌⊎◌, ℕ, ◌+◌, ◌-◌, ◌^◌, min, Bool, true, false, not, if◌then◌else◌, List, [], ◌∷◌, ◌++◌, length, map, slice_get, take, Option, Some, None}
+use Rattle.std.specs.Prelude.{◌≡◌, ◌⊎◌, ℕ, ◌+◌, ◌-◌, ◌^◌, min, Bool, true, false, not, if◌then◌else◌, List, [], ◌∷◌, ◌++◌, length, map, slice_get, take, Option}
+use Rattle.std.specs.Prelude.{Some, None}
 use Rattle.target_machine.specs.Lists.{after}
 use Rattle.target_machine.specs.Plain.{Action, Makes, acted, call_actions, cfg_actions, given, has_large, in_order, is_fault, may_forgive}
 use Rattle.target_machine.specs.State.{TargetState}
@@ -28,7 +29,8 @@ use Rattle.access_regs.specs.declared.planner.Planner.{Planner}
 
 -- Made alone from t, where this is known of the registers, the unit has made these accesses, of which none faulted, and these actions
 -- follow where no later one does. The flight is empty, and what the unit issues after them is still to be issued.
-pub record IsTrying (p : Planner) (forgive : Bool) (log : LogState) (asked : AccessUnit) (k : Kept) (t : TargetState) (made : List RegAccess) (rest : List Action) (m0 m : BenchState) : Type 0 where
+pub record IsTrying (p : Planner) (forgive : Bool) (log : LogState) (asked : AccessUnit) (k : Kept) (t : TargetState) (made : List RegAccess)
+    (rest : List Action) (m0 m : BenchState) : Type 0 where
   pub left : List Step
   pub issuing : IsIssuing p log [] (numbered (length log.calls - 1) forgive left) m0 m
   pub actions : call_actions t (large_of k asked) (Access asked) ≡ making made ++ rest
@@ -38,11 +40,13 @@ pub record IsTrying (p : Planner) (forgive : Bool) (log : LogState) (asked : Acc
   pub end : rest ≡ [] → left ≡ []
 
 -- So it is where the bench is observable.
-pub record HasTried (p : Planner) (forgive : Bool) (state : Option BenchState) (log : LogState) (asked : AccessUnit) (k : Kept) (t : TargetState) (made : List RegAccess) (rest : List Action) (m0 : BenchState) : Type 0 where
+pub record HasTried (p : Planner) (forgive : Bool) (state : Option BenchState) (log : LogState) (asked : AccessUnit) (k : Kept) (t : TargetState)
+    (made : List RegAccess) (rest : List Action) (m0 : BenchState) : Type 0 where
   pub so : WhereObservable state (λ m. IsTrying p forgive log asked k t made rest m0 m)
 
 -- After accesses of which none faulted this one did, which is forgiven, and ABORT was written: all that the unit issues was made.
-pub record IsForgiven (p : Planner) (forgive : Bool) (log : LogState) (asked : AccessUnit) (k : Kept) (t : TargetState) (made : List RegAccess) (access : RegAccess) (m0 m : BenchState) : Type 0 where
+pub record IsForgiven (p : Planner) (forgive : Bool) (log : LogState) (asked : AccessUnit) (k : Kept) (t : TargetState) (made : List RegAccess)
+    (access : RegAccess) (m0 m : BenchState) : Type 0 where
   pub forgives : forgive ≡ true
   pub issuing : IsIssuing p log [] [] m0 m
   pub steps : (alone_at forgive asked t k).steps ≡ steps_of_unit asked (made ++ access ∷ []) ++ abort_after asked (made ++ access ∷ []) ∷ []
@@ -50,7 +54,8 @@ pub record IsForgiven (p : Planner) (forgive : Bool) (log : LogState) (asked : A
   pub bad : is_fault (acted (after t (making made)) (Makes access)).outcome ≡ true
 
 -- So it is where the bench is observable.
-pub record HasForgiven (p : Planner) (forgive : Bool) (state : Option BenchState) (log : LogState) (asked : AccessUnit) (k : Kept) (t : TargetState) (made : List RegAccess) (access : RegAccess) (m0 : BenchState) : Type 0 where
+pub record HasForgiven (p : Planner) (forgive : Bool) (state : Option BenchState) (log : LogState) (asked : AccessUnit) (k : Kept) (t : TargetState)
+    (made : List RegAccess) (access : RegAccess) (m0 : BenchState) : Type 0 where
   pub so : WhereObservable state (λ m. IsForgiven p forgive log asked k t made access m0 m)
 
 -- The access has ended so, and there the calls stop.
@@ -73,30 +78,35 @@ pub record IsNext (asked : AccessUnit) (t : TargetState) (made leads : List RegA
   pub good : NoneFault (after t (making made)) leads
 
 -- They came, and the last gave this; or the last faulted, and ABORT was written.
-abbrev pub WentTo : Planner → Bool → Option ℕ → Option BenchState → LogState → AccessUnit → Kept → TargetState → List RegAccess → List RegAccess → RegAccess → List Action → BenchState → Type 0
+abbrev pub WentTo : Planner → Bool → Option ℕ → Option BenchState → LogState → AccessUnit → Kept → TargetState → List RegAccess → List RegAccess → RegAccess →
+    List Action → BenchState → Type 0
 WentTo p forgive (Some v) state log asked k t made leads last more m0 =
     HasTried p forgive state log asked k t (made ++ (leads ++ last ∷ [])) more m0 × (v ≡ given (acted (after t (making (made ++ leads))) (Makes last)).outcome)
 WentTo p forgive None state log asked k t made leads last more m0 = HasForgiven p forgive state log asked k t (made ++ leads) last m0
 
 -- Those before the last came one by one, and the last comes next; or one of them faulted, which none does.
-abbrev pub LeadsCame : Bool → Planner → Bool → Option BenchState → LogState → AccessUnit → Kept → TargetState → List RegAccess → List RegAccess → RegAccess → List Action → BenchState → Type 0
+abbrev pub LeadsCame : Bool → Planner → Bool → Option BenchState → LogState → AccessUnit → Kept → TargetState → List RegAccess → List RegAccess → RegAccess →
+    List Action → BenchState → Type 0
 LeadsCame true p forgive state log asked k t made leads last more m0 = HasTried p forgive state log asked k t (made ++ leads) (Makes last ∷ more) m0
 LeadsCame false p forgive state log asked k t made leads last more m0 = HasForgiven p forgive state log asked k t (made ++ leads) last m0
 
 -- All accesses of the unit were made, and none faulted.
-pub record HasAllMade (p : Planner) (forgive : Bool) (state : Option BenchState) (log : LogState) (asked : AccessUnit) (k : Kept) (t : TargetState) (m0 : BenchState) : Type 0 where
+pub record HasAllMade (p : Planner) (forgive : Bool) (state : Option BenchState) (log : LogState) (asked : AccessUnit) (k : Kept) (t : TargetState)
+    (m0 : BenchState) : Type 0 where
   pub made : List RegAccess
   pub tried : HasTried p forgive state log asked k t made [] m0
 
 -- So it is, and the last of them gave this.
-pub record HasAnswered (p : Planner) (forgive : Bool) (v : ℕ) (state : Option BenchState) (log : LogState) (asked : AccessUnit) (k : Kept) (t : TargetState) (m0 : BenchState) : Type 0 where
+pub record HasAnswered (p : Planner) (forgive : Bool) (v : ℕ) (state : Option BenchState) (log : LogState) (asked : AccessUnit) (k : Kept) (t : TargetState)
+    (m0 : BenchState) : Type 0 where
   pub made : List RegAccess
   pub last : RegAccess
   pub tried : HasTried p forgive state log asked k t (made ++ last ∷ []) [] m0
   pub value : v ≡ given (acted (after t (making made)) (Makes last)).outcome
 
 -- One of them faulted, and ABORT was written.
-pub record HasSkipped (p : Planner) (forgive : Bool) (state : Option BenchState) (log : LogState) (asked : AccessUnit) (k : Kept) (t : TargetState) (m0 : BenchState) : Type 0 where
+pub record HasSkipped (p : Planner) (forgive : Bool) (state : Option BenchState) (log : LogState) (asked : AccessUnit) (k : Kept) (t : TargetState)
+    (m0 : BenchState) : Type 0 where
   pub made : List RegAccess
   pub last : RegAccess
   pub forgiven : HasForgiven p forgive state log asked k t made last m0
@@ -123,7 +133,8 @@ EndsTo p forgive false w state log asked k t m0 = CameTo p forgive w state log a
 
 -- So a unit ended, with so many reads of CFG and CSW before its access; after what is noted of the registers, all but whether its access
 -- port has large addresses is forgotten of that.
-pub record IsDoneBy (p : Planner) (forgive : Bool) (small : Bool) (w : Option ℕ) (reads : ℕ) (noted : Kept) (state : Option BenchState) (log : LogState) (asked : AccessUnit) (k : Kept) (t : TargetState) (m0 : BenchState) : Type 0 where
+pub record IsDoneBy (p : Planner) (forgive : Bool) (small : Bool) (w : Option ℕ) (reads : ℕ) (noted : Kept) (state : Option BenchState) (log : LogState)
+    (asked : AccessUnit) (k : Kept) (t : TargetState) (m0 : BenchState) : Type 0 where
   pub came : EndsTo p forgive small w state log asked k t m0
   pub small_is : IsSmallBy small w asked k t
   pub reads_are : reads ≡ leading_reads (alone_at forgive asked t k).steps

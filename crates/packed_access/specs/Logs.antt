@@ -1,5 +1,6 @@
 -- What an access keeps of its calls, and what it reports by that.
-use Rattle.std.specs.Prelude.{◌≡◌, ℕ, zero, suc, ◌+◌, ◌-◌, ◌*◌, ◌<◌, ◌≤◌, nat_lt, if◌then◌else◌, List, [], ◌∷◌, ◌++◌, length, drop, slice_get, slice_set, slice_index, Option, Some, None, refl}
+use Rattle.std.specs.Prelude.{◌≡◌, ℕ, zero, suc, ◌+◌, ◌-◌, ◌*◌, ◌<◌, ◌≤◌, nat_lt, if◌then◌else◌, List, [], ◌∷◌, ◌++◌, length, drop, slice_get, slice_set}
+use Rattle.std.specs.Prelude.{slice_index, Option, Some, None, refl}
 use Rattle.std.specs.List.{AllByRecursion}
 use Rattle.std.specs.Option.{unwrap_or}
 use Rattle.target_machine.specs.Plain.{result_of}
@@ -53,7 +54,8 @@ IsOfCall calls entry = (0 < entry.unit) × (entry.unit ≤ calls)
 
 -- What is kept is within its room: there is a result and a place for each call, the entries have room, each is of one of the calls,
 -- and the calls may be asked.
-pub record IsSoundLog (calls : List Ask) (results places : List ℕ) (room : ℕ) (entries : List Issued) (issued confirmed whole came known fence : ℕ) (end : Option Stop) : Type 0 where
+pub record IsSoundLog (calls : List Ask) (results places : List ℕ) (room : ℕ) (entries : List Issued) (issued confirmed whole came known fence : ℕ)
+    (end : Option Stop) : Type 0 where
   pub few : length calls ≤ 10000000
   pub sound : AllByRecursion (λ ask. IsSoundCall ask.call) calls
   pub results_long : length results ≡ length calls

@@ -1,5 +1,6 @@
 -- What calls issue that write memory at neighbouring addresses: few accesses besides their writes of DRW, and these in few places.
-use Rattle.std.proofs.Common.{◌≡◌, ◌⊎◌, inl, inr, ◌∙◌, ℕ, zero, suc, ◌+◌, ◌*◌, ◌/◌, ◌%◌, ◌^◌, ◌<◌, ◌≤◌, Bool, true, false, cond, not, ◌&&◌, ◌||◌, List, [], ◌∷◌, ◌++◌, length, Option, Some, None, refl, sym, ap, subst, arith, append_assoc}
+use Rattle.std.proofs.Common.{◌≡◌, ◌⊎◌, inl, inr, ◌∙◌, ℕ, zero, suc, ◌+◌, ◌*◌, ◌/◌, ◌%◌, ◌^◌, ◌<◌, ◌≤◌, Bool, true, false, cond, not, ◌&&◌, ◌||◌, List, [], ◌∷◌}
+use Rattle.std.proofs.Common.{◌++◌, length, Option, Some, None, refl, sym, ap, subst, arith, append_assoc}
 use Rattle.std.proofs.lemmas.Bool.{eq-eqb, le-ltb}
 use Rattle.std.proofs.lemmas.List.{length-append}
 use Rattle.std.proofs.lemmas.List.Sums.{sum_by-append, sum_by-cons}
@@ -18,9 +19,11 @@ use Rattle.target_calls.specs.Journal.{Entry, settles}
 use Rattle.target_calls.specs.declared.calls.Ask.{Ask}
 use Rattle.target_calls.specs.declared.journal.Part.{Part}
 use Rattle.target_calls.specs.declared.journal.Part.TheVariants.{Ends, Leads, Settles}
-use Rattle.access_regs.specs.Journal.{Issue, Step, actions_of, after_settling, before, by_cfg, by_cfg_read, by_csw, by_plan, entries_at, finish, gives, issued, issued_from, kept_at, making, numbered, planned, steps_of, target_at}
+use Rattle.access_regs.specs.Journal.{Issue, Step, actions_of, after_settling, before, by_cfg, by_cfg_read, by_csw, by_plan, entries_at, finish, gives, issued}
+use Rattle.access_regs.specs.Journal.{issued_from, kept_at, making, numbered, planned, steps_of, target_at}
 use Rattle.access_regs.specs.Kept.{Kept, csw_of, is_known, known, nothing_kept, unknown}
-use Rattle.access_regs.specs.Plan.{cfg_plan, csw_needed, first_plan, high_needed, leads, learned, made, needs_settle, planned_csw, port_writes, select_needed, select_value, settle, settled, tar_needed, unless}
+use Rattle.access_regs.specs.Plan.{cfg_plan, csw_needed, first_plan, high_needed, leads, learned, made, needs_settle, planned_csw, port_writes, select_needed}
+use Rattle.access_regs.specs.Plan.{select_value, settle, settled, tar_needed, unless}
 use Rattle.access_regs.specs.declared.known.Known.{Known}
 use Rattle.access_regs.specs.declared.planner.Planner.TheVariants.{Managed}
 use Rattle.access_regs.proofs.AllCalls.{known_nothing}
@@ -49,15 +52,18 @@ others_cons : (e : Entry) (es : List Entry) → others_in (e ∷ es) ≡ one_if 
 others_cons e es = sum_by-cons (λ (x : Entry). one_if (not (is_drw_write x.action))) e es
 
 -- entries that are no writes of DRW come first
-bare_changes : (n : ℕ) (f : Bool) (part : Part) (xs : List RegAccess) (es : List Entry) → AreBare xs → changes_after false (numbered n f (steps_of part xs) ++ es) ≡ changes_after false es
+bare_changes : (n : ℕ) (f : Bool) (part : Part) (xs : List RegAccess) (es : List Entry) → AreBare xs →
+    changes_after false (numbered n f (steps_of part xs) ++ es) ≡ changes_after false es
 bare_changes n f part [] es h = refl
 bare_changes n f part (x ∷ xs) es h =
     ap (λ (b : Bool). one_if b + changes_after b (numbered n f (steps_of part xs) ++ es)) h.0 ∙ (let r = bare_changes n f part xs es h.1 in omega (arith, r))
 
-bare_others : (n : ℕ) (f : Bool) (part : Part) (xs : List RegAccess) (es : List Entry) → AreBare xs → others_in (numbered n f (steps_of part xs) ++ es) ≡ length xs + others_in es
+bare_others : (n : ℕ) (f : Bool) (part : Part) (xs : List RegAccess) (es : List Entry) → AreBare xs →
+    others_in (numbered n f (steps_of part xs) ++ es) ≡ length xs + others_in es
 bare_others n f part [] es h = omega arith
 bare_others n f part (x ∷ xs) es h =
-    let c = others_cons (record { unit = cond (settles part) n (n + 1); part = part; forgiving = f && not (settles part); action = Makes x }) (numbered n f (steps_of part xs) ++ es) in
+    let c = others_cons (record { unit = cond (settles part) n (n + 1); part = part; forgiving = f && not (settles part); action = Makes x })
+    (numbered n f (steps_of part xs) ++ es) in
     let one = ap (λ (b : Bool). one_if (not b)) h.0 in
     let r = bare_others n f part xs es h.1 in
     omega (arith, c, one, r)
@@ -77,7 +83,8 @@ lead_changes false n (x ∷ xs) d rest h is none =
     ap (λ (b : Bool). one_if b + changes_after b (numbered n false (steps_of Leads xs ++ d ∷ []) ++ rest)) h.0
     ∙ (let r = lead_changes false n xs d rest h.1 is (λ e. absurd (cc)) in omega (arith, r))
 
-lead_others : (n : ℕ) (xs : List RegAccess) (d : Step) (rest : List Entry) → AreBare xs → is_drw_write d.action ≡ true → others_in (numbered n false (steps_of Leads xs ++ d ∷ []) ++ rest) ≡ length xs + others_in rest
+lead_others : (n : ℕ) (xs : List RegAccess) (d : Step) (rest : List Entry) → AreBare xs → is_drw_write d.action ≡ true →
+    others_in (numbered n false (steps_of Leads xs ++ d ∷ []) ++ rest) ≡ length xs + others_in rest
 lead_others n [] d rest h is =
     let c = others_cons (record { unit = cond (settles d.part) n (n + 1); part = d.part; forgiving = false; action = d.action }) rest in
     let none = ap (λ (b : Bool). one_if (not b)) is in
@@ -102,18 +109,23 @@ module _ (size m address value n : ℕ) (from : Kept) where
 
   -- the write, what leads to it, and the settling after it
   unit_few : (b s : Bool) (xs : List RegAccess) (rest : List Entry) (changes others : ℕ) → AreBare xs → (b ≡ true → xs ≡ []) → HasFew (not s) rest changes others →
-      HasFew b ((numbered n false (steps_of Leads xs ++ write ∷ []) ++ numbered (n + 1) false (finish s (made from here)).steps) ++ rest) (one_if (not b) + one_if s + changes) (length xs + 2 * one_if s + others)
+      HasFew b ((numbered n false (steps_of Leads xs ++ write ∷ []) ++ numbered (n + 1) false (finish s (made from here)).steps) ++ rest)
+      (one_if (not b) + one_if s + changes) (length xs + 2 * one_if s + others)
   unit_few b s xs rest changes others bare none h =
-      subst (λ (l : List Entry). HasFew b l (one_if (not b) + one_if s + changes) (length xs + 2 * one_if s + others)) (sym (append_assoc (numbered n false (steps_of Leads xs ++ write ∷ [])) (numbered (n + 1) false (finish s (made from here)).steps) rest)) (by_mark s h)
+      subst (λ (l : List Entry). HasFew b l (one_if (not b) + one_if s + changes) (length xs + 2 * one_if s + others))
+      (sym (append_assoc (numbered n false (steps_of Leads xs ++ write ∷ [])) (numbered (n + 1) false (finish s (made from here)).steps) rest))
+      (by_mark s h)
     where
       by_mark : (s : Bool) → HasFew (not s) rest changes others →
-          HasFew b (numbered n false (steps_of Leads xs ++ write ∷ []) ++ (numbered (n + 1) false (finish s (made from here)).steps ++ rest)) (one_if (not b) + one_if s + changes) (length xs + 2 * one_if s + others)
+          HasFew b (numbered n false (steps_of Leads xs ++ write ∷ []) ++ (numbered (n + 1) false (finish s (made from here)).steps ++ rest))
+          (one_if (not b) + one_if s + changes) (length xs + 2 * one_if s + others)
       by_mark true k =
           let fin : List Entry = numbered (n + 1) false (finish true (made from here)).steps ++ rest in
           let a = lead_changes b n xs write fin bare refl none in
           let o = lead_others n xs write fin bare refl in
           let f : changes_after true fin ≡ 1 + changes_after false rest = omega arith in
-          let g : others_in fin ≡ 2 + others_in rest = sum_by-append (λ (e : Entry). one_if (not (is_drw_write e.action))) (numbered (n + 1) false (finish true (made from here)).steps) rest in
+          let g : others_in fin ≡ 2 + others_in rest = sum_by-append (λ (e : Entry). one_if (not (is_drw_write e.action)))
+          (numbered (n + 1) false (finish true (made from here)).steps) rest in
           let x = k.changing in let y = k.bare in
           record { changing = omega (arith, a, f, x); bare = omega (arith, o, g, y) }
       by_mark false k =
@@ -166,7 +178,8 @@ module _ (size m address value : ℕ) (t : TargetState) where
     few = omega arith;
     none = λ e. refl;
     from = k;
-    steps = ap (λ (i : Issue). i.steps) (ready_plan size m address false value t k h.0) ∙ ap (λ (l : List RegAccess). steps_of Leads l ++ end ∷ []) (ready_leads size m address false value k h.0);
+    steps = ap (λ (i : Issue). i.steps) (ready_plan size m address false value t k h.0)
+        ∙ ap (λ (l : List RegAccess). steps_of Leads l ++ end ∷ []) (ready_leads size m address false value k h.0);
     kept = ap (λ (i : Issue). i.kept) (ready_plan size m address false value t k h.0);
     table = h.0.table;
     large = h.1;
@@ -181,12 +194,14 @@ module _ (size m address value : ℕ) (t : TargetState) where
   port_bare : (a : Known) → AreBare (port_writes a size address)
   port_bare a =
       bare_both (csw_needed a size) (high_needed a address ++ tar_needed a address) (bare_unless (is_known a.csw (planned_csw (csw_of a) size)) _ refl)
-      (bare_both (high_needed a address) (tar_needed a address) (bare_unless (not a.large || is_known a.high (address / 2 ^ 32)) _ refl) (bare_unless (is_known a.tar (address % 2 ^ 32)) _ refl))
+      (bare_both (high_needed a address) (tar_needed a address) (bare_unless (not a.large || is_known a.high (address / 2 ^ 32)) _ refl)
+      (bare_unless (is_known a.tar (address % 2 ^ 32)) _ refl))
 
   port_few : (a : Known) → a.large ≡ false → length (port_writes a size address) ≤ 2
   port_few a narrow =
       let c = few_unless (is_known a.csw (planned_csw (csw_of a) size)) (ap_access_of false 0 (planned_csw (csw_of a) size)) in
-      let d : length (high_needed a address) ≡ 0 = ap (λ (b : Bool). length (unless (not b || is_known a.high (address / 2 ^ 32)) (ap_access_of false 8 (address / 2 ^ 32)))) narrow in
+      let d : length (high_needed a address) ≡ 0 = ap (λ (b : Bool). length
+      (unless (not b || is_known a.high (address / 2 ^ 32)) (ap_access_of false 8 (address / 2 ^ 32)))) narrow in
       let e = few_unless (is_known a.tar (address % 2 ^ 32)) (ap_access_of false 4 (address % 2 ^ 32)) in
       let f = length-append (csw_needed a size) (high_needed a address ++ tar_needed a address) in
       let g = length-append (high_needed a address) (tar_needed a address) in
@@ -213,7 +228,8 @@ module _ (size m address value : ℕ) (t : TargetState) where
       is : planned t k asked ≡ by_plan k asked
       is =
           ap (λ (b : Bool). cond b (after_settling t k (λ u l. by_cfg u l asked)) (by_cfg t k asked)) no_settle
-          ∙ ap (λ (b : Bool). cond b (before (steps_of Leads (cfg_plan k m)) (by_cfg_read (after t (making (cfg_plan k m))) k asked (gives t (cfg_plan k m)))) (by_csw t k asked)) (narrow_port k low)
+          ∙ ap (λ (b : Bool). cond b (before (steps_of Leads (cfg_plan k m)) (by_cfg_read (after t (making (cfg_plan k m))) k asked (gives t (cfg_plan k m))))
+          (by_csw t k asked)) (narrow_port k low)
           ∙ ap (λ (b : Bool). cond b (before (steps_of Leads (first_plan k m)) (by_plan (learned k m (gives t (first_plan k m))) asked)) (by_plan k asked)) h.some
 
   abbrev csw_first : ℕ
@@ -224,7 +240,8 @@ module _ (size m address value : ℕ) (t : TargetState) where
 
   first_half : m < 256 → IsHalfReady m first_kept
   first_half lt =
-      let same : known first_kept m ≡ record (known nothing_kept m) { csw = Some csw_first } = known_same nothing_kept m (record (known nothing_kept m) { csw = Some csw_first }) lt in
+      let same : known first_kept m ≡ record (known nothing_kept m) { csw = Some csw_first } =
+      known_same nothing_kept m (record (known nothing_kept m) { csw = Some csw_first }) lt in
       record {
         table = (let e = table_kept nothing_kept m (record (known nothing_kept m) { csw = Some csw_first }) in omega (arith, e, lt));
         select = eq-eqb (select_value m 0) (select_value m 0) refl;
@@ -234,14 +251,18 @@ module _ (size m address value : ℕ) (t : TargetState) where
 
   first_is : address < 2 ^ 32 → planned t nothing_kept asked ≡ before (steps_of Leads (first_plan nothing_kept m)) (by_plan first_kept asked)
   first_is low =
-      ap (λ (b : Bool). cond b (before (steps_of Leads (cfg_plan nothing_kept m)) (by_cfg_read (after t (making (cfg_plan nothing_kept m))) nothing_kept asked (gives t (cfg_plan nothing_kept m)))) (by_csw t nothing_kept asked)) (narrow_port nothing_kept low)
-      ∙ ap (λ (a : Known). cond (is_none a.csw) (before (steps_of Leads (first_plan nothing_kept m)) (by_plan first_kept asked)) (by_plan nothing_kept asked)) (known_nothing m)
+      ap (λ (b : Bool). cond b (before (steps_of Leads (cfg_plan nothing_kept m))
+      (by_cfg_read (after t (making (cfg_plan nothing_kept m))) nothing_kept asked (gives t (cfg_plan nothing_kept m)))) (by_csw t nothing_kept asked))
+      (narrow_port nothing_kept low)
+      ∙ ap (λ (a : Known). cond (is_none a.csw) (before (steps_of Leads (first_plan nothing_kept m)) (by_plan first_kept asked)) (by_plan nothing_kept asked))
+      (known_nothing m)
 
   first_bare : AreBare (first_plan nothing_kept m ++ port_writes (known first_kept m) size address)
   first_bare = bare_both (first_plan nothing_kept m) (port_writes (known first_kept m) size address) (refl, (refl, tt)) (port_bare (known first_kept m))
 
   first_few : m < 256 → length (first_plan nothing_kept m ++ port_writes (known first_kept m) size address) ≤ 4
-  first_few lt = (let a = length-append (first_plan nothing_kept m) (port_writes (known first_kept m) size address) in let d = port_few (known first_kept m) (first_half lt).large in omega (arith, a, d))
+  first_few lt = (let a = length-append (first_plan nothing_kept m) (port_writes (known first_kept m) size address) in let d =
+      port_few (known first_kept m) (first_half lt).large in omega (arith, a, d))
 
   -- the first one of all reads CSW
   first_planned : address < 2 ^ 32 → m < 256 → IsPlanned false size m address value 4 (planned t nothing_kept asked)
@@ -281,7 +302,8 @@ module _ (size m address value : ℕ) where
   inside : (block : ℕ) → address / 1024 ≡ block → (address + size) / 1024 ≡ block → address % 1024 + size < 1024
   inside block near next = omega (arith, near, next)
 
-  made_at : (block : ℕ) (from : Kept) → 0 < size → block < 2 ^ 22 → m < length from.ports → (known from m).large ≡ false → address / 1024 ≡ block → (address + size) / 1024 ≡ block → IsAt true size m (address + size) (made from this)
+  made_at : (block : ℕ) (from : Kept) → 0 < size → block < 2 ^ 22 → m < length from.ports → (known from m).large ≡ false → address / 1024 ≡ block →
+      (address + size) / 1024 ≡ block → IsAt true size m (address + size) (made from this)
   made_at block from some low table narrow near next = (
     made_ready size m address false value from table some (inside block near next) (inr (omega (arith, next, low))),
     made_large size m address false value from table ∙ narrow,
@@ -301,21 +323,29 @@ module _ (size m address value : ℕ) where
       }
 
   -- the calls after it
-  module _ (n block : ℕ) (cs : List Ask) (u : TargetState) (from : Kept) (some : 0 < size) (low : block < 2 ^ 22) (near : address / 1024 ≡ block) (table : m < length from.ports) (narrow : (known from m).large ≡ false)
-      (rest : (d : Bool) (l : Kept) → (Begins block (address + size) cs → IsAt d size m (address + size) l) → HasFew d (issued_from Managed (n + 1) l u cs) (one_if (not d) + 2 * marks_in cs) (2 * one_if (not d) + 4 * marks_in cs)) where
+  module _ (n block : ℕ) (cs : List Ask) (u : TargetState) (from : Kept) (some : 0 < size) (low : block < 2 ^ 22) (near : address / 1024 ≡ block)
+      (table : m < length from.ports) (narrow : (known from m).large ≡ false)
+      (rest : (d : Bool) (l : Kept) → (Begins block (address + size) cs → IsAt d size m (address + size) l) →
+      HasFew d (issued_from Managed (n + 1) l u cs) (one_if (not d) + 2 * marks_in cs) (2 * one_if (not d) + 4 * marks_in cs)) where
     made_few : (b s : Bool) (most : ℕ) (xs : List RegAccess) → AreBare xs → (b ≡ true → xs ≡ []) → length xs ≤ most →
-        HasFew b ((numbered n false (steps_of Leads xs ++ record { part = Ends; action = Makes (drw_of false address value) } ∷ []) ++ numbered (n + 1) false (finish s (made from this)).steps) ++ issued_from Managed (n + 1) (finish s (made from this)).kept u cs)
+        HasFew b ((numbered n false (steps_of Leads xs ++ record { part = Ends; action = Makes (drw_of false address value) } ∷ [])
+        ++ numbered (n + 1) false (finish s (made from this)).steps) ++ issued_from Managed (n + 1) (finish s (made from this)).kept u cs)
         (one_if (not b) + 2 * (one_if s + marks_in cs)) (most + 4 * (one_if s + marks_in cs))
     made_few b true most xs bare none few =
-        more_few b _ _ _ _ _ (unit_few size m address value n from b true xs (issued_from Managed (n + 1) (settled (made from this)) u cs) (1 + 2 * marks_in cs) (2 + 4 * marks_in cs) bare none (rest false (settled (made from this)) (λ begins. settled_at from table narrow)))
+        more_few b _ _ _ _ _ (unit_few size m address value n from b true xs (issued_from Managed (n + 1) (settled (made from this)) u cs) (1 + 2 * marks_in cs)
+        (2 + 4 * marks_in cs) bare none (rest false (settled (made from this)) (λ begins. settled_at from table narrow)))
         (omega arith) (omega (arith, few))
     made_few b false most xs bare none few =
-        more_few b _ _ _ _ _ (unit_few size m address value n from b false xs (issued_from Managed (n + 1) (made from this) u cs) (0 + 2 * marks_in cs) (0 + 4 * marks_in cs) bare none (rest true (made from this) (λ begins. made_at block from some low table narrow near (begins_near block (address + size) cs begins))))
+        more_few b _ _ _ _ _ (unit_few size m address value n from b false xs (issued_from Managed (n + 1) (made from this) u cs) (0 + 2 * marks_in cs)
+        (0 + 4 * marks_in cs) bare none (rest true (made from this) (λ begins. made_at block from some low table narrow near
+        (begins_near block (address + size) cs begins))))
         (omega arith) (omega (arith, few))
 
   -- a write, and the calls after it
-  write_few : (b : Bool) (n most block : ℕ) (c : Ask) (cs : List Ask) (k : Kept) (t : TargetState) → 0 < size → block < 2 ^ 22 → c.call ≡ Access this → c.forgive ≡ false → address / 1024 ≡ block → IsPlanned b size m address value most (planned t k this) →
-      ((d : Bool) (l : Kept) (u : TargetState) → (Begins block (address + size) cs → IsAt d size m (address + size) l) → HasFew d (issued_from Managed (n + 1) l u cs) (one_if (not d) + 2 * marks_in cs) (2 * one_if (not d) + 4 * marks_in cs)) →
+  write_few : (b : Bool) (n most block : ℕ) (c : Ask) (cs : List Ask) (k : Kept) (t : TargetState) → 0 < size → block < 2 ^ 22 → c.call ≡ Access this →
+      c.forgive ≡ false → address / 1024 ≡ block → IsPlanned b size m address value most (planned t k this) →
+      ((d : Bool) (l : Kept) (u : TargetState) → (Begins block (address + size) cs → IsAt d size m (address + size) l) →
+      HasFew d (issued_from Managed (n + 1) l u cs) (one_if (not d) + 2 * marks_in cs) (2 * one_if (not d) + 4 * marks_in cs)) →
       HasFew b (issued_from Managed n k t (c ∷ cs)) (one_if (not b) + 2 * (one_if c.settled + marks_in cs)) (most + 4 * (one_if c.settled + marks_in cs))
   write_few b n most block c cs k t some low call mild near p rest =
       let asked_ : Ask = record { call = Access this; forgive = false; settled = c.settled } in
@@ -323,9 +353,13 @@ module _ (size m address value : ℕ) where
       let i : Issue = planned t k this in
       let u : TargetState = target_at Managed t k asked_ in
       let all = made_few n block cs u p.from some low near p.table p.large (λ d l at. rest d l u at) b c.settled most p.lead p.bare p.none p.few in
-      subst (λ (a : Ask). HasFew b (issued_from Managed n k t (a ∷ cs)) (one_if (not b) + 2 * (one_if c.settled + marks_in cs)) (most + 4 * (one_if c.settled + marks_in cs))) same
-      (subst (λ (steps : List Step). HasFew b ((numbered n false steps ++ numbered (n + 1) false (finish c.settled i.kept).steps) ++ issued_from Managed (n + 1) (finish c.settled i.kept).kept u cs) (one_if (not b) + 2 * (one_if c.settled + marks_in cs)) (most + 4 * (one_if c.settled + marks_in cs))) (sym p.steps)
-      (subst (λ (l : Kept). HasFew b ((numbered n false (steps_of Leads p.lead ++ record { part = Ends; action = Makes (drw_of false address value) } ∷ []) ++ numbered (n + 1) false (finish c.settled l).steps) ++ issued_from Managed (n + 1) (finish c.settled l).kept u cs)
+      subst (λ (a : Ask). HasFew b (issued_from Managed n k t (a ∷ cs)) (one_if (not b) + 2 * (one_if c.settled + marks_in cs))
+      (most + 4 * (one_if c.settled + marks_in cs))) same
+      (subst (λ (steps : List Step). HasFew b ((numbered n false steps ++ numbered (n + 1) false (finish c.settled i.kept).steps)
+      ++ issued_from Managed (n + 1) (finish c.settled i.kept).kept u cs) (one_if (not b) + 2 * (one_if c.settled + marks_in cs))
+      (most + 4 * (one_if c.settled + marks_in cs))) (sym p.steps)
+      (subst (λ (l : Kept). HasFew b ((numbered n false (steps_of Leads p.lead ++ record { part = Ends; action = Makes (drw_of false address value) } ∷ [])
+      ++ numbered (n + 1) false (finish c.settled l).steps) ++ issued_from Managed (n + 1) (finish c.settled l).kept u cs)
       (one_if (not b) + 2 * (one_if c.settled + marks_in cs)) (most + 4 * (one_if c.settled + marks_in cs))) (sym p.kept) all))
 
 pub mild_write : (c : Ask) (size m address value : ℕ) → c.call ≡ Access (unit.Memory size false m address value) → is_forgiving c ≡ false → c.forgive ≡ false
@@ -339,28 +373,33 @@ marks_cons : (c : Ask) (cs : List Ask) → marks_in (c ∷ cs) ≡ one_if c.sett
 marks_cons c cs = sum_by-cons (λ (a : Ask). one_if a.settled) c cs
 
 -- neighbouring writes from such a state on
-writes_few : (b : Bool) (cs : List Ask) (n : ℕ) (k : Kept) (t : TargetState) (size m address block : ℕ) → 0 < size → block < 2 ^ 22 → AreNextWrites block size m address cs → (Begins block address cs → IsAt b size m address k) →
+writes_few : (b : Bool) (cs : List Ask) (n : ℕ) (k : Kept) (t : TargetState) (size m address block : ℕ) → 0 < size → block < 2 ^ 22 →
+    AreNextWrites block size m address cs → (Begins block address cs → IsAt b size m address k) →
     HasFew b (issued_from Managed n k t cs) (one_if (not b) + 2 * marks_in cs) (2 * one_if (not b) + 4 * marks_in cs)
 writes_few b [] n k t size m address block some low are at = record { changing = omega arith; bare = omega arith }
 writes_few b (c ∷ cs) n k t size m address block some low are at =
     let w = are.0 in
     let marks = marks_cons c cs in
-    let few = write_few size m address w.value b n (2 * one_if (not b)) block c cs k t some low w.is (mild_write c size m address w.value w.is w.strict) w.near (by_kept b (at w.near) w.value (omega (arith, low, w.near)))
+    let few = write_few size m address w.value b n (2 * one_if (not b)) block c cs k t some low w.is (mild_write c size m address w.value w.is w.strict) w.near
+    (by_kept b (at w.near) w.value (omega (arith, low, w.near)))
     (λ d l u there. writes_few d cs (n + 1) l u size m (address + size) block some low are.1 there) in
     more_few b _ _ _ _ _ few (omega (arith, marks)) (omega (arith, marks))
   where
-    by_kept : (b : Bool) → IsAt b size m address k → (value : ℕ) → address < 2 ^ 32 → IsPlanned b size m address value (2 * one_if (not b)) (planned t k (unit.Memory size false m address value))
+    by_kept : (b : Bool) → IsAt b size m address k → (value : ℕ) → address < 2 ^ 32 →
+        IsPlanned b size m address value (2 * one_if (not b)) (planned t k (unit.Memory size false m address value))
     by_kept true ready value fits = ready_planned size m address value t k ready
     by_kept false half value fits = half_planned size m address value t k fits half
 
 -- The journal of such calls: at most four accesses besides writes of DRW, and four more for each mark of a `finish`; and one place where these
 -- become writes of DRW, and two more for each mark.
-pub journal_few : (t : TargetState) (size m address : ℕ) (calls : List Ask) → 0 < size → m < 256 → address < 2 ^ 32 → AreNextWrites (address / 1024) size m address calls →
+pub journal_few : (t : TargetState) (size m address : ℕ) (calls : List Ask) → 0 < size → m < 256 → address < 2 ^ 32 →
+    AreNextWrites (address / 1024) size m address calls →
     (changes_in (issued Managed t calls) ≤ 1 + 2 * marks_in calls) × (others_in (issued Managed t calls) ≤ 4 + 4 * marks_in calls)
 journal_few t size m address [] some lt low are = (omega arith, omega arith)
 journal_few t size m address (c ∷ cs) some lt low are =
     let w = are.0 in
     let marks = marks_cons c cs in
-    let few = write_few size m address w.value false 0 4 (address / 1024) c cs nothing_kept t some (omega (arith, low)) w.is (mild_write c size m address w.value w.is w.strict) w.near (first_planned size m address w.value t low lt)
+    let few = write_few size m address w.value false 0 4 (address / 1024) c cs nothing_kept t some (omega (arith, low)) w.is
+    (mild_write c size m address w.value w.is w.strict) w.near (first_planned size m address w.value t low lt)
     (λ d l u there. writes_few d cs 1 l u size m (address + size) (address / 1024) some (omega (arith, low)) are.1 there) in
     (let x = few.changing in omega (arith, x, marks), let y = few.bare in omega (arith, y, marks))

@@ -30,7 +30,8 @@ target_before t k asked = after t (making (settle_before k asked))
 abbrev pub reads_before : TargetState → Kept → AccessUnit → ℕ
 reads_before t k asked =
     if needs_cfg k asked
-    then 1 + (if has_bit (gives t (cfg_plan k (port_of asked))) cfg_la then one_if (needs_csw (learned_cfg k (port_of asked) (gives t (cfg_plan k (port_of asked)))) asked) else 0)
+    then 1 + (if has_bit (gives t (cfg_plan k (port_of asked))) cfg_la then one_if
+    (needs_csw (learned_cfg k (port_of asked) (gives t (cfg_plan k (port_of asked)))) asked) else 0)
     else one_if (needs_csw k asked)
 
 -- What is answered of a unit that is asked after these calls: whether CFG was read and shows that its AP has no large addresses. Where CFG is

@@ -16,7 +16,8 @@ use Rattle.access_regs.specs.declared.planner.Planner.{Planner}
 
 -- The last call is this poll, asked after these; all entries before its own are confirmed, and this is known of the registers. The
 -- access began with this retry number.
-pub record HasPoll (p : Planner) (state : Option BenchState) (log : LogState) (kept : Kept) (calls : List Ask) (ask : Ask) (mask requested turns retry : ℕ) (m0 : BenchState) : Type 0 where
+pub record HasPoll (p : Planner) (state : Option BenchState) (log : LogState) (kept : Kept) (calls : List Ask) (ask : Ask) (mask requested turns retry : ℕ)
+    (m0 : BenchState) : Type 0 where
   pub are : log.calls ≡ calls ++ ask ∷ []
   pub call : ask.call ≡ Access (unit.Poll mask requested turns)
   pub unmarked : ask.settled ≡ false

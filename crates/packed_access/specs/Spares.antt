@@ -1,5 +1,6 @@
 -- How few starting packets an access sends, as the contract of accesses says: the law `spares`.
-use Rattle.std.proofs.Common.{◌≡◌, inl, inr, ◌∙◌, ℕ, zero, suc, ◌+◌, ◌-◌, ◌*◌, ◌/◌, ◌^◌, ◌<◌, ◌≤◌, min, Bool, true, false, cond, not, ◌&&◌, ◌⊎◌, List, [], ◌∷◌, ◌++◌, take, drop, length, Option, Some, None, refl, sym, ap, subst, arith}
+use Rattle.std.proofs.Common.{◌≡◌, inl, inr, ◌∙◌, ℕ, zero, suc, ◌+◌, ◌-◌, ◌*◌, ◌/◌, ◌^◌, ◌<◌, ◌≤◌, min, Bool, true, false, cond, not, ◌&&◌, ◌⊎◌, List, [], ◌∷◌, ◌++◌}
+use Rattle.std.proofs.Common.{take, drop, length, Option, Some, None, refl, sym, ap, subst, arith}
 use Rattle.std.proofs.Math.Nat.{le-div_iff_mul-le}
 use Rattle.std.proofs.lemmas.Bool.{le-ltb}
 use Rattle.std.proofs.lemmas.List.{take-append-drop}
@@ -58,17 +59,20 @@ capacity_seven limits fits = by_count limits.packet_count ((limits.packet_size -
     by_count (suc n) words some many = (let e : suc n * words ≡ n * words + words = omega arith in omega (arith, e, many))
 
 -- need points cover what they pay for; both counts stop at their last value
-paid_few : (before after paid full left needs : ℕ) → after ≤ before + 3 + paid + full → after < 2 ^ 64 → min (paid + left) (2 ^ 64 - 1) ≤ needs → after - before ≤ 3 + needs + full
+paid_few : (before after paid full left needs : ℕ) → after ≤ before + 3 + paid + full → after < 2 ^ 64 → min (paid + left) (2 ^ 64 - 1) ≤ needs →
+    after - before ≤ 3 + needs + full
 paid_few before after paid full left needs few counts covers = omega (arith, few, counts, covers)
 
-spared_few : (limits given : Limits) (log : LogState) (paid left : ℕ) (m0 m : BenchState) (n : Option ℕ) → IsSpared Managed limits given log paid m0 m → min (paid + left) (2 ^ 64 - 1) ≤ log.needs →
+spared_few : (limits given : Limits) (log : LogState) (paid left : ℕ) (m0 m : BenchState) (n : Option ℕ) → IsSpared Managed limits given log paid m0 m →
+    min (paid + left) (2 ^ 64 - 1) ≤ log.needs →
     starting_since (began m0 n) m ≤ 3 + log.needs + registers_in (issued Managed (target_of m0.probe) log.calls) / capacity given
 spared_few limits given log paid left m0 m n h covers =
     let j : List Entry = issued Managed (target_of m0.probe) log.calls in
     let few = paid_few m0.starting m.starting paid h.full left log.needs h.few h.counts covers in
     let some : 0 < capacity limits = (let c = capacity_seven limits h.fits in omega (arith, c)) in
     let most : starting_since (began m0 n) m ≤ 3 + log.needs + registers_in (take log.confirmed j ++ drop log.confirmed j) / capacity limits =
-    few_packets h.full (capacity limits) log.needs (take log.confirmed j) (drop log.confirmed j) (began m0 n) m (record { some = some; few = omega (arith, few); filled = h.filled }) in
+    few_packets h.full (capacity limits) log.needs (take log.confirmed j) (drop log.confirmed j) (began m0 n) m
+    (record { some = some; few = omega (arith, few); filled = h.filled }) in
     subst (λ (l : Limits). starting_since (began m0 n) m ≤ 3 + log.needs + registers_in j / capacity l) h.limits_are
     (subst (λ (l : List Entry). starting_since (began m0 n) m ≤ 3 + log.needs + registers_in l / capacity limits) (take-append-drop log.confirmed j) most)
 
@@ -102,22 +106,32 @@ blocks_fit : (blocks more words writes : ℕ) → 0 < words → (blocks + more) 
 blocks_fit blocks more words writes some few = (le-div_iff_mul-le {k = words} {x = blocks + more} {y = writes + words - 1} some).1 (omega (arith, few, some))
 
 -- flights without a block are few, or have many accesses; eight of these are no writes of DRW
-extra_fit : (size blocks extra writes : ℕ) → 64 ≤ size → 1 ≤ writes → extra ≤ 4 → blocks * ((size - 5) / 4) ≤ writes → blocks * ((size - 5) / 4) + extra * ((size - 3) / 6) ≤ writes + 8 → blocks + extra ≤ 1 + (writes + (size - 5) / 4 - 1) / ((size - 5) / 4)
+extra_fit : (size blocks extra writes : ℕ) → 64 ≤ size → 1 ≤ writes → extra ≤ 4 → blocks * ((size - 5) / 4) ≤ writes →
+    blocks * ((size - 5) / 4) + extra * ((size - 3) / 6) ≤ writes + 8 → blocks + extra ≤ 1 + (writes + (size - 5) / 4 - 1) / ((size - 5) / 4)
 extra_fit size blocks extra writes large any most filled sizes = by_extra extra most sizes
   where
     some : 0 < (size - 5) / 4
     some = omega (arith, large)
 
     by_extra : (n : ℕ) → n ≤ 4 → blocks * ((size - 5) / 4) + n * ((size - 3) / 6) ≤ writes + 8 → blocks + n ≤ 1 + (writes + (size - 5) / 4 - 1) / ((size - 5) / 4)
-    by_extra zero le h = (let f = blocks_fit blocks 0 ((size - 5) / 4) writes some (let d : (blocks + 0) * ((size - 5) / 4) ≡ blocks * ((size - 5) / 4) = omega arith in omega (arith, d, filled, some)) in omega (arith, f))
-    by_extra (suc zero) le h = (let f = blocks_fit blocks 0 ((size - 5) / 4) writes some (let d : (blocks + 0) * ((size - 5) / 4) ≡ blocks * ((size - 5) / 4) = omega arith in omega (arith, d, filled, some)) in omega (arith, f))
-    by_extra (suc (suc zero)) le h = (let f = blocks_fit blocks 1 ((size - 5) / 4) writes some (let d : (blocks + 1) * ((size - 5) / 4) ≡ blocks * ((size - 5) / 4) + (size - 5) / 4 = omega arith in omega (arith, d, h, large)) in omega (arith, f))
-    by_extra (suc (suc (suc zero))) le h = (let f = blocks_fit blocks 2 ((size - 5) / 4) writes some (let d : (blocks + 2) * ((size - 5) / 4) ≡ blocks * ((size - 5) / 4) + 2 * ((size - 5) / 4) = omega arith in omega (arith, d, h, large)) in omega (arith, f))
-    by_extra (suc (suc (suc (suc zero)))) le h = (let f = blocks_fit blocks 3 ((size - 5) / 4) writes some (let d : (blocks + 3) * ((size - 5) / 4) ≡ blocks * ((size - 5) / 4) + 3 * ((size - 5) / 4) = omega arith in omega (arith, d, h, large)) in omega (arith, f))
+    by_extra zero le h = (let f = blocks_fit blocks 0 ((size - 5) / 4) writes some (let d : (blocks + 0) * ((size - 5) / 4) ≡ blocks * ((size - 5) / 4) =
+        omega arith in omega (arith, d, filled, some)) in omega (arith, f))
+    by_extra (suc zero) le h = (let f = blocks_fit blocks 0 ((size - 5) / 4) writes some (let d : (blocks + 0) * ((size - 5) / 4) ≡ blocks * ((size - 5) / 4) =
+        omega arith in omega (arith, d, filled, some)) in omega (arith, f))
+    by_extra (suc (suc zero)) le h = (let f = blocks_fit blocks 1 ((size - 5) / 4) writes some
+        (let d : (blocks + 1) * ((size - 5) / 4) ≡ blocks * ((size - 5) / 4) + (size - 5) / 4 = omega arith in omega (arith, d, h, large)) in omega (arith, f))
+    by_extra (suc (suc (suc zero))) le h = (let f = blocks_fit blocks 2 ((size - 5) / 4) writes some
+        (let d : (blocks + 2) * ((size - 5) / 4) ≡ blocks * ((size - 5) / 4) + 2 * ((size - 5) / 4) = omega arith in omega (arith, d, h, large)) in
+        omega (arith, f))
+    by_extra (suc (suc (suc (suc zero)))) le h = (let f = blocks_fit blocks 3 ((size - 5) / 4) writes some
+        (let d : (blocks + 3) * ((size - 5) / 4) ≡ blocks * ((size - 5) / 4) + 3 * ((size - 5) / 4) = omega arith in omega (arith, d, h, large)) in
+        omega (arith, f))
     by_extra (suc (suc (suc (suc (suc n))))) le h = absurd (omega (arith, le))
 
 -- one flight more than the blocks of the writes
-blocks_few : (full confirmed : ℕ) (limits : Limits) (entries : List Entry) (writes : ℕ) → AreLimits limits → AreBlocks full limits entries confirmed → changes_in entries ≤ 3 → others_in entries ≤ 8 → drw_writes_in entries ≤ writes → 1 ≤ writes → full ≤ 1 + (writes + block_words limits - 1) / block_words limits
+blocks_few : (full confirmed : ℕ) (limits : Limits) (entries : List Entry) (writes : ℕ) → AreLimits limits → AreBlocks full limits entries confirmed →
+    changes_in entries ≤ 3 → others_in entries ≤ 8 → drw_writes_in entries ≤ writes → 1 ≤ writes →
+    full ≤ 1 + (writes + block_words limits - 1) / block_words limits
 blocks_few full confirmed limits entries writes fits h few bare most any =
     let a = h.all in
     let c = h.changing in
@@ -139,13 +153,18 @@ write_at size m address value = unit.Memory size false m address value
 first_reads : (t : TargetState) (size m address value : ℕ) → address < 2 ^ 32 → leading_reads (planned t nothing_kept (write_at size m address value)).steps ≡ 1
 first_reads t size m address value low =
     planned_reads t nothing_kept (write_at size m address value)
-    ∙ ap (λ (b : Bool). cond (b && not (known nothing_kept m).large) (1 + cond (has_bit (gives t (cfg_plan nothing_kept m)) 2) (one_if (needs_csw (learned_cfg nothing_kept m (gives t (cfg_plan nothing_kept m))) (write_at size m address value))) 0) (one_if (needs_csw nothing_kept (write_at size m address value))))
+    ∙ ap (λ (b : Bool). cond (b && not (known nothing_kept m).large)
+    (1 + cond (has_bit (gives t (cfg_plan nothing_kept m)) 2) (one_if
+    (needs_csw (learned_cfg nothing_kept m (gives t (cfg_plan nothing_kept m))) (write_at size m address value))) 0)
+    (one_if (needs_csw nothing_kept (write_at size m address value))))
     (le-ltb 0xFFFF_FFFF address (omega (arith, low)))
     ∙ ap (λ (a : Known). one_if (is_none a.csw)) (known_nothing m)
 
-first_needs : (t : TargetState) (c : Ask) (cs : List Ask) (size m address value : ℕ) → c.call ≡ Access (write_at size m address value) → is_forgiving c ≡ false → address < 2 ^ 32 → first_cost Managed t (c ∷ cs) ≡ 1
+first_needs : (t : TargetState) (c : Ask) (cs : List Ask) (size m address value : ℕ) → c.call ≡ Access (write_at size m address value) →
+    is_forgiving c ≡ false → address < 2 ^ 32 → first_cost Managed t (c ∷ cs) ≡ 1
 first_needs t c cs size m address value call mild low =
-    let same : c ≡ record { call = Access (write_at size m address value); forgive = false; settled = c.settled } = (λ j. record { call = call j; forgive = mild_write c size m address value call mild j; settled = c.settled }) in
+    let same : c ≡ record { call = Access (write_at size m address value); forgive = false; settled = c.settled } =
+    (λ j. record { call = call j; forgive = mild_write c size m address value call mild j; settled = c.settled }) in
     ap (λ (a : Ask). (cost_by Managed t [] a).before) same ∙ first_reads t size m address value low
 
 -- a write that was asked has a size, and an AP
@@ -160,48 +179,61 @@ asked_write c size m address value is sound range =
     by_size (inr (inl e)) = omega (arith, e)
     by_size (inr (inr e)) = omega (arith, e)
 
-spared_blocks : (limits given : Limits) (log : LogState) (paid left : ℕ) (m0 m : BenchState) (n : Option ℕ) (size ap_ address : ℕ) → IsSpared Managed limits given log paid m0 m → min (paid + left) (2 ^ 64 - 1) ≤ log.needs → AreNeeded Managed (target_of m0.probe) (asks_of log) → AreAskable log.calls →
-    0 < length log.calls → AreNextWrites (address / 1024) size ap_ address log.calls → address < 2 ^ 32 → log.needs ≤ 2 → starting_since (began m0 n) m ≤ 6 + (length log.calls + block_words given - 1) / block_words given
+spared_blocks : (limits given : Limits) (log : LogState) (paid left : ℕ) (m0 m : BenchState) (n : Option ℕ) (size ap_ address : ℕ) →
+    IsSpared Managed limits given log paid m0 m → min (paid + left) (2 ^ 64 - 1) ≤ log.needs → AreNeeded Managed (target_of m0.probe) (asks_of log) →
+    AreAskable log.calls →
+    0 < length log.calls → AreNextWrites (address / 1024) size ap_ address log.calls → address < 2 ^ 32 → log.needs ≤ 2 →
+    starting_since (began m0 n) m ≤ 6 + (length log.calls + block_words given - 1) / block_words given
 spared_blocks limits given log paid left m0 m n size ap_ address h covers needed askable some are low two =
     by_calls log.calls refl askable some are
   where
     few : m.starting - m0.starting ≤ 3 + log.needs + h.full
     few = paid_few m0.starting m.starting paid h.full left log.needs h.few h.counts covers
 
-    by_calls : (calls : List Ask) → log.calls ≡ calls → AreAskable calls → 0 < length calls → AreNextWrites (address / 1024) size ap_ address calls → starting_since (began m0 n) m ≤ 6 + (length log.calls + block_words given - 1) / block_words given
+    by_calls : (calls : List Ask) → log.calls ≡ calls → AreAskable calls → 0 < length calls → AreNextWrites (address / 1024) size ap_ address calls →
+        starting_since (began m0 n) m ≤ 6 + (length log.calls + block_words given - 1) / block_words given
     by_calls [] same ok some are = absurd (omega (arith, some))
     by_calls (c ∷ cs) same ok some are =
         let w = are.0 in
         let sized = asked_write c.call size ap_ address w.value w.is ok.0.sound ok.0.range in
         let j = journal_few (target_of m0.probe) size ap_ address (c ∷ cs) sized.0 sized.1 low are in
         let first = first_needs (target_of m0.probe) c cs size ap_ address w.value w.is w.strict low in
-        let marks : marks_in (c ∷ cs) ≤ 1 = (let k = needed.so in let f = ap (first_cost Managed (target_of m0.probe)) same in let g = ap marks_in same in omega (arith, k, f, g, first, two)) in
-        let blocks : AreBlocks h.full limits (issued Managed (target_of m0.probe) (c ∷ cs)) log.confirmed = subst (λ (l : List Ask). AreBlocks h.full limits (issued Managed (target_of m0.probe) l) log.confirmed) same h.blocks in
-        let most = blocks_few h.full log.confirmed limits (issued Managed (target_of m0.probe) (c ∷ cs)) (length (c ∷ cs)) h.fits blocks (let x = j.0 in omega (arith, x, marks)) (let y = j.1 in omega (arith, y, marks)) (writes_are_few Managed (target_of m0.probe) (c ∷ cs)) some in
+        let marks : marks_in (c ∷ cs) ≤ 1 = (let k = needed.so in let f = ap (first_cost Managed (target_of m0.probe)) same in let g = ap marks_in same in
+        omega (arith, k, f, g, first, two)) in
+        let blocks : AreBlocks h.full limits (issued Managed (target_of m0.probe) (c ∷ cs)) log.confirmed =
+        subst (λ (l : List Ask). AreBlocks h.full limits (issued Managed (target_of m0.probe) l) log.confirmed) same h.blocks in
+        let most = blocks_few h.full log.confirmed limits (issued Managed (target_of m0.probe) (c ∷ cs)) (length (c ∷ cs)) h.fits blocks (let x = j.0 in
+        omega (arith, x, marks)) (let y = j.1 in omega (arith, y, marks)) (writes_are_few Managed (target_of m0.probe) (c ∷ cs)) some in
         let all : starting_since (began m0 n) m ≤ 6 + (length (c ∷ cs) + block_words limits - 1) / block_words limits = (let f = few in omega (arith, f, most, two)) in
         subst (λ (l : Limits). starting_since (began m0 n) m ≤ 6 + (length log.calls + block_words l - 1) / block_words l) h.limits_are
         (subst (λ (k : ℕ). starting_since (began m0 n) m ≤ 6 + (k + block_words limits - 1) / block_words limits) (ap length (sym same)) all)
 
 -- ---- the law of the contract
 
-keeps_where : (x : Option BenchState) (limits : Limits) (a : BenchReported) (state : Option BenchState) (log : LogState) (sent got : List ℕ) (kept : Kept) (accesses : List RegAccess) (paid left : ℕ) (m0 : BenchState) (n : Option ℕ) → WhereObservable x (λ m. IsOpenAt Managed log kept accesses m0 m) →
-    WhereObservable x (λ m. IsSpared Managed limits a.limits log paid m0 m) → min (paid + left) (2 ^ 64 - 1) ≤ log.needs → AreNeeded Managed (target_of m0.probe) (asks_of log) →
+keeps_where : (x : Option BenchState) (limits : Limits) (a : BenchReported) (state : Option BenchState) (log : LogState) (sent got : List ℕ) (kept : Kept)
+    (accesses : List RegAccess) (paid left : ℕ) (m0 : BenchState) (n : Option ℕ) → WhereObservable x (λ m. IsOpenAt Managed log kept accesses m0 m) →
+    WhereObservable x (λ m. IsSpared Managed limits a.limits log paid m0 m) → min (paid + left) (2 ^ 64 - 1) ≤ log.needs →
+    AreNeeded Managed (target_of m0.probe) (asks_of log) →
     WhereObservable x (λ m. KeepsBounds (issued Managed (target_of m0.probe) log.calls) (reported_by a state log sent got) (began m0 n) m)
 keeps_where None limits a state log sent got kept accesses paid left m0 n h s covers needed = absurd h
 keeps_where (Some m) limits a state log sent got kept accesses paid left m0 n h s covers needed = record {
   few = spared_few limits a.limits log paid left m0 m n s covers;
-  blocks = λ size ap_ address some are low two. spared_blocks limits a.limits log paid left m0 m n size ap_ address s covers needed h.issuing.sending.askable some are low two;
+  blocks = λ size ap_ address some are low two. spared_blocks limits a.limits log paid left m0 m n size ap_ address s covers needed h.issuing.sending.askable
+      some are low two;
 }
 
-pub spares_packed : (limits : Limits) (bench : BenchReported) (state : Option BenchState) (log : LogState) (sent got : List ℕ) (kept : Kept) (accesses : List RegAccess) (m0 : BenchState) (n : Option ℕ) → HasBegunSparing Managed limits bench state log sent got kept accesses m0 →
+pub spares_packed : (limits : Limits) (bench : BenchReported) (state : Option BenchState) (log : LogState) (sent got : List ℕ) (kept : Kept)
+    (accesses : List RegAccess) (m0 : BenchState) (n : Option ℕ) → HasBegunSparing Managed limits bench state log sent got kept accesses m0 →
     KeepsBoundsIf true (issued Managed (target_of m0.probe) log.calls) (reported_by bench state log sent got) (began m0 n)
 spares_packed limits bench state log sent got kept accesses m0 n h = λ none.
     let p = h.paid none in
     keeps_where state limits bench state log sent got kept accesses p.paid (left_of log) m0 n
-    (subst (λ (e : Option Stop). WhereObservable state (λ m. IsSince Managed e (reported_by bench state log sent got) log kept accesses m0 m)) none h.begun.so) (p.spared.so refl) (p.covers refl) (h.needed none)
+    (subst (λ (e : Option Stop). WhereObservable state (λ m. IsSince Managed e (reported_by bench state log sent got) log kept accesses m0 m)) none h.begun.so)
+    (p.spared.so refl) (p.covers refl) (h.needed none)
 
 -- by either planner
-pub spares_by : (p : Planner) (limits : Limits) (bench : BenchReported) (state : Option BenchState) (log : LogState) (sent got : List ℕ) (kept : Kept) (accesses : List RegAccess) (m0 : BenchState) (n : Option ℕ) → HasBegunSparing p limits bench state log sent got kept accesses m0 →
+pub spares_by : (p : Planner) (limits : Limits) (bench : BenchReported) (state : Option BenchState) (log : LogState) (sent got : List ℕ) (kept : Kept)
+    (accesses : List RegAccess) (m0 : BenchState) (n : Option ℕ) → HasBegunSparing p limits bench state log sent got kept accesses m0 →
     KeepsBoundsIf (keeps_bounds p) (issued p (target_of m0.probe) log.calls) (reported_by bench state log sent got) (began m0 n)
 spares_by Managed limits bench state log sent got kept accesses m0 n h = spares_packed limits bench state log sent got kept accesses m0 n h
 spares_by Plain limits bench state log sent got kept accesses m0 n h = tt

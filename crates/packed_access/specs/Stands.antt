@@ -58,20 +58,26 @@ mild_head c cs h = by_asks h.asks h.are h.at
 pub mild_from : (calls : List Ask) (n : ℕ) → ((i : ℕ) → n ≤ i → i < length calls → IsMildAt calls i) → ForgiveNothing (drop n calls)
 mild_from [] zero h = tt
 mild_from [] (suc n) h = tt
-mild_from (c ∷ cs) zero h = (mild_head c cs (h 0 (omega arith) (omega arith)), mild_from cs 0 (λ i low less. mild_tail c cs i (h (suc i) (omega arith) (omega (arith, less)))))
+mild_from (c ∷ cs) zero h = (
+  mild_head c cs (h 0 (omega arith) (omega arith)),
+  mild_from cs 0 (λ i low less. mild_tail c cs i (h (suc i) (omega arith) (omega (arith, less)))),
+)
 mild_from (c ∷ cs) (suc n) h = mild_from cs n (λ i low less. mild_tail c cs i (h (suc i) (omega (arith, low)) (omega (arith, less))))
 
 -- a list whose first entries are these, and that is so long, begins with them
 pub begins_with : {A : Type 0} → (xs ys made more : List A) → xs ++ ys ≡ made ++ more → length xs ≤ length made → made ≡ xs ++ take (length made - length xs) ys
 begins_with xs ys made more same le =
-    sym (take-append_seam made more) ∙ ap (take (length made)) (sym same) ∙ (let sum : length made ≡ length xs + (length made - length xs) = omega (arith, le) in ap (λ n. take n (xs ++ ys)) sum) ∙ take-append-add xs ys (length made - length xs)
+    sym (take-append_seam made more) ∙ ap (take (length made)) (sym same)
+    ∙ (let sum : length made ≡ length xs + (length made - length xs) = omega (arith, le) in ap (λ n. take n (xs ++ ys)) sum)
+    ∙ take-append-add xs ys (length made - length xs)
 
 -- no accesses are made by no entries
 none_flying : (flying : List Entry) → actions_in flying ≡ [] → flying ≡ []
 none_flying [] h = refl
 none_flying (e ∷ es) h = absurd (cc)
 
-module _ (p : Planner) (bench : BenchReported) (state : Option BenchState) (log : LogState) (sent got : List ℕ) (kept : Kept) (accesses : List RegAccess) (m0 m : BenchState) (h : IsOpenAt p log kept accesses m0 m) where
+module _ (p : Planner) (bench : BenchReported) (state : Option BenchState) (log : LogState) (sent got : List ℕ) (kept : Kept) (accesses : List RegAccess)
+    (m0 m : BenchState) (h : IsOpenAt p log kept accesses m0 m) where
   abbrev t0 : TargetState
   t0 = target_of m0.probe
 
@@ -84,7 +90,9 @@ module _ (p : Planner) (bench : BenchReported) (state : Option BenchState) (log 
   split : log.calls ≡ take log.came log.calls ++ drop log.came log.calls
   split = sym (take-append-drop log.came log.calls)
 
-  joined : issued p t0 log.calls ≡ issued p t0 (take log.came log.calls) ++ issued_from p (0 + length (take log.came log.calls)) (kept_from p nothing_kept t0 (take log.came log.calls)) (target_after t0 (issued p t0 (take log.came log.calls))) (drop log.came log.calls)
+  joined : issued p t0 log.calls ≡ issued p t0 (take log.came log.calls)
+      ++ issued_from p (0 + length (take log.came log.calls)) (kept_from p nothing_kept t0 (take log.came log.calls))
+      (target_after t0 (issued p t0 (take log.came log.calls))) (drop log.came log.calls)
   joined = ap (issued p t0) split ∙ journal_joins p 0 nothing_kept t0 (take log.came log.calls) (drop log.came log.calls)
 
   mild_at : (index : ℕ) → log.came ≤ index → index < length log.calls → IsMildAt log.calls index
@@ -113,7 +121,8 @@ module _ (p : Planner) (bench : BenchReported) (state : Option BenchState) (log 
 
   came_by : (b : Bool) → is_settled log.calls ≡ b → length (issued p (target_of m0.probe) (take log.came log.calls)) ≤ log.confirmed
   came_by true settled = all_confirmed settled
-  came_by false unsettled = (let a = i.came_made in let e = ap (λ (l : List Ask). length (issued p t0 (take log.came l))) (unmarked_same log.calls unsettled) in omega (arith, a, e))
+  came_by false unsettled = (let a = i.came_made in let e = ap (λ (l : List Ask). length (issued p t0 (take log.came l))) (unmarked_same log.calls unsettled) in
+      omega (arith, a, e))
 
   pub came_there : length (issued p (target_of m0.probe) (take log.came log.calls)) ≤ log.confirmed
   came_there = came_by (is_settled log.calls) refl
@@ -132,8 +141,11 @@ module _ (p : Planner) (bench : BenchReported) (state : Option BenchState) (log 
     front = take log.came log.calls;
     back = drop log.came log.calls;
     calls = split;
-    part = take (length i.sending.made - length (issued p t0 (take log.came log.calls))) (issued_from p (0 + length (take log.came log.calls)) (kept_from p nothing_kept t0 (take log.came log.calls)) (target_after t0 (issued p t0 (take log.came log.calls))) (drop log.came log.calls));
-    made_is = begins_with _ _ i.sending.made (i.flying ++ []) (sym joined ∙ i.sending.on.are) (let a = came_there in let b = i.sending.confirmed_is in omega (arith, a, b));
+    part = take (length i.sending.made - length (issued p t0 (take log.came log.calls)))
+        (issued_from p (0 + length (take log.came log.calls)) (kept_from p nothing_kept t0 (take log.came log.calls))
+        (target_after t0 (issued p t0 (take log.came log.calls))) (drop log.came log.calls));
+    made_is = begins_with _ _ i.sending.made (i.flying ++ []) (sym joined ∙ i.sending.on.are) (let a = came_there in let b = i.sending.confirmed_is in
+        omega (arith, a, b));
     came_is = sym (length-take-le log.came log.calls within);
     came_are = i.came_are;
     skipped_is = i.skipped_is;
@@ -143,23 +155,29 @@ module _ (p : Planner) (bench : BenchReported) (state : Option BenchState) (log 
 
 -- ---- the law of the contract
 
-since_begun : (p : Planner) (bench : BenchReported) (state : Option BenchState) (log : LogState) (sent got : List ℕ) (kept : Kept) (accesses : List RegAccess) (e : Option Stop) (m0 m : BenchState) →
-    IsSince p e (reported_by bench state log sent got) log kept accesses m0 m → BegunAt p e (reported_by bench state log sent got) kept accesses (take log.known log.results) m0 m
+since_begun : (p : Planner) (bench : BenchReported) (state : Option BenchState) (log : LogState) (sent got : List ℕ) (kept : Kept) (accesses : List RegAccess)
+    (e : Option Stop) (m0 m : BenchState) →
+    IsSince p e (reported_by bench state log sent got) log kept accesses m0 m →
+    BegunAt p e (reported_by bench state log sent got) kept accesses (take log.known log.results) m0 m
 since_begun p bench state log sent got kept accesses None m0 m h = open_flying p bench state log sent got kept accesses m0 m h
 since_begun p bench state log sent got kept accesses (Some s) m0 m h = h
 
-begun_where : (p : Planner) (x : Option BenchState) (bench : BenchReported) (state : Option BenchState) (log : LogState) (sent got : List ℕ) (kept : Kept) (accesses : List RegAccess) (m0 : BenchState) →
+begun_where : (p : Planner) (x : Option BenchState) (bench : BenchReported) (state : Option BenchState) (log : LogState) (sent got : List ℕ) (kept : Kept)
+    (accesses : List RegAccess) (m0 : BenchState) →
     WhereObservable x (λ m. IsSince p log.end (reported_by bench state log sent got) log kept accesses m0 m) →
     WhereObservable x (λ m. BegunAt p log.end (reported_by bench state log sent got) kept accesses (take log.known log.results) m0 m)
 begun_where p None bench state log sent got kept accesses m0 h = h
 begun_where p (Some m) bench state log sent got kept accesses m0 h = since_begun p bench state log sent got kept accesses log.end m0 m h
 
 -- the same as the laws of calls in flight say it
-pub is_begun : (p : Planner) (bench : BenchReported) (state : Option BenchState) (log : LogState) (sent got : List ℕ) (kept : Kept) (accesses : List RegAccess) (m0 : BenchState) →
+pub is_begun : (p : Planner) (bench : BenchReported) (state : Option BenchState) (log : LogState) (sent got : List ℕ) (kept : Kept) (accesses : List RegAccess)
+    (m0 : BenchState) →
     HasBegun p bench state log sent got kept accesses m0 → IsBegun p (reported_by bench state log sent got) kept accesses (take log.known log.results) m0
 is_begun p bench state log sent got kept accesses m0 h = record { so = begun_where p state bench state log sent got kept accesses m0 h.so }
 
-pub stands_packed : (p : Planner) (bench : BenchReported) (state : Option BenchState) (log : LogState) (sent got : List ℕ) (kept : Kept) (accesses : List RegAccess) (m0 : BenchState) (n : Option ℕ) →
-    HasBegun p bench state log sent got kept accesses m0 → IsLeft (reported_by bench state log sent got) n → Stands (issued p) (reported_by bench state log sent got) (began m0 n)
+pub stands_packed : (p : Planner) (bench : BenchReported) (state : Option BenchState) (log : LogState) (sent got : List ℕ) (kept : Kept)
+    (accesses : List RegAccess) (m0 : BenchState) (n : Option ℕ) →
+    HasBegun p bench state log sent got kept accesses m0 → IsLeft (reported_by bench state log sent got) n →
+    Stands (issued p) (reported_by bench state log sent got) (began m0 n)
 stands_packed p bench state log sent got kept accesses m0 n h left =
     begun_stands p (reported_by bench state log sent got) kept accesses (take log.known log.results) m0 n (is_begun p bench state log sent got kept accesses m0 h) left
