@@ -1,17 +1,19 @@
 -- What an end is, for the exits of the code that closes a run.
-use Rattle.std.proofs.Common.{◌≡◌, ℕ, Some, Option, ap}
+use Rattle.std.proofs.Common.{◌≡◌, ℕ, List, Some, Option, ap, subst}
 use Rattle.access_calls.proofs.KeepLemmas.{goes_same, goes_trans}
 use Rattle.access_calls.specs.Left.{answered_at, answered_by}
 use Rattle.access_calls.specs.Reported.{AccessView}
 use Rattle.access_calls.specs.declared.stop.Stop.{Stop}
 use Rattle.access_calls.specs.declared.stop.Stop.TheVariants.{Cut, BenchFault, ReplyBad, OutOfMemory}
-use Rattle.control_flow.specs.Answers.{EndBy, HasSinkCause}
+use Rattle.control_flow.specs.Answers.{EndBy, HasLines, HasSinkCause}
 use Rattle.access_calls.specs.Endings.{ending_of}
 use Rattle.control_flow.specs.Closing.{ComesToEnd, NoWriteFault}
 use Rattle.access_calls.specs.declared.ended.Ending.{Ending}
 use Rattle.access_calls.specs.declared.ended.Ending.TheVariants as e
 use Rattle.function_calls.proofs.Leaves.{left_on, stopped_end, stopped_ended}
 use Rattle.function_calls.specs.Ends.{EndsBy}
+use Rattle.function_calls.specs.Lines.{AppendsLines}
+use Rattle.function_calls.proofs.WholeLines.{lines_none}
 
 end_of : (st : Stop) (end : Option Stop) → EndsBy st end → EndBy (ending_of st) end
 end_of (Cut r) end h = h
@@ -40,6 +42,16 @@ no_fault_of OutOfMemory = tt
 pub no_fault_stop : (st : Stop) (is : Ending) → is ≡ ending_of st → NoWriteFault is
 no_fault_stop st is same = rw same (no_fault_of st)
 
+-- a run that stopped is neither done nor halted
+short_of : (st : Stop) → ComesToEnd (ending_of st) → ⊥
+short_of (Cut r) comes = comes
+short_of (BenchFault issued confirmed) comes = comes
+short_of ReplyBad comes = comes
+short_of OutOfMemory comes = comes
+
+pub stopped_short : (st : Stop) (is : Ending) → is ≡ ending_of st → ComesToEnd is → ⊥
+stopped_short st is same comes = short_of st (subst ComesToEnd same comes)
+
 pub no_fault_end : (is : Ending) → ComesToEnd is → NoWriteFault is
 no_fault_end e.Done h = tt
 no_fault_end (e.Halted cause) h = tt
@@ -58,4 +70,18 @@ quiet_ending e.ReplyBad before now same h = same
 quiet_ending e.WriteFault before now same h = absurd h
 quiet_ending e.OutOfMemory before now same h = same
 
-pub ruleset ending = (goes_trans, goes_same, left_on, stopped_ended, stop_end, no_fault_stop, no_fault_end, quiet_ending)
+-- whole lines were written, by how the run ended
+pub lines_ending : (is : Ending) (old new : Option (List ℕ)) → AppendsLines old new → HasLines is old new
+lines_ending e.Done old new h = h
+lines_ending (e.Halted cause) old new h = h
+lines_ending (e.Cut report) old new h = h
+lines_ending (e.BenchFault issued confirmed) old new h = h
+lines_ending e.ReplyBad old new h = h
+lines_ending e.WriteFault old new h = tt
+lines_ending e.OutOfMemory old new h = h
+
+-- nothing was written
+pub no_lines : (is : Ending) (a : Option (List ℕ)) → HasLines is a a
+no_lines is a = lines_ending is a a (lines_none a)
+
+pub ruleset ending = (goes_trans, goes_same, left_on, stopped_ended, stop_end, no_fault_stop, no_fault_end, quiet_ending, no_lines)

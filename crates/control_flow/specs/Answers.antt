@@ -15,6 +15,7 @@ use Rattle.sequence_rules.specs.Runs as runs
 use Rattle.sequence_rules.specs.Runs.{Outcome, units_of, variables_of}
 use Rattle.sequence_rules.specs.declared.bindings.Binding.{Binding}
 use Rattle.sequels.specs.Limits.{GoesOnFrom}
+use Rattle.function_calls.specs.Lines.{AppendsLines}
 use Rattle.access_calls.specs.declared.ended.Ended.{Ended}
 use Rattle.access_calls.specs.declared.ended.Ending.{Ending}
 use Rattle.access_calls.specs.declared.ended.Ending.TheVariants as e
@@ -120,3 +121,13 @@ HasSinkCause (e.BenchFault issued confirmed) before now = now ≡ before
 HasSinkCause e.ReplyBad before now = now ≡ before
 HasSinkCause e.WriteFault before now = Rose before now
 HasSinkCause e.OutOfMemory before now = now ≡ before
+
+-- Whole lines were written; only where the sink failed a part of a line may be.
+abbrev pub HasLines : Ending → Option (List ℕ) → Option (List ℕ) → Type 0
+HasLines e.Done old new = AppendsLines old new
+HasLines (e.Halted cause) old new = AppendsLines old new
+HasLines (e.Cut r) old new = AppendsLines old new
+HasLines (e.BenchFault issued confirmed) old new = AppendsLines old new
+HasLines e.ReplyBad old new = AppendsLines old new
+HasLines e.WriteFault old new = Unit {0}
+HasLines e.OutOfMemory old new = AppendsLines old new

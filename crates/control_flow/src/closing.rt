@@ -1,7 +1,8 @@
 //! How a run is closed.
-ghost use Rattle.std.specs.Prelude.{◌≡◌, [], ℕ, List, Option, None, OnOk, IfOk, IfErr};
+ghost use Rattle.std.specs.Prelude.{◌≡◌, [], ℕ, List, Option, None, length, OnOk, IfOk, IfErr};
 ghost use Rattle.probe_core.specs.Bench.{BenchState};
 ghost use Rattle.target_calls.specs.Values.{IsAsked, number_of};
+ghost use Rattle.target_calls.specs.World.{stop};
 ghost use Rattle.access_calls.specs.Answers.{StopsCalls};
 ghost use Rattle.access_calls.specs.Left.{IsLeft, answered_by};
 ghost use Rattle.access_calls.specs.Reported.{world_from};
@@ -107,10 +108,14 @@ pub(crate) fn ended_whole<A: Access>(
 ) -> Ended
     requires open { (A.reported access.old).end ≡ None }
     requires whole { ComesToEnd ending }
+    requires counted { held.now.units ≡ length (A.reported access.old).asks.calls }
     ensures answer { (m : BenchState) (written : Option (List ℕ)) (out : Out Value Late (Unit {0})) (q : Out ℕ Now (Unit {0})) → A.begun access.old m
         → OutIs ending (state_of held.now (A.reported access.old).asks written) out → Pair (world_from m (answered_by (A.reported access.new))) out q
         → EndsAs result.ending (A.reported access.new).lines (outcome_of q) (ran result (A.reported access.new).asks written) × HasNeeds result.ending
         (A.reported access.new).asks out }
+    ensures goes { (m : BenchState) (answered : Option ℕ) → A.begun access.old m → IsLeft (A.reported access.new) answered → ComesToEnd result.ending
+        → stop (world_from m answered) (A.reported access.new).asks.calls ≡ None }
+    ensures counted { ComesToEnd result.ending → result.units ≡ length (A.reported access.new).asks.calls }
     ensures end { EndBy result.ending (A.reported access.new).end }
     ensures cause { NoWriteFault result.ending }
     ensures skipped { result.skipped ≡ (A.reported access.new).skipped }

@@ -1,15 +1,17 @@
 //! Runs over an access.
-ghost use Rattle.std.specs.Prelude.{◌≡◌, ◌<◌, Bool, None, map};
+ghost use Rattle.std.specs.Prelude.{◌≡◌, ◌<◌, ℕ, Bool, Option, None, length, map};
 ghost use Rattle.function_table.specs.Variables.{predefined};
 ghost use Rattle.probe_core.specs.Bench.{BenchState};
 ghost use Rattle.target_calls.specs.NeedPoints.{nothing_asked};
-ghost use Rattle.access_calls.specs.Left.{answered_by};
+ghost use Rattle.target_calls.specs.World.{stop};
+ghost use Rattle.access_calls.specs.Left.{IsLeft, answered_by};
 ghost use Rattle.access_calls.specs.Reported.{world_from};
+ghost use Rattle.access_calls.specs.declared.ended.Ending.TheVariants as ends;
 ghost use Rattle.seq_check.specs.Answers.{checked_trees};
 ghost use Rattle.sequence_rules.specs.Runs.{late_meaning, meaning, outcome_of, program_of};
 ghost use Rattle.sequence_rules.specs.Known.{Knows, known_part};
 ghost use Rattle.function_calls.specs.Frame.{Keeps};
-ghost use Rattle.control_flow.specs.Answers.{EndBy, EndsAs, HasNeeds, HasSinkCause, ran};
+ghost use Rattle.control_flow.specs.Answers.{EndBy, EndsAs, HasLines, HasNeeds, HasSinkCause, ran};
 
 use crate::closing::{ended_early, ended_whole};
 use crate::runner::Runner;
@@ -26,7 +28,8 @@ use target_machine::Settings;
 ///
 /// A value that may not have come is looked up only where it is used: by an operator, as an argument, or in a condition, and never
 /// by an assignment, a branch of `?:` or parentheses. A line is written only after all earlier units were confirmed. Before the run
-/// is `Done` or `Halted` all units are settled and confirmed, so that a fault of an earlier unit comes first.
+/// is `Done` or `Halted` all units are settled and confirmed, so that a fault of an earlier unit comes first. Each line is written
+/// whole; only where the sink failed a part of one may be written.
 ///
 /// `Cut`, `BenchFault` and `ReplyBad` are the end of the access. `WriteFault` comes only where the sink failed, and `OutOfMemory`
 /// where memory is refused; after both nothing more was sent, and the access has no end.
@@ -54,8 +57,14 @@ pub fn run<A: Access, K: Sink>(
         → HasNeeds result.ending (A.reported access.new).asks
         (late_meaning A.cost (world_from m (answered_by (A.reported access.new))) (program_of (checked_trees checked.now) start.now settings.now)
         (known_part known (K.written sink.old))) }
+    // Where it is done, no call stops, in each world that is left.
+    ensures whole { (m : BenchState) (answered : Option ℕ) → A.begun access.old m → IsLeft (A.reported access.new) answered
+        → result.ending ≡ ends.Done → stop (world_from m answered) (A.reported access.new).asks.calls ≡ None }
+    // And one call was asked for each of its units.
+    ensures counted { result.ending ≡ ends.Done → result.units ≡ length (A.reported access.new).asks.calls }
     ensures end { EndBy result.ending (A.reported access.new).end }
     ensures skipped { result.skipped ≡ (A.reported access.new).skipped }
+    ensures lines { HasLines result.ending (K.written sink.old) (K.written sink.new) }
     ensures cause { HasSinkCause result.ending (K.faults sink.old) (K.faults sink.new) }
     ensures keeps { Keeps A.begun A.reported A.identity access.old access.new }
 {

@@ -31,11 +31,12 @@ ends_after written faults x result first last a b r s t one two = record {
   end = two.end;
   counted = two.counted;
   knows = λ known k. two.knows known (one.knows known k);
+  lines = λ before h. two.lines before (one.lines before h);
   cause = subst (λ n. HasSinkCause result n (faults t)) one.cause two.cause;
 }
 
 -- another answer ends the same
 pub ends_same : {T U K : Type 0} (written : K → Option (List ℕ)) (faults : K → ℕ) (x : T) (y : U) (units : ℕ) (a : AccessView) (old new : K) → EndsWriting written faults (Ok x) units a old new → EndsWriting written faults (Ok y) units a old new
-ends_same written faults x y units a old new ends = record { end = ends.end; counted = ends.counted; knows = ends.knows; cause = ends.cause }
+ends_same written faults x y units a old new ends = record { end = ends.end; counted = ends.counted; knows = ends.knows; lines = ends.lines; cause = ends.cause }
 
 pub ruleset frames = (keeps_same, keeps_on)

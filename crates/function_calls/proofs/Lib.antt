@@ -1,3 +1,4 @@
+pub mod WholeLines
 pub mod FrameLemmas
 pub mod Leaves
 pub mod LineLemmas

@@ -6,6 +6,7 @@ use Rattle.access_calls.specs.Reported.{AccessView}
 use Rattle.sequence_rules.specs.Known.{Knows}
 use Rattle.function_calls.specs.declared.end.End.{End}
 use Rattle.function_calls.specs.Ends.{Counted, EndIs, HasSinkCause, NoWriteFault}
+use Rattle.function_calls.specs.Lines.{AppendsLines, WritesLines}
 
 -- What each call keeps of its access, and so each row of calls: where it began, which loan its bench is, and what each call of an
 -- access keeps, the number of calls that may still be answered among it.
@@ -34,9 +35,11 @@ pub record EndsCall {T : Type 0} (result : Result T End) (units : ℕ) (a : Acce
   pub cause : NoWriteFault result
 
 -- How a call ends that may write lines: the access and the count of units are as at a call without a sink; what the sink holds
--- stays known; and its count of faults rose where the answer says that it failed, and else it is the same.
+-- stays known; whole lines are written after whole lines, except perhaps where the sink failed; and its count of faults rose where
+-- the answer says that it failed, and else it is the same.
 pub record EndsWriting {T K : Type 0} (written : K → Option (List ℕ)) (faults : K → ℕ) (result : Result T End) (units : ℕ) (a : AccessView) (old new : K) : Type 0 where
   pub end : EndIs result a.end
   pub counted : Counted result units a.asks.calls
   pub knows : (known : Bool) → Knows known (written old) → Knows known (written new)
+  pub lines : (before : Option (List ℕ)) → AppendsLines before (written old) → WritesLines result before (written new)
   pub cause : HasSinkCause result (faults old) (faults new)

@@ -11,6 +11,7 @@ ghost use Rattle.function_calls.specs.Frame.{EndsWriting, IsReady, Keeps};
 ghost use Rattle.sequence_rules.specs.Known.{Knows};
 ghost use Rattle.function_calls.specs.Held.{seen};
 ghost use Rattle.function_calls.specs.Kinds.{line_done};
+ghost use Rattle.function_calls.specs.Lines.{AreLines};
 ghost use Rattle.function_calls.specs.Means.{MeansWriting};
 
 use crate::end::End;
@@ -26,8 +27,8 @@ use target_calls::Value;
 use target_machine::HaltCause;
 use text_lines::Line;
 
-// Makes all that was asked, writes a line, and then this is the value, unless it would be line 100,001.
-#[tactic(auto, unfolding(sequence_rules::specs::Calls::line_result), using(crate::proofs::LineLemmas::lines))]
+// Makes all that was asked, writes a whole line, and then this is the value, unless it would be line 100,001.
+#[tactic(auto, unfolding(sequence_rules::specs::Calls::line_result), using(crate::proofs::LineLemmas::lines, crate::proofs::WholeLines::kept_whole))]
 fn write_line<A: Access, K: Sink>(
     line: Result<Line, OutOfMemory>,
     value: u64,
@@ -36,6 +37,7 @@ fn write_line<A: Access, K: Sink>(
     sink: &mut K,
 ) -> Result<Value, End>
     requires ready { IsReady held.old.units (A.reported access.old) }
+    requires whole { IfOk line AreLines }
     ensures gives { (m : BenchState) (answered : Option ℕ) (known : Bool) (text : List ℕ) → IfOk line (λ l. l ≡ text) → A.begun access.old m
         → IsLeft (A.reported access.new) answered → Knows known (K.written sink.old)
         → MeansLate (world_from m answered) (A.reported access.new).lines result (seen known held.new (A.reported access.new).asks (K.written sink.new))

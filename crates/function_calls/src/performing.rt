@@ -66,7 +66,7 @@ fn command_probe<A: Access>(
 }
 
 // A call of a function of this kind.
-#[tactic(auto, using(crate::proofs::Leaves::quiet_cause))]
+#[tactic(auto, using(crate::proofs::Leaves::quiet_cause, crate::proofs::WholeLines::kept_whole))]
 fn make_call_of<A: Access, K: Sink>(
     kind: Kind,
     text: &str,

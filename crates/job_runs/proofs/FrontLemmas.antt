@@ -1,9 +1,10 @@
 -- The journal of the calls that were asked, and that of the outcome's calls: they have a front in common, in which all lies that a
 -- stop speaks of.
-use Rattle.std.proofs.Common.{◌≡◌, ◌∙◌, ◌⊎◌, inl, inr, ℕ, zero, suc, ◌+◌, ◌-◌, ◌<◌, ◌≤◌, Bool, true, false, cond, List, [], ◌∷◌, ◌++◌, append-nil, append_assoc, length, take, drop, nat_le, Option, None, Some, refl, sym, ap, subst, arith}
+use Rattle.std.proofs.Common.{◌≡◌, ◌∙◌, ◌⊎◌, inl, inr, ℕ, zero, suc, ◌+◌, ◌-◌, ◌<◌, ◌≤◌, Bool, true, false, cond, List, [], ◌∷◌, ◌++◌, append-nil, append_assoc, length, take, Option, None, Some, refl, sym, ap, subst, arith}
 use Rattle.std.specs.List.{AllByRecursion}
 use Rattle.std.specs.Prelude.{option_map, slice_get}
-use Rattle.std.proofs.lemmas.List.{length-append, take-append-drop, take-append-le}
+use Rattle.std.proofs.lemmas.Bool.{cases_lt}
+use Rattle.std.proofs.lemmas.List.{length-append, take-append-le}
 use Rattle.std.proofs.lemmas.Option.{same_Some, slice_get_within}
 use Rattle.target_machine.specs.Plain.{acted}
 use Rattle.target_machine.specs.State.{Agree, TargetState}
@@ -12,8 +13,8 @@ use Rattle.probe_core.specs.Bench.{BenchState}
 use Rattle.probe_core.specs.Probe.{target_of}
 use Rattle.target_calls.specs.Asks.{is_settled, settled_last}
 use Rattle.target_calls.specs.Journal.{Entry, attempted_in, first_fault, is_unforgiven, lines_before, skipped_in, target_after}
-use Rattle.target_calls.specs.Weights.{performed, weight, weight_in}
-use Rattle.target_calls.proofs.EntryLemmas.{weight_append}
+use Rattle.target_calls.specs.Weights.{weight_in}
+use Rattle.target_calls.proofs.EntryLemmas.{performed_fits, performed_most}
 use Rattle.target_calls.specs.World.{later_by}
 use Rattle.target_calls.specs.declared.calls.Ask.{Ask}
 use Rattle.target_calls.proofs.MarkLemmas.{length_marked, marked_same}
@@ -232,18 +233,6 @@ in_front calls (suc i) [] (x ∷ rest) e is later less = (let none = in_front ca
 in_front calls zero (x ∷ front) rest e is later less = omega arith
 in_front calls (suc i) (x ∷ front) rest e is later less = (let there = in_front calls i front rest e is later less in omega (arith, there))
 
--- where no more entries were performed than come first, as many of those alone were
-performed_of_front : (t : TargetState) (xs ys : List Entry) (work : ℕ) → performed t (xs ++ ys) work ≤ length xs → performed t (xs ++ ys) work ≡ performed t xs work
-performed_of_front t [] ys work le = omega (arith, le)
-performed_of_front t (x ∷ xs) ys work le =
-    let u : TargetState = (acted t x.action).next in
-    let left : ℕ = work - weight t x.action in
-    one (nat_le (weight t x.action) work) (performed u (xs ++ ys) left) (performed u xs left) (performed_of_front u xs ys left) le
-  where
-    one : (b : Bool) (m n : ℕ) → (m ≤ length xs → m ≡ n) → cond b (suc m) 0 ≤ suc (length xs) → cond b (suc m) 0 ≡ cond b (suc n) 0
-    one true m n h le = ap suc (h (omega (arith, le)))
-    one false m n h le = refl
-
 -- the number of a first fault is none of nothing
 fault_some : (t : TargetState) (es : List Entry) → first_fault t es ≡ Some 0 → ⊥
 fault_some t [] is = cc
@@ -267,10 +256,6 @@ fault_of_front t (x ∷ xs) ys zs f is le =
     one false (Some k) n h e =
         let number : 1 + k ≡ f = same_Some (1 + k) f e in
         ap (later_by 1) (h k refl (omega (arith, number, le))) ∙ ap Some number
-
--- the first entries weigh no more than all
-first_weigh : (t : TargetState) (k : ℕ) (es : List Entry) → weight_in t (take k es) ≤ weight_in t es
-first_weigh t k es = (let w = weight_append t (take k es) (drop k es) in let a = ap (weight_in t) (take-append-drop k es) in omega (arith, w, a))
 
 -- ---- a stop
 
@@ -322,28 +307,35 @@ module _ (r : Report) (ours theirs : List Entry) (h : Meeting r ours theirs) (on
     what = what;
   }
 
+  -- up to the named one too
+  same_named : take (r.confirmed + 1) ours ≡ take (r.confirmed + 1) theirs
+  same_named =
+      let within : r.confirmed + 1 ≤ length h.front = (let n = h.next in omega (arith, n)) in
+      ap (take (r.confirmed + 1)) h.ours_are ∙ take-append-le (r.confirmed + 1) h.front h.our_rest within
+      ∙ sym (take-append-le (r.confirmed + 1) h.front h.their_rest within) ∙ sym (ap (take (r.confirmed + 1)) h.theirs_are)
+
+  named_within : r.confirmed < length ours
+  named_within = (let long : length ours ≡ length h.front + length h.our_rest = ap length h.ours_are ∙ length-append h.front h.our_rest in let n = h.next in omega (arith, long, n))
+
   -- and the same entries were performed
-  pub same_made : (b : Beginning) (m : BenchState) → HasPerformed ours r.accesses b m → grown_since b m ≤ weight_in (start_of b) (take (r.confirmed + 1) ours) → HasMade r.unit theirs r.accesses b m
+  pub same_made : (b : Beginning) (m : BenchState) → HasPerformed ours r.accesses b m → grown_since b m ≤ weight_in (start_of b) (take (r.confirmed + 1) ours) → HasMade theirs r b m
   same_made b m p up_to = record {
-    front = h.front;
-    goes_on = record { rest = h.their_rest; joined = h.theirs_are; later = h.later };
-    performed = record {
-      count_is =
-          let all : r.accesses ≡ performed (start_of b) (h.front ++ h.our_rest) (grown_since b m) = p.count_is ∙ ap (λ (l : List Entry). performed (start_of b) l (grown_since b m)) h.ours_are in
-          let few = within_front in
-          all ∙ performed_of_front (start_of b) h.front h.our_rest (grown_since b m) (omega (arith, all, few));
-      no_more =
-          let first : take (r.confirmed + 1) ours ≡ take (r.confirmed + 1) h.front =
-          ap (take (r.confirmed + 1)) h.ours_are ∙ take-append-le (r.confirmed + 1) h.front h.our_rest (let n = h.next in omega (arith, n)) in
-          let same = ap (weight_in (start_of b)) first in
-          let most = first_weigh (start_of b) (r.confirmed + 1) h.front in
-          omega (arith, up_to, same, most);
-      within = within_front;
-      target = subst (λ (l : List Entry). Agree (target_of m.probe) (target_after (start_of b) l))
-          (ap (take r.accesses) h.ours_are ∙ take-append-le r.accesses h.front h.our_rest within_front) p.target;
-    };
+    low = subst (λ (l : List Entry). weight_in (start_of b) l ≤ grown_since b m) same_first
+        (subst (λ (n : ℕ). weight_in (start_of b) (take n ours) ≤ grown_since b m) (sym p.count_is) (performed_fits (start_of b) ours (grown_since b m)));
+    high = subst (λ (l : List Entry). grown_since b m ≤ weight_in (start_of b) l) same_named up_to;
+    part = λ same. subst (λ (l : List Entry). grown_since b m < weight_in (start_of b) l) same_named (less same (cases_lt (grown_since b m) (weight_in (start_of b) (take (r.confirmed + 1) ours))));
     target = subst (λ (l : List Entry). Agree (target_of m.probe) (target_after (start_of b) l)) same_first p.target;
   }
+    where
+      -- else the named one were performed
+      less : r.accesses ≡ r.confirmed → (grown_since b m < weight_in (start_of b) (take (r.confirmed + 1) ours)) ⊎ (weight_in (start_of b) (take (r.confirmed + 1) ours) ≤ grown_since b m)
+          → grown_since b m < weight_in (start_of b) (take (r.confirmed + 1) ours)
+      less same (inl few) = few
+      less same (inr fits) =
+          let within = named_within in
+          let more = performed_most (start_of b) ours (grown_since b m) (r.confirmed + 1) (omega (arith, within)) fits in
+          let count = p.count_is in
+          absurd (omega (arith, more, count, same))
 
   pub same_fault : (t : TargetState) → first_fault t ours ≡ Some r.accesses → first_fault t theirs ≡ Some r.accesses
   same_fault t is =

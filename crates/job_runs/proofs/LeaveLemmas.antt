@@ -21,6 +21,7 @@ use Rattle.target_calls.proofs.MarkLemmas.{after_marked, marked_settled}
 use Rattle.access_calls.specs.Bounds.{AreNextWrites, KeepsBounds, KeepsBoundsIf, block_words, capacity, starting_since}
 use Rattle.access_calls.specs.Left.{answered_at, answered_by, answered_cut}
 use Rattle.access_calls.specs.Growing.{IsWithin, JournalGrows, JournalSettles}
+use Rattle.access_calls.specs.Made.{HasMemory, units_made}
 use Rattle.access_calls.specs.Numbers.{HasNumbers, StopNumbers, lines_at, unit_at}
 use Rattle.access_calls.specs.Reported.{AccessView, began, world_from}
 use Rattle.access_calls.specs.Standing as s
@@ -50,6 +51,7 @@ use Rattle.followed_runs.proofs.FollowLemmas.{limits_followed}
 use Rattle.followed_runs.proofs.MadeLemmas.{followed_made}
 use Rattle.job_runs.proofs.BegunLemmas.{Share, asked_stop, begun_share, ends_how, part_shared}
 use Rattle.job_runs.proofs.FrontLemmas.{Covers, Meeting, call_within, covered, covers, few_asked, get_some, goes_beyond, meeting, meets, own_call, same_fault, same_first, same_made, same_numbers}
+use Rattle.job_runs.proofs.WordsLemmas.{after_from, after_meets, same_made_units, short_target}
 use Rattle.job_runs.specs.Runs.{AccessKind, ComesTo, HasStopped, IsBroken, IsFaultStop, IsFew, IsFewIf, IsFront, IsLeftOff, IsNotOpened, IsRetryStop, IsStop, IsUnopened, IsWhole, Left, LeavesAs, Run, calls_in, entries_in, is_bounded, known_after, needs_in, not_opened, opened, outcome_with}
 use Rattle.access_calls.specs.Endings.{ending_of}
 use Rattle.access_calls.specs.Opening.{HasTried, IsNotBegun, MayBegin, RefusedBy, opened_bench}
@@ -223,22 +225,31 @@ module _ (access : AccessKind) (grows : JournalGrows access.journal) (settles : 
         unit = (let high = unit_by_lines e.0 in omega (arith, lines, unit, high));
       }
 
+  -- the first calls that were asked leave what the first calls of the whole outcome leave
+  abbrev Reaches : AccessView → Type 0
+  Reaches a = (n : ℕ) → n ≤ length a.asks.calls → n ≤ a.lines + 1 → (world_after (start_world (target_of first.probe) (Some n)) a.asks.calls).target ≡ (world_after (start_world (target_of first.probe) (Some n)) whole.calls).target
+
   has_stopped : (answered : Option ℕ) (o : Outcome) (a : AccessView) (r : Report) (l : Left) (calls : List Ask) → EndsAtCut r.cause a.lines o (ran l.ended a.asks l.written) → l.ended.skipped ≡ a.skipped
-      → HasNumbers (entries a) a.asks.calls a.skipped a.lines r → HasPerformed (entries a) r.accesses (began first answered) l.bench
+      → HasNumbers (entries a) a.asks.calls a.skipped a.lines r → HasMemory (target_of first.probe) a.asks.calls (units_made r.cause (entries a) r a.lines) a.lines l.bench → Reaches a
+      → HasPerformed (entries a) r.accesses (began first answered) l.bench
       → grown_since (began first answered) l.bench ≤ weight_in (target_of first.probe) (take (r.confirmed + 1) (entries a)) → r.accesses ≤ r.confirmed + 1
       → Meeting r (entries a) (entries_in run calls) → option_map (λ (x : Ask). x.call) (slice_get calls (r.unit - 1)) ≡ Some r.what
       → HasStopped run answered o calls a.lines r l
-  has_stopped answered o a r l calls cut skipped numbers performed up_to one meet what = record {
+  has_stopped answered o a r l calls cut skipped numbers memory reaches performed up_to one meet what = record {
     stops = cut.stops;
     written = cut.written;
     numbers = subst (λ (n : ℕ). HasNumbers (entries_in run calls) calls n a.lines r) (sym skipped)
         (same_numbers r (entries a) (entries_in run calls) meet one a.asks.calls calls a.skipped a.lines numbers what);
     performed = same_made r (entries a) (entries_in run calls) meet one (began first answered) l.bench performed up_to;
+    words =
+        let n = units_made r.cause (entries a) r a.lines in
+        memory.words ∙ ap (λ (t : TargetState). t.words) (reaches n memory.asked memory.few ∙ sym (short_target k (target_of first.probe) before n))
+        ∙ ap (λ (m : ℕ). (outcome_with run m).target.words) (same_made_units r.cause r a.lines (entries a) (entries_in run calls) (same_first r (entries a) (entries_in run calls) meet one));
   }
 
   is_fault_stop : (a : AccessView) (r : Report) (l : Left) → r.cause ≡ Faulted → EndsAtCut r.cause a.lines whole (ran l.ended a.asks l.written) → l.ended.skipped ≡ a.skipped
-      → s.IsFaulted (entries a) r a (began first None) l.bench → IsFaultStop run r l
-  is_fault_stop a r l cause cut skipped at =
+      → s.IsFaulted (entries a) r a (began first None) l.bench → r.unit ≡ a.lines + 1 → HasMemory (target_of first.probe) a.asks.calls (units_made r.cause (entries a) r a.lines) a.lines l.bench → IsFaultStop run r l
+  is_fault_stop a r l cause cut skipped at own memory =
       let n = names a r at.numbers in
       let units : length whole.calls ≡ a.lines + 1 = (subst (λ (c : StopCause). StopsAfter c a.lines whole) cause cut.stops).1 in
       let one : r.accesses ≤ r.confirmed + 1 = (let c = at.confirmed in omega (arith, c)) in
@@ -249,7 +260,8 @@ module _ (access : AccessKind) (grows : JournalGrows access.journal) (settles : 
       let what = own_call a.asks.calls whole.calls whole.calls (r.unit - 1) r.what m (from_same whole.calls) (let high = n.unit in omega (arith, units, high)) at.numbers.what in
       record {
         lines = a.lines;
-        stopped = has_stopped None whole a r l (calls_in run) cut skipped at.numbers at.performed at.up_to one meet what;
+        stopped = has_stopped None whole a r l (calls_in run) cut skipped at.numbers memory (λ n few next. after_meets (target_of first.probe) n a.asks.calls whole.calls m few (omega (arith, next, units))) at.performed at.up_to one meet what;
+        unit = own ∙ sym units;
         fault = same_fault r (entries a) (entries_in run (calls_in run)) meet one (target_of first.probe) at.first;
         confirmed = at.confirmed;
         retries = at.retries;
@@ -265,12 +277,12 @@ module _ (access : AccessKind) (grows : JournalGrows access.journal) (settles : 
   -- a retry that ended, in the journal of the whole outcome's calls
   retry_in : (a : AccessView) (r : Report) (l : Left) → EndsAtCut r.cause a.lines (short a.lines) (ran l.ended a.asks l.written) → l.ended.skipped ≡ a.skipped
       → s.IsUnanswered (entries a) r a (began first (Some a.lines)) l.bench → Meeting r (entries a) (entries_in run (calls_in run))
-      → option_map (λ (x : Ask). x.call) (slice_get (calls_in run) (r.unit - 1)) ≡ Some r.what → IsRetryStop run r l
-  retry_in a r l cut skipped at meet what =
+      → option_map (λ (x : Ask). x.call) (slice_get (calls_in run) (r.unit - 1)) ≡ Some r.what → HasMemory (target_of first.probe) a.asks.calls (units_made r.cause (entries a) r a.lines) a.lines l.bench → Reaches a → IsRetryStop run r l
+  retry_in a r l cut skipped at meet what memory reaches =
       let one = retry_one r l.bench at.confirmed in
       record {
         lines = a.lines;
-        stopped = has_stopped (Some a.lines) (short a.lines) a r l (calls_in run) cut skipped at.numbers at.performed at.up_to one meet what;
+        stopped = has_stopped (Some a.lines) (short a.lines) a r l (calls_in run) cut skipped at.numbers memory reaches at.performed at.up_to one meet what;
         confirmed = at.confirmed;
         retries = at.retries;
         over = at.over;
@@ -280,43 +292,51 @@ module _ (access : AccessKind) (grows : JournalGrows access.journal) (settles : 
 
   -- where the next unit is not answered
   retry_short : (a : AccessView) (r : Report) (l : Left) → EndsAtCut r.cause a.lines (short a.lines) (ran l.ended a.asks l.written) → l.ended.skipped ≡ a.skipped
-      → s.IsUnanswered (entries a) r a (began first (Some a.lines)) l.bench → units_of (short a.lines) ≡ a.lines + 1 → GoesOnFrom (short a.lines).calls whole.calls → IsRetryStop run r l
-  retry_short a r l cut skipped at units on =
+      → s.IsUnanswered (entries a) r a (began first (Some a.lines)) l.bench → HasMemory (target_of first.probe) a.asks.calls (units_made r.cause (entries a) r a.lines) a.lines l.bench
+      → units_of (short a.lines) ≡ a.lines + 1 → GoesOnFrom (short a.lines).calls whole.calls → IsRetryStop run r l
+  retry_short a r l cut skipped at memory units on =
       let n = names a r at.numbers in
       let m = meets a.asks.calls (short a.lines) cut.calls in
       retry_in a r l cut skipped at
       (meeting access.journal grows settles (target_of first.probe) r a.asks.calls (short a.lines).calls whole.calls n.entry m on n.at
       (let lines = n.lines in omega (arith, lines, units)) n.asked (let high = n.unit in omega (arith, units, high)))
       (own_call a.asks.calls (short a.lines).calls whole.calls (r.unit - 1) r.what m on (let high = n.unit in omega (arith, units, high)) at.numbers.what)
+      memory
+      (λ i few next. after_meets (target_of first.probe) i a.asks.calls (short a.lines).calls m few (omega (arith, next, units)) ∙ sym (after_from (target_of first.probe) i (short a.lines).calls whole.calls on (omega (arith, next, units))))
 
   -- where the outcome comes to its end
   retry_whole : (a : AccessView) (r : Report) (l : Left) → EndsAtCut r.cause a.lines (short a.lines) (ran l.ended a.asks l.written) → l.ended.skipped ≡ a.skipped
-      → s.IsUnanswered (entries a) r a (began first (Some a.lines)) l.bench → answers.IsWhole (short a.lines).ending → short a.lines ≡ whole → IsRetryStop run r l
-  retry_whole a r l cut skipped at ends same =
+      → s.IsUnanswered (entries a) r a (began first (Some a.lines)) l.bench → HasMemory (target_of first.probe) a.asks.calls (units_made r.cause (entries a) r a.lines) a.lines l.bench
+      → answers.IsWhole (short a.lines).ending → short a.lines ≡ whole → IsRetryStop run r l
+  retry_whole a r l cut skipped at memory ends same =
       let n = names a r at.numbers in
       let shares : SharesCalls a.asks.calls whole = subst (λ (o : Outcome). SharesCalls a.asks.calls o) same cut.calls in
-      let c = covered_by a shares (few_asked a.asks.calls whole shares (subst (λ (o : Outcome). answers.IsWhole o.ending) same ends)) in
+      let fewer = few_asked a.asks.calls whole shares (subst (λ (o : Outcome). answers.IsWhole o.ending) same ends) in
+      let c = covered_by a shares fewer in
       retry_in a r l cut skipped at
       (covered access.journal grows settles (target_of first.probe) r a.asks.calls whole.calls c at.numbers.named n.asked)
       (c.same (r.unit - 1) r.what at.numbers.what)
+      memory
+      (λ i few next. after_meets (target_of first.probe) i a.asks.calls whole.calls (meets a.asks.calls whole shares) few (omega (arith, few, fewer)))
 
   is_retry_stop : (a : AccessView) (r : Report) (l : Left) → r.cause ≡ NoAnswer → EndsAtCut r.cause a.lines (short a.lines) (ran l.ended a.asks l.written) → l.ended.skipped ≡ a.skipped
-      → s.IsUnanswered (entries a) r a (began first (Some a.lines)) l.bench → IsRetryStop run r l
-  is_retry_stop a r l cause cut skipped at = by_limit (limits_followed k.sequel a.lines k.program (target_of first.probe) before) (subst (λ (c : StopCause). StopsAfter c a.lines (short a.lines)) cause cut.stops)
+      → s.IsUnanswered (entries a) r a (began first (Some a.lines)) l.bench → HasMemory (target_of first.probe) a.asks.calls (units_made r.cause (entries a) r a.lines) a.lines l.bench → IsRetryStop run r l
+  is_retry_stop a r l cause cut skipped at memory = by_limit (limits_followed k.sequel a.lines k.program (target_of first.probe) before) (subst (λ (c : StopCause). StopsAfter c a.lines (short a.lines)) cause cut.stops)
     where
       by_limit : laws.IsWhole a.lines whole (short a.lines) ⊎ IsCutShort a.lines whole (short a.lines) → StopsAfter NoAnswer a.lines (short a.lines) → IsRetryStop run r l
       by_limit (inl h) (inl stops) =
           let units = ap units_of h.same in let few = h.units in let many = stops.1 in absurd (omega (arith, units, few, many))
-      by_limit (inl h) (inr stops) = retry_whole a r l cut skipped at stops.0 h.same
-      by_limit (inr h) (inl stops) = retry_short a r l cut skipped at stops.1 h.calls
+      by_limit (inl h) (inr stops) = retry_whole a r l cut skipped at memory stops.0 h.same
+      by_limit (inr h) (inl stops) = retry_short a r l cut skipped at memory stops.1 h.calls
       by_limit (inr h) (inr stops) = absurd (subst answers.IsWhole h.ending stops.0)
 
   -- by the cause
   is_stop : (cause : StopCause) (a : AccessView) (r : Report) (l : Left) → cause ≡ r.cause
       → EndsAtCut r.cause a.lines (followed.outcome_in (world_from first (answered_cut cause a.lines)) k before) (ran l.ended a.asks l.written) → l.ended.skipped ≡ a.skipped
-      → s.IsCutBy cause (entries a) r a (began first (answered_cut cause a.lines)) l.bench → IsStop cause run r l
-  is_stop Faulted a r l is cut skipped at = is_fault_stop a r l (sym is) cut skipped at
-  is_stop NoAnswer a r l is cut skipped at = is_retry_stop a r l (sym is) cut skipped at
+      → s.IsCutBy cause (entries a) r a (began first (answered_cut cause a.lines)) l.bench → (r.cause ≡ Faulted → r.unit ≡ a.lines + 1)
+      → HasMemory (target_of first.probe) a.asks.calls (units_made r.cause (entries a) r a.lines) a.lines l.bench → IsStop cause run r l
+  is_stop Faulted a r l is cut skipped at own memory = is_fault_stop a r l (sym is) cut skipped at (own (sym is)) memory
+  is_stop NoAnswer a r l is cut skipped at own memory = is_retry_stop a r l (sym is) cut skipped at memory
 
   -- what is known of the packets of an access
   pub record SendsFew (ending : Ending) (a : AccessView) : Type 0 where
@@ -342,8 +362,8 @@ module _ (access : AccessKind) (grows : JournalGrows access.journal) (settles : 
             (few_if access.is_sparing (is_none k.sequel) (answered_by a) a l end seen few.limits_are few.opening so.1.calls (λ none. counted_needs a (all_needs (e.Halted cause) a end (few.points none))) few.bounds),
       )
   leaves (e.Cut r) a l end skipped seen few ends stands =
-      is_stop r.cause a r l refl (ends_at (e.Cut r) k a first before (ran l.ended a.asks l.written) (Some (stop.Cut r)) end ends) skipped
-      (stands_at access.journal a first l.bench (Some (stop.Cut r)) end seen stands)
+      let at : s.IsCut (entries a) r a (began first (answered_cut r.cause a.lines)) l.bench = stands_at access.journal a first l.bench (Some (stop.Cut r)) end seen stands in
+      is_stop r.cause a r l refl (ends_at (e.Cut r) k a first before (ran l.ended a.asks l.written) (Some (stop.Cut r)) end ends) skipped at.stands at.own at.memory
   leaves (e.BenchFault issued confirmed) a l end skipped seen few ends stands =
       is_broken issued confirmed a l (ends_at (e.BenchFault issued confirmed) k a first before (ran l.ended a.asks l.written) (Some (stop.BenchFault issued confirmed)) end ends)
       (stands_at access.journal a first l.bench (Some (stop.BenchFault issued confirmed)) end seen stands)

@@ -12,10 +12,11 @@ use Rattle.target_calls.specs.Asks.{settled_last}
 use Rattle.target_machine.specs.Counts.{one_if}
 use Rattle.target_calls.specs.Journal.{Entry, first_fault, target_after}
 use Rattle.target_calls.specs.NeedPoints.{Costs}
-use Rattle.target_calls.specs.Weights.{commands_in, registers_in}
+use Rattle.target_calls.specs.Weights.{commands_in, registers_in, weight_in}
 use Rattle.target_calls.specs.declared.calls.Ask.{Ask}
 use Rattle.access_calls.specs.Bounds.{AreNextWrites, block_words, capacity}
 use Rattle.access_calls.specs.Growing.{GoesOnWith}
+use Rattle.access_calls.specs.Made.{units_made}
 use Rattle.access_calls.specs.Numbers.{HasNumbers}
 use Rattle.access_calls.specs.Reported.{Beginning, began, start_of}
 use Rattle.access_calls.specs.Standing.{HasPerformed, IsAfterPart, IsBenchFault, IsOver, grown_since, number_of, pending_of, setting_of}
@@ -147,27 +148,30 @@ pub record IsWhole (run : Run) (l : Left) : Type 0 where
 
 -- ---- stopped by the target or the probe
 
--- Exactly the first so many of these entries were performed, and the target agrees with the one after them. By the probe's work that is
--- so among the entries in front: all that are issued before so many calls were asked, and perhaps more.
-pub record HasMade (calls : ℕ) (entries : List Entry) (count : ℕ) (b : Beginning) (m : BenchState) : Type 0 where
-  pub front : List Entry
-  pub goes_on : GoesOnWith calls front entries
-  pub performed : HasPerformed front count b m
-  pub target : Agree (target_of m.probe) (target_after (start_of b) (take count entries))
+-- Exactly the entries that the report counts were performed: the target agrees with the one after them. The probe's work has grown by what
+-- they weigh, and by no more, except for a part of the entry that the report names, where that one was not performed.
+pub record HasMade (entries : List Entry) (r : Report) (b : Beginning) (m : BenchState) : Type 0 where
+  pub low : weight_in (start_of b) (take r.accesses entries) ≤ grown_since b m
+  pub high : grown_since b m ≤ weight_in (start_of b) (take (r.confirmed + 1) entries)
+  pub part : r.accesses ≡ r.confirmed → grown_since b m < weight_in (start_of b) (take (r.confirmed + 1) entries)
+  pub target : Agree (target_of m.probe) (target_after (start_of b) (take r.accesses entries))
 
 -- The numbers of the report are those of a stop in the journal of these calls: exactly its accesses were performed, the target agrees
--- with the one after them, and `lines` units have their lines before the stop, which are written.
+-- with the one after them, and `lines` units have their lines before the stop, which are written. The memory is the one that the sequences
+-- leave with exactly the units answered that were made.
 pub record HasStopped (run : Run) (answered : Option ℕ) (o : Outcome) (calls : List Ask) (lines : ℕ) (r : Report) (l : Left) : Type 0 where
   pub stops : StopsAfter r.cause lines o
   pub written : l.written ≡ o.written
   pub numbers : HasNumbers (entries_in run calls) calls l.ended.skipped lines r
-  pub performed : HasMade r.unit (entries_in run calls) r.accesses (began run.first answered) l.bench
+  pub performed : HasMade (entries_in run calls) r (began run.first answered) l.bench
+  pub words : (target_of l.bench.probe).words ≡ (outcome_with run (units_made r.cause (entries_in run calls) r lines)).target.words
 
--- At a fault: the outcome ends at a fault of the next unit, and the last performed access is the first that gives a fault which its unit
--- does not forgive, in the journal of the outcome's calls. No retry ended.
+-- At a fault: the outcome ends at a fault of the next unit, which is the one that the report names, and the last performed access is the
+-- first that gives a fault which its unit does not forgive, in the journal of the outcome's calls. No retry ended.
 pub record IsFaultStop (run : Run) (r : Report) (l : Left) : Type 0 where
   pub lines : ℕ
   pub stopped : HasStopped run None (outcome_in run) (calls_in run) lines r l
+  pub unit : r.unit ≡ units_of (outcome_in run)
   pub fault : first_fault (target_in run) (entries_in run (calls_in run)) ≡ Some r.accesses
   pub confirmed : r.accesses ≡ r.confirmed + 1
   pub retries : NoneEnded run l

@@ -5,7 +5,7 @@ ghost use Rattle.probe_core.specs.Bench.{BenchState, fresh, seen};
 ghost use Rattle.probe_core.specs.Ranges.{IsBenchJob};
 ghost use Rattle.access_calls.specs.Endings.{ending_of};
 ghost use Rattle.access_calls.specs.declared.ended.Ending.TheVariants as ends;
-ghost use Rattle.control_flow.specs.Answers.{HasSinkCause};
+ghost use Rattle.control_flow.specs.Answers.{HasLines, HasSinkCause};
 ghost use Rattle.sequence_rules.specs.Runs.{variables_of};
 ghost use Rattle.access_calls.specs.Causes.{code_of_cause};
 ghost use Rattle.access_calls.specs.declared.stop.Report.{Report};
@@ -103,6 +103,8 @@ pub fn run_on<B: Bench, K: Sink, A: OverBench<B>>(
     // Each fault has its cause.
     ensures bench { HasBenchCause result.ended.ending (B.reported bench).faults (B.reported result.bench).faults }
     ensures sink { HasSinkCause result.ended.ending (K.faults sink.old) (K.faults sink.new) }
+    // Whole lines were written, except perhaps where the sink failed.
+    ensures lines { HasLines result.ended.ending (K.written sink.old) (K.written sink.new) }
     ensures cut { (report : Report) → result.ended.ending ≡ ends.Cut report → HasGotResponse (code_of_cause report.cause) (B.reported bench) (B.reported result.bench) }
     ensures bad { result.ended.ending ≡ ends.ReplyBad → HasBadReply (B.reported bench) (B.reported result.bench) result.sent result.got }
 {

@@ -2,3 +2,4 @@ pub mod WatchLemmas
 pub mod RowLemmas
 pub mod TraceLemmas
 pub mod ViewLemmas
+pub mod FrameLemmas

@@ -14,7 +14,7 @@ use Rattle.text_lines.specs.Causes.{NamesFault}
 use Rattle.report_lines.specs.declared.put.TextEnd.{TextEnd}
 use Rattle.report_lines.specs.declared.put.TextEnd.TheVariants as ends
 use Rattle.text_lines.proofs.PutLemmas.{prefix_first, put_after}
-use Rattle.text_lines.proofs.RowLemmas.{row_cut}
+use Rattle.text_lines.proofs.RowLemmas.{row_cut, row_more}
 
 -- a bench that is twice as it was before
 pub before-trans : (a b c : Seen) → IsAsBefore a b → IsAsBefore b c → IsAsBefore a c
@@ -87,6 +87,10 @@ below_cut (Some t) a b c line i n below first second =
 pub rows_cut : {X : Type 0} (s : Option TargetState) (a b c : Option (List ℕ)) (g : TargetState → X → List ℕ) (xs : List X) (i : ℕ) (x : X) → slice_get xs i ≡ Some x → Wrote s (λ t. flat_map (g t) (take i xs)) a b → Began s (λ t. g t x) b c → Began s (λ t. flat_map (g t) xs) a c
 rows_cut None a b c g xs i x at first second = tt
 rows_cut (Some t) a b c g xs i x at first second = row_cut a b c (g t) xs i x at first second
+
+pub rows_more : {X : Type 0} (s : Option TargetState) (a b c : Option (List ℕ)) (g : TargetState → X → List ℕ) (xs : List X) (i : ℕ) (x : X) → slice_get xs i ≡ Some x → Wrote s (λ t. flat_map (g t) (take i xs)) a b → Wrote s (λ t. g t x) b c → Wrote s (λ t. flat_map (g t) (take (i + 1) xs)) a c
+rows_more None a b c g xs i x at first second = tt
+rows_more (Some t) a b c g xs i x at first second = row_more a b c (g t) xs i x at first second
 
 -- ---- two texts in a row
 

@@ -5,5 +5,7 @@ pub mod Endings
 pub mod Target
 pub mod Views
 pub mod Audit
+pub mod Closes
 pub mod Report
 pub mod Trace
+pub mod Frame

@@ -6,6 +6,7 @@ ghost use Rattle.probe_core.specs.Ranges.{IsBenchJob};
 ghost use Rattle.job_text.specs.Ranges.{AreWatched};
 ghost use Rattle.text_lines.specs.Causes.{NamesFault};
 ghost use Rattle.report_lines.specs.Audit.{audit_fault_line, audit_ok_line, audited_lines, refusal_word, refused_line};
+ghost use Rattle.report_lines.specs.Frame.{EndsPutting};
 ghost use Rattle.report_lines.specs.Target.{IsLow, target_lines};
 
 use crate::put::{TextEnd, put_line};
@@ -106,8 +107,7 @@ fn write_refused<K: Sink>(
     sink: &mut K,
 ) -> Result<(), TextEnd>
     ensures text { PutAppends (K.written sink.old) (K.written sink.new) result (refused_line kind.now number) }
-    ensures never { IfErr result (λ e. e ≢ TextEnd.BenchFault) }
-    ensures sink { NamesFault TextEnd.WriteFault (K.faults sink.old) (K.faults sink.new) result }
+    ensures ends { EndsPutting K.written K.faults result sink.old sink.new }
 {
     put_line(refused_text(alloc, kind, number), sink)
 }
@@ -117,7 +117,7 @@ fn write_refused<K: Sink>(
 ///
 /// `WriteFault` where the sink failed, `OutOfMemory` where memory is refused: a prefix of the line was then appended. Never
 /// `BenchFault`.
-#[tactic(auto, using(text_lines::proofs::PutLemmas::nothing))]
+#[tactic(auto, using(text_lines::proofs::PutLemmas::nothing, crate::proofs::FrameLemmas::frames))]
 pub fn audit_fault_text<K: Sink>(
     alloc: Global,
     fault: AuditFault,

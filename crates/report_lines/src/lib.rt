@@ -3,6 +3,7 @@
 
 mod audit;
 mod calls;
+mod closes;
 mod endings;
 mod head;
 mod lines;
@@ -14,6 +15,7 @@ mod views;
 mod words;
 
 pub use audit::{audit_fault_text, audit_text, target_text};
+pub use closes::{differs_text, full_text, loaded_text, target_lines};
 pub use put::TextEnd;
 pub use report::report_text;
 pub use trace::trace_text;

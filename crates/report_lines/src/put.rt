@@ -1,7 +1,7 @@
 //! Putting the lines of a text whose parts a bench shows.
-ghost use Rattle.std.specs.Prelude.{◌≡◌, ◌≢◌, ℕ, List, IfErr, IfOk};
+ghost use Rattle.std.specs.Prelude.{◌≡◌, ℕ, List, IfOk};
 ghost use Rattle.dap_base.specs.Streams.{PutAppends};
-ghost use Rattle.text_lines.specs.Causes.{NamesFault};
+ghost use Rattle.report_lines.specs.Frame.{EndsPutting};
 
 use dap_base::{OutOfMemory, Sink};
 use text_lines::Line;
@@ -20,8 +20,7 @@ pub enum TextEnd {
 /// Puts a text.
 pub fn put<K: Sink>(text: &[u8], sink: &mut K) -> Result<(), TextEnd>
     ensures text { PutAppends (K.written sink.old) (K.written sink.new) result text.now }
-    ensures bench { IfErr result (λ e. e ≢ TextEnd.BenchFault) }
-    ensures sink { NamesFault TextEnd.WriteFault (K.faults sink.old) (K.faults sink.new) result }
+    ensures ends { EndsPutting K.written K.faults result sink.old sink.new }
 {
     match sink.put(text) {
         Ok(()) => Ok(()),
@@ -30,11 +29,10 @@ pub fn put<K: Sink>(text: &[u8], sink: &mut K) -> Result<(), TextEnd>
 }
 
 /// Puts a line, if there was memory for it.
-#[tactic(auto, using(text_lines::proofs::PutLemmas::no_part))]
+#[tactic(auto, using(text_lines::proofs::PutLemmas::no_part, crate::proofs::FrameLemmas::frames))]
 pub fn put_line<K: Sink>(line: Result<Line, OutOfMemory>, sink: &mut K) -> Result<(), TextEnd>
     ensures text { (text : List ℕ) → IfOk line (λ l. l ≡ text) → PutAppends (K.written sink.old) (K.written sink.new) result text }
-    ensures bench { IfErr result (λ e. e ≢ TextEnd.BenchFault) }
-    ensures sink { NamesFault TextEnd.WriteFault (K.faults sink.old) (K.faults sink.new) result }
+    ensures ends { EndsPutting K.written K.faults result sink.old sink.new }
 {
     match line {
         Ok(line) => put(line.as_bytes(), sink),

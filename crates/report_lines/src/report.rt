@@ -1,13 +1,14 @@
 //! The report of a run.
+#![tactic(auto, using(crate::proofs::FrameLemmas::frames))]
+
 ghost use Rattle.std.specs.Prelude.{◌≡◌, ◌≢◌, Ok, false, IfErr, IfSome};
 ghost use Rattle.std.specs.List.{All};
 ghost use Rattle.dap_base.specs.Streams.{PutAppends};
-ghost use Rattle.probe_core.specs.Bench.{IsAsBefore, seen};
 ghost use Rattle.probe_core.specs.Probe.{target_of};
 ghost use Rattle.probe_core.specs.Ranges.{IsBenchJob};
 ghost use Rattle.job_text.specs.Ranges.{AreWatched};
-ghost use Rattle.text_lines.specs.Causes.{NamesFault};
 ghost use Rattle.report_lines.specs.Endings.{ending_lines, shows_target};
+ghost use Rattle.report_lines.specs.Frame.{EndsShowing, KeepsBench, PutsFirst};
 ghost use Rattle.report_lines.specs.Report.{report, target_part};
 ghost use Rattle.report_lines.specs.Target.{IsLow};
 
@@ -28,7 +29,7 @@ fn shows_target(ending: Ending) -> bool
 }
 
 // Puts the lines of the target, where it is shown.
-#[tactic(auto, using(text_lines::proofs::PutLemmas::nothing))]
+#[tactic(auto, using(text_lines::proofs::PutLemmas::nothing, crate::proofs::FrameLemmas::frames))]
 fn write_shown<K: Sink, B: Bench>(
     alloc: Global,
     shows: bool,
@@ -39,10 +40,8 @@ fn write_shown<K: Sink, B: Bench>(
     requires { All IsLow job.now.watch }
     ensures text { IfSome (B.state bench.old) (λ m. PutAppends (K.written sink.old) (K.written sink.new) result (target_part shows job.now (target_of m.probe))) }
     ensures unseen { shows ≡ false → (result ≡ Ok tt) × (K.written sink.new ≡ K.written sink.old) }
-    ensures same { IsAsBefore (seen B.reported B.state bench.old) (seen B.reported B.state bench.new) }
-    ensures identity { B.identity bench.new ≡ B.identity bench.old }
-    ensures bench { NamesFault TextEnd.BenchFault (B.reported bench.old).faults (B.reported bench.new).faults result }
-    ensures sink { NamesFault TextEnd.WriteFault (K.faults sink.old) (K.faults sink.new) result }
+    ensures keeps { KeepsBench B.reported B.state B.identity bench.old bench.new }
+    ensures ends { EndsShowing K.written K.faults result (B.reported bench.old) (B.reported bench.new) sink.old sink.new }
 {
     if shows {
         let target = &job.bench.target;
@@ -82,11 +81,10 @@ pub fn report_text<K: Sink, B: Bench>(
     requires watch { AreWatched job.now.bench.target.memory job.now.watch }
     ensures text { IfSome (B.state bench.old) (λ m. PutAppends (K.written sink.old) (K.written sink.new) result (report ended.now sent.now got.now job.now (target_of m.probe))) }
     ensures alone { shows_target ended.now.ending ≡ false → PutAppends (K.written sink.old) (K.written sink.new) result (ending_lines ended.now.ending ended.now sent.now got.now) }
+    ensures front { PutsFirst (ending_lines ended.now.ending ended.now sent.now got.now) (K.written sink.old) (K.written sink.new) result }
     ensures unasked { shows_target ended.now.ending ≡ false → IfErr result (λ e. e ≢ TextEnd.BenchFault) }
-    ensures same { IsAsBefore (seen B.reported B.state bench.old) (seen B.reported B.state bench.new) }
-    ensures identity { B.identity bench.new ≡ B.identity bench.old }
-    ensures bench { NamesFault TextEnd.BenchFault (B.reported bench.old).faults (B.reported bench.new).faults result }
-    ensures sink { NamesFault TextEnd.WriteFault (K.faults sink.old) (K.faults sink.new) result }
+    ensures keeps { KeepsBench B.reported B.state B.identity bench.old bench.new }
+    ensures ends { EndsShowing K.written K.faults result (B.reported bench.old) (B.reported bench.new) sink.old sink.new }
 {
     match write_ending(alloc, ended, sent, got, sink) {
         Ok(()) => write_shown(alloc, shows_target(ended.ending), job, bench, sink),

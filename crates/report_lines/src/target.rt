@@ -1,8 +1,10 @@
 //! The lines of a target: each part is shown directly before its line is put.
+#![tactic(auto, using(crate::proofs::FrameLemmas::frames))]
+
 ghost use Rattle.std.specs.Prelude.{◌≡◌, ◌+◌, ◌*◌, ◌^◌, ◌≤◌, ◌==◌, [], unwrap_or, IfOk, IfSome};
 ghost use Rattle.std.specs.List.{All, list_any};
 ghost use Rattle.dap_base.specs.Streams.{PutAppends};
-ghost use Rattle.text_lines.specs.Causes.{NamesFault};
+ghost use Rattle.report_lines.specs.Frame.{EndsShowing};
 ghost use Rattle.report_lines.specs.Target.{IsLow, outside_lines, part_line, part_of, port_lines, port_of, ports_on, target_lines, watch_lines, word_lines};
 ghost use Rattle.report_lines.specs.Views.{IsViewedAsBefore};
 
@@ -31,7 +33,7 @@ fn part_text(alloc: Global, ask: ImageAsk, part: &ImagePart) -> Result<Option<Li
 }
 
 // Puts the line of a part of the target.
-#[tactic(auto, unfolding(crate::specs::Target::part_of), using(text_lines::proofs::PutLemmas::no_part, text_lines::proofs::PutLemmas::nothing))]
+#[tactic(auto, unfolding(crate::specs::Target::part_of), using(text_lines::proofs::PutLemmas::no_part, text_lines::proofs::PutLemmas::nothing, crate::proofs::FrameLemmas::frames))]
 fn write_part<K: Sink, S: ShowsTarget>(
     alloc: Global,
     ask: ImageAsk,
@@ -39,9 +41,8 @@ fn write_part<K: Sink, S: ShowsTarget>(
     sink: &mut K,
 ) -> Result<(), TextEnd>
     ensures text { IfSome (S.known shower.old).target (λ t. PutAppends (K.written sink.old) (K.written sink.new) result (part_of t ask)) }
-    ensures same { IsViewedAsBefore (S.known shower.old) (S.known shower.new) }
-    ensures bench { NamesFault TextEnd.BenchFault (S.known shower.old).bench.reported.faults (S.known shower.new).bench.reported.faults result }
-    ensures sink { NamesFault TextEnd.WriteFault (K.faults sink.old) (K.faults sink.new) result }
+    ensures keeps { IsViewedAsBefore (S.known shower.old) (S.known shower.new) }
+    ensures ends { EndsShowing K.written K.faults result (S.known shower.old).bench.reported (S.known shower.new).bench.reported sink.old sink.new }
 {
     let Ok(part) = shower.part(ask) else {
         return Err(TextEnd::BenchFault);
@@ -61,7 +62,7 @@ fn is_listed(aps: &[ApJob], number: u8) -> bool
 }
 
 // Puts the line of an access port, where the job lists it.
-#[tactic(auto, using(text_lines::proofs::PutLemmas::nothing))]
+#[tactic(auto, using(text_lines::proofs::PutLemmas::nothing, crate::proofs::FrameLemmas::frames))]
 fn write_port<K: Sink, S: ShowsTarget>(
     alloc: Global,
     aps: &[ApJob],
@@ -70,9 +71,8 @@ fn write_port<K: Sink, S: ShowsTarget>(
     sink: &mut K,
 ) -> Result<(), TextEnd>
     ensures text { IfSome (S.known shower.old).target (λ t. PutAppends (K.written sink.old) (K.written sink.new) result (port_of t aps.now number)) }
-    ensures same { IsViewedAsBefore (S.known shower.old) (S.known shower.new) }
-    ensures bench { NamesFault TextEnd.BenchFault (S.known shower.old).bench.reported.faults (S.known shower.new).bench.reported.faults result }
-    ensures sink { NamesFault TextEnd.WriteFault (K.faults sink.old) (K.faults sink.new) result }
+    ensures keeps { IsViewedAsBefore (S.known shower.old) (S.known shower.new) }
+    ensures ends { EndsShowing K.written K.faults result (S.known shower.old).bench.reported (S.known shower.new).bench.reported sink.old sink.new }
 {
     if is_listed(aps, number) {
         write_part(alloc, ImageAsk::Ap(number), shower, sink)
@@ -89,9 +89,8 @@ fn write_ports<K: Sink, S: ShowsTarget>(
     sink: &mut K,
 ) -> Result<(), TextEnd>
     ensures text { IfSome (S.known shower.old).target (λ t. PutAppends (K.written sink.old) (K.written sink.new) result (port_lines t aps.now)) }
-    ensures same { IsViewedAsBefore (S.known shower.old) (S.known shower.new) }
-    ensures bench { NamesFault TextEnd.BenchFault (S.known shower.old).bench.reported.faults (S.known shower.new).bench.reported.faults result }
-    ensures sink { NamesFault TextEnd.WriteFault (K.faults sink.old) (K.faults sink.new) result }
+    ensures keeps { IsViewedAsBefore (S.known shower.old) (S.known shower.new) }
+    ensures ends { EndsShowing K.written K.faults result (S.known shower.old).bench.reported (S.known shower.new).bench.reported sink.old sink.new }
 {
     for number in 0..256u32 {
         match write_port(alloc, aps, number as u8, shower, sink) {
@@ -111,9 +110,8 @@ fn write_words<K: Sink, S: ShowsTarget>(
 ) -> Result<(), TextEnd>
     requires { IsLow item }
     ensures text { IfSome (S.known shower.old).target (λ t. PutAppends (K.written sink.old) (K.written sink.new) result (word_lines t item.address item.words)) }
-    ensures same { IsViewedAsBefore (S.known shower.old) (S.known shower.new) }
-    ensures bench { NamesFault TextEnd.BenchFault (S.known shower.old).bench.reported.faults (S.known shower.new).bench.reported.faults result }
-    ensures sink { NamesFault TextEnd.WriteFault (K.faults sink.old) (K.faults sink.new) result }
+    ensures keeps { IsViewedAsBefore (S.known shower.old) (S.known shower.new) }
+    ensures ends { EndsShowing K.written K.faults result (S.known shower.old).bench.reported (S.known shower.new).bench.reported sink.old sink.new }
 {
     for number in 0..item.words {
         let ask = ImageAsk::Word(item.address + 4 * number as u64);
@@ -134,9 +132,8 @@ fn write_watch<K: Sink, S: ShowsTarget>(
 ) -> Result<(), TextEnd>
     requires { All IsLow watch.now }
     ensures text { IfSome (S.known shower.old).target (λ t. PutAppends (K.written sink.old) (K.written sink.new) result (watch_lines t watch.now)) }
-    ensures same { IsViewedAsBefore (S.known shower.old) (S.known shower.new) }
-    ensures bench { NamesFault TextEnd.BenchFault (S.known shower.old).bench.reported.faults (S.known shower.new).bench.reported.faults result }
-    ensures sink { NamesFault TextEnd.WriteFault (K.faults sink.old) (K.faults sink.new) result }
+    ensures keeps { IsViewedAsBefore (S.known shower.old) (S.known shower.new) }
+    ensures ends { EndsShowing K.written K.faults result (S.known shower.old).bench.reported (S.known shower.new).bench.reported sink.old sink.new }
 {
     for item in watch {
         match write_words(alloc, *item, shower, sink) {
@@ -156,9 +153,8 @@ fn write_outside<K: Sink, S: ShowsTarget>(
 ) -> Result<(), TextEnd>
     requires { All IsLow watch.now }
     ensures text { IfSome (S.known shower.old).target (λ t. PutAppends (K.written sink.old) (K.written sink.new) result (outside_lines t watch.now)) }
-    ensures same { IsViewedAsBefore (S.known shower.old) (S.known shower.new) }
-    ensures bench { NamesFault TextEnd.BenchFault (S.known shower.old).bench.reported.faults (S.known shower.new).bench.reported.faults result }
-    ensures sink { NamesFault TextEnd.WriteFault (K.faults sink.old) (K.faults sink.new) result }
+    ensures keeps { IsViewedAsBefore (S.known shower.old) (S.known shower.new) }
+    ensures ends { EndsShowing K.written K.faults result (S.known shower.old).bench.reported (S.known shower.new).bench.reported sink.old sink.new }
 {
     match write_part(alloc, ImageAsk::Lines, shower, sink) {
         Ok(()) => write_watch(alloc, watch, shower, sink),
@@ -176,9 +172,8 @@ fn write_ports_on<K: Sink, S: ShowsTarget>(
 ) -> Result<(), TextEnd>
     requires { All IsLow watch.now }
     ensures text { IfSome (S.known shower.old).target (λ t. PutAppends (K.written sink.old) (K.written sink.new) result (ports_on t aps.now watch.now)) }
-    ensures same { IsViewedAsBefore (S.known shower.old) (S.known shower.new) }
-    ensures bench { NamesFault TextEnd.BenchFault (S.known shower.old).bench.reported.faults (S.known shower.new).bench.reported.faults result }
-    ensures sink { NamesFault TextEnd.WriteFault (K.faults sink.old) (K.faults sink.new) result }
+    ensures keeps { IsViewedAsBefore (S.known shower.old) (S.known shower.new) }
+    ensures ends { EndsShowing K.written K.faults result (S.known shower.old).bench.reported (S.known shower.new).bench.reported sink.old sink.new }
 {
     match write_ports(alloc, aps, shower, sink) {
         Ok(()) => write_outside(alloc, watch, shower, sink),
@@ -197,9 +192,8 @@ pub fn write_target<K: Sink, S: ShowsTarget>(
 ) -> Result<(), TextEnd>
     requires { All IsLow watch.now }
     ensures text { IfSome (S.known shower.old).target (λ t. PutAppends (K.written sink.old) (K.written sink.new) result (target_lines t aps.now watch.now)) }
-    ensures same { IsViewedAsBefore (S.known shower.old) (S.known shower.new) }
-    ensures bench { NamesFault TextEnd.BenchFault (S.known shower.old).bench.reported.faults (S.known shower.new).bench.reported.faults result }
-    ensures sink { NamesFault TextEnd.WriteFault (K.faults sink.old) (K.faults sink.new) result }
+    ensures keeps { IsViewedAsBefore (S.known shower.old) (S.known shower.new) }
+    ensures ends { EndsShowing K.written K.faults result (S.known shower.old).bench.reported (S.known shower.new).bench.reported sink.old sink.new }
 {
     match write_part(alloc, ImageAsk::Dp, shower, sink) {
         Ok(()) => write_ports_on(alloc, aps, watch, shower, sink),

@@ -1,9 +1,10 @@
 //! The trace of a run.
-ghost use Rattle.std.specs.Prelude.{◌≡◌, ◌≢◌, ◌+◌, ◌<◌, ◌≤◌, IfErr, IfOk, IfSome};
+#![tactic(auto, using(crate::proofs::FrameLemmas::frames))]
+
+ghost use Rattle.std.specs.Prelude.{◌≡◌, ◌+◌, ◌<◌, ◌≤◌, IfOk, IfSome};
 ghost use Rattle.dap_base.specs.Streams.{PutAppends};
 ghost use Rattle.probe_core.specs.Log.{IsCountedLog};
-ghost use Rattle.probe_core.specs.Bench.{IsAsBefore, seen};
-ghost use Rattle.text_lines.specs.Causes.{NamesFault};
+ghost use Rattle.report_lines.specs.Frame.{EndsPutting, EndsShowing, KeepsBench};
 ghost use Rattle.report_lines.specs.Trace.{EntriesPut, EntryPut, LinePut, StepPut, entry_line, entry_mark, kept_line, trace};
 
 use crate::endings::with_digits;
@@ -47,7 +48,7 @@ pub enum Seen {
 }
 
 // Puts the line of a packet or a reply.
-#[tactic(auto, using(text_lines::proofs::PutLemmas::no_part))]
+#[tactic(auto, using(text_lines::proofs::PutLemmas::no_part, crate::proofs::FrameLemmas::frames))]
 fn write_line<K: Sink>(
     alloc: Global,
     is_reply: bool,
@@ -55,8 +56,7 @@ fn write_line<K: Sink>(
     sink: &mut K,
 ) -> Result<Seen, TextEnd>
     ensures text { LinePut (record { is_reply = is_reply; bytes = bytes.now }) result (K.written sink.old) (K.written sink.new) }
-    ensures bench { IfErr result (λ e. e ≢ TextEnd.BenchFault) }
-    ensures sink { NamesFault TextEnd.WriteFault (K.faults sink.old) (K.faults sink.new) result }
+    ensures ends { EndsPutting K.written K.faults result sink.old sink.new }
 {
     let line = entry_text(alloc, is_reply, bytes);
     match put_line(line, sink) {
@@ -73,10 +73,8 @@ fn write_entry<K: Sink, B: Bench>(
     sink: &mut K,
 ) -> Result<Seen, TextEnd>
     ensures text { IfSome (B.state bench.old) (λ m. EntryPut m.log index result (K.written sink.old) (K.written sink.new)) }
-    ensures same { IsAsBefore (seen B.reported B.state bench.old) (seen B.reported B.state bench.new) }
-    ensures identity { B.identity bench.new ≡ B.identity bench.old }
-    ensures bench { NamesFault TextEnd.BenchFault (B.reported bench.old).faults (B.reported bench.new).faults result }
-    ensures sink { NamesFault TextEnd.WriteFault (K.faults sink.old) (K.faults sink.new) result }
+    ensures keeps { KeepsBench B.reported B.state B.identity bench.old bench.new }
+    ensures ends { EndsShowing K.written K.faults result (B.reported bench.old) (B.reported bench.new) sink.old sink.new }
 {
     let mut out = [0u8; 1024];
     match bench.show(index, &mut out) {
@@ -101,10 +99,8 @@ fn write_next<K: Sink, B: Bench>(
     requires { kept < 4294967295 }
     ensures text { IfSome (B.state bench.old) (λ m. StepPut m.log index kept result (K.written sink.old) (K.written sink.new)) }
     ensures few { IfOk result (λ next. IfSome next (λ n. n ≤ kept + 1)) }
-    ensures same { IsAsBefore (seen B.reported B.state bench.old) (seen B.reported B.state bench.new) }
-    ensures identity { B.identity bench.new ≡ B.identity bench.old }
-    ensures bench { NamesFault TextEnd.BenchFault (B.reported bench.old).faults (B.reported bench.new).faults result }
-    ensures sink { NamesFault TextEnd.WriteFault (K.faults sink.old) (K.faults sink.new) result }
+    ensures keeps { KeepsBench B.reported B.state B.identity bench.old bench.new }
+    ensures ends { EndsShowing K.written K.faults result (B.reported bench.old) (B.reported bench.new) sink.old sink.new }
 {
     match write_entry(alloc, index, bench, sink) {
         Ok(Seen::Kept) => Ok(Some(kept + 1)),
@@ -122,10 +118,8 @@ fn write_entries<K: Sink, B: Bench>(
     sink: &mut K,
 ) -> Result<(u32, u32), TextEnd>
     ensures text { IfSome (B.state bench.old) (λ m. IsCountedLog m.log → EntriesPut m.log result (K.written sink.old) (K.written sink.new)) }
-    ensures same { IsAsBefore (seen B.reported B.state bench.old) (seen B.reported B.state bench.new) }
-    ensures identity { B.identity bench.new ≡ B.identity bench.old }
-    ensures bench { NamesFault TextEnd.BenchFault (B.reported bench.old).faults (B.reported bench.new).faults result }
-    ensures sink { NamesFault TextEnd.WriteFault (K.faults sink.old) (K.faults sink.new) result }
+    ensures keeps { KeepsBench B.reported B.state B.identity bench.old bench.new }
+    ensures ends { EndsShowing K.written K.faults result (B.reported bench.old) (B.reported bench.new) sink.old sink.new }
 {
     let mut kept = 0;
     for index in 0..u32::MAX {
@@ -152,10 +146,8 @@ pub fn trace_text<K: Sink, B: Bench>(
     sink: &mut K,
 ) -> Result<(), TextEnd>
     ensures text { IfSome (B.state bench.old) (λ m. PutAppends (K.written sink.old) (K.written sink.new) result (trace m.log)) }
-    ensures same { IsAsBefore (seen B.reported B.state bench.old) (seen B.reported B.state bench.new) }
-    ensures identity { B.identity bench.new ≡ B.identity bench.old }
-    ensures bench { NamesFault TextEnd.BenchFault (B.reported bench.old).faults (B.reported bench.new).faults result }
-    ensures sink { NamesFault TextEnd.WriteFault (K.faults sink.old) (K.faults sink.new) result }
+    ensures keeps { KeepsBench B.reported B.state B.identity bench.old bench.new }
+    ensures ends { EndsShowing K.written K.faults result (B.reported bench.old) (B.reported bench.new) sink.old sink.new }
 {
     match write_entries(alloc, bench, sink) {
         Ok((kept, count)) => put_line(kept_text(alloc, kept, count), sink),

@@ -1,4 +1,6 @@
-use Rattle.std.proofs.Common.{◌∙◌, sym, subst, refl}
+use Rattle.std.proofs.Common.{◌∙◌, ap, length, sym, subst, refl}
+use Rattle.target_calls.specs.World.{stop}
+use Rattle.target_calls.proofs.MarkLemmas.{length_marked, stop_marked}
 use Rattle.access_calls.specs.Answers.{StopsCalls}
 use Rattle.access_calls.specs.Left.{answered_by}
 use Rattle.access_calls.specs.Reported.{began, world_from}
@@ -7,7 +9,7 @@ use Rattle.sequence_rules.specs.Runs.{outcome_of}
 use Rattle.function_calls.specs.Held.{state_of}
 use Rattle.function_calls.proofs.Leaves.{stopped_ended}
 use Rattle.control_flow.specs.Answers.{EndsAs, HasNeeds, ran}
-use Rattle.control_flow.proofs.EndRules.{answered_as}
+use Rattle.control_flow.proofs.EndRules.{answered_as, stopped_short}
 use Rattle.control_flow.proofs.RunLemmas.{stops_closing, settles, closes, no_needs, finished_calls, skipped_is}
 use Rattle.control_flow.proofs.closing.ended_whole.Goals as goal
 
@@ -52,3 +54,29 @@ returns-in-Err-look_up_variables-clause-answer g c = λ m written out q b is p.
           (settles (world_from m n) s.rest.asks.calls a.lines st (subst (λ x. StopsCalls (world_from m n) x a.lines st) calls stops)) (c.in-Err-look_up_variables.ensures.calls ∙ calls) refl,
       no_needs st a.asks out,
     )
+
+pub returns-in-Err-clause-goes : goal.returns-in-Err-clause-goes
+returns-in-Err-clause-goes g c = λ m answered b left comes. absurd (stopped_short c.in-Err.stop c.ended_early.result.ending (c.ended_early.ensures.ending ∙ c.from.ensures) comes)
+
+pub returns-in-Ok-look_up_variables-clause-goes : goal.returns-in-Ok-look_up_variables-clause-goes
+returns-in-Ok-look_up_variables-clause-goes g c = λ m answered b left comes.
+    let w = world_from m answered in
+    let calls = finished_calls (g.A.Access.reported c.args.access.now) (g.A.Access.reported c.finish.new.self).asks.calls c.requires.open c.in-Ok.ensures.calls in
+    ap (stop w) (c.in-Ok-look_up_variables.ensures.calls ∙ calls) ∙ stop_marked w (g.A.Access.reported c.args.access.now).asks.calls
+    ∙ c.in-Ok.ensures.whole m answered b (c.in-Ok-look_up_variables.ensures.keeps.goes.left answered left)
+
+pub returns-in-Err-look_up_variables-clause-goes : goal.returns-in-Err-look_up_variables-clause-goes
+returns-in-Err-look_up_variables-clause-goes g c = λ m answered b left comes.
+    absurd (stopped_short c.in-Err-look_up_variables.stop c.ended_early-in-Err-look_up_variables.result.ending (c.ended_early-in-Err-look_up_variables.ensures.ending ∙ c.from-in-Err-look_up_variables.ensures) comes)
+
+pub returns-in-Err-clause-counted : goal.returns-in-Err-clause-counted
+returns-in-Err-clause-counted g c = λ comes. absurd (stopped_short c.in-Err.stop c.ended_early.result.ending (c.ended_early.ensures.ending ∙ c.from.ensures) comes)
+
+pub returns-in-Ok-look_up_variables-clause-counted : goal.returns-in-Ok-look_up_variables-clause-counted
+returns-in-Ok-look_up_variables-clause-counted g c = λ comes.
+    let calls = finished_calls (g.A.Access.reported c.args.access.now) (g.A.Access.reported c.finish.new.self).asks.calls c.requires.open c.in-Ok.ensures.calls in
+    c.requires.counted ∙ sym (length_marked (g.A.Access.reported c.args.access.now).asks.calls) ∙ ap length (sym (c.in-Ok-look_up_variables.ensures.calls ∙ calls))
+
+pub returns-in-Err-look_up_variables-clause-counted : goal.returns-in-Err-look_up_variables-clause-counted
+returns-in-Err-look_up_variables-clause-counted g c = λ comes.
+    absurd (stopped_short c.in-Err-look_up_variables.stop c.ended_early-in-Err-look_up_variables.result.ending (c.ended_early-in-Err-look_up_variables.ensures.ending ∙ c.from-in-Err-look_up_variables.ensures) comes)

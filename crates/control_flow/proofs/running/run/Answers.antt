@@ -7,9 +7,11 @@ use Rattle.sequence_rules.specs.Runs.{late_meaning, meaning, outcome_of, program
 use Rattle.sequence_rules.proofs.Made.{late_pair}
 use Rattle.sequence_rules.specs.Known.{known_part}
 use Rattle.function_calls.specs.Held.{state_of}
-use Rattle.control_flow.specs.Answers.{EndsAs, ran}
+use Rattle.control_flow.specs.Answers.{EndsAs, HasLines, ran}
+use Rattle.control_flow.specs.Closing.{ComesToEnd}
 use Rattle.access_calls.specs.declared.ended.Ending.TheVariants as ending
-use Rattle.control_flow.proofs.EndRules.{answered_as, quiet_ending}
+use Rattle.function_calls.proofs.WholeLines.{lines_none}
+use Rattle.control_flow.proofs.EndRules.{answered_as, lines_ending, quiet_ending, stopped_short}
 use Rattle.control_flow.proofs.RunLemmas.{at_end, at_start, is_broken, later_end, left_end, not_begun, stopped_ends}
 use Rattle.control_flow.proofs.running.run.Goals as goal
 
@@ -49,6 +51,9 @@ returns-in-Ok-run_all-clause-needs g c = λ m known b knows.
 pub returns-in-Ok-run_all-clause-cause : goal.returns-in-Ok-run_all-clause-cause
 returns-in-Ok-run_all-clause-cause g c = quiet_ending _ _ _ c.in-Ok-run_all.ensures.ends.cause c.ended_whole.ensures.cause
 
+pub returns-in-Ok-run_all-clause-lines : goal.returns-in-Ok-run_all-clause-lines
+returns-in-Ok-run_all-clause-lines g c = lines_ending _ _ _ (c.in-Ok-run_all.ensures.ends.lines _ (lines_none _))
+
 pub returns-in-Err-Halted-clause-answer : goal.returns-in-Err-Halted-clause-answer
 returns-in-Err-Halted-clause-answer g c = λ m known b knows.
     let last = g.A.Access.reported c.ended_whole-in-Err-Halted.new.access in
@@ -75,6 +80,12 @@ returns-in-Err-Halted-clause-needs g c = λ m known b knows.
 
 pub returns-in-Err-Halted-clause-cause : goal.returns-in-Err-Halted-clause-cause
 returns-in-Err-Halted-clause-cause g c = quiet_ending _ _ _ (rw c.in-Err-Halted.field-0-is at c.in-Err-Halted.ensures.ends.cause) c.ended_whole-in-Err-Halted.ensures.cause
+
+pub returns-in-Err-Halted-clause-lines : goal.returns-in-Err-Halted-clause-lines
+returns-in-Err-Halted-clause-lines g c = lines_ending _ _ _ (rw c.in-Err-Halted.field-0-is at (c.in-Err-Halted.ensures.ends.lines _ (lines_none _)))
+
+pub returns-in-Err-Stopped-clause-lines : goal.returns-in-Err-Stopped-clause-lines
+returns-in-Err-Stopped-clause-lines g c = lines_ending _ _ _ (rw c.in-Err-Stopped.field-0-is at (c.in-Err-Stopped.ensures.ends.lines _ (lines_none _)))
 
 pub returns-in-Err-Stopped-clause-answer : goal.returns-in-Err-Stopped-clause-answer
 returns-in-Err-Stopped-clause-answer g c = λ m known b knows.
@@ -106,3 +117,28 @@ returns-clause-answer g c = λ m known b knows.
     subst (λ x. EndsAs x a.lines (outcome_of (meaning w p before)) r) (sym c.ended_early-in-Err-WriteFault.ensures.ending)
     (is_broken w r now (late_meaning g.A.Access.cost w p before) (meaning w p before) (late_pair g.A.Access.cost w p before)
     (later_end w now _ _ same (rw c.in-Err-WriteFault.field-0-is at (c.in-Err-WriteFault.ensures.gives m n known b (left_by a) knows))) refl refl)
+
+pub returns-clause-lines : goal.returns-clause-lines
+returns-clause-lines g c = subst (λ x. HasLines x (g.K.Sink.written c.args.sink.now) (g.K.Sink.written c.run_all.new.sink)) (sym c.ended_early-in-Err-WriteFault.ensures.ending) tt
+
+pub returns-in-Ok-run_all-clause-whole : goal.returns-in-Ok-run_all-clause-whole
+returns-in-Ok-run_all-clause-whole g c = λ m answered b left is.
+    c.ended_whole.ensures.goes m answered (c.run_all.ensures.keeps.on m b) left (subst ComesToEnd (sym is) tt)
+
+pub returns-in-Err-Halted-clause-whole : goal.returns-in-Err-Halted-clause-whole
+returns-in-Err-Halted-clause-whole g c = λ m answered b left is.
+    c.ended_whole-in-Err-Halted.ensures.goes m answered (c.run_all.ensures.keeps.on m b) left (subst ComesToEnd (sym is) tt)
+
+pub returns-in-Err-Stopped-clause-whole : goal.returns-in-Err-Stopped-clause-whole
+returns-in-Err-Stopped-clause-whole g c = λ m answered b left is.
+    absurd (stopped_short c.in-Err-Stopped.stop c.ended_early-in-Err-Stopped.result.ending (c.ended_early-in-Err-Stopped.ensures.ending ∙ c.from.ensures) (subst ComesToEnd (sym is) tt))
+
+pub returns-in-Ok-run_all-clause-counted : goal.returns-in-Ok-run_all-clause-counted
+returns-in-Ok-run_all-clause-counted g c = λ is. c.ended_whole.ensures.counted (subst ComesToEnd (sym is) tt)
+
+pub returns-in-Err-Halted-clause-counted : goal.returns-in-Err-Halted-clause-counted
+returns-in-Err-Halted-clause-counted g c = λ is. c.ended_whole-in-Err-Halted.ensures.counted (subst ComesToEnd (sym is) tt)
+
+pub returns-in-Err-Stopped-clause-counted : goal.returns-in-Err-Stopped-clause-counted
+returns-in-Err-Stopped-clause-counted g c = λ is.
+    absurd (stopped_short c.in-Err-Stopped.stop c.ended_early-in-Err-Stopped.result.ending (c.ended_early-in-Err-Stopped.ensures.ending ∙ c.from.ensures) (subst ComesToEnd (sym is) tt))

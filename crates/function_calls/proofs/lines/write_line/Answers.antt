@@ -1,9 +1,10 @@
-use Rattle.std.proofs.Common.{◌≡◌, ◌∙◌, true, nat_lt, take, subst, arith}
+use Rattle.std.proofs.Common.{rules, ◌≡◌, ◌∙◌, true, nat_lt, length, take, ap, subst, sym, arith}
 use Rattle.std.specs.Io.KnownBytes.{Appends}
 use Rattle.access_calls.specs.Reported.{world_from}
 use Rattle.sequence_rules.specs.Known.{known_part}
 use Rattle.function_calls.specs.Held.{seen}
-use Rattle.sequence_rules.proofs.KnownLemmas.{known_more}
+use Rattle.sequence_rules.proofs.KnownLemmas.{known_more, knows_more}
+use Rattle.function_calls.proofs.WholeLines.{lines_more, whole_bytes}
 use Rattle.function_calls.proofs.Leaves.{passed}
 use Rattle.function_calls.proofs.LineLemmas.{line_on, line_fails, line_stops, line_refused}
 use Rattle.function_calls.proofs.lines.write_line.Goals as goal
@@ -36,3 +37,12 @@ returns-clause-gives g c = λ m answered known text is b l knows.
     let part = c.in-Err.ensures.bytes in
     line_fails g.A.Access.cost (world_from m answered) text c.args.value (seen known c.args.held.now (g.A.Access.reported c.args.access.now).asks old) (g.A.Access.reported c.confirm.new.access).asks (known_part known new) part.0 some
     (c.in_ok-confirm.ensures.whole m answered b l) c.in_ok-confirm.ensures.ends.calls (known_more known old new (take part.0 text) (subst (λ x. Appends old new (take part.0 x)) (c.as_bytes.ensures ∙ line) part.1) knows)
+
+pub returns-in-Ok-put-clause-ends : goal.returns-in-Ok-put-clause-ends
+returns-in-Ok-put-clause-ends g c = record {
+  end = c.in_ok-confirm.ensures.ends.end;
+  counted = c.requires.ready.counted ∙ sym (ap length c.in_ok-confirm.ensures.ends.calls);
+  knows = λ known k. knows_more known _ _ _ c.in-Ok-put.ensures.bytes k;
+  lines = λ before h. lines_more before _ _ _ h (whole_bytes _ _ _ c.as_bytes.ensures c.in-Ok.is c.requires.whole) c.in-Ok-put.ensures.bytes;
+  cause = search rules;
+}

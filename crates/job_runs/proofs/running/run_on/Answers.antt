@@ -6,6 +6,7 @@ use Rattle.access_calls.proofs.OpeningLemmas.{loaded_may_begin}
 use Rattle.probe_core.specs.Bench.{seen}
 use Rattle.access_calls.specs.Left.{answered_by}
 use Rattle.access_calls.proofs.KeepLemmas.{left_by}
+use Rattle.control_flow.proofs.EndRules.{no_lines}
 use Rattle.job_runs.specs.Runs.{access_kind, config_of, known_after, task_in}
 use Rattle.job_runs.proofs.LeaveLemmas.{not_begun, nothing_written, opened_run, still_seen}
 use Rattle.job_runs.proofs.running.run_on.Goals as goal
@@ -39,3 +40,6 @@ returns-in-Err-clause-run g c = λ is.
     (take c.in-Err.refused.sent_length c.in-Err.refused.sent) (take c.in-Err.refused.got_length c.in-Err.refused.got)
     c.end_begin.result.ended (known_after old old) is may refused c.end_begin.ensures.ending (nothing_written old) in
     (r.0, ap g.B.Bench.state c.end_begin.ensures.bench ∙ r.1, r.2)
+
+pub returns-in-Err-clause-lines : goal.returns-in-Err-clause-lines
+returns-in-Err-clause-lines g c = no_lines _ _

@@ -1,0 +1,19 @@
+use Rattle.std.proofs.Common.{Ok, refl}
+use Rattle.report_lines.specs.Closes.{full_line}
+use Rattle.report_lines.specs.Target.{target_lines}
+use Rattle.report_lines.proofs.FrameLemmas.{shows_on, shows_puts}
+use Rattle.report_lines.proofs.RowLemmas.{piece_after, piece_first}
+use Rattle.report_lines.proofs.closes.full_text.Goals as goal
+
+pub returns-in-Ok-clause-text : goal.returns-in-Ok-clause-text
+returns-in-Ok-clause-text g c =
+    piece_after _ _ _ _ _ (full_line) (λ t. target_lines t c.args.job.now.bench.target.aps c.args.job.now.watch) c.in-Ok.ensures.text c.target_lines.ensures.text
+
+pub returns-in-Err-clause-text : goal.returns-in-Err-clause-text
+returns-in-Err-clause-text g c =
+    piece_first _ _ _ (full_line) (λ t. target_lines t c.args.job.now.bench.target.aps c.args.job.now.watch) c.in-Err.ensures.text
+
+pub returns-in-Ok-clause-ends : goal.returns-in-Ok-clause-ends
+returns-in-Ok-clause-ends g c =
+    let bench = g.B.Bench.reported c.args.bench.now in
+    shows_on g.K.Sink.written g.K.Sink.faults tt c.target_lines.result bench bench _ _ _ _ (shows_puts g.K.Sink.written g.K.Sink.faults (Ok tt) bench bench _ _ refl c.in-Ok.ensures.ends) c.target_lines.ensures.ends

@@ -1,0 +1,130 @@
+//! The text of what followed a sequence: a load, or a scan.
+ghost use Rattle.std.specs.Prelude.{◌≡◌, ◌≢◌, IfErr, IfOk, IfSome};
+ghost use Rattle.dap_base.specs.Streams.{PutAppends};
+ghost use Rattle.probe_core.specs.Probe.{target_of};
+ghost use Rattle.probe_core.specs.Ranges.{IsBenchJob};
+ghost use Rattle.job_text.specs.Ranges.{AreWatched};
+ghost use Rattle.text_lines.specs.Causes.{NamesFault};
+ghost use Rattle.report_lines.specs.Closes.{differs_line, differs_lines, full_line, full_lines, loaded_line};
+ghost use Rattle.report_lines.specs.Frame.{EndsShowing, KeepsBench};
+ghost use Rattle.report_lines.specs.Target.{target_lines};
+
+use crate::put::{TextEnd, put, put_line};
+use crate::target::write_target;
+use dap_base::{OutOfMemory, Sink};
+use job_text::Job;
+use probe_core::Bench;
+use std::alloc::Global;
+use text_lines::Line;
+
+/// Puts the lines of the target of a bench, each by one `put`, as a report has them: the debug port, the access ports of the job in
+/// rising order, the lines of the probe, and the watched words. Each part is requested directly before its line. A part that the bench
+/// does not show has no line.
+///
+/// `WriteFault` where the sink failed, `BenchFault` where the bench failed, `OutOfMemory` where memory is refused: a prefix of the lines
+/// was then appended. The bench stays as it was, except its count of faults at `BenchFault`.
+pub fn target_lines<K: Sink, B: Bench>(
+    alloc: Global,
+    job: &Job,
+    bench: &mut B,
+    sink: &mut K,
+) -> Result<(), TextEnd>
+    requires bench { IsBenchJob job.now.bench }
+    requires watch { AreWatched job.now.bench.target.memory job.now.watch }
+    ensures text { IfSome (B.state bench.old) (λ m. PutAppends (K.written sink.old) (K.written sink.new) result (target_lines (target_of m.probe) job.now.bench.target.aps job.now.watch)) }
+    ensures keeps { KeepsBench B.reported B.state B.identity bench.old bench.new }
+    ensures ends { EndsShowing K.written K.faults result (B.reported bench.old) (B.reported bench.new) sink.old sink.new }
+{
+    write_target(
+        alloc,
+        job.bench.target.aps.as_slice(),
+        job.watch.as_slice(),
+        bench,
+        sink,
+    )
+}
+
+// How many bytes and writes a load took.
+fn loaded_line(alloc: Global, bytes: u32, writes: u32) -> Result<Line, OutOfMemory>
+    ensures { IfOk result (λ line. line ≡ loaded_line bytes writes) }
+{
+    let line = Line::begin(alloc, "loaded ")?.decimal(u64::from(bytes))?;
+    line.labelled(" bytes ", u64::from(writes))?
+        .text(" writes\n")
+}
+
+/// Puts the line of an image that was written and read back as it was written, by one `put`: how many bytes it has, and how many writes
+/// they took.
+///
+/// `WriteFault` where the sink failed, `OutOfMemory` where memory is refused: a prefix of the line was then appended. Never
+/// `BenchFault`.
+pub fn loaded_text<K: Sink>(
+    alloc: Global,
+    bytes: u32,
+    writes: u32,
+    sink: &mut K,
+) -> Result<(), TextEnd>
+    ensures text { PutAppends (K.written sink.old) (K.written sink.new) result (loaded_line bytes writes) }
+    ensures never { IfErr result (λ e. e ≢ TextEnd.BenchFault) }
+    ensures sink { NamesFault TextEnd.WriteFault (K.faults sink.old) (K.faults sink.new) result }
+{
+    put_line(loaded_line(alloc, bytes, writes), sink)
+}
+
+// Which byte differs, what it should be, and what was found.
+fn differs_line(alloc: Global, address: u32, wanted: u8, found: u8) -> Result<Line, OutOfMemory>
+    ensures { IfOk result (λ line. line ≡ differs_line address wanted found) }
+{
+    let line = Line::begin(alloc, "end differs ")?.hex8(address)?;
+    let line = line.text(" wanted ")?.hex2(wanted)?;
+    line.text(" found ")?.hex2(found)?.text("\n")
+}
+
+/// Puts the text of an image that was read back as another one, each line by one `put`: the first byte that differs, with its address, the
+/// byte of the image and the byte that was read; and then the target of the bench, as `target_lines` has it.
+///
+/// `WriteFault` where the sink failed, `BenchFault` where the bench failed, `OutOfMemory` where memory is refused: a prefix of the text
+/// was then appended. The bench stays as it was, except its count of faults at `BenchFault`.
+pub fn differs_text<K: Sink, B: Bench>(
+    alloc: Global,
+    address: u32,
+    wanted: u8,
+    found: u8,
+    job: &Job,
+    bench: &mut B,
+    sink: &mut K,
+) -> Result<(), TextEnd>
+    requires bench { IsBenchJob job.now.bench }
+    requires watch { AreWatched job.now.bench.target.memory job.now.watch }
+    ensures text { IfSome (B.state bench.old) (λ m. PutAppends (K.written sink.old) (K.written sink.new) result (differs_lines address wanted found job.now (target_of m.probe))) }
+    ensures keeps { KeepsBench B.reported B.state B.identity bench.old bench.new }
+    ensures ends { EndsShowing K.written K.faults result (B.reported bench.old) (B.reported bench.new) sink.old sink.new }
+{
+    match put_line(differs_line(alloc, address, wanted, found), sink) {
+        Ok(()) => target_lines(alloc, job, bench, sink),
+        Err(end) => Err(end),
+    }
+}
+
+/// Puts the text of a scan that met more components than are listed, each line by one `put`: `end full`, and then the target of the
+/// bench, as `target_lines` has it.
+///
+/// `WriteFault` where the sink failed, `BenchFault` where the bench failed, `OutOfMemory` where memory is refused: a prefix of the text
+/// was then appended. The bench stays as it was, except its count of faults at `BenchFault`.
+pub fn full_text<K: Sink, B: Bench>(
+    alloc: Global,
+    job: &Job,
+    bench: &mut B,
+    sink: &mut K,
+) -> Result<(), TextEnd>
+    requires bench { IsBenchJob job.now.bench }
+    requires watch { AreWatched job.now.bench.target.memory job.now.watch }
+    ensures text { IfSome (B.state bench.old) (λ m. PutAppends (K.written sink.old) (K.written sink.new) result (full_lines job.now (target_of m.probe))) }
+    ensures keeps { KeepsBench B.reported B.state B.identity bench.old bench.new }
+    ensures ends { EndsShowing K.written K.faults result (B.reported bench.old) (B.reported bench.new) sink.old sink.new }
+{
+    match put(b"end full\n", sink) {
+        Ok(()) => target_lines(alloc, job, bench, sink),
+        Err(end) => Err(end),
+    }
+}
