@@ -8,4 +8,4 @@ mod loading;
 mod piece;
 
 pub use ends::{LoadEnd, Loaded};
-pub use loading::load;
+pub use loading::{count_writes, load};

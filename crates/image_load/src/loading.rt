@@ -16,13 +16,11 @@ use crate::comparing::difference;
 use crate::ends::{LoadEnd, Loaded};
 use crate::piece::{Difference, Piece, pieces_of};
 use access_calls::{Access, Stop};
+use dap_base::OutOfMemory;
 use hex_image::Image;
 use std::alloc::Global;
 use target_calls::{Asked, Slot};
 use target_machine::Unit;
-
-// The most bytes that an image has. `image_of` answers no larger one.
-const MOST_BYTES: usize = 262_144;
 
 // The memory access that reads or writes a piece.
 fn unit_of(read: bool, ap: u8, piece: Piece) -> Unit
@@ -186,6 +184,18 @@ fn load_pieces<A: Access>(ap: u8, pieces: &[Piece], access: &mut A) -> Result<()
     }
 }
 
+/// How many writes the load of an image makes: one of four bytes for each word whose four bytes are in the image, and one for each other
+/// byte. At most 262,144. Refused where memory is.
+pub fn count_writes(alloc: Global, image: &Image) -> Result<u32, OutOfMemory>
+    ensures count { IfOk result (λ n. n ≡ length (pieces image.now)) }
+    ensures few { IfOk result (λ n. n ≤ 262144) }
+{
+    match pieces_of(alloc, image) {
+        Ok(pieces) => Ok(pieces.len() as u32),
+        Err(_) => Err(OutOfMemory),
+    }
+}
+
 /// Writes an image through an access port, reads it back, and finishes. At most 1,000,000 calls were asked of the access before, and it has no end.
 ///
 /// The writes come first, in rising order: a word for each word with all four bytes in the image, a byte for each other byte. Then the
@@ -194,8 +204,7 @@ fn load_pieces<A: Access>(ap: u8, pieces: &[Piece], access: &mut A) -> Result<()
 /// # Errors
 ///
 /// `Differs` exactly where a byte was read as another one, with the first of them. Then all was written and read, and the access goes on. `Stop`
-/// where the access stopped, which is its end, or where memory was refused. Then the first of the calls were asked, or none. An image of more
-/// than 262,144 bytes, which `image_of` does not answer, is refused as memory is.
+/// where the access stopped, which is its end, or where memory was refused. Then the first of the calls were asked, or none.
 pub fn load<A: Access>(
     alloc: Global,
     image: &Image,
@@ -218,9 +227,6 @@ pub fn load<A: Access>(
     ensures goes { GoesOn (A.reported access.old) (A.reported access.new) }
 {
     let bytes = image.bytes().len();
-    if bytes > MOST_BYTES {
-        return Err(LoadEnd::Stop(Stop::OutOfMemory));
-    }
     let pieces = match pieces_of(alloc, image) {
         Ok(pieces) => pieces,
         Err(_) => return Err(LoadEnd::Stop(Stop::OutOfMemory)),

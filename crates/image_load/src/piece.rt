@@ -56,7 +56,8 @@ fn word_at(bytes: &[(u32, u8)]) -> Option<Piece>
 
 // The bytes of an image, each with its address.
 fn bytes_of(alloc: Global, image: &Image) -> Result<Vec<(u32, u8)>, AllocError>
-    ensures { IfOk result (λ bytes. bytes.items ≡ image.now) }
+    ensures bytes { IfOk result (λ bytes. bytes.items ≡ image.now) }
+    ensures few { length image.now ≤ 262144 }
 {
     let mut bytes = Vec::with_capacity(alloc, image.bytes().len())?;
     for (address, byte) in image.bytes() {
@@ -93,6 +94,7 @@ pub(crate) fn pieces_of(alloc: Global, image: &Image) -> Result<Vec<Piece>, Allo
     ensures answer { IfOk result (λ ps. ps.items ≡ pieces image.now) }
     ensures sound { IfOk result (λ ps. All IsPiece ps.items) }
     ensures few { IfOk result (λ ps. length ps.items ≤ length image.now) }
+    ensures most { IfOk result (λ ps. length ps.items ≤ 262144) }
 {
     let bytes = bytes_of(alloc, image)?;
     pieces_in(alloc, &bytes)

@@ -6,6 +6,7 @@ pub mod ArriveLemmas
 pub mod StepLemmas
 pub mod LineLemmas
 pub mod ScanLemmas
+pub mod FullLemmas
 pub mod ListLemmas
 pub mod PortLemmas
 pub mod OnlyLemmas

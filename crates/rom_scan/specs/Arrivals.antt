@@ -44,3 +44,10 @@ left_of tables listed = 970 * (1024 - length listed) + sum_by (λ (t : Table). t
 pub record IsOpen (t : Table) : Type 0 where
   pub page : t.address % 4096 ≡ 0
   pub few : t.left ≤ 960
+
+-- so it is where there were too many components
+abbrev pub AtFull : Result ℕ ScanEnd → Type 0 → Type 0
+AtFull (Ok n) P = Unit {0}
+AtFull (Err e.Full) P = P
+AtFull (Err e.WriteFault) P = Unit {0}
+AtFull (Err (e.Stop s)) P = Unit {0}

@@ -13,5 +13,5 @@ mod walking;
 
 pub use component::{Component, Known};
 pub use scan_end::ScanEnd;
-pub use scanning::scan;
+pub use scanning::{scan, scan_counting};
 pub use tables::Table;

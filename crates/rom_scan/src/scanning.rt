@@ -5,7 +5,7 @@ ghost use Rattle.target_calls.specs.World.{stop};
 ghost use Rattle.access_calls.specs.GoesOn.{GoesOn};
 ghost use Rattle.access_calls.specs.Left.{IsLeft};
 ghost use Rattle.access_calls.specs.Reported.{world_from};
-ghost use Rattle.rom_scan.specs.Arrivals.{HasSinkCause, ScanEndIs};
+ghost use Rattle.rom_scan.specs.Arrivals.{AtFull, HasSinkCause, ScanEndIs};
 ghost use Rattle.rom_scan.specs.Components.{is_no_base, page};
 ghost use Rattle.rom_scan.specs.Scans.{Lists, Scans};
 ghost use Rattle.rom_scan.specs.Walk.{component, scanned};
@@ -33,7 +33,7 @@ fn page_of(base: u32) -> u32
     base / 4096 * 4096
 }
 
-// The root at an address, and all below it. Answers how many units were asked.
+// The root at an address, and all below it. Answers how many units were asked; at `Full` their number is added to `units`.
 #[tactic(auto, using(access_calls::proofs::KeepLemmas::goes_trans))]
 fn list_from<A: Access, K: Sink>(
     alloc: Global,
@@ -41,7 +41,9 @@ fn list_from<A: Access, K: Sink>(
     address: u32,
     access: &mut A,
     sink: &mut K,
+    units: &mut u32,
 ) -> Result<u32, ScanEnd>
+    requires room { units.old ≤ 100 }
     requires page { address % 4096 ≡ 0 }
     requires few { length (A.reported access.old).asks.calls ≤ 1000001 }
     requires open { (A.reported access.old).end ≡ None }
@@ -50,6 +52,8 @@ fn list_from<A: Access, K: Sink>(
         → Lists (world_from m answered) (A.reported access.new).lines (component 1024 ap 7 address []) result (A.reported access.old).asks.calls (A.reported access.new).asks.calls (K.written sink.old) (K.written sink.new) }
     ensures asked { IfOk result (λ n. length (A.reported access.new).asks.calls ≡ length (A.reported access.old).asks.calls + n) }
     ensures few { IfOk result (λ n. n ≤ 993280) }
+    ensures full { AtFull result (length (A.reported access.new).asks.calls + units.old ≡ length (A.reported access.old).asks.calls + units.new) }
+    ensures most { units.new ≤ units.old + 7000010 }
     ensures cause { HasSinkCause result (K.faults sink.old) (K.faults sink.new) }
     ensures end { ScanEndIs result (A.reported access.new).end }
     ensures on { (m : BenchState) → A.begun access.old m → A.begun access.new m }
@@ -62,20 +66,25 @@ fn list_from<A: Access, K: Sink>(
         Ok(words) => words,
         Err(end) => return Err(end),
     };
-    match walk(alloc, ap, &mut tables, &mut listed, access, sink) {
+    match walk(alloc, ap, &mut tables, &mut listed, access, sink, units) {
         Ok(more) => Ok(words + more),
-        Err(end) => Err(end),
+        Err(end) => {
+            *units += words;
+            Err(end)
+        }
     }
 }
 
-// A scan up to its last unit. Answers how many units were asked.
+// A scan up to its last unit. Answers how many units were asked; at `Full` their number is added to `units`.
 #[tactic(auto, using(access_calls::proofs::KeepLemmas::goes_trans))]
 fn list_all<A: Access, K: Sink>(
     alloc: Global,
     ap: u8,
     access: &mut A,
     sink: &mut K,
+    units: &mut u32,
 ) -> Result<u32, ScanEnd>
+    requires room { units.old ≤ 100 }
     requires few { length (A.reported access.old).asks.calls ≤ 1000000 }
     requires open { (A.reported access.old).end ≡ None }
     ensures gives { (m : BenchState) (answered : Option ℕ) → A.begun access.old m → IsLeft (A.reported access.new) answered
@@ -83,6 +92,7 @@ fn list_all<A: Access, K: Sink>(
         → Lists (world_from m answered) (A.reported access.new).lines (scanned 1024 ap) result (A.reported access.old).asks.calls (A.reported access.new).asks.calls (K.written sink.old) (K.written sink.new) }
     ensures asked { IfOk result (λ n. length (A.reported access.new).asks.calls ≡ length (A.reported access.old).asks.calls + n) }
     ensures few { IfOk result (λ n. n ≤ 993281) }
+    ensures full { AtFull result (length (A.reported access.new).asks.calls + units.old ≡ length (A.reported access.old).asks.calls + units.new) }
     ensures cause { HasSinkCause result (K.faults sink.old) (K.faults sink.new) }
     ensures end { ScanEndIs result (A.reported access.new).end }
     ensures on { (m : BenchState) → A.begun access.old m → A.begun access.new m }
@@ -96,9 +106,51 @@ fn list_all<A: Access, K: Sink>(
     if is_no_base(base) {
         return Ok(1);
     }
-    match list_from(alloc, ap, page_of(base), access, sink) {
+    match list_from(alloc, ap, page_of(base), access, sink, units) {
         Ok(more) => Ok(1 + more),
-        Err(end) => Err(end),
+        Err(end) => {
+            *units += 1;
+            Err(end)
+        }
+    }
+}
+
+/// Does what `scan` does, and counts the units also at `Full`, where the number of those that it asked is added to `units`. That is at
+/// most 100 before, and unspecified after `WriteFault` and `Stop`.
+#[tactic(auto, using(access_calls::proofs::KeepLemmas::goes_trans))]
+pub fn scan_counting<A: Access, K: Sink>(
+    alloc: Global,
+    ap: u8,
+    access: &mut A,
+    sink: &mut K,
+    units: &mut u32,
+) -> Result<u32, ScanEnd>
+    requires room { units.old ≤ 100 }
+    requires few { length (A.reported access.old).asks.calls ≤ 1000000 }
+    requires open { (A.reported access.old).end ≡ None }
+    ensures gives { (m : BenchState) (answered : Option ℕ) → A.begun access.old m → IsLeft (A.reported access.new) answered
+        → stop (world_from m answered) (A.reported access.old).asks.calls ≡ None
+        → Scans (world_from m answered) (A.reported access.new).lines ap result (A.reported access.old).asks.calls (A.reported access.new).asks.calls (K.written sink.old) (K.written sink.new) }
+    ensures asked { IfOk result (λ n. length (A.reported access.new).asks.calls ≡ length (A.reported access.old).asks.calls + n) }
+    ensures few { IfOk result (λ n. n ≤ 993281) }
+    ensures full { AtFull result (length (A.reported access.new).asks.calls + units.old ≡ length (A.reported access.old).asks.calls + units.new) }
+    ensures cause { HasSinkCause result (K.faults sink.old) (K.faults sink.new) }
+    ensures end { ScanEndIs result (A.reported access.new).end }
+    ensures on { (m : BenchState) → A.begun access.old m → A.begun access.new m }
+    ensures identity { A.identity access.new ≡ A.identity access.old }
+    ensures goes { GoesOn (A.reported access.old) (A.reported access.new) }
+{
+    match list_all(alloc, ap, access, sink, units) {
+        Ok(units) => match access.finish() {
+            Ok(()) => Ok(units),
+            Err(stop) => Err(ScanEnd::Stop(stop)),
+        },
+        Err(ScanEnd::Full) => match access.finish() {
+            Ok(()) => Err(ScanEnd::Full),
+            Err(stop) => Err(ScanEnd::Stop(stop)),
+        },
+        Err(ScanEnd::WriteFault) => Err(ScanEnd::WriteFault),
+        Err(ScanEnd::Stop(stop)) => Err(ScanEnd::Stop(stop)),
     }
 }
 
@@ -111,7 +163,6 @@ fn list_all<A: Access, K: Sink>(
 ///
 /// `Full` comes exactly where a component would be read after 1,024. `WriteFault` comes only where the sink failed; a part of the
 /// lines was then written, and the access goes on. `Stop` has the end of the access, or says that memory was refused.
-#[tactic(auto, using(access_calls::proofs::KeepLemmas::goes_trans))]
 pub fn scan<A: Access, K: Sink>(
     alloc: Global,
     ap: u8,
@@ -131,16 +182,6 @@ pub fn scan<A: Access, K: Sink>(
     ensures identity { A.identity access.new ≡ A.identity access.old }
     ensures goes { GoesOn (A.reported access.old) (A.reported access.new) }
 {
-    match list_all(alloc, ap, access, sink) {
-        Ok(units) => match access.finish() {
-            Ok(()) => Ok(units),
-            Err(stop) => Err(ScanEnd::Stop(stop)),
-        },
-        Err(ScanEnd::Full) => match access.finish() {
-            Ok(()) => Err(ScanEnd::Full),
-            Err(stop) => Err(ScanEnd::Stop(stop)),
-        },
-        Err(ScanEnd::WriteFault) => Err(ScanEnd::WriteFault),
-        Err(ScanEnd::Stop(stop)) => Err(ScanEnd::Stop(stop)),
-    }
+    let mut units = 0;
+    scan_counting(alloc, ap, access, sink, &mut units)
 }

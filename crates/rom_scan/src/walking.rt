@@ -6,7 +6,7 @@ ghost use Rattle.target_calls.specs.World.{stop};
 ghost use Rattle.access_calls.specs.GoesOn.{GoesOn};
 ghost use Rattle.access_calls.specs.Left.{IsLeft};
 ghost use Rattle.access_calls.specs.Reported.{world_from};
-ghost use Rattle.rom_scan.specs.Arrivals.{HasSinkCause, IsOpen, ScanEndIs, Walks, left_of};
+ghost use Rattle.rom_scan.specs.Arrivals.{AtFull, HasSinkCause, IsOpen, ScanEndIs, Walks, left_of};
 ghost use Rattle.rom_scan.specs.Components.{is_table, named_by};
 ghost use Rattle.rom_scan.specs.Walk.{is_listed};
 ghost use Rattle.rom_scan.specs.Tables.{opened, reached, unwound};
@@ -68,6 +68,7 @@ pub(crate) fn arrive<A: Access, K: Sink>(
     ensures less { OnOk result (left_of tables.new listed.new < left_of tables.old listed.old) }
     ensures asked { IfOk result (λ n. length (A.reported access.new).asks.calls ≡ length (A.reported access.old).asks.calls + n) }
     ensures few { IfOk result (λ n. n ≤ 9) }
+    ensures full { AtFull result (length (A.reported access.new).asks.calls ≡ length (A.reported access.old).asks.calls) }
     ensures cause { HasSinkCause result (K.faults sink.old) (K.faults sink.new) }
     ensures end { ScanEndIs result (A.reported access.new).end }
     ensures on { (m : BenchState) → A.begun access.old m → A.begun access.new m }
@@ -136,6 +137,7 @@ fn step<A: Access, K: Sink>(
     ensures deep { OnOk result (length tables.new ≤ 7) }
     ensures asked { IfOk result (λ n. length (A.reported access.new).asks.calls ≡ length (A.reported access.old).asks.calls + n) }
     ensures few { IfOk result (λ n. n ≤ 10) }
+    ensures full { AtFull result (length (A.reported access.new).asks.calls ≡ length (A.reported access.old).asks.calls + 1) }
     ensures cause { HasSinkCause result (K.faults sink.old) (K.faults sink.new) }
     ensures end { ScanEndIs result (A.reported access.new).end }
     ensures on { (m : BenchState) → A.begun access.old m → A.begun access.new m }
@@ -167,7 +169,7 @@ fn step<A: Access, K: Sink>(
     }
 }
 
-// All that is left of open tables. Answers how many units were asked.
+// All that is left of open tables. Answers how many units were asked; at `Full` their number is added to `units`.
 #[tactic(auto, using(access_calls::proofs::KeepLemmas::goes_trans, access_calls::proofs::KeepLemmas::goes_same))]
 pub(crate) fn walk<A: Access, K: Sink>(
     alloc: Global,
@@ -176,7 +178,9 @@ pub(crate) fn walk<A: Access, K: Sink>(
     listed: &mut ItemList<Component>,
     access: &mut A,
     sink: &mut K,
+    units: &mut u32,
 ) -> Result<u32, ScanEnd>
+    requires room { units.old ≤ 1000 }
     requires tables { All IsOpen tables.old }
     requires deep { length tables.old ≤ 7 }
     requires few { length (A.reported access.old).asks.calls + left_of tables.old listed.old ≤ 7000000 }
@@ -188,6 +192,8 @@ pub(crate) fn walk<A: Access, K: Sink>(
     ensures count { OnOk result (length (A.reported access.new).asks.calls ≤ length (A.reported access.old).asks.calls + left_of tables.old listed.old) }
     ensures asked { IfOk result (λ n. length (A.reported access.new).asks.calls ≡ length (A.reported access.old).asks.calls + n) }
     ensures few { IfOk result (λ n. n ≤ 7000000) }
+    ensures full { AtFull result (length (A.reported access.new).asks.calls + units.old ≡ length (A.reported access.old).asks.calls + units.new) }
+    ensures most { units.new ≤ units.old + 7000001 }
     ensures cause { HasSinkCause result (K.faults sink.old) (K.faults sink.new) }
     ensures end { ScanEndIs result (A.reported access.new).end }
     ensures on { (m : BenchState) → A.begun access.old m → A.begun access.new m }
@@ -203,7 +209,11 @@ pub(crate) fn walk<A: Access, K: Sink>(
         if table.left > 0 {
             match step(alloc, ap, table, tables, listed, access, sink) {
                 Ok(more) => asked += more,
-                Err(end) => return Err(end),
+                Err(end) => {
+                    // The entry that names one component too many was read.
+                    *units += asked + 1;
+                    return Err(end);
+                }
             }
         }
     }

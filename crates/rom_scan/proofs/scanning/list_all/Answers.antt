@@ -1,8 +1,9 @@
-use Rattle.std.proofs.Common.{◌∙◌, ◌+◌, [], Ok, Err, true, sym}
+use Rattle.std.proofs.Common.{◌≡◌, ◌∙◌, ◌+◌, [], length, Ok, Err, true, sym, arith}
 use Rattle.access_calls.specs.Reported.{world_from}
 use Rattle.target_calls.specs.Asks.{unit_ask}
 use Rattle.sequels.proofs.MeetingLemmas.{whole_after}
 use Rattle.rom_scan.specs.Walk.{component, scanned}
+use Rattle.rom_scan.proofs.FullLemmas.{at_full}
 use Rattle.rom_scan.proofs.ScanLemmas.{base_none, base_some, base_stops, lists_on}
 use Rattle.rom_scan.proofs.scanning.list_all.Goals as goal
 
@@ -49,3 +50,11 @@ returns-in-Err-list_from-clause-gives g c = λ m answered b l whole.
     (sym c.is_no_base.ensures ∙ c.if-is_no_base.false) c.page_of.ensures.page in
     lists_on w a.lines (scanned 1024 c.args.ap) rest (Err c.in-Err-list_from.end) old mid a.asks.calls before before now whole r
     (e.gives m answered (c.in-Ok.ensures.on m b) l (whole_after w (scanned 1024 c.args.ap) rest old mid before before whole r))
+
+pub returns-in-Err-list_from-clause-full : goal.returns-in-Err-list_from-clause-full
+returns-in-Err-list_from-clause-full g c =
+    let old = length (g.A.Access.reported c.args.access.now).asks.calls in
+    let mid = length (g.A.Access.reported c.ask_now.new.access).asks.calls in
+    let new = length (g.A.Access.reported c.list_from.new.access).asks.calls in
+    at_full (Err c.in-Err-list_from.end) (new + c.args.units.now ≡ mid + c.list_from.new.units) (new + c.args.units.now ≡ old + (c.list_from.new.units + 1))
+    (λ full. (let count = c.in-Ok.ensures.count in omega (arith, full, count))) c.in-Err-list_from.ensures.full

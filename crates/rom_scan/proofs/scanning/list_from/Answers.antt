@@ -1,9 +1,10 @@
-use Rattle.std.proofs.Common.{◌+◌, [], Ok, Err, sym, arith}
+use Rattle.std.proofs.Common.{◌≡◌, ◌+◌, [], length, Ok, Err, sym, arith}
 use Rattle.access_calls.specs.Reported.{world_from}
 use Rattle.sequels.specs.Meeting.{Reaches}
 use Rattle.sequels.proofs.MeetingLemmas.{reaches_as, whole_after}
 use Rattle.rom_scan.specs.Tables.{reached, unwound}
 use Rattle.rom_scan.specs.Walk.{component}
+use Rattle.rom_scan.proofs.FullLemmas.{at_full}
 use Rattle.rom_scan.proofs.ScanLemmas.{caused_on, left_start, lists_as, lists_done, lists_end, none_open, root_at}
 use Rattle.rom_scan.proofs.StepLemmas.{walks_on}
 use Rattle.rom_scan.proofs.scanning.list_from.Goals as goal
@@ -85,3 +86,17 @@ returns-in-Ok-walk-clause-few g c =
 pub returns-clause-cause : goal.returns-clause-cause
 returns-clause-cause g c =
     caused_on (Err c.in-Err-walk.end) (g.K.Sink.faults c.args.sink.now) (g.K.Sink.faults c.arrive.new.sink) (g.K.Sink.faults c.walk.new.sink) c.in-Ok.ensures.cause c.in-Err-walk.ensures.cause
+
+pub returns-in-Err-clause-full : goal.returns-in-Err-clause-full
+returns-in-Err-clause-full g c =
+    let old = length (g.A.Access.reported c.args.access.now).asks.calls in
+    let new = length (g.A.Access.reported c.arrive.new.access).asks.calls in
+    at_full (Err c.in-Err.end) (new ≡ old) (new + c.args.units.now ≡ old + c.args.units.now) (λ full. omega (arith, full)) c.in-Err.ensures.full
+
+pub returns-clause-full : goal.returns-clause-full
+returns-clause-full g c =
+    let old = length (g.A.Access.reported c.args.access.now).asks.calls in
+    let mid = length (g.A.Access.reported c.arrive.new.access).asks.calls in
+    let new = length (g.A.Access.reported c.walk.new.access).asks.calls in
+    at_full (Err c.in-Err-walk.end) (new + c.args.units.now ≡ mid + c.walk.new.units) (new + c.args.units.now ≡ old + (c.walk.new.units + c.in-Ok.words))
+    (λ full. (let asked = c.in-Ok.ensures.asked in omega (arith, full, asked))) c.in-Err-walk.ensures.full

@@ -1,4 +1,4 @@
-use Rattle.std.proofs.Common.{◌≡◌, ◌∙◌, ◌∷◌, ℕ, List, suc, length, Err, refl, ap, subst, arith}
+use Rattle.std.proofs.Common.{◌≡◌, ◌∙◌, ◌+◌, ◌∷◌, ℕ, List, suc, length, Err, refl, ap, subst, arith}
 use Rattle.std.specs.List.{All}
 use Rattle.std.proofs.lemmas.List.Elements.{All-tail}
 use Rattle.access_calls.proofs.KeepLemmas.{goes_same, goes_trans}
@@ -8,6 +8,7 @@ use Rattle.sequels.proofs.MeetingLemmas.{reaches_on, reaches_same, reaches_to, w
 use Rattle.rom_scan.specs.Arrivals.{HasSinkCause, IsOpen, left_of}
 use Rattle.rom_scan.specs.Tables.{unwound}
 use Rattle.rom_scan.specs.declared.tables.Table.{Table}
+use Rattle.rom_scan.proofs.FullLemmas.{at_full}
 use Rattle.rom_scan.proofs.StepLemmas.{closed_table, left_tail, walks_on}
 use Rattle.rom_scan.proofs.walking.walk.Goals as goal
 
@@ -19,6 +20,7 @@ tables-init g c = record {
   count = omega arith;
   asked = omega arith;
   faults = refl;
+  units = refl;
   ended = c.requires.open;
   on = λ m b. b;
   identity = refl;
@@ -51,6 +53,7 @@ tables-preserved-in-Ok g c =
           omega (arith, a, d, same);
       asked = (let a = e.asked in let b = inv.asked in omega (arith, a, b));
       faults = e.cause ∙ inv.faults;
+      units = inv.units;
       ended = e.end;
       on = λ m b. e.on m (inv.on m b);
       identity = e.identity ∙ inv.identity;
@@ -97,8 +100,39 @@ tables-preserved g c =
           omega (arith, d, same, less);
       asked = inv.asked;
       faults = inv.faults;
+      units = inv.units;
       ended = inv.ended;
       on = inv.on;
       identity = inv.identity;
       goes = inv.goes;
     }
+
+pub returns-in-None-clause-most : goal.returns-in-None-clause-most
+returns-in-None-clause-most g c = (let same = c.tables.invariant.units in omega (arith, same))
+
+pub overflow_add-units-in-Err : goal.overflow_add-units-in-Err
+overflow_add-units-in-Err g c =
+    let inv = c.tables.invariant in
+    let same = inv.units in
+    let room = c.requires.room in
+    let count = inv.count in
+    let asked = inv.asked in
+    let few = c.requires.few in
+    omega (arith, same, room, count, asked, few)
+
+pub returns-in-Err-clause-full : goal.returns-in-Err-clause-full
+returns-in-Err-clause-full g c =
+    let old = length (g.A.Access.reported c.args.access.now).asks.calls in
+    let mid = length (g.A.Access.reported c.tables.access).asks.calls in
+    let new = length (g.A.Access.reported c.step.new.access).asks.calls in
+    at_full (Err c.in-Err.end) (new ≡ mid + 1) (new + c.args.units.now ≡ old + (c.tables.units + (c.tables.asked + 1)))
+    (λ full. (let same = c.tables.invariant.units in let asked = c.tables.invariant.asked in omega (arith, full, same, asked))) c.in-Err.ensures.full
+
+pub returns-in-Err-clause-most : goal.returns-in-Err-clause-most
+returns-in-Err-clause-most g c =
+    let inv = c.tables.invariant in
+    let same = inv.units in
+    let count = inv.count in
+    let asked = inv.asked in
+    let few = c.requires.few in
+    omega (arith, same, count, asked, few)

@@ -19,6 +19,7 @@ invariant-tables g l = record {
   count : length (g.A.Access.reported l.access).asks.calls + left_of l.tables l.listed ≤ length (g.A.Access.reported l.fn.access).asks.calls + left_of l.fn.tables l.fn.listed;
   asked : length (g.A.Access.reported l.access).asks.calls ≡ length (g.A.Access.reported l.fn.access).asks.calls + l.asked;
   faults : g.K.Sink.faults l.sink ≡ g.K.Sink.faults l.fn.sink;
+  units : l.units ≡ l.fn.units;
   ended : (g.A.Access.reported l.access).end ≡ None;
   on : (m : BenchState) → g.A.Access.begun l.fn.access m → g.A.Access.begun l.access m;
   identity : g.A.Access.identity l.access ≡ g.A.Access.identity l.fn.access;
