@@ -7,13 +7,13 @@ use Rattle.std.proofs.lemmas.Bool.{both_ways, cases_lt}
 use Rattle.clap.specs.Words.{Kinds, Text, fault_of}
 use Rattle.sequence_resolve.specs.declared.selection.Selection.{Selection}
 use Rattle.command_words.specs.declared.answer.Command.{Command}
-use Rattle.command_words.specs.declared.answer.Command.TheVariants.{Check, Run, Trace, Gen}
+use Rattle.command_words.specs.declared.answer.Command.TheVariants.{Check, Run, Trace, Gen, Audit}
 use Rattle.command_words.specs.declared.mode.Mode.{Mode}
 use Rattle.command_words.specs.declared.mode.Mode.TheVariants as mode
 use Rattle.command_words.specs.declared.options.Options.{Options}
 use Rattle.command_words.specs.Line.{IsTaken, command_line, given}
-use Rattle.command_words.specs.Table.{IsCommand, IsRow, IsShortNumber, for_device, for_number, mode_text, options_by}
-use Rattle.command_words.proofs.TableLemmas.{mode_of_row, no_check, no_run, no_trace}
+use Rattle.command_words.specs.Table.{IsCommand, IsRow, IsShortNumber, for_device, for_number, mode_text, no_options, options_by}
+use Rattle.command_words.proofs.TableLemmas.{mode_of_row, no_audit, no_check, no_gen, no_run, no_trace}
 
 -- it is so, or it is not so
 abbrev Decided : Type 0 → Type 0
@@ -103,6 +103,14 @@ number_alone None None None (Some sequence) number = inr (λ text n is e. no_val
 number_alone None None None None None = inr (λ text n is e. no_value text (ap (λ (o : Options). o.number) e))
 number_alone None None None None (Some number) = by_number number
 
+none_given : (device variant pname sequence number : Value) → Decided (made device variant pname sequence number ≡ no_options)
+none_given (Some device) variant pname sequence number = inr (λ e. no_value device (sym (ap (λ (o : Options). o.device) e)))
+none_given None (Some variant) pname sequence number = inr (λ e. no_value variant (sym (ap (λ (o : Options). o.variant) e)))
+none_given None None (Some pname) sequence number = inr (λ e. no_value pname (sym (ap (λ (o : Options). o.pname) e)))
+none_given None None None (Some sequence) number = inr (λ e. no_value sequence (sym (ap (λ (o : Options). o.sequence) e)))
+none_given None None None None (Some number) = inr (λ e. no_value number (sym (ap (λ (o : Options). o.number) e)))
+none_given None None None None None = inl refl
+
 -- ---- rows of the table
 
 abbrev Row : List ℕ → Options → Type 0
@@ -117,17 +125,14 @@ run_row o = elim (with_sequence o.device o.variant o.pname o.sequence o.number) 
 trace_row : (o : Options) → Row (codes "trace") o
 trace_row o = elim (with_sequence o.device o.variant o.pname o.sequence o.number) [ inl s ↦ inl (Trace s.0 s.1, (refl, s.2)) | inr never ↦ inr (no_trace o never) ]
 
-apart : (a b : List ℕ) → bytes_eq a b ≡ false → a ≡ b → ⊥
-apart a b differ e = both_ways (bytes_eq a b) differ ((bytes_decides a b).1 e)
-
-no_gen : (o : Options) → ((text : List ℕ) (n : ℕ) → IsShortNumber text n → o ≡ for_number text → ⊥) → (c : Command) → IsRow (codes "gen") o c → ⊥
-no_gen o never (Check s) row = apart (codes "gen") (codes "check") refl row.0
-no_gen o never (Run s name) row = apart (codes "gen") (codes "run") refl row.0
-no_gen o never (Trace s name) row = apart (codes "gen") (codes "trace") refl row.0
-no_gen o never (Gen n) row = never row.1 n row.2 row.3
-
 gen_row : (o : Options) → Row (codes "gen") o
 gen_row o = elim (number_alone o.device o.variant o.pname o.sequence o.number) [ inl n ↦ inl (Gen n.0, (refl, n.1, n.2, n.3)) | inr never ↦ inr (no_gen o never) ]
+
+audit_row : (o : Options) → Row (codes "audit") o
+audit_row o = elim (none_given o.device o.variant o.pname o.sequence o.number) [ inl is ↦ inl (Audit, (refl, is)) | inr never ↦ inr (no_audit o never) ]
+
+apart : (a b : List ℕ) → bytes_eq a b ≡ false → a ≡ b → ⊥
+apart a b differ e = both_ways (bytes_eq a b) differ ((bytes_decides a b).1 e)
 
 -- the row of a text, by that of the mode whose name it is
 named_row : (m name : List ℕ) (o : Options) → bytes_eq m name ≡ true → Row name o → Row m o
@@ -136,20 +141,24 @@ named_row m name o is row = subst (λ (t : List ℕ). Row t o) (sym (same_text m
 no_row : (m : List ℕ) (o : Options) → ((mode : Mode) → m ≡ mode_text mode → ⊥) → Row m o
 no_row m o never = inr (λ c row. let is = mode_of_row m o c row in never is.0 is.1)
 
-by_mode : (m : List ℕ) (o : Options) (a b c d : Bool) → bytes_eq m (codes "check") ≡ a → bytes_eq m (codes "run") ≡ b → bytes_eq m (codes "trace") ≡ c → bytes_eq m (codes "gen") ≡ d → Row m o
-by_mode m o true b c d p q r s = named_row m (codes "check") o p (check_row o)
-by_mode m o false true c d p q r s = named_row m (codes "run") o q (run_row o)
-by_mode m o false false true d p q r s = named_row m (codes "trace") o r (trace_row o)
-by_mode m o false false false true p q r s = named_row m (codes "gen") o s (gen_row o)
-by_mode m o false false false false p q r s = no_row m o never where
+by_mode : (m : List ℕ) (o : Options) (a b c d e : Bool) → bytes_eq m (codes "check") ≡ a → bytes_eq m (codes "run") ≡ b → bytes_eq m (codes "trace") ≡ c → bytes_eq m (codes "gen") ≡ d
+    → bytes_eq m (codes "audit") ≡ e → Row m o
+by_mode m o true b c d e p q r s t = named_row m (codes "check") o p (check_row o)
+by_mode m o false true c d e p q r s t = named_row m (codes "run") o q (run_row o)
+by_mode m o false false true d e p q r s t = named_row m (codes "trace") o r (trace_row o)
+by_mode m o false false false true e p q r s t = named_row m (codes "gen") o s (gen_row o)
+by_mode m o false false false false true p q r s t = named_row m (codes "audit") o t (audit_row o)
+by_mode m o false false false false false p q r s t = no_row m o never where
   never : (is : Mode) → m ≡ mode_text is → ⊥
   never mode.Check e = apart m (codes "check") p e
   never mode.Run e = apart m (codes "run") q e
   never mode.Trace e = apart m (codes "trace") r e
   never mode.Gen e = apart m (codes "gen") s e
+  never mode.Audit e = apart m (codes "audit") t e
 
 row : (m : List ℕ) (o : Options) → Row m o
-row m o = by_mode m o (bytes_eq m (codes "check")) (bytes_eq m (codes "run")) (bytes_eq m (codes "trace")) (bytes_eq m (codes "gen")) refl refl refl refl
+row m o =
+    by_mode m o (bytes_eq m (codes "check")) (bytes_eq m (codes "run")) (bytes_eq m (codes "trace")) (bytes_eq m (codes "gen")) (bytes_eq m (codes "audit")) refl refl refl refl refl
 
 -- ---- words
 

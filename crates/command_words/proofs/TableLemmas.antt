@@ -3,7 +3,7 @@ use Rattle.std.proofs.Common.{◌≡◌, ◌∙◌, ap, ap₂, refl, sym, subst,
 use Rattle.std.specs.Prelude.{MatchOption, if◌then◌else◌, ◌==◌, unwrap_or}
 use Rattle.std.specs.Str.Parse.{digits_value}
 use Rattle.command_words.specs.declared.answer.Command.{Command}
-use Rattle.command_words.specs.declared.answer.Command.TheVariants.{Check, Run, Trace, Gen}
+use Rattle.command_words.specs.declared.answer.Command.TheVariants.{Check, Run, Trace, Gen, Audit}
 use Rattle.sequence_resolve.specs.declared.selection.Selection.{Selection}
 use Rattle.command_words.specs.declared.mode.Mode.{Mode}
 use Rattle.command_words.specs.declared.mode.Mode.TheVariants as mode
@@ -12,7 +12,7 @@ use Rattle.clap.specs.Words.{first_value}
 use Rattle.clap.specs.declared.parser.matches.Found.{Found}
 use Rattle.std.proofs.Math.Path.{fun_ext}
 use Rattle.command_words.specs.Line.{Finds, IsTaken, given}
-use Rattle.command_words.specs.Table.{IsCommand, IsRow, IsShortNumber, for_device, for_number, mode_text, options_by}
+use Rattle.command_words.specs.Table.{IsCommand, IsRow, IsShortNumber, for_device, for_number, mode_text, no_options, options_by}
 
 -- two names of modes differ at their first bytes
 differ : (a b : List ℕ) → nat_eq (slice_index a 0) (slice_index b 0) ≡ false → a ≡ b → ⊥
@@ -23,24 +23,35 @@ no_check options never (Check s) row = never s row.1
 no_check options never (Run s name) row = differ (codes "check") (codes "run") refl row.0
 no_check options never (Trace s name) row = differ (codes "check") (codes "trace") refl row.0
 no_check options never (Gen n) row = differ (codes "check") (codes "gen") refl row.0
+no_check options never Audit row = differ (codes "check") (codes "audit") refl row.0
 
 pub no_run : (options : Options) → ((s : Selection) (name : List ℕ) → options ≡ for_device s (Some name) → ⊥) → (c : Command) → IsRow (codes "run") options c → ⊥
 no_run options never (Check s) row = differ (codes "run") (codes "check") refl row.0
 no_run options never (Run s name) row = never s name row.1
 no_run options never (Trace s name) row = differ (codes "run") (codes "trace") refl row.0
 no_run options never (Gen n) row = differ (codes "run") (codes "gen") refl row.0
+no_run options never Audit row = differ (codes "run") (codes "audit") refl row.0
 
 pub no_trace : (options : Options) → ((s : Selection) (name : List ℕ) → options ≡ for_device s (Some name) → ⊥) → (c : Command) → IsRow (codes "trace") options c → ⊥
 no_trace options never (Check s) row = differ (codes "trace") (codes "check") refl row.0
 no_trace options never (Run s name) row = differ (codes "trace") (codes "run") refl row.0
 no_trace options never (Trace s name) row = never s name row.1
 no_trace options never (Gen n) row = differ (codes "trace") (codes "gen") refl row.0
+no_trace options never Audit row = differ (codes "trace") (codes "audit") refl row.0
 
 pub no_gen : (options : Options) → ((text : List ℕ) (n : ℕ) → IsShortNumber text n → options ≡ for_number text → ⊥) → (c : Command) → IsRow (codes "gen") options c → ⊥
 no_gen options never (Check s) row = differ (codes "gen") (codes "check") refl row.0
 no_gen options never (Run s name) row = differ (codes "gen") (codes "run") refl row.0
 no_gen options never (Trace s name) row = differ (codes "gen") (codes "trace") refl row.0
 no_gen options never (Gen n) row = never row.1 n row.2 row.3
+no_gen options never Audit row = differ (codes "gen") (codes "audit") refl row.0
+
+pub no_audit : (options : Options) → (options ≡ no_options → ⊥) → (c : Command) → IsRow (codes "audit") options c → ⊥
+no_audit options never (Check s) row = differ (codes "audit") (codes "check") refl row.0
+no_audit options never (Run s name) row = differ (codes "audit") (codes "run") refl row.0
+no_audit options never (Trace s name) row = differ (codes "audit") (codes "trace") refl row.0
+no_audit options never (Gen n) row = differ (codes "audit") (codes "gen") refl row.0
+no_audit options never Audit row = never row.1
 
 pub none_of : (m : Mode) (text : List ℕ) (options : Options) (r : Option Command) → r ≡ None → mode_text m ≡ text → ((c : Command) → IsRow text options c → ⊥)
     → MatchOption r ((c : Command) → IsRow (mode_text m) options c → ⊥) (λ c. IsRow (mode_text m) options c)
@@ -52,6 +63,7 @@ mode_of_row text options (Check s) row = (mode.Check, row.0)
 mode_of_row text options (Run s name) row = (mode.Run, row.0)
 mode_of_row text options (Trace s name) row = (mode.Trace, row.0)
 mode_of_row text options (Gen n) row = (mode.Gen, row.0)
+mode_of_row text options Audit row = (mode.Audit, row.0)
 
 -- ---- the one command
 
@@ -64,13 +76,15 @@ command_from m o =
     if slice_index m 0 == 99 then Check (selection_of o)
     else (if slice_index m 0 == 114 then Run (selection_of o) (unwrap_or o.sequence [])
     else (if slice_index m 0 == 116 then Trace (selection_of o) (unwrap_or o.sequence [])
-    else Gen (digits_value 10 (unwrap_or o.number []))))
+    else (if slice_index m 0 == 103 then Gen (digits_value 10 (unwrap_or o.number []))
+    else Audit)))
 
 of_row : (m : List ℕ) (o : Options) (c : Command) → IsRow m o c → command_from m o ≡ c
 of_row m o (Check s) row = ap₂ command_from row.0 row.1
 of_row m o (Run s name) row = ap₂ command_from row.0 row.1
 of_row m o (Trace s name) row = ap₂ command_from row.0 row.1
 of_row m o (Gen n) row = ap₂ command_from row.0 row.3 ∙ ap Gen row.2.value
+of_row m o Audit row = ap₂ command_from row.0 row.1
 
 of_words : (words : List (List ℕ)) (c : Command) → IsCommand words c → command_from (unwrap_or (given words (codes "mode")) []) (options_by (given words)) ≡ c
 of_words words c is = ap (λ (v : Option (List ℕ)). command_from (unwrap_or v []) (options_by (given words))) is.found ∙ of_row is.mode (options_by (given words)) c is.row

@@ -2,7 +2,7 @@
 use Rattle.std.specs.Prelude.{◌≡◌, ℕ, ◌^◌, ◌<◌, ◌≤◌, List, length, Option, Some, None, codes}
 use Rattle.std.specs.Str.Parse.{IsNumeral, digits_value}
 use Rattle.command_words.specs.declared.answer.Command.{Command}
-use Rattle.command_words.specs.declared.answer.Command.TheVariants.{Check, Run, Trace, Gen}
+use Rattle.command_words.specs.declared.answer.Command.TheVariants.{Check, Run, Trace, Gen, Audit}
 use Rattle.sequence_resolve.specs.declared.selection.Selection.{Selection}
 use Rattle.command_words.specs.declared.mode.Mode.{Mode}
 use Rattle.command_words.specs.declared.mode.Mode.TheVariants as mode
@@ -22,6 +22,7 @@ mode_text mode.Check = codes "check"
 mode_text mode.Run = codes "run"
 mode_text mode.Trace = codes "trace"
 mode_text mode.Gen = codes "gen"
+mode_text mode.Audit = codes "audit"
 
 -- a device, its variant and its processor where they are given, and a sequence or none
 abbrev pub for_device : Selection → Option (List ℕ) → Options
@@ -31,12 +32,17 @@ for_device s sequence = record { device = Some s.device; variant = s.variant; pn
 abbrev pub for_number : List ℕ → Options
 for_number text = record { device = None; variant = None; pname = None; sequence = None; number = Some text }
 
+-- no option
+abbrev pub no_options : Options
+no_options = record { device = None; variant = None; pname = None; sequence = None; number = None }
+
 -- the table: the command that a mode makes with these options
 abbrev pub IsRow : List ℕ → Options → Command → Type 0
 IsRow m options (Check s) = (m ≡ codes "check") × (options ≡ for_device s None)
 IsRow m options (Run s sequence) = (m ≡ codes "run") × (options ≡ for_device s (Some sequence))
 IsRow m options (Trace s sequence) = (m ≡ codes "trace") × (options ≡ for_device s (Some sequence))
 IsRow m options (Gen n) = (m ≡ codes "gen") × (text : List ℕ) × IsShortNumber text n × (options ≡ for_number text)
+IsRow m options Audit = (m ≡ codes "audit") × (options ≡ no_options)
 
 -- the options, by the value of each name
 abbrev pub options_by : (List ℕ → Option (List ℕ)) → Options

@@ -20,6 +20,8 @@ pub enum Command {
     },
     /// `gen`: the job of this number is made and run.
     Gen(u16),
+    /// `audit`: the trace of the job is compared with what its probe does.
+    Audit,
 }
 
 /// Why there is no command.

@@ -9,6 +9,7 @@ pub enum Mode {
     Run,
     Trace,
     Gen,
+    Audit,
 }
 
 /// The mode of this name. `None` for any other text.
@@ -20,6 +21,7 @@ pub fn mode_of(text: &str) -> Option<Mode>
         "run" => Some(Mode::Run),
         "trace" => Some(Mode::Trace),
         "gen" => Some(Mode::Gen),
+        "audit" => Some(Mode::Audit),
         _ => None,
     }
 }

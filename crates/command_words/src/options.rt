@@ -1,6 +1,6 @@
 //! The options of a command line, and the rows of options that a command may have.
-ghost use Rattle.std.specs.Prelude.{◌≡◌, ◌≢◌, ℕ, List, None, Some, MatchOption};
-ghost use Rattle.command_words.specs.Table.{for_device, for_number, IsShortNumber};
+ghost use Rattle.std.specs.Prelude.{◌≡◌, ◌≢◌, ◌↔◌, ℕ, List, None, Some, IsTrue, MatchOption};
+ghost use Rattle.command_words.specs.Table.{for_device, for_number, no_options, IsShortNumber};
 
 use crate::numeral::short_number;
 use dap_base::NameText;
@@ -77,4 +77,20 @@ pub fn number_alone(options: &Options) -> Option<u16>
         return None;
     };
     short_number(number.as_str())
+}
+
+/// Whether no option is given.
+pub fn are_none(options: &Options) -> bool
+    ensures { IsTrue result ↔ (options.now ≡ no_options) }
+{
+    matches!(
+        options,
+        Options {
+            device: None,
+            variant: None,
+            pname: None,
+            sequence: None,
+            number: None,
+        }
+    )
 }

@@ -4,7 +4,7 @@ ghost use Rattle.command_words.specs.Table.{IsRow, mode_text};
 
 use crate::answer::Command;
 use crate::mode::Mode;
-use crate::options::{Options, device_alone, device_and_sequence, number_alone};
+use crate::options::{Options, are_none, device_alone, device_and_sequence, number_alone};
 
 /// The command that the mode makes with these options. `None` where they are not the mode's.
 pub fn command_in(mode: Mode, options: Options) -> Option<Command>
@@ -32,6 +32,13 @@ pub fn command_in(mode: Mode, options: Options) -> Option<Command>
         Mode::Gen => {
             let number = number_alone(&options)?;
             Some(Command::Gen(number))
+        }
+        Mode::Audit => {
+            if are_none(&options) {
+                Some(Command::Audit)
+            } else {
+                None
+            }
         }
     }
 }

@@ -68,7 +68,8 @@ fn options_of(alloc: Global, matches: &ArgMatches<'_>) -> Result<Options, OutOfM
 /// `--pname`, `--sequence` and `--number`, each with one value and at most once. The mode `check`
 /// needs a device, `run` and `trace` need a device and a sequence, and each of the three takes a
 /// variant and a processor name too. The mode `gen` needs a number and takes nothing else: one to
-/// five decimal digits of a value of at most 65,535. The values of the command are copies.
+/// five decimal digits of a value of at most 65,535. The mode `audit` takes no option. The values of
+/// the command are copies.
 ///
 /// `Usage` exactly where `clap` refuses the words for another cause than memory, which its answers
 /// to `--help` and `-h` are, or where the mode or the options are none of these. `OutOfMemory` where

@@ -1,6 +1,6 @@
 -- What the words and the bytes ask for, step by step.
 use Rattle.std.proofs.Common.{◌≡◌, ℕ, Bool, true, false, List, [], Option, None, Some, Result, Ok, Err, length, nat_le, ◌<◌, subst, refl, arith}
-use Rattle.std.specs.Prelude.{IfOk, MatchBool, ◌≢◌}
+use Rattle.std.specs.Prelude.{IfOk, MatchBool, OnOk, ◌≢◌}
 use Rattle.command_words.specs.declared.answer.Command.{Command}
 use Rattle.command_words.specs.declared.answer.Command.TheVariants as commands
 use Rattle.command_words.specs.Table.{IsCommand}
@@ -8,8 +8,9 @@ use Rattle.command_words.proofs.TableLemmas.{one_command}
 use Rattle.sequence_resolve.specs.declared.selection.Selection.{Selection}
 use Rattle.job_check.specs.Running.{IsRefusedRun, OnEnd}
 use Rattle.job_check.specs.declared.running.RunRefusal.{RunRefusal}
+use Rattle.job_check.specs.declared.own.Own.TheVariants as own
 use Rattle.job_check.specs.declared.running.RunRefusal.TheVariants as refusals
-use Rattle.dapseq_tool.specs.Asked.{OnRun, of_refused, Asks, AsksOfBytes, AsksOfCommand, AsksOfRun, IsReadLine, IsRunCommand, IsRunLine, IsUsage, ReadsSource, command, generated, limit, usage}
+use Rattle.dapseq_tool.specs.Asked.{IsSound, IsSoundAnswer, of_refused, OnRun, Asks, AsksOfBytes, AsksOfCommand, AsksOfRun, IsReadLine, IsRunCommand, IsRunLine, IsUsage, ReadsSource, command, generated, limit, usage}
 use Rattle.dapseq_tool.specs.Generated.{its_device, its_sequence, job_text}
 use Rattle.dapseq_tool.specs.Headline.{AreBytesOf}
 use Rattle.dapseq_tool.specs.declared.asking.Answer.{Answer}
@@ -52,6 +53,10 @@ number_asked words left n asked is number asks = let some = some_bytes left in (
 pub no_read : (words : List (List ℕ)) (n : ℕ) → IsCommand words (commands.Gen n) → IsReadLine words → ⊥
 no_read words n is line = subst ReadsSource (one_command words line.0 (commands.Gen n) line.1 is) line.2
 
+pub none_taken : {E : Type 0} (words : List (List ℕ)) (c : Command) (n : ℕ) (P : Type 0) (r : Result Requested E) → IsCommand words c → c ≡ commands.Gen n → OnOk r (IsReadLine words → P)
+none_taken words c n P (Ok asked) is gen = λ line. absurd (no_read words n (subst (IsCommand words) gen is) line)
+none_taken words c n P (Err e) is gen = tt
+
 -- ---- where no sequence runs
 
 same_what : (x y : What) → Some x ≡ Some y → x ≡ y
@@ -61,28 +66,28 @@ no_what : (what : What) → None ≡ Some what → ⊥
 no_what what e = cc
 
 pub refused_asked : {E : Type 0} (s : Selection) (sequence : List ℕ) (traced : Bool) (bytes : List ℕ) (end : RunRefusal) (r : Result What E)
-    → OnEnd (IsRefusedRun bytes s sequence) end → IfOk r (λ what. of_refused end ≡ Some what) → IfOk r (AsksOfRun s sequence traced bytes)
+    → OnEnd (IsRefusedRun bytes own.Nothing s sequence) end → IfOk r (λ what. of_refused end ≡ Some what) → IfOk r (AsksOfRun s sequence traced bytes)
 refused_asked s sequence traced bytes end (Err e) h is = tt
 refused_asked s sequence traced bytes (refusals.Refused f) (Ok what) h is = subst (AsksOfRun s sequence traced bytes) (same_what (whats.Answer (answers.Refused f)) what is) h
 refused_asked s sequence traced bytes refusals.NoSequence (Ok what) h is = subst (AsksOfRun s sequence traced bytes) (same_what (whats.Answer answers.NoSequence) what is) h
 refused_asked s sequence traced bytes refusals.OutOfMemory (Ok what) h is = absurd (no_what what is)
 
 -- no run is asked for there, and no usage
-refused_what : (P : What → Type 0) (end : RunRefusal) (what : What) → ((answer : Answer) → answer ≢ answers.Usage → P (whats.Answer answer)) → of_refused end ≡ Some what → P what
-refused_what P (refusals.Refused f) what h is = subst P (same_what (whats.Answer (answers.Refused f)) what is) (h (answers.Refused f) (λ e. cc e))
-refused_what P refusals.NoSequence what h is = subst P (same_what (whats.Answer answers.NoSequence) what is) (h answers.NoSequence (λ e. cc e))
+refused_what : (P : What → Type 0) (end : RunRefusal) (what : What) → ((answer : Answer) → answer ≢ answers.Usage → IsSoundAnswer answer → P (whats.Answer answer)) → of_refused end ≡ Some what → P what
+refused_what P (refusals.Refused f) what h is = subst P (same_what (whats.Answer (answers.Refused f)) what is) (h (answers.Refused f) (λ e. cc e) tt)
+refused_what P refusals.NoSequence what h is = subst P (same_what (whats.Answer answers.NoSequence) what is) (h answers.NoSequence (λ e. cc e) tt)
 refused_what P refusals.OutOfMemory what h is = absurd (no_what what is)
 
 inner : (a b : Answer) → whats.Answer a ≡ whats.Answer b → a ≡ b
 inner a b e = cc
 
-pub refused_sound : {E : Type 0} (end : RunRefusal) (r : Result What E) (P : Run → Type 0) → IfOk r (λ what. of_refused end ≡ Some what) → IfOk r (λ what. OnRun what P)
-refused_sound end (Err e) P is = tt
-refused_sound end (Ok what) P is = refused_what (λ w. OnRun w P) end what (λ answer used. tt) is
+pub refused_sound : {E : Type 0} (end : RunRefusal) (r : Result What E) → IfOk r (λ what. of_refused end ≡ Some what) → IfOk r IsSound
+refused_sound end (Err e) is = tt
+refused_sound end (Ok what) is = refused_what IsSound end what (λ answer used sound. record { so = sound }) is
 
 pub refused_used : {E : Type 0} (end : RunRefusal) (r : Result What E) → IfOk r (λ what. of_refused end ≡ Some what) → IfOk r (λ what. what ≢ whats.Answer answers.Usage)
 refused_used end (Err e) is = tt
-refused_used end (Ok what) is = refused_what (λ w. w ≢ whats.Answer answers.Usage) end what (λ answer used e. used (inner answer answers.Usage e)) is
+refused_used end (Ok what) is = refused_what (λ w. w ≢ whats.Answer answers.Usage) end what (λ answer used sound e. used (inner answer answers.Usage e)) is
 
 -- ---- the words
 

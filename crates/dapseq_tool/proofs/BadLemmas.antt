@@ -27,6 +27,9 @@ answers_well answers.TooLong is = cc is
 answers_well answers.NoSequence is = cc is
 answers_well (answers.Refused r) is = cc is
 answers_well (answers.CheckOk set) is = cc is
+answers_well (answers.Audited audit) is = cc is
+answers_well (answers.AuditRefused fault) is = cc is
+answers_well answers.NoTrace is = cc is
 
 bad_ending : (ending : Ending) → run_status ending ≡ status.ReplyBad → ending ≡ e.ReplyBad
 bad_ending e.Done is = absurd (cc is)

@@ -70,6 +70,9 @@ usage_status answers.TooLong is = absurd (cc is)
 usage_status answers.NoSequence is = absurd (cc is)
 usage_status (answers.Refused r) is = absurd (cc is)
 usage_status (answers.CheckOk set) is = absurd (cc is)
+usage_status (answers.Audited audit) is = absurd (cc is)
+usage_status (answers.AuditRefused fault) is = absurd (cc is)
+usage_status answers.NoTrace is = absurd (cc is)
 
 not_written : (end : Status) → end ≡ status.Usage → (end ≡ status.WriteFault) ⊎ (end ≡ status.OutOfMemory) → ⊥
 not_written end is (inl e) = let z : status.Usage ≡ status.WriteFault = sym is ∙ e in cc

@@ -3,10 +3,13 @@ pub mod RunLemmas
 pub mod TextLemmas
 pub mod AskedLemmas
 pub mod CallLemmas
+pub mod AuditLemmas
+pub mod KeptLemmas
 pub mod SuccessLemmas
 pub mod OneLemmas
 pub mod BadLemmas
 pub mod LentLemmas
 pub mod MemoryLemmas
 pub mod JobLength
+pub mod TwoLemmas
 pub mod SomeAsked

@@ -8,11 +8,13 @@ use Rattle.command_words.proofs.TableLemmas.{one_command}
 use Rattle.sequence_resolve.specs.declared.selection.Selection.{Selection}
 use Rattle.job_check.specs.Running.{IsRefusedRun, IsSameRun, IsValidRun}
 use Rattle.job_check.specs.declared.answer.Refusal.{Refusal}
+use Rattle.job_check.specs.declared.own.Own.TheVariants as own
 use Rattle.job_check.specs.declared.running.RunRefusal.{RunRefusal}
 use Rattle.job_check.specs.declared.running.RunRefusal.TheVariants as refusals
 use Rattle.job_check.specs.declared.running.ValidRun.{ValidRun}
 use Rattle.job_check.proofs.OneAnswer as check
 use Rattle.job_check.proofs.OneRun as one
+use Rattle.dapseq_tool.proofs.AuditLemmas.{one_audit}
 use Rattle.dapseq_tool.specs.Asked.{Asks, AsksOfBytes, AsksOfCheck, AsksOfCommand, AsksOfRun, IsNoRunOf, IsRunOf, IsSameAsked, IsSameWhat, IsUsage, ReadsSource, command, generated, limit, of_check, usage}
 use Rattle.dapseq_tool.specs.Generated.{its_device, its_sequence, job_text}
 use Rattle.dapseq_tool.specs.declared.asking.Answer.{Answer}
@@ -26,7 +28,7 @@ use Rattle.dapseq_tool.specs.declared.asking.What.TheVariants as whats
 
 itself : (x : What) → IsSameWhat x x
 itself (whats.Answer a) = refl
-itself (whats.Run a) = record { valid = record { job = refl; set = refl; trees = refl }; name = refl; shown = refl }
+itself (whats.Run a) = record { valid = record { job = refl; image = refl; set = refl; trees = refl }; name = refl; shown = refl }
 
 same_by : (x y : What) → x ≡ y → IsSameWhat x y
 same_by x y is = subst (IsSameWhat x) is (itself x)
@@ -34,12 +36,15 @@ same_by x y is = subst (IsSameWhat x) is (itself x)
 -- ---- a run
 
 -- the reason of an answer
-reason : (s : Selection) (sequence bytes : List ℕ) (a : Answer) → IsNoRunOf s sequence bytes a → (end : RunRefusal) × IsRefusedRun bytes s sequence end
+reason : (s : Selection) (sequence bytes : List ℕ) (a : Answer) → IsNoRunOf s sequence bytes a → (end : RunRefusal) × IsRefusedRun bytes own.Nothing s sequence end
 reason s sequence bytes answers.NoSequence h = (refusals.NoSequence, h)
 reason s sequence bytes (answers.Refused r) h = (refusals.Refused r, h)
 reason s sequence bytes answers.Usage h = absurd h
 reason s sequence bytes answers.TooLong h = absurd h
 reason s sequence bytes (answers.CheckOk set) h = absurd h
+reason s sequence bytes (answers.Audited audit) h = absurd h
+reason s sequence bytes (answers.AuditRefused fault) h = absurd h
+reason s sequence bytes answers.NoTrace h = absurd h
 
 inner : (r q : Refusal) → refusals.Refused r ≡ refusals.Refused q → r ≡ q
 inner r q e = cc
@@ -49,27 +54,36 @@ apart r e = cc
 
 one_no_run : (s : Selection) (sequence bytes : List ℕ) (a b : Answer) → IsNoRunOf s sequence bytes a → IsNoRunOf s sequence bytes b → a ≡ b
 one_no_run s sequence bytes answers.NoSequence answers.NoSequence p q = refl
-one_no_run s sequence bytes answers.NoSequence (answers.Refused r) p q = absurd (apart r (one.one_refusal bytes s sequence _ _ p q))
-one_no_run s sequence bytes (answers.Refused r) answers.NoSequence p q = absurd (apart r (sym (one.one_refusal bytes s sequence _ _ p q)))
-one_no_run s sequence bytes (answers.Refused r) (answers.Refused t) p q = ap answers.Refused (inner r t (one.one_refusal bytes s sequence _ _ p q))
+one_no_run s sequence bytes answers.NoSequence (answers.Refused r) p q = absurd (apart r (one.one_refusal bytes own.Nothing s sequence _ _ p q))
+one_no_run s sequence bytes (answers.Refused r) answers.NoSequence p q = absurd (apart r (sym (one.one_refusal bytes own.Nothing s sequence _ _ p q)))
+one_no_run s sequence bytes (answers.Refused r) (answers.Refused t) p q = ap answers.Refused (inner r t (one.one_refusal bytes own.Nothing s sequence _ _ p q))
 one_no_run s sequence bytes answers.NoSequence answers.Usage p q = absurd q
 one_no_run s sequence bytes answers.NoSequence answers.TooLong p q = absurd q
 one_no_run s sequence bytes answers.NoSequence (answers.CheckOk set) p q = absurd q
+one_no_run s sequence bytes answers.NoSequence (answers.Audited audit) p q = absurd q
+one_no_run s sequence bytes answers.NoSequence (answers.AuditRefused fault) p q = absurd q
+one_no_run s sequence bytes answers.NoSequence answers.NoTrace p q = absurd q
 one_no_run s sequence bytes (answers.Refused r) answers.Usage p q = absurd q
 one_no_run s sequence bytes (answers.Refused r) answers.TooLong p q = absurd q
 one_no_run s sequence bytes (answers.Refused r) (answers.CheckOk set) p q = absurd q
+one_no_run s sequence bytes (answers.Refused r) (answers.Audited audit) p q = absurd q
+one_no_run s sequence bytes (answers.Refused r) (answers.AuditRefused fault) p q = absurd q
+one_no_run s sequence bytes (answers.Refused r) answers.NoTrace p q = absurd q
 one_no_run s sequence bytes answers.Usage b p q = absurd p
 one_no_run s sequence bytes answers.TooLong b p q = absurd p
 one_no_run s sequence bytes (answers.CheckOk set) b p q = absurd p
+one_no_run s sequence bytes (answers.Audited audit) b p q = absurd p
+one_no_run s sequence bytes (answers.AuditRefused fault) b p q = absurd p
+one_no_run s sequence bytes answers.NoTrace b p q = absurd p
 
 of_run : (s : Selection) (sequence : List ℕ) (traced : Bool) (bytes : List ℕ) (x y : What) → AsksOfRun s sequence traced bytes x → AsksOfRun s sequence traced bytes y → IsSameWhat x y
 of_run s sequence traced bytes (whats.Run a) (whats.Run b) p q = record {
-  valid = one.one_run bytes s sequence a.valid b.valid p.valid q.valid;
+  valid = one.one_run bytes own.Nothing s sequence a.valid b.valid p.valid q.valid;
   name = p.name ∙ sym q.name;
   shown = p.shown ∙ sym q.shown;
 }
-of_run s sequence traced bytes (whats.Run a) (whats.Answer b) p q = let r = reason s sequence bytes b q in one.run_or_refusal bytes s sequence a.valid r.0 p.valid r.1
-of_run s sequence traced bytes (whats.Answer a) (whats.Run b) p q = let r = reason s sequence bytes a p in one.run_or_refusal bytes s sequence b.valid r.0 q.valid r.1
+of_run s sequence traced bytes (whats.Run a) (whats.Answer b) p q = let r = reason s sequence bytes b q in one.run_or_refusal bytes own.Nothing s sequence a.valid r.0 p.valid r.1
+of_run s sequence traced bytes (whats.Answer a) (whats.Run b) p q = let r = reason s sequence bytes a p in one.run_or_refusal bytes own.Nothing s sequence b.valid r.0 q.valid r.1
 of_run s sequence traced bytes (whats.Answer a) (whats.Answer b) p q = one_no_run s sequence bytes a b p q
 
 -- ---- the bytes
@@ -82,6 +96,7 @@ of_bytes (commands.Check s) bytes x y p q = same_by x y (of_a_check s bytes x y 
 of_bytes (commands.Run s sequence) bytes x y p q = of_run s sequence false bytes x y p q
 of_bytes (commands.Trace s sequence) bytes x y p q = of_run s sequence true bytes x y p q
 of_bytes (commands.Gen number) bytes x y p q = absurd p
+of_bytes commands.Audit bytes x y p q = same_by x y (one_audit bytes x y p q)
 
 of_command : (c : Command) (bytes : List ℕ) (x y : What) → AsksOfCommand c bytes x → AsksOfCommand c bytes y → IsSameWhat x y
 of_command c bytes x y p q = by_length (nat_le (length bytes) limit) p q

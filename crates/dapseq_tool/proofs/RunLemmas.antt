@@ -1,5 +1,5 @@
 -- From a run and its text to its status, and what it shows of faults.
-use Rattle.std.proofs.Common.{◌≡◌, ◌∙◌, ◌⊎◌, inl, inr, ℕ, ◌-◌, List, true, false, Option, None, Some, Result, Ok, Err, refl, sym, ap, subst, arith}
+use Rattle.std.proofs.Common.{◌≡◌, ◌∙◌, ◌⊎◌, inl, inr, ℕ, ◌-◌, List, ◌++◌, true, false, Option, None, Some, Result, Ok, Err, refl, sym, ap, subst, arith}
 use Rattle.std.specs.Prelude.{◌≢◌, IfErr, IfSome, IsSome}
 use Rattle.dap_base.specs.Causes.{Rose}
 use Rattle.dap_base.specs.Streams.{PutAppends}
@@ -10,12 +10,13 @@ use Rattle.probe_core.specs.Runs.{IsWholeRun, KeepsRuns}
 use Rattle.probe_core.specs.declared.job.BenchJob.{BenchJob}
 use Rattle.access_calls.specs.declared.ended.Ending.{Ending}
 use Rattle.access_calls.specs.declared.ended.Ending.TheVariants as e
+use Rattle.report_lines.specs.Frame.{PutsFirst}
 use Rattle.report_lines.specs.declared.put.TextEnd.{TextEnd}
 use Rattle.report_lines.specs.declared.put.TextEnd.TheVariants as texts
 use Rattle.job_runs.specs.Ends.{HasBenchCause, HasGotResponse}
 use Rattle.access_calls.specs.Opening.{HasBadReply}
 use Rattle.dapseq_tool.specs.Answers.{IsRunStatus, run_status, status_after, text_status}
-use Rattle.dapseq_tool.specs.Headline.{FailsPutting, FailsWriting, IsPut, IsWritten}
+use Rattle.dapseq_tool.specs.Headline.{BeginsWith, FailsPutting, FailsWriting, IsPut, IsWritten}
 use Rattle.dapseq_tool.specs.declared.status.Status.{Status}
 use Rattle.dapseq_tool.specs.declared.status.Status.TheVariants as status
 
@@ -49,6 +50,11 @@ pub text_written : (w : W) (ending : Ending) (mid new : Option (List ℕ)) (text
     → IsWritten mid new text (run_status ending) end
 text_written (Ok u) ending mid new text end is put = inl (is, put)
 text_written (Err t) ending mid new text end is put = inr (subst FailsWriting (sym is) (text_fails t), put)
+
+-- the same of lines that come first
+pub first_written : (w : W) (ending : Ending) (mid new : Option (List ℕ)) (lines : List ℕ) (end : Status) → end ≡ status_after w ending → PutsFirst lines mid new w
+    → BeginsWith mid new lines (run_status ending) end
+first_written w ending mid new lines end is first = record { rest = first.rest; text = text_written w ending mid new (lines ++ first.rest) end is first.puts }
 
 -- the same of a text that no bench is asked for
 pub text_put : (w : W) (ending : Ending) (mid new : Option (List ℕ)) (text : List ℕ) (end : Status) → end ≡ status_after w ending → IfErr w (λ t. t ≢ texts.BenchFault) → PutAppends mid new w text

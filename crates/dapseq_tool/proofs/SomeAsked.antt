@@ -6,6 +6,7 @@ use Rattle.command_words.specs.declared.answer.Command.TheVariants as commands
 use Rattle.command_words.specs.Table.{IsCommand}
 use Rattle.sequence_resolve.specs.declared.selection.Selection.{Selection}
 use Rattle.job_check.specs.declared.running.RunRefusal.{RunRefusal}
+use Rattle.job_check.specs.declared.own.Own.TheVariants as own
 use Rattle.job_check.specs.declared.running.RunRefusal.TheVariants as refusals
 use Rattle.job_check.specs.Running.{IsRefusedRun}
 use Rattle.job_check.proofs.RunningLemmas.{never_memory}
@@ -17,18 +18,19 @@ use Rattle.dapseq_tool.specs.declared.asking.Requested.{Requested}
 use Rattle.dapseq_tool.specs.declared.asking.What.{What}
 use Rattle.dapseq_tool.specs.declared.asking.What.TheVariants as whats
 use Rattle.dapseq_tool.specs.Asked.{limit, ReadsSource, of_check, AsksOfRun, AsksOfBytes, AsksOfCommand, Asks, usage, command, generated}
+use Rattle.dapseq_tool.proofs.AuditLemmas.{some_audit}
 use Rattle.dapseq_tool.proofs.JobLength.{job_few}
 use Rattle.command_words.proofs.SomeCommand.{command_or_none}
 
 module _ (s : Selection) (sequence : List ℕ) (traced : Bool) (bytes : List ℕ) where
   -- the answer where no sequence runs
-  no_run : (end : RunRefusal) → IsRefusedRun bytes s sequence end → (what : What) × AsksOfRun s sequence traced bytes what
+  no_run : (end : RunRefusal) → IsRefusedRun bytes own.Nothing s sequence end → (what : What) × AsksOfRun s sequence traced bytes what
   no_run (refusals.Refused r) is = (whats.Answer (answers.Refused r), is)
   no_run refusals.NoSequence is = (whats.Answer answers.NoSequence, is)
-  no_run refusals.OutOfMemory is = absurd (never_memory bytes s sequence refusals.OutOfMemory is refl)
+  no_run refusals.OutOfMemory is = absurd (never_memory bytes own.Nothing s sequence refusals.OutOfMemory is refl)
 
   of_run : length bytes < 2 ^ 63 → (what : What) × AsksOfRun s sequence traced bytes what
-  of_run few = elim (run_or_refusal bytes s sequence few) [
+  of_run few = elim (run_or_refusal bytes own.Nothing s sequence few) [
     | inl run ↦ (whats.Run (record { valid = run.0; sequence = sequence; is_traced = traced }), record { name = refl; shown = refl; valid = run.1 })
     | inr none ↦ no_run none.0 none.1
   ]
@@ -39,6 +41,7 @@ of_bytes (commands.Check s) reads bytes few = let answer = some_answer bytes s i
 of_bytes (commands.Run s sequence) reads bytes few = of_run s sequence false bytes (omega (arith, few))
 of_bytes (commands.Trace s sequence) reads bytes few = of_run s sequence true bytes (omega (arith, few))
 of_bytes (commands.Gen n) reads bytes few = absurd reads
+of_bytes commands.Audit reads bytes few = some_audit bytes
 
 by_length : (c : Command) → ReadsSource c → (bytes : List ℕ) (b : Bool) → nat_le (length bytes) limit ≡ b → (what : What) × MatchBool b (AsksOfBytes c bytes what) (what ≡ whats.Answer answers.TooLong)
 by_length c reads bytes true few = of_bytes c reads bytes (leb-true (length bytes) limit few)
@@ -55,6 +58,7 @@ module _ (words : List (List ℕ)) (bytes : List ℕ) where
   by_command (commands.Check s) is = read_line (commands.Check s) is tt
   by_command (commands.Run s sequence) is = read_line (commands.Run s sequence) is tt
   by_command (commands.Trace s sequence) is = read_line (commands.Trace s sequence) is tt
+  by_command commands.Audit is = read_line commands.Audit is tt
   by_command (commands.Gen n) is =
       let w = of_run its_device its_sequence false (job_text n) (job_few n is.row.2.bits) in
       (record { number = Some n; what = w.0 }, generated n is refl w.1)

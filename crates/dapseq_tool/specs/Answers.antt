@@ -4,6 +4,7 @@ use Rattle.access_calls.specs.declared.ended.Ending.{Ending}
 use Rattle.access_calls.specs.declared.ended.Ending.TheVariants as e
 use Rattle.check_lines.specs.CheckLines.{check_text}
 use Rattle.check_lines.specs.RefusalLines.{refusal_line, too_long_line, no_sequence_line, usage_line}
+use Rattle.report_lines.specs.Audit.{audit_fault_line, audited_lines}
 use Rattle.report_lines.specs.declared.put.TextEnd.{TextEnd}
 use Rattle.report_lines.specs.declared.put.TextEnd.TheVariants as texts
 use Rattle.text_lines.specs.declared.putting.TextError.{TextError}
@@ -25,6 +26,10 @@ code_of status.WriteFault = 6
 code_of status.OutOfMemory = 7
 code_of status.ReplyBad = 8
 
+-- the line of a job without a trace, in an audit
+abbrev pub no_trace_line : List ℕ
+no_trace_line = codes "refused Missing #/trace\n"
+
 -- what is written where no sequence runs
 abbrev pub answer_text : Answer → List ℕ
 answer_text answers.Usage = usage_line
@@ -32,6 +37,9 @@ answer_text answers.TooLong = too_long_line
 answer_text answers.NoSequence = no_sequence_line
 answer_text (answers.Refused refusal) = refusal_line refusal
 answer_text (answers.CheckOk set) = check_text set
+answer_text (answers.Audited audit) = audited_lines audit.audited audit.job
+answer_text (answers.AuditRefused fault) = audit_fault_line fault
+answer_text answers.NoTrace = no_trace_line
 
 -- the status where no sequence runs
 abbrev pub answer_status : Answer → Status
@@ -40,6 +48,9 @@ answer_status answers.TooLong = status.Refused
 answer_status answers.NoSequence = status.Refused
 answer_status (answers.Refused refusal) = status.Refused
 answer_status (answers.CheckOk set) = status.Done
+answer_status (answers.Audited audit) = status.Done
+answer_status (answers.AuditRefused fault) = status.Refused
+answer_status answers.NoTrace = status.Refused
 
 -- the status after a run, by how it ended
 abbrev pub run_status : Ending → Status

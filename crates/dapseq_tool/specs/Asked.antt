@@ -8,15 +8,18 @@ use Rattle.sequence_resolve.specs.declared.entry.SeqSet.{SeqSet}
 use Rattle.probe_core.specs.Ranges.{IsBenchJob}
 use Rattle.job_text.specs.Ranges.{AreSettings, AreWatched}
 use Rattle.job_check.specs.declared.answer.Refusal.{Refusal}
+use Rattle.job_check.specs.declared.own.Own.TheVariants as own
 use Rattle.job_check.specs.declared.running.RunRefusal.{RunRefusal}
 use Rattle.job_check.specs.declared.running.RunRefusal.TheVariants as refusals
 use Rattle.job_check.specs.Answers.{IsAnswer}
 use Rattle.job_check.specs.Running.{IsRefusedRun, IsSameRun, IsValidRun}
+use Rattle.dapseq_tool.specs.Audit.{AsksOfAudit}
 use Rattle.dapseq_tool.specs.Generated.{its_device, its_sequence, job_text}
 use Rattle.dapseq_tool.specs.declared.asking.Answer.{Answer}
 use Rattle.dapseq_tool.specs.declared.asking.Answer.TheVariants as answers
 use Rattle.dapseq_tool.specs.declared.asking.Requested.{Requested}
 use Rattle.dapseq_tool.specs.declared.asking.Run.{Run}
+use Rattle.dapseq_tool.specs.declared.auditing.Audit.{Audit}
 use Rattle.dapseq_tool.specs.declared.asking.What.{What}
 use Rattle.dapseq_tool.specs.declared.asking.What.TheVariants as whats
 
@@ -32,6 +35,7 @@ ReadsSource (commands.Check s) = ⊤
 ReadsSource (commands.Run s sequence) = ⊤
 ReadsSource (commands.Trace s sequence) = ⊤
 ReadsSource (commands.Gen number) = ⊥
+ReadsSource commands.Audit = ⊤
 
 -- the command runs a sequence
 abbrev pub IsRunCommand : Command → Type 0
@@ -39,6 +43,7 @@ IsRunCommand (commands.Check s) = ⊥
 IsRunCommand (commands.Run s sequence) = ⊤
 IsRunCommand (commands.Trace s sequence) = ⊤
 IsRunCommand (commands.Gen number) = ⊤
+IsRunCommand commands.Audit = ⊥
 
 -- the words are a command that reads the source
 abbrev pub IsReadLine : List (List ℕ) → Type 0
@@ -64,12 +69,12 @@ AsksOfCheck s bytes what = (answer : Result SeqSet Refusal) × IsAnswer bytes s 
 pub record IsRunOf (s : Selection) (sequence : List ℕ) (traced : Bool) (bytes : List ℕ) (run : Run) : Type 0 where
   pub name : run.sequence ≡ sequence
   pub shown : run.is_traced ≡ traced
-  pub valid : IsValidRun bytes s sequence run.valid
+  pub valid : IsValidRun bytes own.Nothing s sequence run.valid
 
 -- no sequence runs, for this reason
 abbrev pub IsNoRunOf : Selection → List ℕ → List ℕ → Answer → Type 0
-IsNoRunOf s sequence bytes answers.NoSequence = IsRefusedRun bytes s sequence refusals.NoSequence
-IsNoRunOf s sequence bytes (answers.Refused r) = IsRefusedRun bytes s sequence (refusals.Refused r)
+IsNoRunOf s sequence bytes answers.NoSequence = IsRefusedRun bytes own.Nothing s sequence refusals.NoSequence
+IsNoRunOf s sequence bytes (answers.Refused r) = IsRefusedRun bytes own.Nothing s sequence (refusals.Refused r)
 IsNoRunOf s sequence bytes other = ⊥
 
 -- what is asked for where no sequence runs, unless memory ran out
@@ -95,6 +100,7 @@ AsksOfBytes (commands.Check s) bytes what = AsksOfCheck s bytes what
 AsksOfBytes (commands.Run s sequence) bytes what = AsksOfRun s sequence false bytes what
 AsksOfBytes (commands.Trace s sequence) bytes what = AsksOfRun s sequence true bytes what
 AsksOfBytes (commands.Gen number) bytes what = ⊥
+AsksOfBytes commands.Audit bytes what = AsksOfAudit bytes what
 
 -- the same, of bytes of which there may be too many
 abbrev pub AsksOfCommand : Command → List ℕ → What → Type 0
@@ -118,6 +124,25 @@ pub record IsSoundRun (run : Run) : Type 0 where
   pub settings : AreSettings run.valid.job.settings
   pub watch : AreWatched run.valid.job.bench.target.memory run.valid.job.watch
   pub bench : IsBenchJob run.valid.job.bench
+
+-- ---- what is asked for, in its ranges
+
+-- the bench and the watched words are in their ranges
+pub record IsSoundAudit (audit : Audit) : Type 0 where
+  pub bench : IsBenchJob audit.job.bench
+  pub watch : AreWatched audit.job.bench.target.memory audit.job.watch
+
+abbrev pub IsSoundAnswer : Answer → Type 0
+IsSoundAnswer (answers.Audited audit) = IsSoundAudit audit
+IsSoundAnswer other = ⊤
+
+abbrev pub IsSoundWhat : What → Type 0
+IsSoundWhat (whats.Run run) = IsSoundRun run
+IsSoundWhat (whats.Answer answer) = IsSoundAnswer answer
+
+-- the job of a run or of an accepted trace is in its ranges
+pub record IsSound (what : What) : Type 0 where
+  pub so : IsSoundWhat what
 
 -- ---- one thing
 

@@ -11,6 +11,7 @@ use Rattle.access_calls.specs.declared.ended.Ended.{Ended}
 use Rattle.access_calls.specs.declared.ended.Ending.TheVariants as e
 use Rattle.access_calls.specs.declared.stop.Report.{Report}
 use Rattle.report_lines.specs.Endings.{ending_lines, shows_target}
+use Rattle.control_flow.specs.Answers.{HasLines}
 use Rattle.access_calls.specs.Opening.{HasBadReply}
 use Rattle.job_runs.specs.Ends.{HasGotResponse}
 use Rattle.job_runs.specs.Runs.{AccessKind, ComesTo, config_of, known_after, task_in}
@@ -86,6 +87,12 @@ IsWritten old new text own end = ((end ≡ own) × Appends old new text) ⊎ (Fa
 abbrev pub IsPut : Option (List ℕ) → Option (List ℕ) → List ℕ → Status → Status → Type 0
 IsPut old new text own end = ((end ≡ own) × Appends old new text) ⊎ (FailsPutting end × AppendsPrefix old new text)
 
+-- A text that begins with these lines was appended, and the status is its own; or writing it failed, and a part of it was appended,
+-- from its front.
+pub record BeginsWith (old new : Option (List ℕ)) (lines : List ℕ) (own end : Status) : Type 0 where
+  pub rest : List ℕ
+  pub text : IsWritten old new (lines ++ rest) own end
+
 -- ---- where no run is asked for
 
 -- the answer is written after the head, and the bench is the one that it was
@@ -117,10 +124,14 @@ pub record IsRunTo (access : AccessKind) (run : Run) (before : Option (List ℕ)
   pub log : IsWholeRun (fresh_probe run.valid.job.bench) n
 
 -- A run that ended so, from a bench that reported this: what it came to where the bench is observable; its text where the report
--- does not show the target; and its status. A cut comes with a reply of its response, and a bad reply is the one that is reported.
+-- does not show the target; and its status. Of any bench: the run wrote whole lines, except perhaps where the sink failed; and the
+-- lines of its ending come first of what was written after it. A cut comes with a reply of its response, and a bad reply is the one
+-- that is reported.
 pub record HasRun (access : AccessKind) (run : Run) (observable : Type 0) (old : Reported) (before : Option (List ℕ)) (r : RunEnd) (a : After) : Type 0 where
   pub comes : observable → (n : BenchState) × IsRunTo access run before r a n
   pub alone : shows_target r.ended.ending ≡ false → IsPut r.written a.written (ending_lines r.ended.ending r.ended r.sent r.got) (run_status r.ended.ending) a.end
+  pub lines : HasLines r.ended.ending before r.written
+  pub front : BeginsWith r.written a.written (ending_lines r.ended.ending r.ended r.sent r.got) (run_status r.ended.ending) a.end
   pub status : (a.end ≡ run_status r.ended.ending) ⊎ FailsWriting a.end
   pub cut : (report : Report) → r.ended.ending ≡ e.Cut report → HasGotResponse (code_of_cause report.cause) old a.bench.reported
   pub bad : r.ended.ending ≡ e.ReplyBad → HasBadReply old a.bench.reported r.sent r.got

@@ -1,8 +1,11 @@
 pub mod Generated
+pub mod Audit
 pub mod Asked
 pub mod Answers
 pub mod Headline
+pub mod Kept
 pub mod Packed
 pub mod RunEnds
 pub mod Success
 pub mod InMemory
+pub mod TwoRuns

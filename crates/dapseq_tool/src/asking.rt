@@ -3,17 +3,19 @@ ghost use Rattle.std.specs.Prelude.{◌≡◌, ◌≢◌, ◌⊎◌, ◌≤◌, 
 ghost use Rattle.dap_base.specs.Causes.{Rose};
 ghost use Rattle.command_words.specs.Table.{IsCommand};
 ghost use Rattle.command_words.specs.declared.answer.Command.TheVariants as commands;
-ghost use Rattle.dapseq_tool.specs.Asked.{limit, Asks, AsksOfBytes, AsksOfCheck, AsksOfCommand, AsksOfRun, IsReadLine, IsRunCommand, IsRunLine, IsSoundRun, IsUsage, OnRun, ReadsSource, of_refused};
+ghost use Rattle.dapseq_tool.specs.Asked.{limit, Asks, AsksOfBytes, AsksOfCheck, AsksOfCommand, AsksOfRun, IsReadLine, IsRunCommand, IsRunLine, IsSound, IsUsage, OnRun, ReadsSource, of_refused};
 ghost use Rattle.dapseq_tool.specs.Generated.{its_device, its_sequence, job_text};
 ghost use Rattle.dapseq_tool.specs.Headline.{AreBytesOf, AreTaken};
 
+use crate::auditing::{Audit, ask_for_audit};
 use crate::generating::job_of_number;
 use crate::reading::{Unread, read_all};
 use command_words::{Command, WordsError, command_of};
 use dap_base::{NameText, OutOfMemory, Source, Words};
-use job_check::{CheckRefusal, Refusal, RunRefusal, ValidRun, ValidSet, valid_run, valid_set};
+use job_check::{CheckRefusal, Own, Refusal, RunRefusal, ValidRun, ValidSet, valid_run, valid_set};
 use sequence_resolve::{Selection, SeqSet};
 use std::alloc::Global;
+use trace_audit::AuditFault;
 
 /// An answer without a run.
 #[derive(Drop)]
@@ -28,6 +30,12 @@ pub enum Answer {
     Refused(Refusal),
     /// A check found this set of sequences valid.
     CheckOk(SeqSet),
+    /// An audit accepted the trace of this job.
+    Audited(Audit),
+    /// The trace of the job is refused, for its first entry that cannot come. Never `OutOfMemory`.
+    AuditRefused(AuditFault),
+    /// The job has no trace to audit.
+    NoTrace,
 }
 
 /// A run that is asked for.
@@ -85,10 +93,10 @@ fn ask_for_run(
     bytes: &[u8],
 ) -> Result<What, OutOfMemory>
     ensures asked { IfOk result (AsksOfRun selection.now sequence.now is_traced bytes.now) }
-    ensures sound { IfOk result (λ what. OnRun what IsSoundRun) }
+    ensures sound { IfOk result IsSound }
     ensures used { IfOk result (λ what. what ≢ What.Answer Answer.Usage) }
 {
-    match valid_run(alloc, bytes, selection, sequence) {
+    match valid_run(alloc, bytes, Own::Nothing, selection, sequence) {
         Ok(valid) => Ok(What::Run(Run {
             valid,
             sequence: NameText::new(alloc, sequence)?,
@@ -101,6 +109,7 @@ fn ask_for_run(
 // What the bytes of a job ask for in the mode `check`.
 fn ask_for_check(alloc: Global, selection: &Selection, bytes: &[u8]) -> Result<What, OutOfMemory>
     ensures asked { IfOk result (AsksOfCheck selection.now bytes.now) }
+    ensures sound { IfOk result IsSound }
     ensures no_run { IfOk result (λ what. OnRun what (λ run. ⊥)) }
     ensures used { IfOk result (λ what. what ≢ What.Answer Answer.Usage) }
 {
@@ -115,7 +124,7 @@ fn ask_for_check(alloc: Global, selection: &Selection, bytes: &[u8]) -> Result<W
 fn ask_by_bytes(alloc: Global, command: &Command, bytes: &[u8]) -> Result<What, OutOfMemory>
     requires { ReadsSource command.now }
     ensures asked { IfOk result (AsksOfBytes command.now bytes.now) }
-    ensures sound { IfOk result (λ what. OnRun what IsSoundRun) }
+    ensures sound { IfOk result IsSound }
     ensures run { IfOk result (λ what. OnRun what (λ run. IsRunCommand command.now)) }
     ensures used { IfOk result (λ what. what ≢ What.Answer Answer.Usage) }
 {
@@ -130,6 +139,7 @@ fn ask_by_bytes(alloc: Global, command: &Command, bytes: &[u8]) -> Result<What, 
             sequence,
         } => ask_for_run(alloc, selection, sequence.as_str(), true, bytes),
         Command::Gen(_) => unreachable!(),
+        Command::Audit => ask_for_audit(alloc, bytes),
     }
 }
 
@@ -142,7 +152,7 @@ fn ask_by_source<S: Source>(
     requires { ReadsSource command.now }
     ensures asked { IfOk result (λ what. (bytes : List ℕ) × AreBytesOf (S.left source.old) bytes × AsksOfCommand command.now bytes what) }
     ensures taken { OnOk result (AreTaken (S.left source.old) (S.left source.new)) }
-    ensures sound { IfOk result (λ what. OnRun what IsSoundRun) }
+    ensures sound { IfOk result IsSound }
     ensures run { IfOk result (λ what. OnRun what (λ run. IsRunCommand command.now)) }
     ensures used { IfOk result (λ what. what ≢ What.Answer Answer.Usage) }
     ensures failed { IsErrOf result Unasked.ReadFault → Rose (S.faults source.old) (S.faults source.new) }
@@ -164,7 +174,7 @@ fn ask_by_source<S: Source>(
 // What the job of a number asks for.
 fn ask_by_number(alloc: Global, number: u16) -> Result<What, OutOfMemory>
     ensures asked { IfOk result (AsksOfRun its_device its_sequence false (job_text number)) }
-    ensures sound { IfOk result (λ what. OnRun what IsSoundRun) }
+    ensures sound { IfOk result IsSound }
     ensures used { IfOk result (λ what. what ≢ What.Answer Answer.Usage) }
 {
     let text = job_of_number(alloc, number)?;
@@ -180,7 +190,7 @@ fn ask_by_number(alloc: Global, number: u16) -> Result<What, OutOfMemory>
 fn ask_with_number(alloc: Global, number: u16) -> Result<Requested, Unasked>
     ensures number { IfOk result (λ asked. asked.number ≡ Some number) }
     ensures asked { IfOk result (λ asked. AsksOfRun its_device its_sequence false (job_text number) asked.what) }
-    ensures sound { IfOk result (λ asked. OnRun asked.what IsSoundRun) }
+    ensures sound { IfOk result (λ asked. IsSound asked.what) }
     ensures used { IfOk result (λ asked. asked.what ≢ What.Answer Answer.Usage) }
     ensures memory { IfErr result (λ e. e ≡ Unasked.OutOfMemory) }
 {
@@ -203,7 +213,7 @@ fn ask_by_words<S: Source>(
     ensures number { IfOk result (λ asked. asked.number ≡ None) }
     ensures asked { IfOk result (λ asked. (bytes : List ℕ) × AreBytesOf (S.left source.old) bytes × AsksOfCommand command.now bytes asked.what) }
     ensures taken { OnOk result (AreTaken (S.left source.old) (S.left source.new)) }
-    ensures sound { IfOk result (λ asked. OnRun asked.what IsSoundRun) }
+    ensures sound { IfOk result (λ asked. IsSound asked.what) }
     ensures run { IfOk result (λ asked. OnRun asked.what (λ run. IsRunCommand command.now)) }
     ensures used { IfOk result (λ asked. asked.what ≢ What.Answer Answer.Usage) }
     ensures failed { IsErrOf result Unasked.ReadFault → Rose (S.faults source.old) (S.faults source.new) }
@@ -222,7 +232,7 @@ fn number_of(command: &Command) -> Option<u16>
 {
     match command {
         Command::Gen(number) => Some(*number),
-        Command::Check(_) | Command::Run { .. } | Command::Trace { .. } => None,
+        Command::Check(_) | Command::Run { .. } | Command::Trace { .. } | Command::Audit => None,
     }
 }
 
@@ -235,7 +245,7 @@ pub fn ask<S: Source>(alloc: Global, words: &Words, source: &mut S) -> Result<Re
     ensures fault { IsErrOf result Unasked.ReadFault → IsReadLine words.now }
     ensures usage_only { IfOk result (λ asked. IsUsage words.now → asked.what ≡ What.Answer Answer.Usage) }
     ensures usage { IfOk result (λ asked. asked.what ≡ What.Answer Answer.Usage → IsUsage words.now) }
-    ensures sound { IfOk result (λ asked. OnRun asked.what IsSoundRun) }
+    ensures sound { IfOk result (λ asked. IsSound asked.what) }
     ensures run { IfOk result (λ asked. OnRun asked.what (λ run. IsRunLine words.now)) }
     ensures failed { IsErrOf result Unasked.ReadFault → Rose (S.faults source.old) (S.faults source.new) }
     ensures quiet { IfErr result (λ e. (e ≡ Unasked.ReadFault) ⊎ (S.faults source.new ≡ S.faults source.old)) }

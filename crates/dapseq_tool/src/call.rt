@@ -5,7 +5,7 @@ ghost use Rattle.dap_base.specs.Causes.{IsQuiet, Rose};
 ghost use Rattle.probe_core.specs.Bench.{seen};
 ghost use Rattle.access_calls.specs.Opening.{HasBadReply};
 ghost use Rattle.dapseq_tool.specs.Answers.{answer_status, answer_text, failed_status, fault_text, head_text, IsRunStatus};
-ghost use Rattle.dapseq_tool.specs.Asked.{IsReadLine, IsRunLine, IsSoundRun, IsUsage, OnRun};
+ghost use Rattle.dapseq_tool.specs.Asked.{IsReadLine, IsRunLine, IsSound, IsSoundAnswer, IsUsage, OnRun};
 ghost use Rattle.dapseq_tool.specs.Headline.{moment, AreTaken, Does, FailsWriting, IsPut};
 ghost use Rattle.dapseq_tool.specs.RunEnds.{AskedRun, DoesAfter};
 ghost use Rattle.job_runs.specs.Runs.{access_kind};
@@ -40,6 +40,7 @@ fn failed_status(end: TextError) -> Status
 
 // Writes an answer.
 fn answer<K: Sink>(alloc: Global, answer: &Answer, sink: &mut K) -> Status
+    requires { IsSoundAnswer answer.now }
     ensures text { IsPut (K.written sink.old) (K.written sink.new) (answer_text answer.now) (answer_status answer.now) result }
     ensures write { result ≡ Status.WriteFault → Rose (K.faults sink.old) (K.faults sink.new) }
     ensures sink_counted { (K.faults sink.new ≡ K.faults sink.old) ⊎ (result ≡ Status.WriteFault) }
@@ -58,7 +59,7 @@ fn perform<B: Bench, K: Sink, A: OverBench<B>>(
     bench: B,
     sink: &mut K,
 ) -> Over<B>
-    requires { OnRun what.now IsSoundRun }
+    requires { IsSound what.now }
     ensures does { DoesAfter (access_kind A.Access.journal A.Access.cost A.Access.is_sparing) what.now (seen B.reported B.state bench) (result.bench ≡ bench) (K.written sink.old)
         (record { written = K.written sink.new; end = result.status; bench = seen B.reported B.state result.bench }) }
     ensures identity { B.identity result.bench ≡ B.identity bench }

@@ -1,10 +1,27 @@
 //! Laws of calls, as the contracts of functions that do nothing.
-ghost use Rattle.std.specs.Prelude.{◌≡◌, ⊤, ℕ, List};
+ghost use Rattle.std.specs.Prelude.{◌≡◌, ⊤, ℕ, List, ◌++◌, Option, codes, length, true};
+ghost use Rattle.std.specs.List.{flat_map};
+ghost use Rattle.probe_core.specs.Bench.{BenchState};
+ghost use Rattle.probe_core.specs.Log.{Entry, Log};
+ghost use Rattle.probe_core.specs.Probe.{target_of};
+ghost use Rattle.trace_audit.specs.Texts.{IsEntryText};
+ghost use Rattle.report_lines.specs.Audit.{audit_ok_line};
+ghost use Rattle.report_lines.specs.Report.{target_part};
+ghost use Rattle.report_lines.specs.Trace.{kept_line, trace};
+ghost use Rattle.job_text.specs.Answers.{Describes};
+ghost use Rattle.job_text.specs.declared.job.Job.{Job};
+ghost use Rattle.dapseq_tool.specs.Answers.{answer_text};
+ghost use Rattle.dapseq_tool.specs.Audit.{AsksOfAudit};
 ghost use Rattle.dapseq_tool.specs.Asked.{Asks, IsSameWhat};
 ghost use Rattle.dapseq_tool.specs.declared.asking.Requested.{Requested};
-ghost use Rattle.dapseq_tool.specs.Headline.{Call, Does};
+ghost use Rattle.dapseq_tool.specs.Headline.{After, Call, Does, IsRunTo, RunEnd};
+ghost use Rattle.dapseq_tool.specs.Kept.{HasKept, entry_text, kept_audit, kept_texts};
+ghost use Rattle.dapseq_tool.specs.declared.asking.Answer.TheVariants as Answer;
+ghost use Rattle.dapseq_tool.specs.declared.asking.Run.{Run};
+ghost use Rattle.dapseq_tool.specs.declared.asking.What.TheVariants as What;
 ghost use Rattle.dapseq_tool.specs.declared.status.Status.TheVariants as Status;
 ghost use Rattle.dapseq_tool.specs.Success.{HasCauses, HasGotBadReply, Success};
+ghost use Rattle.dapseq_tool.specs.TwoRuns.{CameToEnd, IsSameTask, LeavesSame};
 ghost use Rattle.job_runs.specs.Runs.{AccessKind};
 
 /// A call that nothing outside disturbed did what was asked for.
@@ -25,4 +42,30 @@ pub fn one_thing()
 /// The words and the bytes of the source ask for something, whichever they are.
 pub fn something_is_asked()
     ensures { (words : List (List ℕ)) (bytes : List ℕ) → (asked : Requested) × Asks words bytes asked }
+{}
+
+/// The line that is printed of a packet or of a reply is the text of no other entry under the key `trace`.
+pub fn a_printed_entry_is_read()
+    ensures { (printed read : Entry) → IsEntryText (entry_text printed) read → read ≡ printed }
+{}
+
+/// What the mode `trace` prints of a run whose log was kept whole, put under the key `trace` of a job with its bench and its watched
+/// words, is accepted by an audit, with the target that the run reports.
+pub fn a_kept_trace_is_accepted()
+    // The trace is the lines that are put under the key, and the line of their numbers.
+    ensures printed { (log : Log) → trace log ≡ flat_map (λ text. text ++ codes "\n") (kept_texts log) ++ kept_line (length log.kept) log.count }
+    // The audit of the job accepts them; they lead to the probe as the run left it.
+    ensures accepted { (access : AccessKind) (run : Run) (before : Option (List ℕ)) (r : RunEnd) (a : After) (n : BenchState) (job : Job) (bytes : List ℕ)
+        → IsRunTo access run before r a n → n.log.whole ≡ true → HasKept run n.log job → Describes bytes job → AsksOfAudit bytes (What.Answer (Answer.Audited (kept_audit job n))) }
+    // The target is written as in the report of the run.
+    ensures target { (run : Run) (n : BenchState) (job : Job) → HasKept run n.log job
+        → answer_text (Answer.Audited (kept_audit job n)) ≡ audit_ok_line (kept_audit job n).audited ++ target_part true run.valid.job (target_of n.probe) }
+{}
+
+/// Two runs of one sequence that are done or halted, by the same trees and settings on the same target, leave the same variables,
+/// units, lines, registers and memory, whatever the packet limits and the stalls of their benches, and whichever access each has.
+pub fn packet_limits_do_not_matter()
+    ensures { (access other : AccessKind) (x y : Run) (before : Option (List ℕ)) (p q : RunEnd) (a b : After) (m n : BenchState)
+        → IsSameTask x y → IsRunTo access x before p a m → IsRunTo other y before q b n → CameToEnd p.ended.ending → CameToEnd q.ended.ending
+        → LeavesSame before p q m n }
 {}

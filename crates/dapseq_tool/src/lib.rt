@@ -3,6 +3,7 @@
 
 mod answering;
 mod asking;
+mod auditing;
 mod call;
 mod generating;
 pub mod laws;

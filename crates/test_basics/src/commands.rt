@@ -46,6 +46,7 @@ fn shown(alloc: Global, command: &Command) -> Result<String, AllocError> {
             sequence,
         } => run_text(alloc, "trace", selection, sequence),
         Command::Gen(number) => format!(in alloc; "gen {number}"),
+        Command::Audit => String::from_str(alloc, "audit"),
     }
 }
 

@@ -1,10 +1,11 @@
 //! Runs each worked job that standard input names, and compares what is written with the stored text; those after the word
 //! `failing` once for each call of an object, which fails; and those after the word `single` by the access that sends each
-//! register access by itself, and after the word `silent` over a bench that is not observable.
+//! register access by itself, after the word `silent` over a bench that is not observable, and after the word `audit` the audit
+//! of the trace that is stored.
 #![tactic(auto)]
 
 use std::io;
-use test_support::{run_case, run_failing, run_silent, run_single};
+use test_support::{run_audit, run_case, run_failing, run_silent, run_single};
 
 fn main(rt: HostRuntime) -> io::Result<()> {
     for line in rt.lines(rt.alloc()) {
@@ -16,6 +17,8 @@ fn main(rt: HostRuntime) -> io::Result<()> {
             run_single(&rt, name)?;
         } else if let Some(name) = line.strip_prefix("silent ") {
             run_silent(&rt, name)?;
+        } else if let Some(name) = line.strip_prefix("audit ") {
+            run_audit(&rt, name)?;
         } else {
             run_case(&rt, line)?;
         }

@@ -2,9 +2,11 @@
 #![tactic(auto)]
 
 mod answering;
+mod auditing;
 mod failing;
 
 use answering::{answer, answer_by_single, answer_over_silent, words_of};
+use auditing::{accepted_text, with_trace};
 use dap_base::{OutOfMemory, Words};
 use failing::{Object, failing_calls};
 use std::io::ErrorKind;
@@ -115,4 +117,25 @@ pub fn run_failing(rt: &HostRuntime, name: &str) -> io::Result<()> {
         }
     }
     println!(rt)
+}
+
+/// Audits the trace that `NAME.json.stdout` shows, under the key `trace` of `NAME.json`, and prints the name, the exit status, and
+/// `as expected` where the trace is accepted and the target is the one that the text shows, else `differs`.
+///
+/// An error where a file cannot be read, the job does not end with a brace, standard output cannot be written, or memory is
+/// refused.
+pub fn run_audit(rt: &HostRuntime, name: &str) -> io::Result<()> {
+    let job = fs::read_to_string(rt, format!(in rt.alloc(); "{name}.json")?)?;
+    let text = fs::read_to_string(rt, format!(in rt.alloc(); "{name}.json.stdout")?)?;
+    let Some(job) = with_trace(rt.alloc(), job.as_str(), text.as_str())? else {
+        return Err(io::Error::from(ErrorKind::InvalidData));
+    };
+    let expected = accepted_text(rt.alloc(), text.as_str())?;
+    let words = words_of(rt.alloc(), "audit").map_err(no_memory)?;
+    let (status, sink) = answer(rt.alloc(), &words, job.as_bytes()).map_err(no_memory)?;
+    let code = status.code();
+    println!(rt;
+        "{name} {code} audited {}",
+        compared(sink.bytes(), expected.as_bytes())
+    )
 }

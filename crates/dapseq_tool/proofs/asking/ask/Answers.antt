@@ -1,7 +1,8 @@
 use Rattle.std.proofs.Common.{None, refl}
 use Rattle.dapseq_tool.specs.declared.asking.Answer.TheVariants as answers
 use Rattle.dapseq_tool.specs.declared.asking.What.TheVariants as whats
-use Rattle.dapseq_tool.proofs.AskedLemmas.{usage_asked, with_number, with_run, with_source}
+use Rattle.dapseq_tool.specs.Headline.{AreTaken}
+use Rattle.dapseq_tool.proofs.AskedLemmas.{none_taken, usage_asked, with_number, with_run, with_source}
 use Rattle.dapseq_tool.proofs.asking.ask.Goals as goal
 
 pub returns-in-Err-Usage-clause-asked : goal.returns-in-Err-Usage-clause-asked
@@ -27,3 +28,8 @@ returns-clause-asked g c =
 
 pub returns-clause-run : goal.returns-clause-run
 returns-clause-run g c = with_run c.args.words.now c.in-Ok.command c.ask_by_words.result c.in-Ok.ensures.answer c.ask_by_words.ensures.run
+
+pub returns-in-Some-clause-taken : goal.returns-in-Some-clause-taken
+returns-in-Some-clause-taken g c =
+    none_taken c.args.words.now c.in-Ok.command c.in-Some.number (AreTaken (g.S.Source.left c.args.source.now) (g.S.Source.left c.args.source.now)) c.ask_with_number.result
+    c.in-Ok.ensures.answer c.in-Some.ensures

@@ -37,3 +37,6 @@ returns-clause-asked g c =
     } in
     is_done (access_kind g.A.Access.journal g.A.Access.cost g.A.Access.is_sparing) call _ c.in-Ok.asked c.in-Ok.ensures.asked
     (what_is_begun (access_kind g.A.Access.journal g.A.Access.cost g.A.Access.is_sparing) call _ c.in-Ok.asked.number c.in-Ok.asked.what c.in-Err.ensures.some (subst FailsPutting (sym c.failed_status.ensures) (failed_fails c.in-Err.end)) c.in-Err.ensures.text refl)
+
+pub perform-requires : goal.perform-requires
+perform-requires g c = c.in-Ok.ensures.sound

@@ -10,6 +10,8 @@ returns-in-Ok-clause-run g c =
     ran h.0 (record {
       comes = λ some. h.1.comes (loaded_state job (g.B.Bench.state c.args.bench) (g.B.Bench.state c.load.new.self) some c.in-Ok.ensures.state);
       alone = h.1.alone;
+      lines = h.1.lines;
+      front = h.1.front;
       status = h.1.status;
       cut = λ report cut. got_before (code_of_cause report.cause) (g.B.Bench.reported c.args.bench) (g.B.Bench.reported c.load.new.self) (g.B.Bench.reported c.run_loaded.result.bench) job
           c.in-Ok.ensures.reported (h.1.cut report cut);

@@ -2,9 +2,10 @@ use Rattle.std.proofs.Common.{◌≡◌, ◌∙◌, ap}
 use Rattle.dap_base.specs.Streams.{PutAppends}
 use Rattle.access_calls.specs.Causes.{code_of_cause}
 use Rattle.access_calls.specs.declared.ended.Ended.{Ended}
+use Rattle.report_lines.specs.Endings.{ending_lines}
 use Rattle.job_runs.specs.Texts.{run_text}
 use Rattle.dapseq_tool.specs.Answers.{status_after}
-use Rattle.dapseq_tool.proofs.RunLemmas.{bad_after, got_after, kept_run, on_some, status_is, text_put, text_written}
+use Rattle.dapseq_tool.proofs.RunLemmas.{bad_after, first_written, got_after, kept_run, on_some, status_is, text_put, text_written}
 use Rattle.dapseq_tool.proofs.runs.run_loaded.Goals as goal
 
 pub returns-clause-run : goal.returns-clause-run
@@ -30,6 +31,8 @@ returns-clause-run g c =
               },
             );
         alone = λ hidden. text_put w ran.ended.ending mid new _ c.status_after.result is (c.write_run-written.ensures.unasked hidden) (c.write_run-written.ensures.alone hidden);
+        lines = c.run_on-ran.ensures.lines;
+        front = first_written w ran.ended.ending mid new (ending_lines ran.ended.ending ran.ended ran.sent ran.got) c.status_after.result is c.write_run-written.ensures.front;
         status = status_is w ran.ended.ending c.status_after.result is;
         cut = λ report cut. got_after (code_of_cause report.cause) (g.B.Bench.reported c.args.bench) (g.B.Bench.reported ran.bench) (g.B.Bench.reported c.write_run-written.new.ran.bench)
             c.write_run-written.ensures.same.reported (c.run_on-ran.ensures.cut report cut);
