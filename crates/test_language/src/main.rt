@@ -52,6 +52,7 @@ fn answer_of(alloc: Global, form: &str, text: &str) -> Result<String, AllocError
         "levels" => levels::levels(alloc, text, words),
         "read" => levels::read(alloc, text, words),
         "check" => sets::checked(alloc, text, words),
+        "faults" => sets::faults(alloc, text, words),
         _ => text_of(alloc, kind, text),
     }
 }

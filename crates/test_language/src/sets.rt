@@ -1,4 +1,4 @@
-//! The first fault of a set, and the trees of a valid one.
+//! The first fault of a set, all of them, and the trees of a valid one.
 ghost use Rattle.std.specs.Prelude.{◌≡◌, IfOk, map};
 ghost use Rattle.std.specs.List.{IsDistinct};
 ghost use Rattle.std.specs.Str.{bytes_eq};
@@ -8,6 +8,7 @@ use device_tree::{SharedSteps, Step, Steps};
 use seq_check::{CheckFault, Checked, FaultKind, check};
 use sequence_resolve::{LevelKind, SeqEntry, SeqSet};
 use sequence_trees::Spot;
+use set_faults::{Fault, TextFaults, text_faults};
 use std::alloc::{AllocError, Global};
 
 fn block(alloc: Global, code: &str) -> Result<Step, OutOfMemory> {
@@ -139,6 +140,36 @@ pub fn checked(alloc: Global, text: &str, word: &str) -> Result<String, AllocErr
     let timeout = word.parse::<u64>().ok();
     match set(alloc, debugvars, timeout, code) {
         Ok(set) => check_lines(alloc, &set),
+        Err(OutOfMemory) => Err(AllocError),
+    }
+}
+
+// The lines of faults.
+fn fault_lines(alloc: Global, faults: &[Fault]) -> Result<String, AllocError> {
+    let mut lines = String::new(alloc);
+    for fault in faults {
+        lines.push_str(&kind_line(alloc, fault.kind, &fault.spot)?)?;
+    }
+    Ok(lines)
+}
+
+fn all_lines(alloc: Global, set: &SeqSet) -> Result<String, AllocError>
+    requires { IsDistinct bytes_eq (map (λ e. e.name) set.now.entries) }
+{
+    match text_faults(alloc, set) {
+        Ok(TextFaults::Rules(faults)) if faults.is_empty() => String::from_str(alloc, "none\n"),
+        Ok(TextFaults::Rules(faults)) => fault_lines(alloc, faults.as_slice()),
+        Ok(TextFaults::Syntax(faults)) => fault_lines(alloc, faults.as_slice()),
+        Err(OutOfMemory) => Err(AllocError),
+    }
+}
+
+/// All faults of the texts of a set, which is that of `checked`; `none` where it has none.
+pub fn faults(alloc: Global, text: &str, word: &str) -> Result<String, AllocError> {
+    let (debugvars, code) = text.split_once('\t').unwrap_or(("", text));
+    let timeout = word.parse::<u64>().ok();
+    match set(alloc, debugvars, timeout, code) {
+        Ok(set) => all_lines(alloc, &set),
         Err(OutOfMemory) => Err(AllocError),
     }
 }

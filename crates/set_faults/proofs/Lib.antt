@@ -1,0 +1,11 @@
+pub mod ListLemmas
+pub mod AddLemmas
+pub mod OrderLemmas
+pub mod CallLemmas
+pub mod TextLemmas
+pub mod ControlLemmas
+pub mod StepLemmas
+pub mod SetLemmas
+pub mod OneList
+pub mod SyntaxLaws
+pub mod Answers

@@ -1,0 +1,6 @@
+pub mod Listed
+pub mod Syntax
+pub mod Sites
+pub mod Controls
+pub mod Rules
+pub mod Answers
