@@ -17,13 +17,16 @@ pub fn with_trace(alloc: Global, job: &str, text: &str) -> Result<Option<String>
     };
     let mut made = String::from_str(alloc, front)?;
     made.push_str(",\"trace\":[")?;
-    let mut quote = "\"";
+    let mut is_first = true;
     for line in text.lines() {
         if is_packet(line) || is_reply(line) {
-            made.push_str(quote)?;
+            if !is_first {
+                made.push_str(",")?;
+            }
+            is_first = false;
+            made.push_str("\"")?;
             made.push_str(line)?;
             made.push_str("\"")?;
-            quote = ",\"";
         }
     }
     made.push_str("]}")?;
