@@ -15,3 +15,4 @@ pub mod OneReplacement
 pub mod Written
 pub mod Spelled
 pub mod Sizes
+pub mod There

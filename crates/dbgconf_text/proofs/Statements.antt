@@ -48,7 +48,7 @@ none_both : (b : Bool) → value_of [] [] ≡ cond b None (value_of [] [])
 none_both true = refl
 none_both false = refl
 
-value_without : (n m : List ℕ) (set : List Setting) → value_of m (without n set) ≡ cond (bytes_eq n m) None (value_of m set)
+pub value_without : (n m : List ℕ) (set : List Setting) → value_of m (without n set) ≡ cond (bytes_eq n m) None (value_of m set)
 value_without n m [] = none_both (bytes_eq n m)
 value_without n m (s ∷ more) = value_step n m s more (bytes_eq s.name n) (bytes_eq s.name m) refl refl (value_without n m more)
 

@@ -5,3 +5,4 @@ pub mod Replacing
 pub mod Values
 pub mod Splicing
 pub mod Written
+pub mod There

@@ -14,6 +14,7 @@ ghost use Rattle.dbgconf_text.specs.declared.conf.ConfItem.{ConfItem};
 ghost use Rattle.dbgconf_text.specs.Conf.{IsConf, IsRepeatedFirst, IsUnexpectedFirst};
 ghost use Rattle.dbgconf_text.specs.Cuts.{AreSmall, Setting, cuts, spliced, with_values};
 ghost use Rattle.dbgconf_text.specs.Replacing.{AreCode, Replaces, settings_of};
+ghost use Rattle.dbgconf_text.specs.There.{AreThere};
 ghost use Rattle.dbgconf_text.specs.Written.{AreNames};
 ghost use Rattle.dbgconf_text.specs.declared.replacing.ReplaceFault.TheVariants.{UndefinedName};
 
@@ -77,4 +78,14 @@ pub fn replaced_text_is_short()
         → length (spliced text 0 (cuts set ts)) ≤ length text + 19 * length set }
     ensures replaced { (text : List ℕ) (conf : List ConfItem) (new : List ℕ) → AreSmall (settings_of conf) → Replaces text conf (Ok new)
         → length new ≤ length text + 19 * length conf }
+{}
+
+/// Values that code has already change nothing. Replaced values leave the code as it was exactly where each number that is set for a name is the
+/// literal of the first declaration of this name; the text with the values then reads as the code did, apart from places.
+pub fn values_that_are_there_change_nothing()
+    ensures code { (set : List Setting) (code : List StmtTree) → AreThere set code → with_values set code ≡ code }
+    ensures only { (set : List Setting) (code : List StmtTree) → with_values set code ≡ code → AreThere set code }
+    ensures text { (text : List ℕ) (conf : List ConfItem) (new : List ℕ) (ts : List Lexeme) (code : List StmtTree) → AreSmall (settings_of conf)
+        → Replaces text conf (Ok new) → AreTokensOf text ts → IsAccepted ReadsCode Statement ts code → AreThere (settings_of conf) code
+        → (us : List Lexeme) × (trees : List StmtTree) × AreTokensOf new us × IsAccepted ReadsCode Statement us trees × (bare_code trees ≡ bare_code code) }
 {}
