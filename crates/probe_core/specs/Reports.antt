@@ -1,6 +1,7 @@
--- What holds of every report of a bench.
-use Rattle.std.specs.Prelude.{◌≡◌, ℕ, ◌+◌, ◌^◌, ◌<◌, ◌≤◌, length}
+-- What is so of every report of a bench, and of the state of one that is observable.
+use Rattle.std.specs.Prelude.{◌≡◌, ℕ, ◌+◌, ◌*◌, ◌^◌, ◌<◌, ◌≤◌, length}
 use Rattle.probe_core.specs.Bench.{BenchState, Exchange, Reported}
+use Rattle.probe_core.specs.Log.{IsMeasuredLog, Log}
 use Rattle.probe_core.specs.Ranges.{AreLimits}
 use Rattle.probe_core.specs.declared.job.Limits.{Limits}
 
@@ -26,3 +27,13 @@ pub record AgreesWith (reported : Reported) (m : BenchState) : Type 0 where
   pub limits : reported.limits ≡ m.probe.executor.limits
   pub held : reported.held ≡ length m.probe.held
   pub waiting : reported.waiting ≡ length m.probe.waiting
+
+-- The log is measured by the packet size. An exchange ends with a packet that is not held, which is a starting one, and has at most packet
+-- count packets and as many replies.
+pub record AreTallied (limits : Limits) (held waiting starting : ℕ) (log : Log) : Type 0 where
+  pub measured : IsMeasuredLog limits.packet_size log
+  pub few : log.count + waiting ≤ 2 * limits.packet_count * starting + held
+
+-- the packets and replies of a bench are tallied
+abbrev pub IsTallied : BenchState → Type 0
+IsTallied m = AreTallied m.probe.executor.limits (length m.probe.held) (length m.probe.waiting) m.starting m.log

@@ -52,6 +52,8 @@ impl Bench for SilentBench {
 
     ghost counts = { λ _. tt };
 
+    ghost tallies = { λ _. tt };
+
     fn load(&mut self, alloc: Global, job: &BenchJob) -> Result<(), LoadError> {
         self.inner.load(alloc, job)
     }

@@ -106,6 +106,8 @@ impl Bench for Scripted {
 
     ghost counts = { λ _. tt };
 
+    ghost tallies = { λ _. tt };
+
     fn load(&mut self, _alloc: Global, _job: &BenchJob) -> Result<(), LoadError> {
         self.fail();
         Err(LoadError::Failed)
