@@ -1,8 +1,7 @@
 -- Steps of a bench that is observable, one after the other.
-use Rattle.std.proofs.Common.{◌≡◌, Option, None, Some, refl, subst, sym}
+use Rattle.std.proofs.Common.{◌≡◌, Option, None, Some, refl, subst, sym, ◌∙◌}
 use Rattle.probe_core.specs.Bench.{BenchState, StepsTo}
-use Rattle.probe_core.specs.Probe.{ProbeState}
-use Rattle.probe_core.specs.Runs.{IsWholeRun, KeepsRuns}
+use Rattle.probe_core.specs.Runs.{KeepsLog, KeepsRuns}
 
 pub steps_then : {A B C : BenchState → BenchState → Type 0} → ((m n o : BenchState) → A m n → B n o → C m o) → (a b c : Option BenchState) → StepsTo A a b → StepsTo B b c → StepsTo C a c
 steps_then f None None None s t = tt
@@ -28,10 +27,10 @@ steps_same A f a b e = subst (λ (x : Option BenchState). StepsTo A a x) (sym e)
 
 -- runs that are kept to a second state and on to a third
 pub runs_then : (a b c : Option BenchState) → KeepsRuns a b → KeepsRuns b c → KeepsRuns a c
-runs_then a b c s t = steps_then (λ m n o f g first h. g first (f first h)) a b c s t
+runs_then a b c s t = steps_then (λ m n o f g. record { room = g.room ∙ f.room; runs = λ first h. g.runs first (f.runs first h) }) a b c s t
 
 pub runs_same : (a b : Option BenchState) → b ≡ a → KeepsRuns a b
-runs_same a b e = steps_same (λ m n. (first : ProbeState) → IsWholeRun first m → IsWholeRun first n) (λ m first h. h) a b e
+runs_same a b e = steps_same KeepsLog (λ m. record { room = refl; runs = λ first h. h }) a b e
 
 pub runs_self : (a : Option BenchState) → KeepsRuns a a
 runs_self a = runs_same a a refl
