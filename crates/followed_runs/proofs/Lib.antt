@@ -1,2 +1,3 @@
+pub mod CallLemmas
 pub mod FollowLemmas
 pub mod MadeLemmas

@@ -8,6 +8,7 @@ use Rattle.sequence_rules.specs.Runs as runs
 use Rattle.sequence_rules.specs.Runs.{Ending, Outcome, Program, meaning, outcome_of}
 use Rattle.sequels.specs.Sequel.{Comes, Sequel, comes}
 use Rattle.sequels.specs.declared.close.Close.{Close}
+use Rattle.sequels.specs.declared.close.Close.TheVariants.{Nothing}
 
 -- What is run: a program, and what follows it where that is done.
 pub record Task : Type 0 where
@@ -64,3 +65,31 @@ task_outcome k t written = outcome_in (start_world t None) k written
 -- The same where only so many units are answered.
 abbrev pub task_within : ℕ → Task → TargetState → Option (List ℕ) → Outcome
 task_within m k t written = outcome_in (start_world t (Some m)) k written
+
+-- ---- how what follows came to its end
+
+-- the end of a sequel, where it has one
+abbrev pub close_of : Option Close → Close
+close_of None = Nothing
+close_of (Some close) = close
+
+-- only a run that was done goes on
+abbrev pub closed_at : World → Sequel Close → Outcome → Ending → Close
+closed_at w s o runs.Done = close_of (comes (world_after w o.calls) s).end
+closed_at w s o (runs.Halted cause) = Nothing
+closed_at w s o (runs.Faulted call) = Nothing
+closed_at w s o runs.Unanswered = Nothing
+closed_at w s o runs.Lost = Nothing
+
+-- How what follows a run came to its end: `Nothing` where nothing follows, where the run was not done, and where the calls of what follows stop.
+abbrev pub closed : Option (Sequel Close) → World → Outcome → Close
+closed None w o = Nothing
+closed (Some s) w o = closed_at w s o o.ending
+
+-- How what follows the program of a task comes to its end in a world, after what was written before.
+abbrev pub close_in : World → Task → Option (List ℕ) → Close
+close_in w k written = closed k.sequel w (outcome_of (meaning w k.program written))
+
+-- The same on a target, where all units are answered.
+abbrev pub task_close : Task → TargetState → Option (List ℕ) → Close
+task_close k t written = close_in (start_world t None) k written

@@ -221,6 +221,7 @@ pub fn load<A: Access>(
         → StopsLoad (world_from m answered) result (load_calls ap (pieces image.now))
         (A.reported access.old).asks.calls (A.reported access.new).asks.calls (A.reported access.new).lines }
     ensures counts { IfOk result (λ l. (l.bytes ≡ length image.now) × (l.writes ≡ length (pieces image.now))) }
+    ensures few { IfOk result (λ l. l.writes ≤ 262144) }
     ensures end { LoadEndIs result (A.reported access.new).end }
     ensures on { (m : BenchState) → A.begun access.old m → A.begun access.new m }
     ensures identity { A.identity access.new ≡ A.identity access.old }

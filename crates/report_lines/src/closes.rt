@@ -6,7 +6,7 @@ ghost use Rattle.probe_core.specs.Ranges.{IsBenchJob};
 ghost use Rattle.job_text.specs.Ranges.{AreWatched};
 ghost use Rattle.text_lines.specs.Causes.{NamesFault};
 ghost use Rattle.report_lines.specs.Closes.{differs_line, differs_lines, full_line, full_lines, loaded_line};
-ghost use Rattle.report_lines.specs.Frame.{EndsShowing, KeepsBench};
+ghost use Rattle.report_lines.specs.Frame.{EndsShowing, KeepsBench, PutsFirst};
 ghost use Rattle.report_lines.specs.Target.{target_lines};
 
 use crate::put::{TextEnd, put, put_line};
@@ -81,7 +81,7 @@ fn differs_line(alloc: Global, address: u32, wanted: u8, found: u8) -> Result<Li
 }
 
 /// Puts the text of an image that was read back as another one, each line by one `put`: the first byte that differs, with its address, the
-/// byte of the image and the byte that was read; and then the target of the bench, as `target_lines` has it.
+/// byte of the image and the byte that was read; and then the target of the bench, as `target_lines` has it. Its line comes first, over any bench.
 ///
 /// `WriteFault` where the sink failed, `BenchFault` where the bench failed, `OutOfMemory` where memory is refused: a prefix of the text
 /// was then appended. The bench stays as it was, except its count of faults at `BenchFault`.
@@ -97,6 +97,7 @@ pub fn differs_text<K: Sink, B: Bench>(
     requires bench { IsBenchJob job.now.bench }
     requires watch { AreWatched job.now.bench.target.memory job.now.watch }
     ensures text { IfSome (B.state bench.old) (λ m. PutAppends (K.written sink.old) (K.written sink.new) result (differs_lines address wanted found job.now (target_of m.probe))) }
+    ensures front { PutsFirst (differs_line address wanted found) (K.written sink.old) (K.written sink.new) result }
     ensures keeps { KeepsBench B.reported B.state B.identity bench.old bench.new }
     ensures ends { EndsShowing K.written K.faults result (B.reported bench.old) (B.reported bench.new) sink.old sink.new }
 {
@@ -107,7 +108,7 @@ pub fn differs_text<K: Sink, B: Bench>(
 }
 
 /// Puts the text of a scan that met more components than are listed, each line by one `put`: `end full`, and then the target of the
-/// bench, as `target_lines` has it.
+/// bench, as `target_lines` has it. Its line comes first, over any bench.
 ///
 /// `WriteFault` where the sink failed, `BenchFault` where the bench failed, `OutOfMemory` where memory is refused: a prefix of the text
 /// was then appended. The bench stays as it was, except its count of faults at `BenchFault`.
@@ -120,6 +121,7 @@ pub fn full_text<K: Sink, B: Bench>(
     requires bench { IsBenchJob job.now.bench }
     requires watch { AreWatched job.now.bench.target.memory job.now.watch }
     ensures text { IfSome (B.state bench.old) (λ m. PutAppends (K.written sink.old) (K.written sink.new) result (full_lines job.now (target_of m.probe))) }
+    ensures front { PutsFirst full_line (K.written sink.old) (K.written sink.new) result }
     ensures keeps { KeepsBench B.reported B.state B.identity bench.old bench.new }
     ensures ends { EndsShowing K.written K.faults result (B.reported bench.old) (B.reported bench.new) sink.old sink.new }
 {

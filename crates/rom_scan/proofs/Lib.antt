@@ -12,3 +12,4 @@ pub mod PortLemmas
 pub mod OnlyLemmas
 pub mod ShowLemmas
 pub mod TargetLemmas
+pub mod WrittenLemmas

@@ -6,3 +6,4 @@ pub mod Tables
 pub mod Meets
 pub mod Arrivals
 pub mod Scans
+pub mod Written

@@ -9,6 +9,7 @@ ghost use Rattle.rom_scan.specs.Arrivals.{AtFull, HasSinkCause, ScanEndIs};
 ghost use Rattle.rom_scan.specs.Components.{is_no_base, page};
 ghost use Rattle.rom_scan.specs.Scans.{Lists, Scans};
 ghost use Rattle.rom_scan.specs.Walk.{component, scanned};
+ghost use Rattle.rom_scan.specs.Written.{WritesComponents};
 
 use crate::asking::{ask_now, base_unit};
 use crate::scan_end::ScanEnd;
@@ -54,6 +55,7 @@ fn list_from<A: Access, K: Sink>(
     ensures few { IfOk result (λ n. n ≤ 993280) }
     ensures full { AtFull result (length (A.reported access.new).asks.calls + units.old ≡ length (A.reported access.old).asks.calls + units.new) }
     ensures most { units.new ≤ units.old + 7000010 }
+    ensures lines { WritesComponents result (K.written sink.old) (K.written sink.new) }
     ensures cause { HasSinkCause result (K.faults sink.old) (K.faults sink.new) }
     ensures end { ScanEndIs result (A.reported access.new).end }
     ensures on { (m : BenchState) → A.begun access.old m → A.begun access.new m }
@@ -93,6 +95,8 @@ fn list_all<A: Access, K: Sink>(
     ensures asked { IfOk result (λ n. length (A.reported access.new).asks.calls ≡ length (A.reported access.old).asks.calls + n) }
     ensures few { IfOk result (λ n. n ≤ 993281) }
     ensures full { AtFull result (length (A.reported access.new).asks.calls + units.old ≡ length (A.reported access.old).asks.calls + units.new) }
+    ensures most { units.new ≤ units.old + 7000011 }
+    ensures lines { WritesComponents result (K.written sink.old) (K.written sink.new) }
     ensures cause { HasSinkCause result (K.faults sink.old) (K.faults sink.new) }
     ensures end { ScanEndIs result (A.reported access.new).end }
     ensures on { (m : BenchState) → A.begun access.old m → A.begun access.new m }
@@ -116,7 +120,7 @@ fn list_all<A: Access, K: Sink>(
 }
 
 /// Does what `scan` does, and counts the units also at `Full`, where the number of those that it asked is added to `units`. That is at
-/// most 100 before, and unspecified after `WriteFault` and `Stop`.
+/// most 100 before, grows by at most 7,000,011, and is unspecified after `WriteFault` and `Stop`.
 #[tactic(auto, using(access_calls::proofs::KeepLemmas::goes_trans))]
 pub fn scan_counting<A: Access, K: Sink>(
     alloc: Global,
@@ -134,6 +138,8 @@ pub fn scan_counting<A: Access, K: Sink>(
     ensures asked { IfOk result (λ n. length (A.reported access.new).asks.calls ≡ length (A.reported access.old).asks.calls + n) }
     ensures few { IfOk result (λ n. n ≤ 993281) }
     ensures full { AtFull result (length (A.reported access.new).asks.calls + units.old ≡ length (A.reported access.old).asks.calls + units.new) }
+    ensures most { units.new ≤ units.old + 7000011 }
+    ensures lines { WritesComponents result (K.written sink.old) (K.written sink.new) }
     ensures cause { HasSinkCause result (K.faults sink.old) (K.faults sink.new) }
     ensures end { ScanEndIs result (A.reported access.new).end }
     ensures on { (m : BenchState) → A.begun access.old m → A.begun access.new m }
@@ -162,7 +168,7 @@ pub fn scan_counting<A: Access, K: Sink>(
 /// most 993,281. A `finish` is made after the last one, also at `Full`.
 ///
 /// `Full` comes exactly where a component would be read after 1,024. `WriteFault` comes only where the sink failed; a part of the
-/// lines was then written, and the access goes on. `Stop` has the end of the access, or says that memory was refused.
+/// lines was then written, and the access goes on. Else each line is written whole. `Stop` has the end of the access, or says that memory was refused.
 pub fn scan<A: Access, K: Sink>(
     alloc: Global,
     ap: u8,
@@ -176,6 +182,7 @@ pub fn scan<A: Access, K: Sink>(
         → Scans (world_from m answered) (A.reported access.new).lines ap result (A.reported access.old).asks.calls (A.reported access.new).asks.calls (K.written sink.old) (K.written sink.new) }
     ensures asked { IfOk result (λ n. length (A.reported access.new).asks.calls ≡ length (A.reported access.old).asks.calls + n) }
     ensures few { IfOk result (λ n. n ≤ 993281) }
+    ensures lines { WritesComponents result (K.written sink.old) (K.written sink.new) }
     ensures cause { HasSinkCause result (K.faults sink.old) (K.faults sink.new) }
     ensures end { ScanEndIs result (A.reported access.new).end }
     ensures on { (m : BenchState) → A.begun access.old m → A.begun access.new m }

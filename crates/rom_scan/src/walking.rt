@@ -10,17 +10,18 @@ ghost use Rattle.rom_scan.specs.Arrivals.{AtFull, HasSinkCause, IsOpen, ScanEndI
 ghost use Rattle.rom_scan.specs.Components.{is_table, named_by};
 ghost use Rattle.rom_scan.specs.Walk.{is_listed};
 ghost use Rattle.rom_scan.specs.Tables.{opened, reached, unwound};
+ghost use Rattle.rom_scan.specs.Written.{WritesComponents};
 
 use crate::asking::{ask_now, word_unit};
 use crate::component::Component;
-use crate::lines::component_line;
+use crate::lines::write_component;
 use crate::reading::{read_component, words_of};
 use crate::scan_end::ScanEnd;
 use crate::tables::{OpenTables, Table};
 use access_calls::{Access, Stop};
 use dap_base::{ItemList, Sink};
 use std::alloc::Global;
-use text_lines::{TextError, put_line};
+use text_lines::TextError;
 
 // Whether a component has a table of others.
 fn is_table(component: Component) -> bool
@@ -69,6 +70,7 @@ pub(crate) fn arrive<A: Access, K: Sink>(
     ensures asked { IfOk result (λ n. length (A.reported access.new).asks.calls ≡ length (A.reported access.old).asks.calls + n) }
     ensures few { IfOk result (λ n. n ≤ 9) }
     ensures full { AtFull result (length (A.reported access.new).asks.calls ≡ length (A.reported access.old).asks.calls) }
+    ensures lines { WritesComponents result (K.written sink.old) (K.written sink.new) }
     ensures cause { HasSinkCause result (K.faults sink.old) (K.faults sink.new) }
     ensures end { ScanEndIs result (A.reported access.new).end }
     ensures on { (m : BenchState) → A.begun access.old m → A.begun access.new m }
@@ -82,7 +84,7 @@ pub(crate) fn arrive<A: Access, K: Sink>(
         Ok(component) => component,
         Err(stop) => return Err(ScanEnd::Stop(stop)),
     };
-    match put_line(component_line(alloc, component), sink) {
+    match write_component(alloc, component, sink) {
         Ok(()) => {}
         Err(TextError::Failed) => return Err(ScanEnd::WriteFault),
         Err(TextError::OutOfMemory) => return Err(ScanEnd::Stop(Stop::OutOfMemory)),
@@ -138,6 +140,7 @@ fn step<A: Access, K: Sink>(
     ensures asked { IfOk result (λ n. length (A.reported access.new).asks.calls ≡ length (A.reported access.old).asks.calls + n) }
     ensures few { IfOk result (λ n. n ≤ 10) }
     ensures full { AtFull result (length (A.reported access.new).asks.calls ≡ length (A.reported access.old).asks.calls + 1) }
+    ensures lines { WritesComponents result (K.written sink.old) (K.written sink.new) }
     ensures cause { HasSinkCause result (K.faults sink.old) (K.faults sink.new) }
     ensures end { ScanEndIs result (A.reported access.new).end }
     ensures on { (m : BenchState) → A.begun access.old m → A.begun access.new m }
@@ -194,6 +197,7 @@ pub(crate) fn walk<A: Access, K: Sink>(
     ensures few { IfOk result (λ n. n ≤ 7000000) }
     ensures full { AtFull result (length (A.reported access.new).asks.calls + units.old ≡ length (A.reported access.old).asks.calls + units.new) }
     ensures most { units.new ≤ units.old + 7000001 }
+    ensures lines { WritesComponents result (K.written sink.old) (K.written sink.new) }
     ensures cause { HasSinkCause result (K.faults sink.old) (K.faults sink.new) }
     ensures end { ScanEndIs result (A.reported access.new).end }
     ensures on { (m : BenchState) → A.begun access.old m → A.begun access.new m }

@@ -5,6 +5,7 @@ use Rattle.sequels.proofs.MeetingLemmas.{whole_after}
 use Rattle.rom_scan.specs.Walk.{component, scanned}
 use Rattle.rom_scan.proofs.FullLemmas.{at_full}
 use Rattle.rom_scan.proofs.ScanLemmas.{base_none, base_some, base_stops, lists_on}
+use Rattle.rom_scan.proofs.WrittenLemmas.{none_written}
 use Rattle.rom_scan.proofs.scanning.list_all.Goals as goal
 
 pub returns-in-Err-clause-gives : goal.returns-in-Err-clause-gives
@@ -58,3 +59,9 @@ returns-in-Err-list_from-clause-full g c =
     let new = length (g.A.Access.reported c.list_from.new.access).asks.calls in
     at_full (Err c.in-Err-list_from.end) (new + c.args.units.now ≡ mid + c.list_from.new.units) (new + c.args.units.now ≡ old + (c.list_from.new.units + 1))
     (λ full. (let count = c.in-Ok.ensures.count in omega (arith, full, count))) c.in-Err-list_from.ensures.full
+
+pub returns-in-Err-clause-lines : goal.returns-in-Err-clause-lines
+returns-in-Err-clause-lines g c = none_written _
+
+pub returns-then-is_no_base-clause-lines : goal.returns-then-is_no_base-clause-lines
+returns-then-is_no_base-clause-lines g c = none_written _

@@ -7,6 +7,7 @@ use Rattle.rom_scan.specs.Walk.{component}
 use Rattle.rom_scan.proofs.FullLemmas.{at_full}
 use Rattle.rom_scan.proofs.ScanLemmas.{caused_on, left_start, lists_as, lists_done, lists_end, none_open, root_at}
 use Rattle.rom_scan.proofs.StepLemmas.{walks_on}
+use Rattle.rom_scan.proofs.WrittenLemmas.{more_written, written_on}
 use Rattle.rom_scan.proofs.scanning.list_from.Goals as goal
 
 pub walk-requires-clause-tables : goal.walk-requires-clause-tables
@@ -100,3 +101,9 @@ returns-clause-full g c =
     let new = length (g.A.Access.reported c.walk.new.access).asks.calls in
     at_full (Err c.in-Err-walk.end) (new + c.args.units.now ≡ mid + c.walk.new.units) (new + c.args.units.now ≡ old + (c.walk.new.units + c.in-Ok.words))
     (λ full. (let asked = c.in-Ok.ensures.asked in omega (arith, full, asked))) c.in-Err-walk.ensures.full
+
+pub returns-in-Ok-walk-clause-lines : goal.returns-in-Ok-walk-clause-lines
+returns-in-Ok-walk-clause-lines g c = more_written _ _ _ c.in-Ok.ensures.lines c.in-Ok-walk.ensures.lines
+
+pub returns-clause-lines : goal.returns-clause-lines
+returns-clause-lines g c = written_on (Err c.in-Err-walk.end) _ _ _ c.in-Ok.ensures.lines c.in-Err-walk.ensures.lines

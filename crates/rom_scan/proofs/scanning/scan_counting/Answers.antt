@@ -1,9 +1,10 @@
-use Rattle.std.proofs.Common.{◌≡◌, ◌∙◌, ◌+◌, inl, inr, length, arith}
+use Rattle.std.proofs.Common.{◌≡◌, ◌∙◌, ◌+◌, ℕ, inl, inr, length, arith}
 use Rattle.access_calls.specs.Reported.{world_from}
 use Rattle.rom_scan.specs.Walk.{Listed, Full, scanned}
 use Rattle.rom_scan.specs.declared.scan_end.ScanEnd.TheVariants as e
 use Rattle.rom_scan.proofs.FullLemmas.{full_at}
 use Rattle.rom_scan.proofs.ScanLemmas.{end_at, finish_count, finished, lists_at, stops_finishing}
+use Rattle.rom_scan.proofs.WrittenLemmas.{written_at}
 use Rattle.rom_scan.proofs.scanning.scan_counting.Goals as goal
 
 pub returns-in-Ok-finish-clause-gives : goal.returns-in-Ok-finish-clause-gives
@@ -70,3 +71,12 @@ returns-in-Ok-finish-2-clause-full g c =
     let full = full_at c.in-Err-Full.field-0 e.Full (length (g.A.Access.reported c.list_all.new.access).asks.calls + c.args.units.now ≡ old + c.list_all.new.units) c.in-Err-Full.field-0-is c.in-Err-Full.ensures.full in
     let count = finish_count a (g.A.Access.reported c.finish-in-Err-Full.new.self) (end_at c.in-Err-Full.field-0 e.Full a.end c.in-Err-Full.field-0-is c.in-Err-Full.ensures.end) c.in-Ok-finish-2.ensures.calls in
     omega (arith, full, count)
+
+pub returns-in-Ok-finish-2-clause-lines : goal.returns-in-Ok-finish-2-clause-lines
+returns-in-Ok-finish-2-clause-lines g c = written_at c.in-Err-Full.field-0 e.Full _ _ c.in-Err-Full.field-0-is c.in-Err-Full.ensures.lines
+
+pub returns-in-Err-finish-clause-lines : goal.returns-in-Err-finish-clause-lines
+returns-in-Err-finish-clause-lines g c = written_at c.in-Err-Full.field-0 e.Full _ _ c.in-Err-Full.field-0-is c.in-Err-Full.ensures.lines
+
+pub returns-in-Err-Stop-clause-lines : goal.returns-in-Err-Stop-clause-lines
+returns-in-Err-Stop-clause-lines g c = written_at c.in-Err-Stop.field-0 (e.Stop c.in-Err-Stop.stop) _ _ c.in-Err-Stop.field-0-is c.in-Err-Stop.ensures.lines

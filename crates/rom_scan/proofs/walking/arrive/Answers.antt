@@ -1,9 +1,10 @@
-use Rattle.std.proofs.Common.{◌+◌, ◌<◌, ℕ, length, subst, arith}
+use Rattle.std.proofs.Common.{◌+◌, ◌<◌, ℕ, length, subst, arith, ap, Err}
 use Rattle.access_calls.specs.Reported.{world_from}
 use Rattle.sequels.specs.Meeting.{Gave}
-use Rattle.rom_scan.specs.Components.{component_at, component_line}
+use Rattle.rom_scan.specs.Components.{component_at}
 use Rattle.rom_scan.specs.Meets.{StopsIn}
 use Rattle.rom_scan.proofs.ArriveLemmas.{arrive_done, arrive_left, arrive_stops, arrive_unlined, full_here, left_whole, opened_less, opened_sound}
+use Rattle.rom_scan.proofs.WrittenLemmas.{none_written, one_written, unwritten}
 use Rattle.rom_scan.proofs.walking.arrive.Goals as goal
 
 pub returns-then-len-ge1024-clause-gives : goal.returns-then-len-ge1024-clause-gives
@@ -28,9 +29,9 @@ returns-in-Err-Failed-clause-gives g c = λ m answered b l whole.
     let new = (g.A.Access.reported c.read_component.new.access).asks.calls in
     let before = g.K.Sink.written c.args.sink.now in
     let room : length c.args.listed.now < 1024 = (let few = c.if-len-ge1024.false in let is = c.len.ensures in omega (arith, few, is)) in
-    arrive_left w c.args.ap c.args.tables.now c.args.address c.args.listed.now old before c.requires.deep room new c.in-Ok.component (g.K.Sink.written c.put_line.new.sink) whole
+    arrive_left w c.args.ap c.args.tables.now c.args.address c.args.listed.now old before c.requires.deep room new c.in-Ok.component (g.K.Sink.written c.write_component.new.sink) whole
     (subst (λ (d : ℕ). Gave w (component_at c.args.ap c.args.address (1 + d)) old new before before c.in-Ok.component) c.len-2.ensures (c.in-Ok.ensures.gives m answered before b l whole))
-    (c.in-Err-Failed.ensures.text (component_line c.in-Ok.component) c.component_line.ensures)
+    c.in-Err-Failed.ensures.text
 
 pub returns-in-Err-OutOfMemory-clause-gives : goal.returns-in-Err-OutOfMemory-clause-gives
 returns-in-Err-OutOfMemory-clause-gives g c = λ m answered b l whole.
@@ -39,9 +40,9 @@ returns-in-Err-OutOfMemory-clause-gives g c = λ m answered b l whole.
     let new = (g.A.Access.reported c.read_component.new.access).asks.calls in
     let before = g.K.Sink.written c.args.sink.now in
     let room : length c.args.listed.now < 1024 = (let few = c.if-len-ge1024.false in let is = c.len.ensures in omega (arith, few, is)) in
-    arrive_unlined w c.args.ap c.args.tables.now c.args.address c.args.listed.now old before c.requires.deep room (g.A.Access.reported c.read_component.new.access).lines new c.in-Ok.component (g.K.Sink.written c.put_line.new.sink) whole
+    arrive_unlined w c.args.ap c.args.tables.now c.args.address c.args.listed.now old before c.requires.deep room (g.A.Access.reported c.read_component.new.access).lines new c.in-Ok.component (g.K.Sink.written c.write_component.new.sink) whole
     (subst (λ (d : ℕ). Gave w (component_at c.args.ap c.args.address (1 + d)) old new before before c.in-Ok.component) c.len-2.ensures (c.in-Ok.ensures.gives m answered before b l whole))
-    (c.in-Err-OutOfMemory.ensures.text (component_line c.in-Ok.component) c.component_line.ensures)
+    c.in-Err-OutOfMemory.ensures.text
 
 pub returns-in-Err-push-clause-gives : goal.returns-in-Err-push-clause-gives
 returns-in-Err-push-clause-gives g c = λ m answered b l whole.
@@ -51,9 +52,9 @@ returns-in-Err-push-clause-gives g c = λ m answered b l whole.
     let before = g.K.Sink.written c.args.sink.now in
     let room : length c.args.listed.now < 1024 = (let few = c.if-len-ge1024.false in let is = c.len.ensures in omega (arith, few, is)) in
     record {
-      left = left_whole w c.args.ap c.args.tables.now c.args.address c.args.listed.now old before c.requires.deep room new c.in-Ok.component (g.K.Sink.written c.put_line.new.sink) whole
+      left = left_whole w c.args.ap c.args.tables.now c.args.address c.args.listed.now old before c.requires.deep room new c.in-Ok.component (g.K.Sink.written c.write_component.new.sink) whole
           (subst (λ (d : ℕ). Gave w (component_at c.args.ap c.args.address (1 + d)) old new before before c.in-Ok.component) c.len-2.ensures (c.in-Ok.ensures.gives m answered before b l whole))
-          (c.in-Ok-put_line.ensures.text (component_line c.in-Ok.component) c.component_line.ensures);
+          c.in-Ok-write_component.ensures.text;
       cut = tt;
     }
 
@@ -64,9 +65,9 @@ returns-clause-gives g c = λ m answered b l whole.
     let new = (g.A.Access.reported c.read_component.new.access).asks.calls in
     let before = g.K.Sink.written c.args.sink.now in
     let room : length c.args.listed.now < 1024 = (let few = c.if-len-ge1024.false in let is = c.len.ensures in omega (arith, few, is)) in
-    arrive_done w c.args.ap c.args.tables.now c.args.address c.args.listed.now old before c.requires.deep room new c.in-Ok.component (g.K.Sink.written c.put_line.new.sink) c.open_table.new.tables c.push.new.self whole
+    arrive_done w c.args.ap c.args.tables.now c.args.address c.args.listed.now old before c.requires.deep room new c.in-Ok.component (g.K.Sink.written c.write_component.new.sink) c.open_table.new.tables c.push.new.self whole
     (subst (λ (d : ℕ). Gave w (component_at c.args.ap c.args.address (1 + d)) old new before before c.in-Ok.component) c.len-2.ensures (c.in-Ok.ensures.gives m answered before b l whole))
-    (c.in-Ok-put_line.ensures.text (component_line c.in-Ok.component) c.component_line.ensures) c.open_table.ensures c.in-Ok-push.ensures.ok
+    c.in-Ok-write_component.ensures.text c.open_table.ensures c.in-Ok-push.ensures.ok
 
 pub returns-clause-open : goal.returns-clause-open
 returns-clause-open g c = opened_sound c.args.tables.now c.open_table.new.tables c.in-Ok.component c.open_table.ensures (rw c.in-Ok.ensures.address c.requires.page)
@@ -75,3 +76,18 @@ pub returns-clause-less : goal.returns-clause-less
 returns-clause-less g c =
     let room : length c.args.listed.now < 1024 = (let few = c.if-len-ge1024.false in let is = c.len.ensures in omega (arith, few, is)) in
     opened_less c.args.tables.now c.open_table.new.tables c.args.listed.now c.push.new.self c.in-Ok.component c.open_table.ensures c.in-Ok-push.ensures.ok room
+
+pub returns-then-len-ge1024-clause-lines : goal.returns-then-len-ge1024-clause-lines
+returns-then-len-ge1024-clause-lines g c = none_written _
+
+pub returns-in-Err-clause-lines : goal.returns-in-Err-clause-lines
+returns-in-Err-clause-lines g c = none_written _
+
+pub returns-in-Err-OutOfMemory-clause-lines : goal.returns-in-Err-OutOfMemory-clause-lines
+returns-in-Err-OutOfMemory-clause-lines g c = unwritten _ _ (c.in-Err-OutOfMemory.ensures.unwritten (ap Err c.in-Err-OutOfMemory.field-0-is))
+
+pub returns-in-Err-push-clause-lines : goal.returns-in-Err-push-clause-lines
+returns-in-Err-push-clause-lines g c = one_written _ _ c.in-Ok.component c.in-Ok-write_component.ensures.text
+
+pub returns-clause-lines : goal.returns-clause-lines
+returns-clause-lines g c = one_written _ _ c.in-Ok.component c.in-Ok-write_component.ensures.text

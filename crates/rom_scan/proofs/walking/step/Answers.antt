@@ -4,6 +4,7 @@ use Rattle.target_calls.specs.Asks.{unit_ask}
 use Rattle.sequels.proofs.MeetingLemmas.{whole_after}
 use Rattle.rom_scan.specs.Tables.{reached, unwound}
 use Rattle.rom_scan.proofs.StepLemmas.{step_ends, step_knows, step_passes, step_stops, step_visits, walks_on}
+use Rattle.rom_scan.proofs.WrittenLemmas.{none_written}
 use Rattle.rom_scan.proofs.walking.step.Goals as goal
 
 pub returns-in-Err-clause-gives : goal.returns-in-Err-clause-gives
@@ -56,3 +57,15 @@ returns-in-Err-arrive-clause-gives g c = λ m answered b l whole.
     c.arrive.new.tables c.arrive.new.listed old mid (g.A.Access.reported c.arrive.new.access).asks.calls before before (g.K.Sink.written c.arrive.new.sink) whole r
     (c.in-Err-arrive.ensures.gives m answered (c.in-Ok.ensures.on m b) l
     (whole_after w (unwound 1024 c.args.ap (c.args.table ∷ c.args.tables.now) c.args.listed.now) (reached 1024 c.args.ap c.push.new.self c.named_by-address.result c.args.listed.now) old mid before before whole r))
+
+pub returns-in-Err-clause-lines : goal.returns-in-Err-clause-lines
+returns-in-Err-clause-lines g c = none_written _
+
+pub returns-then-entry-eq0-clause-lines : goal.returns-then-entry-eq0-clause-lines
+returns-then-entry-eq0-clause-lines g c = none_written _
+
+pub returns-then-entry-eq0-2-clause-lines : goal.returns-then-entry-eq0-2-clause-lines
+returns-then-entry-eq0-2-clause-lines g c = none_written _
+
+pub returns-then-is_listed-clause-lines : goal.returns-then-is_listed-clause-lines
+returns-then-is_listed-clause-lines g c = none_written _

@@ -10,6 +10,7 @@ use Rattle.rom_scan.specs.Tables.{unwound}
 use Rattle.rom_scan.specs.declared.tables.Table.{Table}
 use Rattle.rom_scan.proofs.FullLemmas.{at_full}
 use Rattle.rom_scan.proofs.StepLemmas.{closed_table, left_tail, walks_on}
+use Rattle.rom_scan.proofs.WrittenLemmas.{more_written, none_written, written_on}
 use Rattle.rom_scan.proofs.walking.walk.Goals as goal
 
 pub tables-init : goal.tables-init
@@ -19,6 +20,7 @@ tables-init g c = record {
   deep = c.requires.deep;
   count = omega arith;
   asked = omega arith;
+  written = none_written _;
   faults = refl;
   units = refl;
   ended = c.requires.open;
@@ -52,6 +54,7 @@ tables-preserved-in-Ok g c =
           let same : left_of c.tables.tables c.tables.listed ≡ left_of (c.in-Some.table ∷ c.pop.new.self) c.tables.listed = ap (λ (ts : List Table). left_of ts c.tables.listed) c.in-Some.ensures in
           omega (arith, a, d, same);
       asked = (let a = e.asked in let b = inv.asked in omega (arith, a, b));
+      written = more_written _ _ _ inv.written e.lines;
       faults = e.cause ∙ inv.faults;
       units = inv.units;
       ended = e.end;
@@ -99,6 +102,7 @@ tables-preserved g c =
           let less = left_tail c.in-Some.table c.pop.new.self c.tables.listed in
           omega (arith, d, same, less);
       asked = inv.asked;
+      written = inv.written;
       faults = inv.faults;
       units = inv.units;
       ended = inv.ended;
@@ -136,3 +140,6 @@ returns-in-Err-clause-most g c =
     let asked = inv.asked in
     let few = c.requires.few in
     omega (arith, same, count, asked, few)
+
+pub returns-in-Err-clause-lines : goal.returns-in-Err-clause-lines
+returns-in-Err-clause-lines g c = written_on (Err c.in-Err.end) _ _ _ c.tables.invariant.written c.in-Err.ensures.lines

@@ -8,6 +8,7 @@ use Rattle.access_calls.specs.Reported.{world_from}
 use Rattle.sequels.specs.Meeting.{Reaches}
 use Rattle.rom_scan.specs.Arrivals.{IsOpen, left_of}
 use Rattle.rom_scan.specs.Tables.{unwound}
+use Rattle.rom_scan.specs.Written.{AppendsComponents}
 use Rattle.rom_scan.proofs.walking.walk.Given as goal
 
 abbrev pub invariant-tables : goal.invariant-tables
@@ -18,6 +19,7 @@ invariant-tables g l = record {
   deep : length l.tables ≤ 7;
   count : length (g.A.Access.reported l.access).asks.calls + left_of l.tables l.listed ≤ length (g.A.Access.reported l.fn.access).asks.calls + left_of l.fn.tables l.fn.listed;
   asked : length (g.A.Access.reported l.access).asks.calls ≡ length (g.A.Access.reported l.fn.access).asks.calls + l.asked;
+  written : AppendsComponents (g.K.Sink.written l.fn.sink) (g.K.Sink.written l.sink);
   faults : g.K.Sink.faults l.sink ≡ g.K.Sink.faults l.fn.sink;
   units : l.units ≡ l.fn.units;
   ended : (g.A.Access.reported l.access).end ≡ None;

@@ -1,0 +1,6 @@
+pub mod JoinLemmas
+pub mod LoadLemmas
+pub mod ScanLemmas
+pub mod TaskLemmas
+pub mod GoLemmas
+pub mod LawLemmas

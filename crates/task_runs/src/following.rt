@@ -1,0 +1,156 @@
+//! What follows a run that is done, over an access.
+ghost use Rattle.std.specs.Prelude.{◌≡◌, ◌+◌, ◌≤◌, ℕ, List, Option, Some, None, IfOk, length};
+ghost use Rattle.probe_core.specs.Bench.{BenchState};
+ghost use Rattle.target_calls.specs.World.{stop, world_after};
+ghost use Rattle.access_calls.specs.Left.{IsLeft};
+ghost use Rattle.access_calls.specs.Reported.{world_from};
+ghost use Rattle.function_calls.specs.Frame.{Keeps};
+ghost use Rattle.image_load.specs.LoadSequel.{loaded};
+ghost use Rattle.sequels.specs.Sequel.{Sequel, comes};
+ghost use Rattle.task_runs.specs.Following.{EndIs, FollowsAs, HasLines, HasSinkCause, NoWriteFault};
+ghost use Rattle.task_runs.specs.Tasks.{ClosesAs, ClosesLoad, ClosesScan, scanning, sequel_of};
+
+use crate::followed::Followed;
+use access_calls::{Access, Stop};
+use dap_base::Sink;
+use hex_image::Image;
+use image_load::{LoadEnd, count_writes, load};
+use rom_scan::{ScanEnd, scan_counting};
+use sequels::Close;
+use std::alloc::Global;
+
+// How what follows came to its end, and how many units it asked.
+#[derive(Clone, Copy)]
+pub(crate) struct Closed {
+    pub(crate) close: Close,
+    pub(crate) units: u32,
+}
+
+// Why what follows did not come to its end.
+#[derive(Clone, Copy)]
+pub(crate) enum Unclosed {
+    // The sink failed.
+    WriteFault,
+    // The access stopped, or memory was refused.
+    Stopped(Stop),
+}
+
+// Loads an image, and counts its units: a write and a read for each piece. Where a byte differs the pieces are counted anew.
+fn load_after<A: Access>(
+    alloc: Global,
+    ap: u8,
+    image: &Image,
+    access: &mut A,
+) -> Result<Closed, Unclosed>
+    requires few { length (A.reported access.old).asks.calls ≤ 1000000 }
+    requires open { (A.reported access.old).end ≡ None }
+    ensures gives { (m : BenchState) (answered : Option ℕ) (written : Option (List ℕ)) → A.begun access.old m → IsLeft (A.reported access.new) answered
+        → stop (world_from m answered) (A.reported access.old).asks.calls ≡ None
+        → FollowsAs (A.reported access.new).lines (comes (world_after (world_from m answered) (A.reported access.old).asks.calls) (loaded ap image.now))
+        result (A.reported access.old).asks.calls (A.reported access.new).asks.calls written written }
+    ensures asked { IfOk result (λ x. length (A.reported access.new).asks.calls ≡ length (A.reported access.old).asks.calls + x.units) }
+    ensures few { IfOk result (λ x. x.units ≤ 8000000) }
+    ensures closes { IfOk result (λ x. ClosesLoad image.now x.close) }
+    ensures end { EndIs result (A.reported access.new).end }
+    ensures cause { NoWriteFault result }
+    ensures keeps { Keeps A.begun A.reported A.identity access.old access.new }
+{
+    match load(alloc, image, ap, access) {
+        Ok(loaded) => Ok(Closed {
+            close: Close::Loaded {
+                bytes: loaded.bytes,
+                writes: loaded.writes,
+            },
+            units: loaded.writes + loaded.writes,
+        }),
+        Err(
+            LoadEnd::Differs {
+                address,
+                wanted,
+                found,
+            },
+        ) => match count_writes(alloc, image) {
+            Ok(writes) => Ok(Closed {
+                close: Close::Differs {
+                    address,
+                    wanted,
+                    found,
+                },
+                units: writes + writes,
+            }),
+            Err(_) => Err(Unclosed::Stopped(Stop::OutOfMemory)),
+        },
+        Err(LoadEnd::Stop(stop)) => Err(Unclosed::Stopped(stop)),
+    }
+}
+
+// Lists the components of an access port, and counts the units.
+fn scan_after<A: Access, K: Sink>(
+    alloc: Global,
+    ap: u8,
+    access: &mut A,
+    sink: &mut K,
+) -> Result<Closed, Unclosed>
+    requires few { length (A.reported access.old).asks.calls ≤ 1000000 }
+    requires open { (A.reported access.old).end ≡ None }
+    ensures gives { (m : BenchState) (answered : Option ℕ) → A.begun access.old m → IsLeft (A.reported access.new) answered
+        → stop (world_from m answered) (A.reported access.old).asks.calls ≡ None
+        → FollowsAs (A.reported access.new).lines (comes (world_after (world_from m answered) (A.reported access.old).asks.calls) (scanning ap))
+        result (A.reported access.old).asks.calls (A.reported access.new).asks.calls (K.written sink.old) (K.written sink.new) }
+    ensures asked { IfOk result (λ x. length (A.reported access.new).asks.calls ≡ length (A.reported access.old).asks.calls + x.units) }
+    ensures few { IfOk result (λ x. x.units ≤ 8000000) }
+    ensures closes { IfOk result (λ x. ClosesScan x.close) }
+    ensures end { EndIs result (A.reported access.new).end }
+    ensures lines { HasLines result (K.written sink.old) (K.written sink.new) }
+    ensures cause { HasSinkCause result (K.faults sink.old) (K.faults sink.new) }
+    ensures keeps { Keeps A.begun A.reported A.identity access.old access.new }
+{
+    let mut units = 0;
+    match scan_counting(alloc, ap, access, sink, &mut units) {
+        Ok(asked) => Ok(Closed {
+            close: Close::Scanned,
+            units: asked,
+        }),
+        Err(ScanEnd::Full) => Ok(Closed {
+            close: Close::Full,
+            units,
+        }),
+        Err(ScanEnd::WriteFault) => Err(Unclosed::WriteFault),
+        Err(ScanEnd::Stop(stop)) => Err(Unclosed::Stopped(stop)),
+    }
+}
+
+// What follows a run of so many units: at most 1,000,000, else it is refused as memory is.
+pub(crate) fn follow<A: Access, K: Sink>(
+    alloc: Global,
+    followed: &Followed,
+    units: u32,
+    access: &mut A,
+    sink: &mut K,
+) -> Result<Closed, Unclosed>
+    requires counted { units ≡ length (A.reported access.old).asks.calls }
+    requires open { (A.reported access.old).end ≡ None }
+    ensures gives { (m : BenchState) (answered : Option ℕ) (s : Sequel Close) → A.begun access.old m → IsLeft (A.reported access.new) answered
+        → stop (world_from m answered) (A.reported access.old).asks.calls ≡ None → sequel_of followed.now ≡ Some s
+        → FollowsAs (A.reported access.new).lines (comes (world_after (world_from m answered) (A.reported access.old).asks.calls) s)
+        result (A.reported access.old).asks.calls (A.reported access.new).asks.calls (K.written sink.old) (K.written sink.new) }
+    ensures asked { IfOk result (λ x. length (A.reported access.new).asks.calls ≡ units + x.units) }
+    ensures few { IfOk result (λ x. units + x.units ≤ 9000000) }
+    ensures closes { IfOk result (λ x. ClosesAs followed.now x.close) }
+    ensures end { EndIs result (A.reported access.new).end }
+    ensures lines { HasLines result (K.written sink.old) (K.written sink.new) }
+    ensures cause { HasSinkCause result (K.faults sink.old) (K.faults sink.new) }
+    ensures keeps { Keeps A.begun A.reported A.identity access.old access.new }
+{
+    if units > 1_000_000 {
+        return Err(Unclosed::Stopped(Stop::OutOfMemory));
+    }
+    match followed {
+        Followed::Nothing => Ok(Closed {
+            close: Close::Nothing,
+            units: 0,
+        }),
+        Followed::Load { ap, image } => load_after(alloc, *ap, image, access),
+        Followed::Scan { ap } => scan_after(alloc, *ap, access, sink),
+    }
+}
