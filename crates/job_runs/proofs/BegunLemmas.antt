@@ -20,7 +20,8 @@ use Rattle.control_flow.specs.Answers.{IsWhole}
 use Rattle.sequence_rules.specs.Laws.{StopBy}
 use Rattle.sequence_rules.specs.Runs as runs
 use Rattle.sequence_rules.specs.Runs.{Ending}
-use Rattle.job_runs.proofs.FrontLemmas.{Meets, beyond, covers, from_length, goes_beyond, within}
+use Rattle.followed_runs.proofs.CallLemmas.{from_length}
+use Rattle.job_runs.proofs.FrontLemmas.{Meets, beyond, covers, goes_beyond, within}
 
 -- ---- lists
 

@@ -28,6 +28,7 @@ use Rattle.control_flow.specs.Answers.{IsWhole, SharesCalls}
 use Rattle.sequence_rules.specs.Runs.{Outcome}
 use Rattle.sequels.specs.Limits.{GoesOnFrom}
 use Rattle.sequels.proofs.LimitLemmas.{from_on, from_same}
+use Rattle.followed_runs.proofs.CallLemmas.{from_few, from_length}
 use Rattle.job_runs.specs.Runs.{HasMade}
 
 -- ---- lists
@@ -72,11 +73,6 @@ call_within [] i c is = absurd (cc)
 call_within (a ∷ xs) zero c is = omega arith
 call_within (a ∷ xs) (suc i) c is = (let less = call_within xs i c is in omega (arith, less))
 
--- nothing is left
-none_left : {A : Type 0} (few : ℕ) (rest : List A) → few + length rest ≤ few → rest ≡ []
-none_left few [] le = refl
-none_left few (x ∷ rest) le = absurd (omega (arith, le))
-
 -- a mark says nothing else of a call
 unmarked : (a b : List Ask) → is_settled a ≡ false → is_settled b ≡ false → settled_last a ≡ settled_last b → a ≡ b
 unmarked [] b at is e = absurd (cc)
@@ -98,14 +94,6 @@ call_at calls i = option_map (λ (a : Ask). a.call) (slice_get calls i)
 
 -- ---- calls that go on from others
 
--- they are no fewer
-pub from_length : (a b : List Ask) → GoesOnFrom a b → length a ≤ length b
-from_length a b g = by_mark g.so
-  where
-    by_mark : (b ≡ a ++ g.more) ⊎ (b ≡ settled_last a ++ g.more) → length a ≤ length b
-    by_mark (inl e) = (let long = ap length e ∙ length-append a g.more in omega (arith, long))
-    by_mark (inr e) = (let long = ap length e ∙ length-append (settled_last a) g.more in let same = length_marked a in omega (arith, long, same))
-
 -- a call stands where it stood
 pub from_call : (a b : List Ask) (i : ℕ) → GoesOnFrom a b → i < length a → call_at b i ≡ call_at a i
 from_call a b i g less = by_mark g.so
@@ -120,18 +108,6 @@ from_call a b i g less = by_mark g.so
 -- the same calls with a mark after the last
 pub from_mark : (calls : List Ask) → GoesOnFrom calls (settled_last calls)
 from_mark calls = record { more = []; so = inr (sym (append-nil (settled_last calls))) }
-
--- where they are no more, they are the same, or a mark is added
-pub from_few : (a b : List Ask) → GoesOnFrom a b → length b ≤ length a → (b ≡ a) ⊎ (b ≡ settled_last a)
-from_few a b g few = by_mark g.so
-  where
-    by_mark : (b ≡ a ++ g.more) ⊎ (b ≡ settled_last a ++ g.more) → (b ≡ a) ⊎ (b ≡ settled_last a)
-    by_mark (inl e) =
-        let none : g.more ≡ [] = none_left (length a) g.more (let long = ap length e ∙ length-append a g.more in omega (arith, long, few)) in
-        inl (e ∙ ap (λ (l : List Ask). a ++ l) none ∙ append-nil a)
-    by_mark (inr e) =
-        let none : g.more ≡ [] = none_left (length a) g.more (let long = ap length e ∙ length-append (settled_last a) g.more in let same = length_marked a in omega (arith, long, same, few)) in
-        inr (e ∙ ap (λ (l : List Ask). settled_last a ++ l) none ∙ append-nil (settled_last a))
 
 -- calls that are settled, by a first part and what comes after it: the mark is after the last
 unsettled : (calls front : List Ask) (x : Ask) (rest : List Ask) → settled_last calls ≡ front ++ x ∷ rest → (more : List Ask) × (calls ≡ front ++ more)

@@ -5,3 +5,4 @@ pub mod WordsLemmas
 pub mod LeaveLemmas
 pub mod TextLemmas
 pub mod MeantLemmas
+pub mod CloseLemmas

@@ -1,10 +1,10 @@
 -- The memory at a stop is that of the sequences with so many units answered.
-use Rattle.std.proofs.Common.{◌≡◌, ◌∙◌, ◌⊎◌, inl, inr, ℕ, zero, suc, ◌+◌, ◌≤◌, max, Bool, true, false, cond, List, [], ◌∷◌, ◌++◌, length, take, Option, Some, None, refl, sym, ap, subst, arith}
+use Rattle.std.proofs.Common.{◌≡◌, ◌∙◌, ◌⊎◌, inl, inr, ℕ, zero, suc, ◌≤◌, max, Bool, true, false, cond, List, [], ◌∷◌, ◌++◌, length, take, Option, Some, refl, sym, ap, arith}
 use Rattle.target_machine.specs.State.{TargetState}
 use Rattle.target_machine.specs.Plain.{CallDone, call_done}
 use Rattle.target_calls.specs.Asks.{settled_last}
 use Rattle.target_calls.specs.Journal.{Entry}
-use Rattle.target_calls.specs.World.{World, is_faulted, left_at, next_world, start_world, world_after}
+use Rattle.target_calls.specs.World.{World, is_faulted, left_at, start_world, world_after}
 use Rattle.target_calls.specs.declared.calls.Ask.{Ask}
 use Rattle.target_calls.proofs.MarkLemmas.{after_marked, length_marked}
 use Rattle.access_calls.specs.Made.{last_made, units_made}
@@ -12,7 +12,7 @@ use Rattle.access_calls.specs.declared.stop.Report.{Report}
 use Rattle.access_calls.specs.declared.stop.StopCause.{StopCause}
 use Rattle.access_calls.specs.declared.stop.StopCause.TheVariants.{Faulted, NoAnswer}
 use Rattle.sequels.specs.Limits.{GoesOnFrom}
-use Rattle.sequence_rules.specs.Runs.{Outcome, units_of}
+use Rattle.sequence_rules.specs.Runs.{Outcome}
 use Rattle.followed_runs.specs.Followed.{Task, task_outcome, task_within}
 use Rattle.followed_runs.specs.Laws as laws
 use Rattle.followed_runs.specs.Laws.{IsCutShort}

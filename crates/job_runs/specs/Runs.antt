@@ -33,7 +33,9 @@ use Rattle.sequence_rules.specs.Late.{Grows}
 use Rattle.sequence_rules.specs.Runs as runs
 use Rattle.seq_check.specs.Answers.{checked_trees}
 use Rattle.sequence_rules.specs.Runs.{Outcome, Program, needs, program_of, units_of, variables_of}
-use Rattle.followed_runs.specs.Followed.{Task, alone, task_outcome, task_within}
+use Rattle.followed_runs.specs.Followed.{Task, alone, task_close, task_outcome, task_within}
+use Rattle.sequels.specs.declared.close.Close.{Close}
+use Rattle.sequels.specs.Sequel.{Sequel}
 
 -- ---- what is run, and what it leaves
 
@@ -79,6 +81,14 @@ program_in r sequence = program_of (checked_trees r.trees) sequence r.job.settin
 -- what is run of them: nothing follows the program
 abbrev pub task_in : ValidRun → List ℕ → Task
 task_in r sequence = alone (program_in r sequence)
+
+-- the program with what follows it
+abbrev pub task_with : ValidRun → List ℕ → Option (Sequel Close) → Task
+task_with r sequence sequel = record { program = program_in r sequence; sequel = sequel }
+
+-- How what follows a run of a job over its bench, which was just loaded, comes to its end.
+abbrev pub job_close : Config → BenchJob → Task → Option (List ℕ) → Close
+job_close config job k before = task_close k (target_of (opened_bench config (fresh job)).probe) before
 
 -- what is written, where it was known before
 abbrev pub known_after : Option (List ℕ) → Option (List ℕ) → Option (List ℕ)

@@ -8,5 +8,5 @@ mod running;
 mod writing;
 
 pub use kept::Kept;
-pub use running::{Ran, run_on};
-pub use writing::write_run;
+pub use running::{Ran, run_on, run_whole};
+pub use writing::{write_run, write_whole};
