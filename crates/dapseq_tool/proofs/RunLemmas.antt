@@ -6,7 +6,7 @@ use Rattle.dap_base.specs.Streams.{PutAppends}
 use Rattle.text_lines.specs.Causes.{NamesFault}
 use Rattle.probe_core.specs.Bench.{BenchState, IsSame, Reported, StepsTo, fresh, loaded}
 use Rattle.probe_core.specs.Probe.{fresh_probe}
-use Rattle.probe_core.specs.Runs.{IsWholeRun, KeepsRuns}
+use Rattle.probe_core.specs.Runs.{IsWholeRun, KeepsLog, KeepsRuns}
 use Rattle.probe_core.specs.declared.job.BenchJob.{BenchJob}
 use Rattle.access_calls.specs.declared.ended.Ending.{Ending}
 use Rattle.access_calls.specs.declared.ended.Ending.TheVariants as e
@@ -145,11 +145,12 @@ bench_cause (Err t) ending end a b c is in_run in_text fault =
 fresh_run : (job : BenchJob) → IsWholeRun (fresh_probe job) (fresh job)
 fresh_run job = λ whole. refl
 
+-- what is kept of a log since a load
+kept_log : (job : BenchJob) (old new : Option BenchState) (n : BenchState) → old ≡ Some (fresh job) → new ≡ Some n → KeepsRuns old new → KeepsLog (fresh job) n
+kept_log job old new n is is_new keeps = subst (λ (o : Option BenchState). KeepsRuns (Some (fresh job)) o) is_new (subst (λ (o : Option BenchState). KeepsRuns o new) is keeps)
+
 pub kept_run : (job : BenchJob) (old new : Option BenchState) (n : BenchState) → old ≡ Some (fresh job) → new ≡ Some n → KeepsRuns old new → IsWholeRun (fresh_probe job) n
-kept_run job old new n is is_new keeps = by_both (subst (λ (o : Option BenchState). KeepsRuns (Some (fresh job)) o) is_new (subst (λ (o : Option BenchState). KeepsRuns o new) is keeps))
-  where
-    by_both : KeepsRuns (Some (fresh job)) (Some n) → IsWholeRun (fresh_probe job) n
-    by_both h = h (fresh_probe job) (fresh_run job)
+kept_run job old new n is is_new keeps = (kept_log job old new n is is_new keeps).runs (fresh_probe job) (fresh_run job)
 
 pub on_some : (o : Option BenchState) (n : BenchState) (P : BenchState → Type 0) → o ≡ Some n → IfSome o P → P n
 on_some o n P is h = subst (λ (x : Option BenchState). IfSome x P) is h
