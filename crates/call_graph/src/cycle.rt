@@ -31,9 +31,9 @@ pub fn first_cycle(alloc: Global, graph: &CallGraph) -> Result<Option<CallSpot>,
     Ok(None)
 }
 
-// A mark for each node with a call in a cycle. Another node is marked only where the ranks are not
-// those of components; it is then searched from in vain.
-fn cycle_candidates(alloc: Global, graph: &CallGraph) -> Result<Vec<bool>, OutOfMemory>
+/// A mark for each node with a call in a cycle. Another node is marked only where the ranks are not
+/// those of components; it is then searched from in vain. `OutOfMemory` where memory is refused.
+pub fn cycle_candidates(alloc: Global, graph: &CallGraph) -> Result<Vec<bool>, OutOfMemory>
     ensures { IfOk result (λ marks. MarksCycles graph.now marks.items) }
 {
     // A node of a cycle begins chains of any length, and most graphs have no long ones.
@@ -62,10 +62,10 @@ fn first_back(alloc: Global, graph: &CallGraph, node: usize) -> Result<Option<us
     Ok(None)
 }
 
-// Whether the target is reached from a node: whether it is that node, or calls lead to it. The nodes
-// seen before don't reach the target and aren't gone through again; where this one doesn't either,
-// it and what it leads to is seen.
-fn reaches(
+/// Whether the target is reached from a node: whether it is that node, or calls lead to it. The nodes
+/// seen before don't reach the target and aren't gone through again; where this one doesn't either,
+/// it and what it leads to is seen. `OutOfMemory` where memory is refused.
+pub fn reaches(
     alloc: Global,
     graph: &CallGraph,
     from: usize,

@@ -23,7 +23,7 @@ pub fn first_deep(alloc: Global, graph: &CallGraph) -> Result<Option<CallSpot>, 
     Ok(first_into(graph, marks.as_slice()))
 }
 
-/// The nodes at which a chain of `count` nodes begins.
+/// The nodes at which a chain of `count` nodes begins. `OutOfMemory` where memory is refused.
 pub fn chain_beginnings(
     alloc: Global,
     graph: &CallGraph,

@@ -9,7 +9,8 @@ mod marks;
 mod ranks;
 mod walk;
 
-pub use cycle::first_cycle;
-pub use depth::{TOO_DEEP, first_deep};
+pub use cycle::{cycle_candidates, first_cycle, reaches};
+pub use depth::{TOO_DEEP, chain_beginnings, first_deep};
 pub use graph::{CallGraph, CallSpot};
+pub use marks::{all_marks, is_marked};
 pub use ranks::{fall, ranks_of};

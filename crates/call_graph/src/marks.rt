@@ -9,7 +9,7 @@ use crate::graph::CallGraph;
 use dap_base::OutOfMemory;
 use std::alloc::Global;
 
-/// A mark for each node of a graph, all alike.
+/// A mark for each node of a graph, all alike. `OutOfMemory` where memory is refused.
 pub fn all_marks(alloc: Global, graph: &CallGraph, mark: bool) -> Result<Vec<bool>, OutOfMemory>
     ensures { IfOk result (λ marks. marks.items ≡ replicate (length graph.now) mark) }
 {

@@ -34,7 +34,7 @@ one_spot c d h j =
 one_first_call : (P : CallSpot → Type 0) (c d : CallSpot) → graph.IsFirst P c → graph.IsFirst P d → c ≡ d
 one_first_call P c d h j = one_spot c d (λ before. j.none_before c before h.holds) (λ before. h.none_before d before j.holds)
 
-one_place : (set : SetTrees) (c : CallSpot) (spot other : Spot) → IsCallAt set c spot → IsCallAt set c other → spot ≡ other
+pub one_place : (set : SetTrees) (c : CallSpot) (spot other : Spot) → IsCallAt set c spot → IsCallAt set c other → spot ≡ other
 one_place set c spot other h j =
     let name : h.name ≡ j.name = some_is h.name j.name (sym h.named ∙ j.named) in
     let calls : h.calls ≡ j.calls = some_is h.calls j.calls (sym h.has ∙ j.has) in

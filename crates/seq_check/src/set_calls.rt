@@ -30,7 +30,7 @@ fn calls_of(
     Ok(calls)
 }
 
-/// The calls of each sequence.
+/// The calls of each sequence. `sequences` are the names of the set. `OutOfMemory` where memory is refused.
 pub fn set_calls(
     alloc: Global,
     set: &ReadSet,
@@ -57,7 +57,7 @@ fn callees_of(alloc: Global, calls: &[StepCall]) -> Result<ItemList<usize>, OutO
     Ok(callees)
 }
 
-/// The sequences by their numbers, and which they call.
+/// The sequences by their numbers, and which they call. `OutOfMemory` where memory is refused.
 pub fn graph_of(alloc: Global, calls: &[StepCalls]) -> Result<CallGraph, OutOfMemory>
     ensures { IfOk result (λ graph. graph ≡ map (λ cs. map (λ c. c.callee) cs) calls.now) }
 {
@@ -88,7 +88,7 @@ fn call_at(calls: &[StepCalls], at: CallSpot) -> &StepCall
     }
 }
 
-/// Where a call of the set's graph stands in the set.
+/// Where a call of the set's graph stands in the set. `OutOfMemory` where memory is refused.
 pub fn call_spot(
     alloc: Global,
     set: &ReadSet,

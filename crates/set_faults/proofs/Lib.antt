@@ -8,4 +8,5 @@ pub mod StepLemmas
 pub mod SetLemmas
 pub mod OneList
 pub mod SyntaxLaws
-pub mod Answers
+pub mod GraphLemmas
+pub mod PhaseLemmas

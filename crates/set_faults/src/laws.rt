@@ -1,19 +1,29 @@
 //! Laws of the lists of faults, as the contracts of functions that do nothing.
 
-ghost use Rattle.std.specs.Prelude.{◌≡◌, ◌∷◌, [], List};
+ghost use Rattle.std.specs.Prelude.{◌≡◌, ◌↔◌, ◌∷◌, [], List};
 ghost use Rattle.sequence_resolve.specs.declared.entry.SeqSet.{SeqSet};
 ghost use Rattle.sequence_trees.specs.Trees.{SetTrees};
 ghost use Rattle.seq_check.specs.SetFaults.{SetFault, FaultInSet};
-ghost use Rattle.seq_check.specs.Valid.{IsFirstOf, IsFirstFaultOf};
+ghost use Rattle.seq_check.specs.Valid.{IsFirstOf, IsValid, IsFirstFaultOf};
 ghost use Rattle.set_faults.specs.declared.site.Fault.{Fault};
-ghost use Rattle.set_faults.specs.declared.set_faults.TextFaults.{TextFaults};
-ghost use Rattle.set_faults.specs.Answers.{AnswersFaults};
+ghost use Rattle.set_faults.specs.declared.phase.SetFaults.{SetFaults};
+ghost use Rattle.set_faults.specs.Answers.{AreSetFaults};
 ghost use Rattle.set_faults.specs.Syntax.{AreSyntaxFaults};
 ghost use Rattle.set_faults.specs.Rules.{AreRuleFaults};
 
 /// A set has one answer.
 pub fn one_answer()
-    ensures { (set : SeqSet) (answer other : TextFaults) → AnswersFaults set answer → AnswersFaults set other → answer ≡ other }
+    ensures { (set : SeqSet) (answer other : SetFaults) → AreSetFaults set answer → AreSetFaults set other → answer ≡ other }
+{}
+
+/// The head of its list is the first fault of the set, which `seq_check::check` reports.
+pub fn head_is_first()
+    ensures { (set : SeqSet) (answer : SetFaults) (fault : Fault) (more : List Fault) → AreSetFaults set answer → answer.faults ≡ fault ∷ more → IsFirstFaultOf set fault.kind fault.spot }
+{}
+
+/// The list is empty exactly where the set is valid.
+pub fn empty_where_valid()
+    ensures { (set : SeqSet) (answer : SetFaults) → AreSetFaults set answer → (answer.faults ≡ []) ↔ IsValid set }
 {}
 
 /// A set has one list of texts that can not be read.

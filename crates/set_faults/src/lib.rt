@@ -2,16 +2,20 @@
 #![tactic(auto)]
 
 mod blocks;
+mod call_faults;
 mod calls;
 mod code_faults;
 mod controls;
 mod exprs;
+mod graph_calls;
 pub mod laws;
-mod set_faults;
+mod phase;
+mod phases;
 mod sets;
 mod site;
 mod steps;
 mod texts;
 
-pub use set_faults::{TextFaults, text_faults};
+pub use phase::{Phase, SetFaults};
+pub use phases::all_faults;
 pub use site::Fault;

@@ -8,7 +8,7 @@ use device_tree::{SharedSteps, Step, Steps};
 use seq_check::{CheckFault, Checked, FaultKind, check};
 use sequence_resolve::{LevelKind, SeqEntry, SeqSet};
 use sequence_trees::Spot;
-use set_faults::{Fault, TextFaults, text_faults};
+use set_faults::{Fault, all_faults};
 use std::alloc::{AllocError, Global};
 
 fn block(alloc: Global, code: &str) -> Result<Step, OutOfMemory> {
@@ -156,15 +156,14 @@ fn fault_lines(alloc: Global, faults: &[Fault]) -> Result<String, AllocError> {
 fn all_lines(alloc: Global, set: &SeqSet) -> Result<String, AllocError>
     requires { IsDistinct bytes_eq (map (λ e. e.name) set.now.entries) }
 {
-    match text_faults(alloc, set) {
-        Ok(TextFaults::Rules(faults)) if faults.is_empty() => String::from_str(alloc, "none\n"),
-        Ok(TextFaults::Rules(faults)) => fault_lines(alloc, faults.as_slice()),
-        Ok(TextFaults::Syntax(faults)) => fault_lines(alloc, faults.as_slice()),
+    match all_faults(alloc, set) {
+        Ok(found) if found.faults.is_empty() => String::from_str(alloc, "none\n"),
+        Ok(found) => fault_lines(alloc, found.faults.as_slice()),
         Err(OutOfMemory) => Err(AllocError),
     }
 }
 
-/// All faults of the texts of a set, which is that of `checked`; `none` where it has none.
+/// All faults of a set, which is that of `checked`; `none` where it has none.
 pub fn faults(alloc: Global, text: &str, word: &str) -> Result<String, AllocError> {
     let (debugvars, code) = text.split_once('\t').unwrap_or(("", text));
     let timeout = word.parse::<u64>().ok();

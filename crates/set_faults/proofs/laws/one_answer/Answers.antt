@@ -1,4 +1,4 @@
-use Rattle.set_faults.proofs.Answers as lemmas
+use Rattle.set_faults.proofs.PhaseLemmas as lemmas
 use Rattle.set_faults.proofs.laws.one_answer.Goals as goal
 
 pub returns : goal.returns
