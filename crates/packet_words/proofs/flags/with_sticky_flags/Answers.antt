@@ -1,0 +1,7 @@
+use Rattle.packet_words.specs.Flags.{sticky_flags}
+use Rattle.packet_words.proofs.Chains.{four}
+use Rattle.packet_words.proofs.flags.with_sticky_flags.Goals as goal
+
+pub returns : goal.returns
+unfolding sticky_flags
+returns c = four _ _ _ _ _ _ _ _ c.with_flag-4.result c.in_ok-line.ensures c.in_ok-line-2.ensures c.in_ok-line-3.ensures c.with_flag-4.ensures

@@ -1,0 +1,9 @@
+pub mod Registers
+pub mod Known
+pub mod Flags
+pub mod Requests
+pub mod Commands
+pub mod Replies
+pub mod Exchange
+pub mod Saying
+pub mod Laws
