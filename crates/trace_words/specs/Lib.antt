@@ -1,0 +1,5 @@
+pub mod Entries
+pub mod Walks
+pub mod Steps
+pub mod Words
+pub mod Calls
