@@ -7,13 +7,13 @@ use Rattle.std.proofs.lemmas.Bool.{both_ways, cases_lt}
 use Rattle.clap.specs.Words.{Kinds, Text, fault_of}
 use Rattle.sequence_resolve.specs.declared.selection.Selection.{Selection}
 use Rattle.command_words.specs.declared.answer.Command.{Command}
-use Rattle.command_words.specs.declared.answer.Command.TheVariants.{Check, Run, Trace, Gen, Audit}
+use Rattle.command_words.specs.declared.answer.Command.TheVariants.{Check, Run, Trace, Load, Scan, Gen, Audit}
 use Rattle.command_words.specs.declared.mode.Mode.{Mode}
 use Rattle.command_words.specs.declared.mode.Mode.TheVariants as mode
 use Rattle.command_words.specs.declared.options.Options.{Options}
 use Rattle.command_words.specs.Line.{IsTaken, command_line, given}
-use Rattle.command_words.specs.Table.{IsCommand, IsRow, IsShortNumber, for_device, for_number, mode_text, no_options, options_by}
-use Rattle.command_words.proofs.TableLemmas.{mode_of_row, no_audit, no_check, no_gen, no_run, no_trace}
+use Rattle.command_words.specs.Table.{IsCommand, IsForPort, IsPort, IsRow, IsShortNumber, for_device, for_port, for_number, mode_text, no_options, options_by}
+use Rattle.command_words.proofs.TableLemmas.{mode_of_row, no_audit, no_check, no_gen, no_load, no_run, no_scan, no_trace}
 
 -- it is so, or it is not so
 abbrev Decided : Type 0 → Type 0
@@ -83,6 +83,28 @@ with_sequence (Some device) variant pname None number = inr (λ s name e. no_val
 with_sequence (Some device) variant pname (Some sequence) (Some number) = inr (λ s name e. no_value number (sym (ap (λ (o : Options). o.number) e)))
 with_sequence (Some device) variant pname (Some sequence) None = inl (record { device = device; variant = variant; pname = pname }, sequence, refl)
 
+-- the number of an access port
+port : (number : Value) → ((ap' : ℕ) × IsPort number ap') ⊎ ((ap' : ℕ) → IsPort number ap' → ⊥)
+port None = inl (0, refl)
+port (Some text) = elim (short_number text) [
+  | inl is ↦ elim (less (digits_value 10 text) (2 ^ 8)) [
+    | inl few ↦ inl (digits_value 10 text, (is, few))
+    | inr not ↦ inr (λ n it. not (subst (λ (k : ℕ). k < 2 ^ 8) (sym it.0.value) it.1))
+  ]
+  | inr not ↦ inr (λ n it. not (record { digits = it.0.digits; five = it.0.five; value = refl; bits = subst (λ (k : ℕ). k < 2 ^ 16) (sym it.0.value) it.0.bits }))
+]
+
+abbrev WithPort : Options → Type 0
+WithPort o = ((s : Selection) × (name : List ℕ) × (ap' : ℕ) × IsForPort o s name ap') ⊎ ((s : Selection) (name : List ℕ) (ap' : ℕ) → IsForPort o s name ap' → ⊥)
+
+with_port : (device variant pname sequence number : Value) → WithPort (made device variant pname sequence number)
+with_port None variant pname sequence number = inr (λ s name n is. no_value s.device (ap (λ (o : Options). o.device) is.1))
+with_port (Some device) variant pname None number = inr (λ s name n is. no_value name (ap (λ (o : Options). o.sequence) is.1))
+with_port (Some device) variant pname (Some sequence) number = elim (port number) [
+  | inl it ↦ inl (record { device = device; variant = variant; pname = pname }, sequence, it.0, (it.1, refl))
+  | inr never ↦ inr (λ s name n is. never n is.0)
+]
+
 abbrev NumberAlone : Options → Type 0
 NumberAlone o = ((n : ℕ) × (text : List ℕ) × IsShortNumber text n × (o ≡ for_number text)) ⊎ ((text : List ℕ) (n : ℕ) → IsShortNumber text n → o ≡ for_number text → ⊥)
 
@@ -125,6 +147,12 @@ run_row o = elim (with_sequence o.device o.variant o.pname o.sequence o.number) 
 trace_row : (o : Options) → Row (codes "trace") o
 trace_row o = elim (with_sequence o.device o.variant o.pname o.sequence o.number) [ inl s ↦ inl (Trace s.0 s.1, (refl, s.2)) | inr never ↦ inr (no_trace o never) ]
 
+load_row : (o : Options) → Row (codes "load") o
+load_row o = elim (with_sequence o.device o.variant o.pname o.sequence o.number) [ inl s ↦ inl (Load s.0 s.1, (refl, s.2)) | inr never ↦ inr (no_load o never) ]
+
+scan_row : (o : Options) → Row (codes "scan") o
+scan_row o = elim (with_port o.device o.variant o.pname o.sequence o.number) [ inl s ↦ inl (Scan s.0 s.1 s.2, (refl, s.3)) | inr never ↦ inr (no_scan o never) ]
+
 gen_row : (o : Options) → Row (codes "gen") o
 gen_row o = elim (number_alone o.device o.variant o.pname o.sequence o.number) [ inl n ↦ inl (Gen n.0, (refl, n.1, n.2, n.3)) | inr never ↦ inr (no_gen o never) ]
 
@@ -141,24 +169,29 @@ named_row m name o is row = subst (λ (t : List ℕ). Row t o) (sym (same_text m
 no_row : (m : List ℕ) (o : Options) → ((mode : Mode) → m ≡ mode_text mode → ⊥) → Row m o
 no_row m o never = inr (λ c row. let is = mode_of_row m o c row in never is.0 is.1)
 
-by_mode : (m : List ℕ) (o : Options) (a b c d e : Bool) → bytes_eq m (codes "check") ≡ a → bytes_eq m (codes "run") ≡ b → bytes_eq m (codes "trace") ≡ c → bytes_eq m (codes "gen") ≡ d
-    → bytes_eq m (codes "audit") ≡ e → Row m o
-by_mode m o true b c d e p q r s t = named_row m (codes "check") o p (check_row o)
-by_mode m o false true c d e p q r s t = named_row m (codes "run") o q (run_row o)
-by_mode m o false false true d e p q r s t = named_row m (codes "trace") o r (trace_row o)
-by_mode m o false false false true e p q r s t = named_row m (codes "gen") o s (gen_row o)
-by_mode m o false false false false true p q r s t = named_row m (codes "audit") o t (audit_row o)
-by_mode m o false false false false false p q r s t = no_row m o never where
+by_mode : (m : List ℕ) (o : Options) (a b c d e f g : Bool) → bytes_eq m (codes "check") ≡ a → bytes_eq m (codes "run") ≡ b → bytes_eq m (codes "trace") ≡ c → bytes_eq m (codes "gen") ≡ d
+    → bytes_eq m (codes "audit") ≡ e → bytes_eq m (codes "load") ≡ f → bytes_eq m (codes "scan") ≡ g → Row m o
+by_mode m o true b c d e f g p q r s t u v = named_row m (codes "check") o p (check_row o)
+by_mode m o false true c d e f g p q r s t u v = named_row m (codes "run") o q (run_row o)
+by_mode m o false false true d e f g p q r s t u v = named_row m (codes "trace") o r (trace_row o)
+by_mode m o false false false true e f g p q r s t u v = named_row m (codes "gen") o s (gen_row o)
+by_mode m o false false false false true f g p q r s t u v = named_row m (codes "audit") o t (audit_row o)
+by_mode m o false false false false false true g p q r s t u v = named_row m (codes "load") o u (load_row o)
+by_mode m o false false false false false false true p q r s t u v = named_row m (codes "scan") o v (scan_row o)
+by_mode m o false false false false false false false p q r s t u v = no_row m o never where
   never : (is : Mode) → m ≡ mode_text is → ⊥
   never mode.Check e = apart m (codes "check") p e
   never mode.Run e = apart m (codes "run") q e
   never mode.Trace e = apart m (codes "trace") r e
   never mode.Gen e = apart m (codes "gen") s e
   never mode.Audit e = apart m (codes "audit") t e
+  never mode.Load e = apart m (codes "load") u e
+  never mode.Scan e = apart m (codes "scan") v e
 
 row : (m : List ℕ) (o : Options) → Row m o
 row m o =
-    by_mode m o (bytes_eq m (codes "check")) (bytes_eq m (codes "run")) (bytes_eq m (codes "trace")) (bytes_eq m (codes "gen")) (bytes_eq m (codes "audit")) refl refl refl refl refl
+    by_mode m o (bytes_eq m (codes "check")) (bytes_eq m (codes "run")) (bytes_eq m (codes "trace")) (bytes_eq m (codes "gen")) (bytes_eq m (codes "audit")) (bytes_eq m (codes "load"))
+    (bytes_eq m (codes "scan")) refl refl refl refl refl refl refl
 
 -- ---- words
 

@@ -2,7 +2,7 @@
 use Rattle.std.specs.Prelude.{◌≡◌, ℕ, ◌^◌, ◌<◌, ◌≤◌, List, length, Option, Some, None, codes}
 use Rattle.std.specs.Str.Parse.{IsNumeral, digits_value}
 use Rattle.command_words.specs.declared.answer.Command.{Command}
-use Rattle.command_words.specs.declared.answer.Command.TheVariants.{Check, Run, Trace, Gen, Audit}
+use Rattle.command_words.specs.declared.answer.Command.TheVariants.{Check, Run, Trace, Load, Scan, Gen, Audit}
 use Rattle.sequence_resolve.specs.declared.selection.Selection.{Selection}
 use Rattle.command_words.specs.declared.mode.Mode.{Mode}
 use Rattle.command_words.specs.declared.mode.Mode.TheVariants as mode
@@ -21,12 +21,27 @@ abbrev pub mode_text : Mode → List ℕ
 mode_text mode.Check = codes "check"
 mode_text mode.Run = codes "run"
 mode_text mode.Trace = codes "trace"
+mode_text mode.Load = codes "load"
+mode_text mode.Scan = codes "scan"
 mode_text mode.Gen = codes "gen"
 mode_text mode.Audit = codes "audit"
 
 -- a device, its variant and its processor where they are given, and a sequence or none
 abbrev pub for_device : Selection → Option (List ℕ) → Options
 for_device s sequence = record { device = Some s.device; variant = s.variant; pname = s.pname; sequence = sequence; number = None }
+
+-- a device and a sequence, and a number or none
+abbrev pub for_port : Selection → List ℕ → Option (List ℕ) → Options
+for_port s sequence number = record { device = Some s.device; variant = s.variant; pname = s.pname; sequence = Some sequence; number = number }
+
+-- the number of an access port, of at most 255; 0 where none is given
+abbrev pub IsPort : Option (List ℕ) → ℕ → Type 0
+IsPort None ap = ap ≡ 0
+IsPort (Some text) ap = IsShortNumber text ap × (ap < 2 ^ 8)
+
+-- a device and a sequence, and the number of an access port
+abbrev pub IsForPort : Options → Selection → List ℕ → ℕ → Type 0
+IsForPort options s sequence ap = IsPort options.number ap × (options ≡ for_port s sequence options.number)
 
 -- a number alone
 abbrev pub for_number : List ℕ → Options
@@ -41,6 +56,8 @@ abbrev pub IsRow : List ℕ → Options → Command → Type 0
 IsRow m options (Check s) = (m ≡ codes "check") × (options ≡ for_device s None)
 IsRow m options (Run s sequence) = (m ≡ codes "run") × (options ≡ for_device s (Some sequence))
 IsRow m options (Trace s sequence) = (m ≡ codes "trace") × (options ≡ for_device s (Some sequence))
+IsRow m options (Load s sequence) = (m ≡ codes "load") × (options ≡ for_device s (Some sequence))
+IsRow m options (Scan s sequence ap) = (m ≡ codes "scan") × IsForPort options s sequence ap
 IsRow m options (Gen n) = (m ≡ codes "gen") × (text : List ℕ) × IsShortNumber text n × (options ≡ for_number text)
 IsRow m options Audit = (m ≡ codes "audit") × (options ≡ no_options)
 

@@ -18,6 +18,18 @@ pub enum Command {
         selection: Selection,
         sequence: NameText,
     },
+    /// `load`: the sequence is run, and the image of the job is written and read back.
+    Load {
+        selection: Selection,
+        sequence: NameText,
+    },
+    /// `scan`: the sequence is run, and the components of an access port are listed.
+    Scan {
+        selection: Selection,
+        sequence: NameText,
+        /// The number of the access port.
+        ap: u8,
+    },
     /// `gen`: the job of this number is made and run.
     Gen(u16),
     /// `audit`: the trace of the job is compared with what its probe does.

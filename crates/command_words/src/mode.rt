@@ -8,6 +8,8 @@ pub enum Mode {
     Check,
     Run,
     Trace,
+    Load,
+    Scan,
     Gen,
     Audit,
 }
@@ -20,6 +22,8 @@ pub fn mode_of(text: &str) -> Option<Mode>
         "check" => Some(Mode::Check),
         "run" => Some(Mode::Run),
         "trace" => Some(Mode::Trace),
+        "load" => Some(Mode::Load),
+        "scan" => Some(Mode::Scan),
         "gen" => Some(Mode::Gen),
         "audit" => Some(Mode::Audit),
         _ => None,

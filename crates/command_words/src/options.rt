@@ -1,6 +1,6 @@
 //! The options of a command line, and the rows of options that a command may have.
 ghost use Rattle.std.specs.Prelude.{◌≡◌, ◌≢◌, ◌↔◌, ℕ, List, None, Some, IsTrue, MatchOption};
-ghost use Rattle.command_words.specs.Table.{for_device, for_number, no_options, IsShortNumber};
+ghost use Rattle.command_words.specs.Table.{for_device, for_number, no_options, IsForPort, IsPort, IsShortNumber};
 
 use crate::numeral::short_number;
 use dap_base::NameText;
@@ -59,6 +59,45 @@ pub fn device_and_sequence(options: Options) -> Option<(Selection, NameText)>
         pname,
     };
     Some((selection, sequence))
+}
+
+// The number of an access port, 0 where none is given.
+fn port_of(number: &Option<NameText>) -> Option<u8>
+    ensures { MatchOption result ((ap : ℕ) → IsPort number.now ap → ⊥) (λ ap. IsPort number.now ap) }
+{
+    match number {
+        Some(text) => {
+            let number = short_number(text.as_str())?;
+            if number < 256 {
+                Some(number as u8)
+            } else {
+                None
+            }
+        }
+        None => Some(0),
+    }
+}
+
+/// The selection, the sequence and the number of an access port, where a device and a sequence are given, and a number of at most 255 or none.
+pub fn device_and_port(options: Options) -> Option<(Selection, NameText, u8)>
+    ensures { MatchOption result ((s : _) (name : List ℕ) (ap : ℕ) → IsForPort options s name ap → ⊥) (λ p. IsForPort options p.0 p.1 p.2) }
+{
+    let ap = port_of(&options.number)?;
+    let Options {
+        device,
+        variant,
+        pname,
+        sequence,
+        ..
+    } = options;
+    let device = device?;
+    let sequence = sequence?;
+    let selection = Selection {
+        device,
+        variant,
+        pname,
+    };
+    Some((selection, sequence, ap))
 }
 
 /// The number, where a short number is given and nothing else.

@@ -4,7 +4,9 @@ ghost use Rattle.command_words.specs.Table.{IsRow, mode_text};
 
 use crate::answer::Command;
 use crate::mode::Mode;
-use crate::options::{Options, are_none, device_alone, device_and_sequence, number_alone};
+use crate::options::{
+    Options, are_none, device_alone, device_and_port, device_and_sequence, number_alone,
+};
 
 /// The command that the mode makes with these options. `None` where they are not the mode's.
 pub fn command_in(mode: Mode, options: Options) -> Option<Command>
@@ -27,6 +29,21 @@ pub fn command_in(mode: Mode, options: Options) -> Option<Command>
             Some(Command::Trace {
                 selection,
                 sequence,
+            })
+        }
+        Mode::Load => {
+            let (selection, sequence) = device_and_sequence(options)?;
+            Some(Command::Load {
+                selection,
+                sequence,
+            })
+        }
+        Mode::Scan => {
+            let (selection, sequence, ap) = device_and_port(options)?;
+            Some(Command::Scan {
+                selection,
+                sequence,
+                ap,
             })
         }
         Mode::Gen => {

@@ -66,10 +66,10 @@ fn options_of(alloc: Global, matches: &ArgMatches<'_>) -> Result<Options, OutOfM
 ///
 /// `clap` reads them as one required positional, the mode, and the options `--device`, `--variant`,
 /// `--pname`, `--sequence` and `--number`, each with one value and at most once. The mode `check`
-/// needs a device, `run` and `trace` need a device and a sequence, and each of the three takes a
+/// needs a device, `run`, `trace`, `load` and `scan` need a device and a sequence, and each of the five takes a
 /// variant and a processor name too. The mode `gen` needs a number and takes nothing else: one to
-/// five decimal digits of a value of at most 65,535. The mode `audit` takes no option. The values of
-/// the command are copies.
+/// five decimal digits of a value of at most 65,535. The mode `scan` takes a number too, of at most 255: that of an
+/// access port, 0 where it is absent. The mode `audit` takes no option. The values of the command are copies.
 ///
 /// `Usage` exactly where `clap` refuses the words for another cause than memory, which its answers
 /// to `--help` and `-h` are, or where the mode or the options are none of these. `OutOfMemory` where

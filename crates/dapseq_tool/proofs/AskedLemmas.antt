@@ -1,6 +1,8 @@
 -- What the words and the bytes ask for, step by step.
-use Rattle.std.proofs.Common.{◌≡◌, ℕ, Bool, true, false, List, [], Option, None, Some, Result, Ok, Err, length, nat_le, ◌<◌, subst, refl, arith}
-use Rattle.std.specs.Prelude.{IfOk, MatchBool, OnOk, ◌≢◌}
+use Rattle.std.proofs.Common.{◌≡◌, ℕ, Bool, true, false, List, [], Option, None, Some, Result, Ok, Err, length, nat_le, ◌<◌, ◌≤◌, ◌∙◌, ◌⊎◌, ap, inl, inr, sym, subst, refl, arith}
+use Rattle.std.specs.Prelude.{⊤, IfErr, IfOk, IsErrOf, MatchBool, OnOk, ◌≢◌}
+use Rattle.dap_base.specs.Causes.{Rose}
+use Rattle.text_lines.specs.Causes.{NamesFault}
 use Rattle.command_words.specs.declared.answer.Command.{Command}
 use Rattle.command_words.specs.declared.answer.Command.TheVariants as commands
 use Rattle.command_words.specs.Table.{IsCommand}
@@ -8,15 +10,22 @@ use Rattle.command_words.proofs.TableLemmas.{one_command}
 use Rattle.sequence_resolve.specs.declared.selection.Selection.{Selection}
 use Rattle.job_check.specs.Running.{IsRefusedRun, OnEnd}
 use Rattle.job_check.specs.declared.running.RunRefusal.{RunRefusal}
-use Rattle.job_check.specs.declared.own.Own.TheVariants as own
 use Rattle.job_check.specs.declared.running.RunRefusal.TheVariants as refusals
-use Rattle.dapseq_tool.specs.Asked.{IsSound, IsSoundAnswer, of_refused, OnRun, Asks, AsksOfBytes, AsksOfCommand, AsksOfRun, IsReadLine, IsRunCommand, IsRunLine, IsUsage, ReadsSource, command, generated, limit, usage}
+use Rattle.dapseq_tool.specs.Asked.{IsSoundAnswer, of_refused, OnRun, Asks, AsksOfBytes, AsksOfCommand, AsksOfRun, IsReadLine, IsRunCommand, IsRunLine, IsUsage, ReadsSource, command, generated, limit, own_of, usage}
+use Rattle.dapseq_tool.specs.Frame.{IsAsked, IsFit}
+use Rattle.dapseq_tool.proofs.FrameLemmas.{fit_answer, on_run_so, plain}
 use Rattle.dapseq_tool.specs.Generated.{its_device, its_sequence, job_text}
 use Rattle.dapseq_tool.specs.Headline.{AreBytesOf}
 use Rattle.dapseq_tool.specs.declared.asking.Answer.{Answer}
+use Rattle.dapseq_tool.specs.declared.asking.Purpose.{Purpose}
+use Rattle.dapseq_tool.specs.declared.asking.Purpose.TheVariants as purposes
 use Rattle.dapseq_tool.specs.declared.asking.Run.{Run}
 use Rattle.dapseq_tool.specs.declared.asking.Answer.TheVariants as answers
 use Rattle.dapseq_tool.specs.declared.asking.Requested.{Requested}
+use Rattle.dapseq_tool.specs.declared.asking.Unasked.{Unasked}
+use Rattle.dapseq_tool.specs.declared.asking.Unasked.TheVariants as unasked
+use Rattle.dapseq_tool.specs.declared.reading.Unread.{Unread}
+use Rattle.dapseq_tool.specs.declared.reading.Unread.TheVariants as unread
 use Rattle.dapseq_tool.specs.declared.asking.What.{What}
 use Rattle.dapseq_tool.specs.declared.asking.What.TheVariants as whats
 
@@ -46,7 +55,7 @@ command_asked words left c asked is reads number asks = (asks.0, asks.1, command
 
 -- a number asks for its job
 pub number_asked : (words : List (List ℕ)) (left : Option (List ℕ)) (n : ℕ) (asked : Requested) → IsCommand words (commands.Gen n) → asked.number ≡ Some n
-    → AsksOfRun its_device its_sequence false (job_text n) asked.what → (bytes : List ℕ) × AreBytesOf left bytes × Asks words bytes asked
+    → AsksOfRun its_device its_sequence purposes.Run (job_text n) asked.what → (bytes : List ℕ) × AreBytesOf left bytes × Asks words bytes asked
 number_asked words left n asked is number asks = let some = some_bytes left in (some.0, some.1, generated n is number asks)
 
 -- a command that reads no source is none of those that do
@@ -65,51 +74,77 @@ same_what x y e = cc
 no_what : (what : What) → None ≡ Some what → ⊥
 no_what what e = cc
 
-pub refused_asked : {E : Type 0} (s : Selection) (sequence : List ℕ) (traced : Bool) (bytes : List ℕ) (end : RunRefusal) (r : Result What E)
-    → OnEnd (IsRefusedRun bytes own.Nothing s sequence) end → IfOk r (λ what. of_refused end ≡ Some what) → IfOk r (AsksOfRun s sequence traced bytes)
-refused_asked s sequence traced bytes end (Err e) h is = tt
-refused_asked s sequence traced bytes (refusals.Refused f) (Ok what) h is = subst (AsksOfRun s sequence traced bytes) (same_what (whats.Answer (answers.Refused f)) what is) h
-refused_asked s sequence traced bytes refusals.NoSequence (Ok what) h is = subst (AsksOfRun s sequence traced bytes) (same_what (whats.Answer answers.NoSequence) what is) h
-refused_asked s sequence traced bytes refusals.OutOfMemory (Ok what) h is = absurd (no_what what is)
+pub refused_asked : {E : Type 0} (s : Selection) (sequence : List ℕ) (purpose : Purpose) (bytes : List ℕ) (end : RunRefusal) (r : Result What E)
+    → OnEnd (IsRefusedRun bytes (own_of purpose) s sequence) end → IfOk r (λ what. of_refused end ≡ Some what) → IfOk r (AsksOfRun s sequence purpose bytes)
+refused_asked s sequence purpose bytes end (Err e) h is = tt
+refused_asked s sequence purpose bytes (refusals.Refused f) (Ok what) h is = subst (AsksOfRun s sequence purpose bytes) (same_what (whats.Answer (answers.Refused f)) what is) h
+refused_asked s sequence purpose bytes refusals.NoSequence (Ok what) h is = subst (AsksOfRun s sequence purpose bytes) (same_what (whats.Answer answers.NoSequence) what is) h
+refused_asked s sequence purpose bytes refusals.OutOfMemory (Ok what) h is = absurd (no_what what is)
 
--- no run is asked for there, and no usage
-refused_what : (P : What → Type 0) (end : RunRefusal) (what : What) → ((answer : Answer) → answer ≢ answers.Usage → IsSoundAnswer answer → P (whats.Answer answer)) → of_refused end ≡ Some what → P what
-refused_what P (refusals.Refused f) what h is = subst P (same_what (whats.Answer (answers.Refused f)) what is) (h (answers.Refused f) (λ e. cc e) tt)
-refused_what P refusals.NoSequence what h is = subst P (same_what (whats.Answer answers.NoSequence) what is) (h answers.NoSequence (λ e. cc e) tt)
-refused_what P refusals.OutOfMemory what h is = absurd (no_what what is)
+-- it is in its ranges, and neither a run nor the usage
+pub refused_fit : {E : Type 0} (end : RunRefusal) (r : Result What E) → IfOk r (λ what. of_refused end ≡ Some what) → IfOk r (IsFit ⊤)
+unfolding IsSoundAnswer
+refused_fit end (Err e) is = tt
+refused_fit (refusals.Refused f) (Ok what) is = subst (IsFit ⊤) (same_what (whats.Answer (answers.Refused f)) what is) (fit_answer ⊤ (answers.Refused f) tt (λ e. cc e))
+refused_fit refusals.NoSequence (Ok what) is = subst (IsFit ⊤) (same_what (whats.Answer answers.NoSequence) what is) (fit_answer ⊤ answers.NoSequence tt (λ e. cc e))
+refused_fit refusals.OutOfMemory (Ok what) is = absurd (no_what what is)
 
-inner : (a b : Answer) → whats.Answer a ≡ whats.Answer b → a ≡ b
-inner a b e = cc
+-- ---- the bytes
 
-pub refused_sound : {E : Type 0} (end : RunRefusal) (r : Result What E) → IfOk r (λ what. of_refused end ≡ Some what) → IfOk r IsSound
-refused_sound end (Err e) is = tt
-refused_sound end (Ok what) is = refused_what IsSound end what (λ answer used sound. record { so = sound }) is
+-- what a command asks for of bytes
+pub bytes_asked : {E : Type 0} (c one : Command) (bytes : List ℕ) (r : Result What E) → c ≡ one → IfOk r (AsksOfBytes one bytes) → IfOk r (AsksOfBytes c bytes)
+bytes_asked c one bytes r is h = subst (λ (x : Command). IfOk r (AsksOfBytes x bytes)) (sym is) h
 
-pub refused_used : {E : Type 0} (end : RunRefusal) (r : Result What E) → IfOk r (λ what. of_refused end ≡ Some what) → IfOk r (λ what. what ≢ whats.Answer answers.Usage)
-refused_used end (Err e) is = tt
-refused_used end (Ok what) is = refused_what (λ w. w ≢ whats.Answer answers.Usage) end what (λ answer used sound e. used (inner answer answers.Usage e)) is
+pub bytes_fit : {E : Type 0} (c one : Command) (r : Result What E) → c ≡ one → IfOk r (IsFit (IsRunCommand one)) → IfOk r (IsFit (IsRunCommand c))
+bytes_fit c one r is h = subst (λ (x : Command). IfOk r (IsFit (IsRunCommand x))) (sym is) h
 
 -- ---- the words
 
--- what a number asks for
-pub with_number : {E : Type 0} (words : List (List ℕ)) (left : Option (List ℕ)) (c : Command) (n : ℕ) (r : Result Requested E) → IsCommand words c → c ≡ commands.Gen n
-    → IfOk r (λ asked. asked.number ≡ Some n) → IfOk r (λ asked. AsksOfRun its_device its_sequence false (job_text n) asked.what)
-    → IfOk r (λ asked. (bytes : List ℕ) × AreBytesOf left bytes × Asks words bytes asked)
-with_number words left c n (Ok asked) is gen number asks = number_asked words left n asked (subst (IsCommand words) gen is) number asks
-with_number words left c n (Err e) is gen number asks = tt
+module _ {E : Type 0} (words : List (List ℕ)) (left : Option (List ℕ)) (c : Command) (is : IsCommand words c) where
+  -- a number asks for its job
+  pub with_number : (n : ℕ) (r : Result Requested E) → c ≡ commands.Gen n → IfOk r (λ asked. asked.number ≡ Some n)
+      → IfOk r (λ asked. AsksOfRun its_device its_sequence purposes.Run (job_text n) asked.what) → IfOk r (λ asked. IsFit ⊤ asked.what) → IfOk r (IsAsked words left)
+  with_number n (Err e) gen number asks fit = tt
+  with_number n (Ok asked) gen number asks fit = record {
+    asks = number_asked words left n asked (subst (IsCommand words) gen is) number asks;
+    usage = λ h. absurd (fit.used h);
+    usage_only = λ none. absurd (none c is);
+    sound = fit.sound;
+    run = on_run_so ⊤ (IsRunLine words) (λ so. (commands.Gen n, subst (IsCommand words) gen is, so)) asked.what fit.run;
+  }
 
--- what the bytes of a source ask for
-pub with_source : {E : Type 0} (words : List (List ℕ)) (left : Option (List ℕ)) (c : Command) (r : Result Requested E) → IsCommand words c → ReadsSource c
-    → IfOk r (λ asked. asked.number ≡ None) → IfOk r (λ asked. (bytes : List ℕ) × AreBytesOf left bytes × AsksOfCommand c bytes asked.what)
-    → IfOk r (λ asked. (bytes : List ℕ) × AreBytesOf left bytes × Asks words bytes asked)
-with_source words left c (Ok asked) is reads number asks = command_asked words left c asked is reads number asks
-with_source words left c (Err e) is reads number asks = tt
+  -- what the bytes of a source ask for
+  pub with_source : (r : Result Requested E) → ReadsSource c → IfOk r (λ asked. asked.number ≡ None)
+      → IfOk r (λ asked. (bytes : List ℕ) × AreBytesOf left bytes × AsksOfCommand c bytes asked.what) → IfOk r (λ asked. IsFit (IsRunCommand c) asked.what) → IfOk r (IsAsked words left)
+  with_source (Err e) reads number asks fit = tt
+  with_source (Ok asked) reads number asks fit = record {
+    asks = command_asked words left c asked is reads number asks;
+    usage = λ h. absurd (fit.used h);
+    usage_only = λ none. absurd (none c is);
+    sound = fit.sound;
+    run = on_run_so (IsRunCommand c) (IsRunLine words) (λ runs. (c, is, runs)) asked.what fit.run;
+  }
 
--- a run that a command asks for is one that the words ask for
-run_of_line : (words : List (List ℕ)) (c : Command) (what : What) → IsCommand words c → OnRun what (λ run. IsRunCommand c) → OnRun what (λ run. IsRunLine words)
-run_of_line words c (whats.Run run) is runs = (c, is, runs)
-run_of_line words c (whats.Answer answer) is runs = tt
+-- words that are no command
+pub with_usage : (words : List (List ℕ)) (left : Option (List ℕ)) → IsUsage words → IsAsked words left (record { number = None; what = whats.Answer answers.Usage })
+unfolding IsSoundAnswer
+with_usage words left none = record {
+  asks = usage_asked words left (record { number = None; what = whats.Answer answers.Usage }) none refl refl;
+  usage = λ is. none;
+  usage_only = λ is. refl;
+  sound = plain answers.Usage tt;
+  run = tt;
+}
 
-pub with_run : {E : Type 0} (words : List (List ℕ)) (c : Command) (r : Result Requested E) → IsCommand words c → IfOk r (λ asked. OnRun asked.what (λ run. IsRunCommand c)) → IfOk r (λ asked. OnRun asked.what (λ run. IsRunLine words))
-with_run words c (Ok asked) is runs = run_of_line words c asked.what is runs
-with_run words c (Err e) is runs = tt
+pub taken_by_line : {E : Type 0} (words : List (List ℕ)) (P : Type 0) (r : Result Requested E) → OnOk r P → OnOk r (IsReadLine words → P)
+taken_by_line words P (Ok asked) h = λ line. h
+taken_by_line words P (Err e) h = tt
+
+-- where memory alone is refused the source did not fail
+pub never_read : {T : Type 0} (r : Result T Unasked) → IfErr r (λ e. e ≡ unasked.OutOfMemory) → IsErrOf r unasked.ReadFault → ⊥
+never_read (Ok x) h is = absurd (cc is)
+never_read (Err e) h is = absurd (cc (h, is))
+
+pub memory_only : {T : Type 0} (r : Result T Unasked) (n : ℕ) → IfErr r (λ e. e ≡ unasked.OutOfMemory) → NamesFault unasked.ReadFault n n r
+memory_only (Ok x) n h = record { failed = λ is. absurd (never_read (Ok x) h is); else = refl }
+memory_only (Err e) n h = record { failed = λ is. absurd (never_read (Err e) h is); else = inr refl }

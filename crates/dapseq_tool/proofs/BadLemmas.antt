@@ -6,7 +6,8 @@ use Rattle.access_calls.specs.declared.ended.Ending.{Ending}
 use Rattle.access_calls.specs.declared.ended.Ending.TheVariants as e
 use Rattle.access_calls.specs.Opening.{HasBadReply}
 use Rattle.job_runs.specs.Runs.{AccessKind, ComesTo, IsUnopened, LeavesAs, not_opened, opened}
-use Rattle.dapseq_tool.proofs.RunLemmas.{putting_fails}
+use Rattle.sequels.specs.declared.close.Close.{Close}
+use Rattle.dapseq_tool.proofs.RunLemmas.{close_apart, putting_fails}
 use Rattle.dapseq_tool.specs.Answers.{answer_status, answer_text, fault_text, head_text, run_status}
 use Rattle.dapseq_tool.specs.Headline.{After, Call, Does, DoesWhat, FailsWriting, HasRun, IsPut, IsRunTo, RunEnd, Runs, after_of, does, no_memory, not_headed, not_loaded, ran, unread}
 use Rattle.dapseq_tool.specs.Success.{HasGotBadReply, left_by, run_from}
@@ -22,6 +23,7 @@ not_failing : (end : Status) → end ≡ status.ReplyBad → FailsWriting end �
 not_failing end is h = subst FailsWriting is h
 
 answers_well : (a : Answer) → answer_status a ≡ status.ReplyBad → ⊥
+unfolding answer_status
 answers_well answers.Usage is = cc is
 answers_well answers.TooLong is = cc is
 answers_well answers.NoSequence is = cc is
@@ -31,23 +33,23 @@ answers_well (answers.Audited audit) is = cc is
 answers_well (answers.AuditRefused fault) is = cc is
 answers_well answers.NoTrace is = cc is
 
-bad_ending : (ending : Ending) → run_status ending ≡ status.ReplyBad → ending ≡ e.ReplyBad
-bad_ending e.Done is = absurd (cc is)
-bad_ending (e.Halted cause) is = absurd (cc is)
-bad_ending (e.Cut report) is = absurd (cc is)
-bad_ending (e.BenchFault issued confirmed) is = absurd (cc is)
-bad_ending e.ReplyBad is = refl
-bad_ending e.WriteFault is = absurd (cc is)
-bad_ending e.OutOfMemory is = absurd (cc is)
+bad_ending : (ending : Ending) (close : Close) → run_status ending close ≡ status.ReplyBad → ending ≡ e.ReplyBad
+bad_ending e.Done close is = absurd ((close_apart close).1 is)
+bad_ending (e.Halted cause) close is = absurd (cc is)
+bad_ending (e.Cut report) close is = absurd (cc is)
+bad_ending (e.BenchFault issued confirmed) close is = absurd (cc is)
+bad_ending e.ReplyBad close is = refl
+bad_ending e.WriteFault close is = absurd (cc is)
+bad_ending e.OutOfMemory close is = absurd (cc is)
 
 -- such a text has no such status
 written_well : (old new : Option (List ℕ)) (text : List ℕ) (own end : Status) → (own ≡ status.ReplyBad → ⊥) → IsPut old new text own end → end ≡ status.ReplyBad → ⊥
 written_well old new text own end none (inl h) is = none (sym h.0 ∙ is)
 written_well old new text own end none (inr h) is = not_failing end is (putting_fails end h.0)
 
-run_ending : (ending : Ending) (end : Status) → end ≡ status.ReplyBad → (end ≡ run_status ending) ⊎ FailsWriting end → ending ≡ e.ReplyBad
-run_ending ending end is (inl h) = bad_ending ending (sym h ∙ is)
-run_ending ending end is (inr h) = absurd (not_failing end is h)
+run_ending : (ending : Ending) (close : Close) (end : Status) → end ≡ status.ReplyBad → (end ≡ run_status ending close) ⊎ FailsWriting end → ending ≡ e.ReplyBad
+run_ending ending close end is (inl h) = bad_ending ending close (sym h ∙ is)
+run_ending ending close end is (inr h) = absurd (not_failing end is h)
 
 -- an observable bench gives no bad reply
 comes_well : (access : AccessKind) (run : Run) (before : Option (List ℕ)) (r : RunEnd) (a : After) (n : BenchState) → r.ended.ending ≡ e.ReplyBad
@@ -61,7 +63,7 @@ comes_well access run before r a n is h = elim h.comes [
 by_run : (access : AccessKind) (call : Call) (run : Run) (before : Option (List ℕ)) (r : RunEnd) → call.end ≡ status.ReplyBad
     → HasRun access run (IsSome call.old.state) call.old.reported before r (after_of call.new call.end) → HasGotBadReply call
 by_run access call run before r is h =
-    let bad = run_ending r.ended.ending call.end is h.status in
+    let bad = run_ending r.ended.ending r.close call.end is h.status in
     record { sent = r.sent; got = r.got; bad = h.bad bad; unseen = λ some. comes_well access run before r (after_of call.new call.end) _ bad (h.comes some).1 }
 
 run_bad : (access : AccessKind) (call : Call) (unchanged : Type 0) (number : Option ℕ) (run : Run) → call.end ≡ status.ReplyBad

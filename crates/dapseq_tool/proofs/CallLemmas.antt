@@ -7,8 +7,7 @@ use Rattle.probe_core.specs.Bench.{Seen}
 use Rattle.text_lines.proofs.PutLemmas.{prefix_first, put_after}
 use Rattle.text_lines.specs.declared.putting.TextError.{TextError}
 use Rattle.text_lines.specs.declared.putting.TextError.TheVariants as errors
-use Rattle.dapseq_tool.specs.declared.asking.Answer.TheVariants as answers
-use Rattle.dapseq_tool.specs.Answers.{IsRunStatus, answer_status, answer_text, failed_status, head_text}
+use Rattle.dapseq_tool.specs.Answers.{answer_status, answer_text, head_text}
 use Rattle.dapseq_tool.specs.Asked.{Asks}
 use Rattle.dapseq_tool.specs.Headline.{AreBytesOf, Call, Does, DoesWhat, FailsPutting, IsPut, Runs, after_of, does, not_headed, not_loaded, ran}
 use Rattle.dapseq_tool.specs.RunEnds as after
@@ -19,14 +18,9 @@ use Rattle.dapseq_tool.specs.declared.asking.Run.{Run}
 use Rattle.dapseq_tool.specs.declared.asking.What.{What}
 use Rattle.dapseq_tool.specs.declared.asking.What.TheVariants as whats
 use Rattle.dapseq_tool.specs.declared.status.Status.{Status}
-use Rattle.dapseq_tool.specs.declared.status.Status.TheVariants as status
 use Rattle.job_runs.specs.Runs.{AccessKind}
 
 -- ---- texts
-
-pub failed_fails : (t : TextError) → FailsPutting (failed_status t)
-failed_fails errors.Failed = tt
-failed_fails errors.OutOfMemory = tt
 
 -- a text after one that was put whole
 pub then_put : (old mid new : Option (List ℕ)) (first second : List ℕ) (own end : Status) → Appends old mid first → IsPut mid new second own end → IsPut old new (first ++ second) own end
@@ -60,41 +54,3 @@ what_is_begun access call unchanged number (whats.Run run) some fails part same 
 pub is_done : (access : AccessKind) (call : Call) (unchanged : Type 0) (asked : Requested) → ((bytes : List ℕ) × AreBytesOf call.old.left bytes × Asks call.words bytes asked)
     → DoesWhat access call unchanged asked.number asked.what → Does access call unchanged
 is_done access call unchanged asked known done = does known.0 asked known.1 known.2 done
-
--- ---- the usage
-
--- only the usage has its status
-usage_status : (a : Answer) → answer_status a ≡ status.Usage → a ≡ answers.Usage
-usage_status answers.Usage is = refl
-usage_status answers.TooLong is = absurd (cc is)
-usage_status answers.NoSequence is = absurd (cc is)
-usage_status (answers.Refused r) is = absurd (cc is)
-usage_status (answers.CheckOk set) is = absurd (cc is)
-usage_status (answers.Audited audit) is = absurd (cc is)
-usage_status (answers.AuditRefused fault) is = absurd (cc is)
-usage_status answers.NoTrace is = absurd (cc is)
-
-not_written : (end : Status) → end ≡ status.Usage → (end ≡ status.WriteFault) ⊎ (end ≡ status.OutOfMemory) → ⊥
-not_written end is (inl e) = let z : status.Usage ≡ status.WriteFault = sym is ∙ e in cc
-not_written end is (inr e) = let z : status.Usage ≡ status.OutOfMemory = sym is ∙ e in cc
-
-pub usage_answer : (what : What) (a : Answer) (end : Status) → what ≡ whats.Answer a → (end ≡ answer_status a) ⊎ (end ≡ status.WriteFault) ⊎ (end ≡ status.OutOfMemory) → end ≡ status.Usage
-    → what ≡ whats.Answer answers.Usage
-usage_answer what a end is_what ends is = elim ends [
-  | inl e ↦ is_what ∙ ap whats.Answer (usage_status a (sym e ∙ is))
-  | inr e ↦ absurd (not_written end is e)
-]
-
-inner : (a b : Answer) → whats.Answer a ≡ whats.Answer b → a ≡ b
-inner a b e = cc
-
-pub usage_is_answered : (what : What) (a : Answer) (end : Status) → what ≡ whats.Answer a → (end ≡ answer_status a) ⊎ (end ≡ status.WriteFault) ⊎ (end ≡ status.OutOfMemory)
-    → what ≡ whats.Answer answers.Usage → (end ≡ status.Usage) ⊎ (end ≡ status.WriteFault) ⊎ (end ≡ status.OutOfMemory)
-usage_is_answered what a end is_what ends is =
-    subst (λ (x : Answer). (end ≡ answer_status x) ⊎ (end ≡ status.WriteFault) ⊎ (end ≡ status.OutOfMemory)) (inner a answers.Usage (sym is_what ∙ is)) ends
-
-pub run_no_usage : (end : Status) → IsRunStatus end → end ≡ status.Usage → ⊥
-run_no_usage end h is = subst IsRunStatus is h
-
-pub run_no_answer : (what : What) (run : Run) (a : Answer) → what ≡ whats.Run run → what ≡ whats.Answer a → ⊥
-run_no_answer what run a is_run is = let z : whats.Run run ≡ whats.Answer a = sym is_run ∙ is in cc

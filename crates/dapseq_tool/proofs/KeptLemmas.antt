@@ -110,5 +110,6 @@ accepted_trace access run before r a n job bytes to whole kept is =
 -- the lines of the target are those of the report
 pub same_target : (run : Run) (n : BenchState) (job : Job) → HasKept run n.log job
     → answer_text (answers.Audited (kept_audit job n)) ≡ audit_ok_line (kept_audit job n).audited ++ target_part true run.valid.job (target_of n.probe)
+unfolding answer_text
 same_target run n job kept =
     ap₂ (λ (bench : BenchJob) (watch : List WatchItem). audit_ok_line (kept_audit job n).audited ++ target_lines (target_of n.probe) bench.target.aps watch) kept.bench kept.watch

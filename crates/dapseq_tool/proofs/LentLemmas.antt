@@ -1,5 +1,7 @@
 -- What a call does is so of a lent bench.
 use Rattle.std.proofs.Common.{◌≡◌, ℕ, List, Option}
+use Rattle.dapseq_tool.specs.Frame.{IsCall, IsFramed}
+use Rattle.dapseq_tool.proofs.FrameLemmas.{framed_so}
 use Rattle.dapseq_tool.specs.Headline.{Call, Does, DoesWhat, Runs, does, no_memory, not_headed, not_loaded, ran, unread}
 use Rattle.dapseq_tool.specs.declared.asking.Run.{Run}
 use Rattle.dapseq_tool.specs.declared.asking.What.{What}
@@ -24,3 +26,7 @@ module _ (access : AccessKind) (call : Call) (u v : Type 0) (so : u → v) where
     | unread rose text same ↦ unread rose text (so same)
     | no_memory is text same ↦ no_memory is text (so same)
   ]
+
+-- all of a call is so of a lent bench
+pub call_so : (access : AccessKind) (call : Call) (untaken u v : Type 0) → (u → v) → Does access call u → IsFramed call untaken u → IsCall access call untaken v
+call_so access call untaken u v so done frame = record { asked = does_so access call u v so done; frame = framed_so call untaken u v so frame }

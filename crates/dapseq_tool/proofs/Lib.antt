@@ -2,7 +2,9 @@ pub mod ReadingLemmas
 pub mod RunLemmas
 pub mod TextLemmas
 pub mod AskedLemmas
+pub mod AnswerLemmas
 pub mod CallLemmas
+pub mod FrameLemmas
 pub mod AuditLemmas
 pub mod KeptLemmas
 pub mod SuccessLemmas
@@ -13,3 +15,4 @@ pub mod MemoryLemmas
 pub mod JobLength
 pub mod TwoLemmas
 pub mod SomeAsked
+pub mod FollowedLemmas

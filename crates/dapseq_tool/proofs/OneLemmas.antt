@@ -7,18 +7,18 @@ use Rattle.command_words.specs.Table.{IsCommand}
 use Rattle.command_words.proofs.TableLemmas.{one_command}
 use Rattle.sequence_resolve.specs.declared.selection.Selection.{Selection}
 use Rattle.job_check.specs.Running.{IsRefusedRun, IsSameRun, IsValidRun}
-use Rattle.job_check.specs.declared.answer.Refusal.{Refusal}
-use Rattle.job_check.specs.declared.own.Own.TheVariants as own
 use Rattle.job_check.specs.declared.running.RunRefusal.{RunRefusal}
 use Rattle.job_check.specs.declared.running.RunRefusal.TheVariants as refusals
 use Rattle.job_check.specs.declared.running.ValidRun.{ValidRun}
 use Rattle.job_check.proofs.OneAnswer as check
 use Rattle.job_check.proofs.OneRun as one
 use Rattle.dapseq_tool.proofs.AuditLemmas.{one_audit}
-use Rattle.dapseq_tool.specs.Asked.{Asks, AsksOfBytes, AsksOfCheck, AsksOfCommand, AsksOfRun, IsNoRunOf, IsRunOf, IsSameAsked, IsSameWhat, IsUsage, ReadsSource, command, generated, limit, of_check, usage}
+use Rattle.dapseq_tool.specs.Asked.{Asks, AsksOfBytes, AsksOfCheck, AsksOfCommand, AsksOfRun, IsNoRunOf, IsRunOf, IsSameAsked, IsSameWhat, own_of, IsUsage, ReadsSource, command, generated, limit, of_check, of_refused, usage}
 use Rattle.dapseq_tool.specs.Generated.{its_device, its_sequence, job_text}
 use Rattle.dapseq_tool.specs.declared.asking.Answer.{Answer}
 use Rattle.dapseq_tool.specs.declared.asking.Answer.TheVariants as answers
+use Rattle.dapseq_tool.specs.declared.asking.Purpose.{Purpose}
+use Rattle.dapseq_tool.specs.declared.asking.Purpose.TheVariants as purposes
 use Rattle.dapseq_tool.specs.declared.asking.Requested.{Requested}
 use Rattle.dapseq_tool.specs.declared.asking.Run.{Run}
 use Rattle.dapseq_tool.specs.declared.asking.What.{What}
@@ -28,63 +28,42 @@ use Rattle.dapseq_tool.specs.declared.asking.What.TheVariants as whats
 
 itself : (x : What) → IsSameWhat x x
 itself (whats.Answer a) = refl
-itself (whats.Run a) = record { valid = record { job = refl; image = refl; set = refl; trees = refl }; name = refl; shown = refl }
+itself (whats.Run a) = record { valid = record { job = refl; image = refl; set = refl; trees = refl }; name = refl; mode = refl }
 
 same_by : (x y : What) → x ≡ y → IsSameWhat x y
 same_by x y is = subst (IsSameWhat x) is (itself x)
 
 -- ---- a run
 
+same_some : (x y : What) → Some x ≡ Some y → x ≡ y
+same_some x y e = cc
+
+same_answer : (a b : Answer) → whats.Answer a ≡ whats.Answer b → a ≡ b
+same_answer a b e = cc
+
 -- the reason of an answer
-reason : (s : Selection) (sequence bytes : List ℕ) (a : Answer) → IsNoRunOf s sequence bytes a → (end : RunRefusal) × IsRefusedRun bytes own.Nothing s sequence end
-reason s sequence bytes answers.NoSequence h = (refusals.NoSequence, h)
-reason s sequence bytes (answers.Refused r) h = (refusals.Refused r, h)
-reason s sequence bytes answers.Usage h = absurd h
-reason s sequence bytes answers.TooLong h = absurd h
-reason s sequence bytes (answers.CheckOk set) h = absurd h
-reason s sequence bytes (answers.Audited audit) h = absurd h
-reason s sequence bytes (answers.AuditRefused fault) h = absurd h
-reason s sequence bytes answers.NoTrace h = absurd h
+reason : (s : Selection) (sequence : List ℕ) (purpose : Purpose) (bytes : List ℕ) (a : Answer) → IsNoRunOf s sequence purpose bytes a
+    → (end : RunRefusal) × IsRefusedRun bytes (own_of purpose) s sequence end × (of_refused end ≡ Some (whats.Answer a))
+reason s sequence purpose bytes answers.NoSequence h = (refusals.NoSequence, h, refl)
+reason s sequence purpose bytes (answers.Refused r) h = (refusals.Refused r, h, refl)
+reason s sequence purpose bytes other h = absurd h
 
-inner : (r q : Refusal) → refusals.Refused r ≡ refusals.Refused q → r ≡ q
-inner r q e = cc
+one_no_run : (s : Selection) (sequence : List ℕ) (purpose : Purpose) (bytes : List ℕ) (a b : Answer) → IsNoRunOf s sequence purpose bytes a → IsNoRunOf s sequence purpose bytes b → a ≡ b
+one_no_run s sequence purpose bytes a b p q =
+    let x = reason s sequence purpose bytes a p in
+    let y = reason s sequence purpose bytes b q in
+    let same = one.one_refusal bytes (own_of purpose) s sequence x.0 y.0 x.1 y.1 in
+    same_answer a b (same_some (whats.Answer a) (whats.Answer b) (sym x.2 ∙ ap of_refused same ∙ y.2))
 
-apart : (r : Refusal) → refusals.NoSequence ≡ refusals.Refused r → ⊥
-apart r e = cc
-
-one_no_run : (s : Selection) (sequence bytes : List ℕ) (a b : Answer) → IsNoRunOf s sequence bytes a → IsNoRunOf s sequence bytes b → a ≡ b
-one_no_run s sequence bytes answers.NoSequence answers.NoSequence p q = refl
-one_no_run s sequence bytes answers.NoSequence (answers.Refused r) p q = absurd (apart r (one.one_refusal bytes own.Nothing s sequence _ _ p q))
-one_no_run s sequence bytes (answers.Refused r) answers.NoSequence p q = absurd (apart r (sym (one.one_refusal bytes own.Nothing s sequence _ _ p q)))
-one_no_run s sequence bytes (answers.Refused r) (answers.Refused t) p q = ap answers.Refused (inner r t (one.one_refusal bytes own.Nothing s sequence _ _ p q))
-one_no_run s sequence bytes answers.NoSequence answers.Usage p q = absurd q
-one_no_run s sequence bytes answers.NoSequence answers.TooLong p q = absurd q
-one_no_run s sequence bytes answers.NoSequence (answers.CheckOk set) p q = absurd q
-one_no_run s sequence bytes answers.NoSequence (answers.Audited audit) p q = absurd q
-one_no_run s sequence bytes answers.NoSequence (answers.AuditRefused fault) p q = absurd q
-one_no_run s sequence bytes answers.NoSequence answers.NoTrace p q = absurd q
-one_no_run s sequence bytes (answers.Refused r) answers.Usage p q = absurd q
-one_no_run s sequence bytes (answers.Refused r) answers.TooLong p q = absurd q
-one_no_run s sequence bytes (answers.Refused r) (answers.CheckOk set) p q = absurd q
-one_no_run s sequence bytes (answers.Refused r) (answers.Audited audit) p q = absurd q
-one_no_run s sequence bytes (answers.Refused r) (answers.AuditRefused fault) p q = absurd q
-one_no_run s sequence bytes (answers.Refused r) answers.NoTrace p q = absurd q
-one_no_run s sequence bytes answers.Usage b p q = absurd p
-one_no_run s sequence bytes answers.TooLong b p q = absurd p
-one_no_run s sequence bytes (answers.CheckOk set) b p q = absurd p
-one_no_run s sequence bytes (answers.Audited audit) b p q = absurd p
-one_no_run s sequence bytes (answers.AuditRefused fault) b p q = absurd p
-one_no_run s sequence bytes answers.NoTrace b p q = absurd p
-
-of_run : (s : Selection) (sequence : List ℕ) (traced : Bool) (bytes : List ℕ) (x y : What) → AsksOfRun s sequence traced bytes x → AsksOfRun s sequence traced bytes y → IsSameWhat x y
-of_run s sequence traced bytes (whats.Run a) (whats.Run b) p q = record {
-  valid = one.one_run bytes own.Nothing s sequence a.valid b.valid p.valid q.valid;
+of_run : (s : Selection) (sequence : List ℕ) (purpose : Purpose) (bytes : List ℕ) (x y : What) → AsksOfRun s sequence purpose bytes x → AsksOfRun s sequence purpose bytes y → IsSameWhat x y
+of_run s sequence purpose bytes (whats.Run a) (whats.Run b) p q = record {
+  valid = one.one_run bytes (own_of purpose) s sequence a.valid b.valid p.valid q.valid;
   name = p.name ∙ sym q.name;
-  shown = p.shown ∙ sym q.shown;
+  mode = p.mode ∙ sym q.mode;
 }
-of_run s sequence traced bytes (whats.Run a) (whats.Answer b) p q = let r = reason s sequence bytes b q in one.run_or_refusal bytes own.Nothing s sequence a.valid r.0 p.valid r.1
-of_run s sequence traced bytes (whats.Answer a) (whats.Run b) p q = let r = reason s sequence bytes a p in one.run_or_refusal bytes own.Nothing s sequence b.valid r.0 q.valid r.1
-of_run s sequence traced bytes (whats.Answer a) (whats.Answer b) p q = one_no_run s sequence bytes a b p q
+of_run s sequence purpose bytes (whats.Run a) (whats.Answer b) p q = let r = reason s sequence purpose bytes b q in one.run_or_refusal bytes (own_of purpose) s sequence a.valid r.0 p.valid r.1
+of_run s sequence purpose bytes (whats.Answer a) (whats.Run b) p q = let r = reason s sequence purpose bytes a p in one.run_or_refusal bytes (own_of purpose) s sequence b.valid r.0 q.valid r.1
+of_run s sequence purpose bytes (whats.Answer a) (whats.Answer b) p q = one_no_run s sequence purpose bytes a b p q
 
 -- ---- the bytes
 
@@ -93,8 +72,10 @@ of_a_check s bytes x y p q = p.2 ∙ ap of_check (check.one_answer bytes s p.0 q
 
 of_bytes : (c : Command) (bytes : List ℕ) (x y : What) → AsksOfBytes c bytes x → AsksOfBytes c bytes y → IsSameWhat x y
 of_bytes (commands.Check s) bytes x y p q = same_by x y (of_a_check s bytes x y p q)
-of_bytes (commands.Run s sequence) bytes x y p q = of_run s sequence false bytes x y p q
-of_bytes (commands.Trace s sequence) bytes x y p q = of_run s sequence true bytes x y p q
+of_bytes (commands.Run s sequence) bytes x y p q = of_run s sequence purposes.Run bytes x y p q
+of_bytes (commands.Trace s sequence) bytes x y p q = of_run s sequence purposes.Trace bytes x y p q
+of_bytes (commands.Load s sequence) bytes x y p q = of_run s sequence purposes.Load bytes x y p q
+of_bytes (commands.Scan s sequence ap') bytes x y p q = of_run s sequence (purposes.Scan ap') bytes x y p q
 of_bytes (commands.Gen number) bytes x y p q = absurd p
 of_bytes commands.Audit bytes x y p q = same_by x y (one_audit bytes x y p q)
 
@@ -116,11 +97,11 @@ not_generated words c n is gen reads = subst ReadsSource (one_command words c (c
 same_number : (n m : ℕ) → commands.Gen n ≡ commands.Gen m → n ≡ m
 same_number n m e = cc
 
-of_numbers : (words : List (List ℕ)) (x y : What) (n m : ℕ) → IsCommand words (commands.Gen n) → IsCommand words (commands.Gen m) → AsksOfRun its_device its_sequence false (job_text n) x
-    → AsksOfRun its_device its_sequence false (job_text m) y → IsSameWhat x y
+of_numbers : (words : List (List ℕ)) (x y : What) (n m : ℕ) → IsCommand words (commands.Gen n) → IsCommand words (commands.Gen m) → AsksOfRun its_device its_sequence purposes.Run (job_text n) x
+    → AsksOfRun its_device its_sequence purposes.Run (job_text m) y → IsSameWhat x y
 of_numbers words x y n m is_n is_m p q =
-    of_run its_device its_sequence false (job_text n) x y p
-    (subst (λ (k : ℕ). AsksOfRun its_device its_sequence false (job_text k) y) (same_number m n (one_command words (commands.Gen m) (commands.Gen n) is_m is_n)) q)
+    of_run its_device its_sequence purposes.Run (job_text n) x y p
+    (subst (λ (k : ℕ). AsksOfRun its_device its_sequence purposes.Run (job_text k) y) (same_number m n (one_command words (commands.Gen m) (commands.Gen n) is_m is_n)) q)
 
 pub one_what : (words : List (List ℕ)) (bytes : List ℕ) (x y : Requested) → Asks words bytes x → Asks words bytes y → IsSameWhat x.what y.what
 one_what words bytes x y p q = elim p [

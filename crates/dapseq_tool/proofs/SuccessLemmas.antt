@@ -10,6 +10,7 @@ use Rattle.access_calls.specs.declared.ended.Ending.TheVariants as e
 use Rattle.job_runs.specs.Meant.{EndsAsMeant, FailedOutside}
 use Rattle.job_runs.specs.Runs.{AccessKind, IsNotOpened, IsUnopened, LeavesAs, not_opened, opened}
 use Rattle.job_runs.proofs.MeantLemmas.{ends_as_meant}
+use Rattle.sequels.specs.declared.close.Close.{Close}
 use Rattle.dapseq_tool.proofs.RunLemmas.{put_written, putting_fails}
 use Rattle.dapseq_tool.specs.Answers.{answer_status, answer_text, head_text, run_status}
 use Rattle.dapseq_tool.specs.Headline.{After, Answers, Call, Does, DoesWhat, FailsWriting, HasRun, IsRunTo, IsWritten, RunEnd, Runs, after_of, does, no_memory, not_headed, not_loaded, ran, unread}
@@ -48,14 +49,14 @@ whole : (old new : Option (List ℕ)) (text : List ℕ) (own end : Status) → (
 whole old new text own end none (inl h) = (h.0, h.1)
 whole old new text own end none (inr h) = absurd (none h.0)
 
-outside_fails : (ending : Ending) → FailedOutside ending → FailsWriting (run_status ending)
-outside_fails e.Done h = absurd h
-outside_fails (e.Halted cause) h = absurd h
-outside_fails (e.Cut report) h = absurd h
-outside_fails (e.BenchFault issued confirmed) h = tt
-outside_fails e.ReplyBad h = absurd h
-outside_fails e.WriteFault h = tt
-outside_fails e.OutOfMemory h = tt
+outside_fails : (ending : Ending) (close : Close) → FailedOutside ending → FailsWriting (run_status ending close)
+outside_fails e.Done close h = absurd h
+outside_fails (e.Halted cause) close h = absurd h
+outside_fails (e.Cut report) close h = absurd h
+outside_fails (e.BenchFault issued confirmed) close h = tt
+outside_fails e.ReplyBad close h = absurd h
+outside_fails e.WriteFault close h = tt
+outside_fails e.OutOfMemory close h = tt
 
 unopened_outside : (ending : Ending) → IsUnopened ending → FailedOutside ending
 unopened_outside e.Done h = absurd h
@@ -68,19 +69,19 @@ unopened_outside e.OutOfMemory h = tt
 
 module _ (access : AccessKind) (call : Call) (number : Option ℕ) (run : Run) (none : FailsWriting call.end → ⊥) where
   -- nothing outside failed where the status says no such fault
-  not_outside : (ending : Ending) → call.end ≡ run_status ending → FailedOutside ending → ⊥
-  not_outside ending is h = none (subst FailsWriting (sym is) (outside_fails ending h))
+  not_outside : (ending : Ending) (close : Close) → call.end ≡ run_status ending close → FailedOutside ending → ⊥
+  not_outside ending close is h = none (subst FailsWriting (sym is) (outside_fails ending close h))
 
   as_it_is : (before : Option (List ℕ)) (r : RunEnd) (n : BenchState) → LeavesAs r.ended.ending (run_from access run before) (left_by before r n)
-      → call.end ≡ run_status r.ended.ending → EndsAsMeant (run_from access run before) (left_by before r n)
-  as_it_is before r n leaves is = ends_as_meant r.ended.ending (run_from access run before) (left_by before r n) refl leaves (not_outside r.ended.ending is)
+      → call.end ≡ run_status r.ended.ending r.close → EndsAsMeant (run_from access run before) (left_by before r n)
+  as_it_is before r n leaves is = ends_as_meant r.ended.ending (run_from access run before) (left_by before r n) refl leaves (not_outside r.ended.ending r.close is)
 
   as_meant : (before : Option (List ℕ)) (r : RunEnd) (n : BenchState) → Appends call.old.written before (head_text number)
       → IsRunTo access run before r (after_of call.new call.end) n → HasRunAsMeant access call number run
   as_meant before r n head h =
-      let put = whole r.written call.new.written _ (run_status r.ended.ending) call.end none h.text in
+      let put = whole r.written call.new.written _ (run_status r.ended.ending r.close) call.end none h.text in
       elim h.comes [
-        | not_opened o ↦ absurd (not_outside r.ended.ending put.0 (unopened_outside r.ended.ending o.ending))
+        | not_opened o ↦ absurd (not_outside r.ended.ending r.close put.0 (unopened_outside r.ended.ending o.ending))
         | opened leaves ↦ record {
           before = before;
           head = head;
@@ -90,6 +91,7 @@ module _ (access : AccessKind) (call : Call) (number : Option ℕ) (run : Run) (
           meant = as_it_is before r n leaves put.0;
           none_over = (as_it_is before r n leaves put.0).none_over;
           text = put.1;
+          close = h.close;
           status = put.0;
         }
       ]

@@ -9,24 +9,31 @@ use Rattle.probe_core.specs.Probe.{target_of}
 use Rattle.access_calls.specs.declared.ended.Ending.{Ending}
 use Rattle.access_calls.specs.declared.ended.Ending.TheVariants as e
 use Rattle.sequence_rules.specs.Runs as runs
-use Rattle.sequence_rules.specs.Runs.{Outcome, program_of}
+use Rattle.sequence_rules.specs.Runs.{Outcome, Program, program_of}
 use Rattle.seq_check.specs.Answers.{checked_trees}
 use Rattle.sequence_trees.specs.Trees.{SetTrees}
-use Rattle.followed_runs.specs.Followed.{Task, alone, task_outcome}
+use Rattle.sequels.specs.Sequel.{Sequel}
+use Rattle.sequels.specs.declared.close.Close.{Close}
+use Rattle.followed_runs.specs.Followed.{Task, task_outcome}
 use Rattle.job_runs.specs.Meant.{IsSameEnd}
-use Rattle.job_runs.specs.Runs.{AccessKind, IsUnopened, IsWhole, Left, LeavesAs, not_opened, opened, outcome_in, task_in}
+use Rattle.job_runs.specs.Runs.{AccessKind, IsUnopened, IsWhole, Left, LeavesAs, not_opened, opened, outcome_in}
 use Rattle.job_runs.specs.Runs as job
 use Rattle.dapseq_tool.specs.Headline.{After, IsRunTo, RunEnd}
+use Rattle.dapseq_tool.specs.Purpose.{sequel_by, task_by}
 use Rattle.dapseq_tool.specs.Success.{left_by, run_from}
 use Rattle.dapseq_tool.specs.TwoRuns.{CameToEnd, IsSameTask, LeavesSame}
 use Rattle.dapseq_tool.specs.declared.asking.Run.{Run}
 
 -- ---- what both mean
 
-same_task : (x y : Run) → IsSameTask x y → task_in x.valid x.sequence ≡ task_in y.valid y.sequence
+abbrev task_of_parts : Program → Option (Sequel Close) → Task
+task_of_parts p s = record { program = p; sequel = s }
+
+same_task : (x y : Run) → IsSameTask x y → task_by x ≡ task_by y
 same_task x y same =
-    ap (λ (trees : SetTrees). alone (program_of trees x.sequence x.valid.job.settings)) same.trees
-    ∙ ap₂ (λ (name : List ℕ) (settings : Settings). alone (program_of (checked_trees y.valid.trees) name settings)) same.name same.settings
+    ap (λ (trees : SetTrees). task_of_parts (program_of trees x.sequence x.valid.job.settings) (sequel_by x.purpose x.valid.image)) same.trees
+    ∙ ap₂ (λ (name : List ℕ) (settings : Settings). task_of_parts (program_of (checked_trees y.valid.trees) name settings) (sequel_by x.purpose x.valid.image)) same.name same.settings
+    ∙ ap (task_of_parts (program_of (checked_trees y.valid.trees) y.sequence y.valid.job.settings)) same.follows
 
 same_outcome : (access other : AccessKind) (x y : Run) (before : Option (List ℕ)) → IsSameTask x y → outcome_in (run_from access x before) ≡ outcome_in (run_from other y before)
 same_outcome access other x y before same =
@@ -52,7 +59,7 @@ not_unopened e.ReplyBad end un = end
 not_unopened e.WriteFault end un = end
 not_unopened e.OutOfMemory end un = end
 
-came_whole : (access : AccessKind) (x : Run) (before : Option (List ℕ)) (r : RunEnd) (a : After) (n : BenchState) → IsRunTo access x before r a n → CameToEnd r.ended.ending
+pub came_whole : (access : AccessKind) (x : Run) (before : Option (List ℕ)) (r : RunEnd) (a : After) (n : BenchState) → IsRunTo access x before r a n → CameToEnd r.ended.ending
     → IsSameEnd (outcome_in (run_from access x before)).ending r.ended.ending × IsWhole (run_from access x before) (left_by before r n)
 came_whole access x before r a n to end = elim to.comes [
   | not_opened o ↦ absurd (not_unopened r.ended.ending end o.ending)

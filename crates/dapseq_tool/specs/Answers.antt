@@ -7,6 +7,8 @@ use Rattle.check_lines.specs.RefusalLines.{refusal_line, too_long_line, no_seque
 use Rattle.report_lines.specs.Audit.{audit_fault_line, audited_lines}
 use Rattle.report_lines.specs.declared.put.TextEnd.{TextEnd}
 use Rattle.report_lines.specs.declared.put.TextEnd.TheVariants as texts
+use Rattle.sequels.specs.declared.close.Close.{Close}
+use Rattle.sequels.specs.declared.close.Close.TheVariants as closes
 use Rattle.text_lines.specs.declared.putting.TextError.{TextError}
 use Rattle.text_lines.specs.declared.putting.TextError.TheVariants as errors
 use Rattle.dapseq_tool.specs.declared.asking.Answer.{Answer}
@@ -31,7 +33,7 @@ abbrev pub no_trace_line : List ℕ
 no_trace_line = codes "refused Missing #/trace\n"
 
 -- what is written where no sequence runs
-abbrev pub answer_text : Answer → List ℕ
+unfoldable pub answer_text : Answer → List ℕ
 answer_text answers.Usage = usage_line
 answer_text answers.TooLong = too_long_line
 answer_text answers.NoSequence = no_sequence_line
@@ -42,7 +44,7 @@ answer_text (answers.AuditRefused fault) = audit_fault_line fault
 answer_text answers.NoTrace = no_trace_line
 
 -- the status where no sequence runs
-abbrev pub answer_status : Answer → Status
+unfoldable pub answer_status : Answer → Status
 answer_status answers.Usage = status.Usage
 answer_status answers.TooLong = status.Refused
 answer_status answers.NoSequence = status.Refused
@@ -52,15 +54,23 @@ answer_status (answers.Audited audit) = status.Done
 answer_status (answers.AuditRefused fault) = status.Refused
 answer_status answers.NoTrace = status.Refused
 
+-- the status after a run that is done, by how what follows it came to its end
+abbrev pub close_status : Close → Status
+close_status closes.Nothing = status.Done
+close_status (closes.Loaded bytes writes) = status.Done
+close_status (closes.Differs address wanted found) = status.Stopped
+close_status closes.Scanned = status.Done
+close_status closes.Full = status.Stopped
+
 -- the status after a run, by how it ended
-abbrev pub run_status : Ending → Status
-run_status e.Done = status.Done
-run_status (e.Halted cause) = status.Stopped
-run_status (e.Cut report) = status.Stopped
-run_status (e.BenchFault issued confirmed) = status.BenchFault
-run_status e.ReplyBad = status.ReplyBad
-run_status e.WriteFault = status.WriteFault
-run_status e.OutOfMemory = status.OutOfMemory
+abbrev pub run_status : Ending → Close → Status
+run_status e.Done close = close_status close
+run_status (e.Halted cause) close = status.Stopped
+run_status (e.Cut report) close = status.Stopped
+run_status (e.BenchFault issued confirmed) close = status.BenchFault
+run_status e.ReplyBad close = status.ReplyBad
+run_status e.WriteFault close = status.WriteFault
+run_status e.OutOfMemory close = status.OutOfMemory
 
 -- the status where a text after a run was not written whole
 abbrev pub text_status : TextEnd → Status
@@ -74,9 +84,18 @@ failed_status errors.Failed = status.WriteFault
 failed_status errors.OutOfMemory = status.OutOfMemory
 
 -- the status after a run that ended so, by how its text was written
-abbrev pub status_after : Result (Unit {0}) TextEnd → Ending → Status
-status_after (Ok done) ending = run_status ending
-status_after (Err end) ending = text_status end
+abbrev pub status_after : Result (Unit {0}) TextEnd → Ending → Close → Status
+status_after (Ok done) ending close = run_status ending close
+status_after (Err end) ending close = text_status end
+
+-- a status that an answer can have, written whole or not
+abbrev pub IsAnswerStatus : Status → Type 0
+IsAnswerStatus status.Done = Unit {0}
+IsAnswerStatus status.Refused = Unit {0}
+IsAnswerStatus status.Usage = Unit {0}
+IsAnswerStatus status.WriteFault = Unit {0}
+IsAnswerStatus status.OutOfMemory = Unit {0}
+IsAnswerStatus other = ⊥
 
 -- a status that a run can have
 abbrev pub IsRunStatus : Status → Type 0

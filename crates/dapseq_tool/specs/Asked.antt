@@ -1,5 +1,5 @@
 -- What the words and the bytes of a source ask for.
-use Rattle.std.specs.Prelude.{◌≡◌, ⊤, ℕ, nat_le, Bool, true, false, List, length, Option, Some, None, Result, Ok, Err, MatchBool}
+use Rattle.std.specs.Prelude.{◌≡◌, ⊤, ℕ, nat_le, List, length, Option, Some, None, Result, Ok, Err, MatchBool}
 use Rattle.command_words.specs.declared.answer.Command.{Command}
 use Rattle.command_words.specs.declared.answer.Command.TheVariants as commands
 use Rattle.command_words.specs.Table.{IsCommand}
@@ -8,6 +8,7 @@ use Rattle.sequence_resolve.specs.declared.entry.SeqSet.{SeqSet}
 use Rattle.probe_core.specs.Ranges.{IsBenchJob}
 use Rattle.job_text.specs.Ranges.{AreSettings, AreWatched}
 use Rattle.job_check.specs.declared.answer.Refusal.{Refusal}
+use Rattle.job_check.specs.declared.own.Own.{Own}
 use Rattle.job_check.specs.declared.own.Own.TheVariants as own
 use Rattle.job_check.specs.declared.running.RunRefusal.{RunRefusal}
 use Rattle.job_check.specs.declared.running.RunRefusal.TheVariants as refusals
@@ -17,6 +18,8 @@ use Rattle.dapseq_tool.specs.Audit.{AsksOfAudit}
 use Rattle.dapseq_tool.specs.Generated.{its_device, its_sequence, job_text}
 use Rattle.dapseq_tool.specs.declared.asking.Answer.{Answer}
 use Rattle.dapseq_tool.specs.declared.asking.Answer.TheVariants as answers
+use Rattle.dapseq_tool.specs.declared.asking.Purpose.{Purpose}
+use Rattle.dapseq_tool.specs.declared.asking.Purpose.TheVariants as purposes
 use Rattle.dapseq_tool.specs.declared.asking.Requested.{Requested}
 use Rattle.dapseq_tool.specs.declared.asking.Run.{Run}
 use Rattle.dapseq_tool.specs.declared.auditing.Audit.{Audit}
@@ -34,6 +37,8 @@ abbrev pub ReadsSource : Command → Type 0
 ReadsSource (commands.Check s) = ⊤
 ReadsSource (commands.Run s sequence) = ⊤
 ReadsSource (commands.Trace s sequence) = ⊤
+ReadsSource (commands.Load s sequence) = ⊤
+ReadsSource (commands.Scan s sequence ap) = ⊤
 ReadsSource (commands.Gen number) = ⊥
 ReadsSource commands.Audit = ⊤
 
@@ -42,6 +47,8 @@ abbrev pub IsRunCommand : Command → Type 0
 IsRunCommand (commands.Check s) = ⊥
 IsRunCommand (commands.Run s sequence) = ⊤
 IsRunCommand (commands.Trace s sequence) = ⊤
+IsRunCommand (commands.Load s sequence) = ⊤
+IsRunCommand (commands.Scan s sequence ap) = ⊤
 IsRunCommand (commands.Gen number) = ⊤
 IsRunCommand commands.Audit = ⊥
 
@@ -65,17 +72,24 @@ AsksOfCheck s bytes what = (answer : Result SeqSet Refusal) × IsAnswer bytes s 
 
 -- ---- a run
 
--- the sequence runs, and is traced or not
-pub record IsRunOf (s : Selection) (sequence : List ℕ) (traced : Bool) (bytes : List ℕ) (run : Run) : Type 0 where
+-- what a mode that runs needs of a job besides its sequences
+abbrev pub own_of : Purpose → Own
+own_of purposes.Run = own.Nothing
+own_of purposes.Trace = own.Nothing
+own_of purposes.Load = own.Image
+own_of (purposes.Scan ap) = own.Nothing
+
+-- the sequence runs, with what is done besides
+pub record IsRunOf (s : Selection) (sequence : List ℕ) (purpose : Purpose) (bytes : List ℕ) (run : Run) : Type 0 where
   pub name : run.sequence ≡ sequence
-  pub shown : run.is_traced ≡ traced
-  pub valid : IsValidRun bytes own.Nothing s sequence run.valid
+  pub mode : run.purpose ≡ purpose
+  pub valid : IsValidRun bytes (own_of purpose) s sequence run.valid
 
 -- no sequence runs, for this reason
-abbrev pub IsNoRunOf : Selection → List ℕ → List ℕ → Answer → Type 0
-IsNoRunOf s sequence bytes answers.NoSequence = IsRefusedRun bytes own.Nothing s sequence refusals.NoSequence
-IsNoRunOf s sequence bytes (answers.Refused r) = IsRefusedRun bytes own.Nothing s sequence (refusals.Refused r)
-IsNoRunOf s sequence bytes other = ⊥
+abbrev pub IsNoRunOf : Selection → List ℕ → Purpose → List ℕ → Answer → Type 0
+IsNoRunOf s sequence purpose bytes answers.NoSequence = IsRefusedRun bytes (own_of purpose) s sequence refusals.NoSequence
+IsNoRunOf s sequence purpose bytes (answers.Refused r) = IsRefusedRun bytes (own_of purpose) s sequence (refusals.Refused r)
+IsNoRunOf s sequence purpose bytes other = ⊥
 
 -- what is asked for where no sequence runs, unless memory ran out
 abbrev pub of_refused : RunRefusal → Option What
@@ -84,9 +98,9 @@ of_refused refusals.NoSequence = Some (whats.Answer answers.NoSequence)
 of_refused refusals.OutOfMemory = None
 
 -- the run of a sequence, or why none runs
-abbrev pub AsksOfRun : Selection → List ℕ → Bool → List ℕ → What → Type 0
-AsksOfRun s sequence traced bytes (whats.Run run) = IsRunOf s sequence traced bytes run
-AsksOfRun s sequence traced bytes (whats.Answer answer) = IsNoRunOf s sequence bytes answer
+abbrev pub AsksOfRun : Selection → List ℕ → Purpose → List ℕ → What → Type 0
+AsksOfRun s sequence purpose bytes (whats.Run run) = IsRunOf s sequence purpose bytes run
+AsksOfRun s sequence purpose bytes (whats.Answer answer) = IsNoRunOf s sequence purpose bytes answer
 
 -- ---- together
 
@@ -97,8 +111,10 @@ limit = 16777216
 -- what a command asks for of the bytes of a source
 abbrev pub AsksOfBytes : Command → List ℕ → What → Type 0
 AsksOfBytes (commands.Check s) bytes what = AsksOfCheck s bytes what
-AsksOfBytes (commands.Run s sequence) bytes what = AsksOfRun s sequence false bytes what
-AsksOfBytes (commands.Trace s sequence) bytes what = AsksOfRun s sequence true bytes what
+AsksOfBytes (commands.Run s sequence) bytes what = AsksOfRun s sequence purposes.Run bytes what
+AsksOfBytes (commands.Trace s sequence) bytes what = AsksOfRun s sequence purposes.Trace bytes what
+AsksOfBytes (commands.Load s sequence) bytes what = AsksOfRun s sequence purposes.Load bytes what
+AsksOfBytes (commands.Scan s sequence ap) bytes what = AsksOfRun s sequence (purposes.Scan ap) bytes what
 AsksOfBytes (commands.Gen number) bytes what = ⊥
 AsksOfBytes commands.Audit bytes what = AsksOfAudit bytes what
 
@@ -110,7 +126,7 @@ AsksOfCommand c bytes what = MatchBool (nat_le (length bytes) limit) (AsksOfByte
 pub data Asks (words : List (List ℕ)) (bytes : List ℕ) (asked : Requested) : Type 0 where
   usage : IsUsage words → asked.number ≡ None → asked.what ≡ whats.Answer answers.Usage → Asks words bytes asked
   command : (c : Command) → IsCommand words c → ReadsSource c → asked.number ≡ None → AsksOfCommand c bytes asked.what → Asks words bytes asked
-  generated : (n : ℕ) → IsCommand words (commands.Gen n) → asked.number ≡ Some n → AsksOfRun its_device its_sequence false (job_text n) asked.what → Asks words bytes asked
+  generated : (n : ℕ) → IsCommand words (commands.Gen n) → asked.number ≡ Some n → AsksOfRun its_device its_sequence purposes.Run (job_text n) asked.what → Asks words bytes asked
 
 -- ---- a run that is asked for
 
@@ -132,11 +148,11 @@ pub record IsSoundAudit (audit : Audit) : Type 0 where
   pub bench : IsBenchJob audit.job.bench
   pub watch : AreWatched audit.job.bench.target.memory audit.job.watch
 
-abbrev pub IsSoundAnswer : Answer → Type 0
+unfoldable pub IsSoundAnswer : Answer → Type 0
 IsSoundAnswer (answers.Audited audit) = IsSoundAudit audit
 IsSoundAnswer other = ⊤
 
-abbrev pub IsSoundWhat : What → Type 0
+unfoldable pub IsSoundWhat : What → Type 0
 IsSoundWhat (whats.Run run) = IsSoundRun run
 IsSoundWhat (whats.Answer answer) = IsSoundAnswer answer
 
@@ -146,11 +162,11 @@ pub record IsSound (what : What) : Type 0 where
 
 -- ---- one thing
 
--- two runs of one job with the same set and the same trees, of one sequence, both traced or both not
+-- two runs of one job with the same set and the same trees, of one sequence, with the same done besides
 pub record IsSameAsked (x y : Run) : Type 0 where
   pub valid : IsSameRun x.valid y.valid
   pub name : x.sequence ≡ y.sequence
-  pub shown : x.is_traced ≡ y.is_traced
+  pub mode : x.purpose ≡ y.purpose
 
 -- the same answer, or the same run
 abbrev pub IsSameWhat : What → What → Type 0

@@ -14,8 +14,11 @@ use Rattle.report_lines.specs.Endings.{ending_lines, shows_target}
 use Rattle.control_flow.specs.Answers.{HasLines}
 use Rattle.access_calls.specs.Opening.{HasBadReply}
 use Rattle.job_runs.specs.Ends.{HasGotResponse}
-use Rattle.job_runs.specs.Runs.{AccessKind, ComesTo, config_of, known_after, task_in}
-use Rattle.job_runs.specs.Texts.{run_text}
+use Rattle.job_runs.specs.Runs.{AccessKind, ComesTo, config_of, job_close, known_after}
+use Rattle.job_runs.specs.Texts.{first_lines, whole_text}
+use Rattle.sequels.specs.declared.close.Close.{Close}
+use Rattle.sequels.specs.declared.close.Close.TheVariants as closes
+use Rattle.dapseq_tool.specs.Purpose.{sequel_by, shows_packets, task_by}
 use Rattle.dapseq_tool.specs.Answers.{answer_status, answer_text, fault_text, head_text, run_status}
 use Rattle.dapseq_tool.specs.Asked.{Asks}
 use Rattle.dapseq_tool.specs.declared.asking.Answer.{Answer}
@@ -102,9 +105,10 @@ pub record Answers (call : Call) (unchanged : Type 0) (number : Option ℕ) (ans
 
 -- ---- where a run is asked for
 
--- How a run ended: its answer, the packet and the reply where the reply was bad, and what was written by then.
+-- How a run ended: its answer, how what follows it came to its end, the packet and the reply where the reply was bad, and what was written by then.
 pub record RunEnd : Type 0 where
   pub ended : Ended
+  pub close : Close
   pub sent : List ℕ
   pub got : List ℕ
   pub written : Option (List ℕ)
@@ -119,8 +123,9 @@ pub record After : Type 0 where
 -- a run of the job's probe.
 pub record IsRunTo (access : AccessKind) (run : Run) (before : Option (List ℕ)) (r : RunEnd) (a : After) (n : BenchState) : Type 0 where
   pub state : a.bench.state ≡ Some n
-  pub comes : ComesTo access (config_of run.valid.job.settings) run.valid.job.bench (task_in run.valid run.sequence) before (record { ended = r.ended; written = known_after before r.written; bench = n })
-  pub text : IsWritten r.written a.written (run_text run.is_traced r.ended r.sent r.got run.valid.job n) (run_status r.ended.ending) a.end
+  pub comes : ComesTo access (config_of run.valid.job.settings) run.valid.job.bench (task_by run) before (record { ended = r.ended; written = known_after before r.written; bench = n })
+  pub close : r.ended.ending ≡ e.Done → r.close ≡ job_close (config_of run.valid.job.settings) run.valid.job.bench (task_by run) before
+  pub text : IsWritten r.written a.written (whole_text (shows_packets run.purpose) r.ended r.close r.sent r.got run.valid.job n) (run_status r.ended.ending r.close) a.end
   pub log : IsWholeRun (fresh_probe run.valid.job.bench) n
 
 -- A run that ended so, from a bench that reported this: what it came to where the bench is observable; its text where the report
@@ -129,10 +134,12 @@ pub record IsRunTo (access : AccessKind) (run : Run) (before : Option (List ℕ)
 -- that is reported.
 pub record HasRun (access : AccessKind) (run : Run) (observable : Type 0) (old : Reported) (before : Option (List ℕ)) (r : RunEnd) (a : After) : Type 0 where
   pub comes : observable → (n : BenchState) × IsRunTo access run before r a n
-  pub alone : shows_target r.ended.ending ≡ false → IsPut r.written a.written (ending_lines r.ended.ending r.ended r.sent r.got) (run_status r.ended.ending) a.end
+  pub alone : shows_target r.ended.ending ≡ false → IsPut r.written a.written (ending_lines r.ended.ending r.ended r.sent r.got) (run_status r.ended.ending closes.Nothing) a.end
   pub lines : HasLines r.ended.ending before r.written
-  pub front : BeginsWith r.written a.written (ending_lines r.ended.ending r.ended r.sent r.got) (run_status r.ended.ending) a.end
-  pub status : (a.end ≡ run_status r.ended.ending) ⊎ FailsWriting a.end
+  pub front : BeginsWith r.written a.written (first_lines r.ended r.close r.sent r.got) (run_status r.ended.ending r.close) a.end
+  pub status : (a.end ≡ run_status r.ended.ending r.close) ⊎ FailsWriting a.end
+  pub nothing : sequel_by run.purpose run.valid.image ≡ None → r.close ≡ closes.Nothing
+  pub unclosed : (r.ended.ending ≡ e.Done → ⊥) → r.close ≡ closes.Nothing
   pub cut : (report : Report) → r.ended.ending ≡ e.Cut report → HasGotResponse (code_of_cause report.cause) old a.bench.reported
   pub bad : r.ended.ending ≡ e.ReplyBad → HasBadReply old a.bench.reported r.sent r.got
 

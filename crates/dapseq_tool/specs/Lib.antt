@@ -6,6 +6,9 @@ pub mod Headline
 pub mod Kept
 pub mod Packed
 pub mod RunEnds
+pub mod Frame
 pub mod Success
 pub mod InMemory
 pub mod TwoRuns
+pub mod Purpose
+pub mod FollowedRuns

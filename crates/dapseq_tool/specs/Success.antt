@@ -7,8 +7,10 @@ use Rattle.probe_core.specs.Bench.{BenchState}
 use Rattle.job_runs.specs.Meant.{EndsAsMeant}
 use Rattle.access_calls.specs.Opening.{HasBadReply}
 use Rattle.job_runs.specs.Runs as runs
-use Rattle.job_runs.specs.Runs.{AccessKind, Left, NoneEnded, config_of, known_after, run_of, task_in}
-use Rattle.job_runs.specs.Texts.{run_text}
+use Rattle.job_runs.specs.Runs.{AccessKind, Left, NoneEnded, config_of, job_close, known_after, run_of}
+use Rattle.job_runs.specs.Texts.{whole_text}
+use Rattle.access_calls.specs.declared.ended.Ending.TheVariants as e
+use Rattle.dapseq_tool.specs.Purpose.{shows_packets, task_by}
 use Rattle.dapseq_tool.specs.Answers.{answer_status, answer_text, head_text, run_status}
 use Rattle.dapseq_tool.specs.Asked.{Asks}
 use Rattle.dapseq_tool.specs.Headline.{AreBytesOf, Call, RunEnd}
@@ -38,7 +40,7 @@ pub record IsAnswered (call : Call) (number : Option ℕ) (answer : Answer) : Ty
 
 -- what is run, from where its access began
 abbrev pub run_from : AccessKind → Run → Option (List ℕ) → runs.Run
-run_from access run before = run_of access (config_of run.valid.job.settings) run.valid.job.bench (task_in run.valid run.sequence) before
+run_from access run before = run_of access (config_of run.valid.job.settings) run.valid.job.bench (task_by run) before
 
 -- what it left
 abbrev pub left_by : Option (List ℕ) → RunEnd → BenchState → Left
@@ -55,8 +57,9 @@ pub record HasRunAsMeant (access : AccessKind) (call : Call) (number : Option �
   pub state : call.new.state ≡ Some last
   pub meant : EndsAsMeant (run_from access run before) (left_by before r last)
   pub none_over : All (λ stall. stall ≤ run.valid.job.settings.retry) run.valid.job.bench.stalls → NoneEnded (run_from access run before) (left_by before r last)
-  pub text : Appends r.written call.new.written (run_text run.is_traced r.ended r.sent r.got run.valid.job last)
-  pub status : call.end ≡ run_status r.ended.ending
+  pub text : Appends r.written call.new.written (whole_text (shows_packets run.purpose) r.ended r.close r.sent r.got run.valid.job last)
+  pub close : r.ended.ending ≡ e.Done → r.close ≡ job_close (config_of run.valid.job.settings) run.valid.job.bench (task_by run) before
+  pub status : call.end ≡ run_status r.ended.ending r.close
 
 -- what was asked for was done
 abbrev pub IsDone : AccessKind → Call → Option ℕ → What → Type 0

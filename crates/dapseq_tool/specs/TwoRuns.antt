@@ -9,13 +9,15 @@ use Rattle.sequence_rules.specs.Runs.{variables_of}
 use Rattle.seq_check.specs.Answers.{checked_trees}
 use Rattle.job_runs.specs.Runs.{known_after}
 use Rattle.dapseq_tool.specs.Headline.{RunEnd}
+use Rattle.dapseq_tool.specs.Purpose.{sequel_by}
 use Rattle.dapseq_tool.specs.declared.asking.Run.{Run}
 
--- The runs have the same trees, sequence, settings, and target at the start. The packet limits of their jobs may be others, and the
+-- The runs have the same trees, sequence, settings, and target at the start, and the same follows it. The packet limits of their jobs may be others, and the
 -- stalls of their transfers.
 pub record IsSameTask (x y : Run) : Type 0 where
   pub trees : checked_trees x.valid.trees ≡ checked_trees y.valid.trees
   pub name : x.sequence ≡ y.sequence
+  pub follows : sequel_by x.purpose x.valid.image ≡ sequel_by y.purpose y.valid.image
   pub settings : x.valid.job.settings ≡ y.valid.job.settings
   pub target : x.valid.job.bench.target ≡ y.valid.job.bench.target
 

@@ -17,9 +17,9 @@ use text_lines::{Line, TextError, put_line, put_text};
 use trace_audit::AuditFault;
 
 /// The status of an answer that is written.
+#[tactic(auto, unfolding(crate::specs::Answers::answer_status))]
 pub fn status_of(answer: &Answer) -> Status
-    ensures status { result ≡ answer_status answer.now }
-    ensures among { (result ≡ Status.Done) ⊎ (result ≡ Status.Usage) ⊎ (result ≡ Status.Refused) }
+    ensures { result ≡ answer_status answer.now }
 {
     match answer {
         Answer::Usage => Status::Usage,

@@ -1,9 +1,9 @@
 //! What a call is asked for.
-ghost use Rattle.std.specs.Prelude.{◌≡◌, ◌≢◌, ◌⊎◌, ◌≤◌, ℕ, false, List, None, Some, length, IfOk, OnOk, IfErr, IfSome, IsErrOf, MatchOption};
-ghost use Rattle.dap_base.specs.Causes.{Rose};
-ghost use Rattle.command_words.specs.Table.{IsCommand};
+ghost use Rattle.std.specs.Prelude.{◌≡◌, ⊤, ℕ, List, None, Some, IfOk, OnOk, IfErr, IsErrOf, MatchOption};
+ghost use Rattle.text_lines.specs.Causes.{NamesFault};
 ghost use Rattle.command_words.specs.declared.answer.Command.TheVariants as commands;
-ghost use Rattle.dapseq_tool.specs.Asked.{limit, Asks, AsksOfBytes, AsksOfCheck, AsksOfCommand, AsksOfRun, IsReadLine, IsRunCommand, IsRunLine, IsSound, IsUsage, OnRun, ReadsSource, of_refused};
+ghost use Rattle.dapseq_tool.specs.Asked.{AsksOfBytes, AsksOfCheck, AsksOfCommand, AsksOfRun, IsReadLine, IsRunCommand, ReadsSource, of_refused, own_of};
+ghost use Rattle.dapseq_tool.specs.Frame.{IsAsked, IsFit};
 ghost use Rattle.dapseq_tool.specs.Generated.{its_device, its_sequence, job_text};
 ghost use Rattle.dapseq_tool.specs.Headline.{AreBytesOf, AreTaken};
 
@@ -45,8 +45,24 @@ pub struct Run {
     pub valid: ValidRun,
     /// The sequence that runs.
     pub sequence: NameText,
-    /// Whether the packets are shown after the report.
-    pub is_traced: bool,
+    /// What is done besides the run.
+    pub purpose: Purpose,
+}
+
+/// What is done besides the run of a sequence.
+#[derive(Clone, Copy, Debug, PartialEq, Eq)]
+pub enum Purpose {
+    /// Nothing: it is run.
+    Run,
+    /// The packets are shown after the report.
+    Trace,
+    /// The image of the job is written and read back after it.
+    Load,
+    /// The components of an access port are listed after it.
+    Scan {
+        /// The number of the access port.
+        ap: u8,
+    },
 }
 
 /// An answer, or a run.
@@ -84,23 +100,32 @@ fn ask_no_run(refusal: RunRefusal) -> Result<What, OutOfMemory>
     }
 }
 
+// What a mode that runs needs of a job besides its sequences.
+fn own_of(purpose: Purpose) -> Own
+    ensures { result ≡ own_of purpose }
+{
+    match purpose {
+        Purpose::Load => Own::Image,
+        Purpose::Run | Purpose::Trace | Purpose::Scan { .. } => Own::Nothing,
+    }
+}
+
 // What the bytes of a job ask for in a mode that runs.
 fn ask_for_run(
     alloc: Global,
     selection: &Selection,
     sequence: &str,
-    is_traced: bool,
+    purpose: Purpose,
     bytes: &[u8],
 ) -> Result<What, OutOfMemory>
-    ensures asked { IfOk result (AsksOfRun selection.now sequence.now is_traced bytes.now) }
-    ensures sound { IfOk result IsSound }
-    ensures used { IfOk result (λ what. what ≢ What.Answer Answer.Usage) }
+    ensures asked { IfOk result (AsksOfRun selection.now sequence.now purpose bytes.now) }
+    ensures fit { IfOk result (IsFit ⊤) }
 {
-    match valid_run(alloc, bytes, Own::Nothing, selection, sequence) {
+    match valid_run(alloc, bytes, own_of(purpose), selection, sequence) {
         Ok(valid) => Ok(What::Run(Run {
             valid,
             sequence: NameText::new(alloc, sequence)?,
-            is_traced,
+            purpose,
         })),
         Err(refusal) => ask_no_run(refusal),
     }
@@ -109,9 +134,7 @@ fn ask_for_run(
 // What the bytes of a job ask for in the mode `check`.
 fn ask_for_check(alloc: Global, selection: &Selection, bytes: &[u8]) -> Result<What, OutOfMemory>
     ensures asked { IfOk result (AsksOfCheck selection.now bytes.now) }
-    ensures sound { IfOk result IsSound }
-    ensures no_run { IfOk result (λ what. OnRun what (λ run. ⊥)) }
-    ensures used { IfOk result (λ what. what ≢ What.Answer Answer.Usage) }
+    ensures fit { IfOk result (IsFit ⊥) }
 {
     match valid_set(alloc, bytes, selection) {
         Ok(ValidSet { set, .. }) => Ok(What::Answer(Answer::CheckOk(set))),
@@ -124,20 +147,30 @@ fn ask_for_check(alloc: Global, selection: &Selection, bytes: &[u8]) -> Result<W
 fn ask_by_bytes(alloc: Global, command: &Command, bytes: &[u8]) -> Result<What, OutOfMemory>
     requires { ReadsSource command.now }
     ensures asked { IfOk result (AsksOfBytes command.now bytes.now) }
-    ensures sound { IfOk result IsSound }
-    ensures run { IfOk result (λ what. OnRun what (λ run. IsRunCommand command.now)) }
-    ensures used { IfOk result (λ what. what ≢ What.Answer Answer.Usage) }
+    ensures fit { IfOk result (IsFit (IsRunCommand command.now)) }
 {
     match command {
         Command::Check(selection) => ask_for_check(alloc, selection, bytes),
         Command::Run {
             selection,
             sequence,
-        } => ask_for_run(alloc, selection, sequence.as_str(), false, bytes),
+        } => ask_for_run(alloc, selection, sequence.as_str(), Purpose::Run, bytes),
         Command::Trace {
             selection,
             sequence,
-        } => ask_for_run(alloc, selection, sequence.as_str(), true, bytes),
+        } => ask_for_run(alloc, selection, sequence.as_str(), Purpose::Trace, bytes),
+        Command::Load {
+            selection,
+            sequence,
+        } => ask_for_run(alloc, selection, sequence.as_str(), Purpose::Load, bytes),
+        Command::Scan {
+            selection,
+            sequence,
+            ap,
+        } => {
+            let purpose = Purpose::Scan { ap: *ap };
+            ask_for_run(alloc, selection, sequence.as_str(), purpose, bytes)
+        }
         Command::Gen(_) => unreachable!(),
         Command::Audit => ask_for_audit(alloc, bytes),
     }
@@ -152,12 +185,8 @@ fn ask_by_source<S: Source>(
     requires { ReadsSource command.now }
     ensures asked { IfOk result (λ what. (bytes : List ℕ) × AreBytesOf (S.left source.old) bytes × AsksOfCommand command.now bytes what) }
     ensures taken { OnOk result (AreTaken (S.left source.old) (S.left source.new)) }
-    ensures sound { IfOk result IsSound }
-    ensures run { IfOk result (λ what. OnRun what (λ run. IsRunCommand command.now)) }
-    ensures used { IfOk result (λ what. what ≢ What.Answer Answer.Usage) }
-    ensures failed { IsErrOf result Unasked.ReadFault → Rose (S.faults source.old) (S.faults source.new) }
-    ensures quiet { IfErr result (λ e. (e ≡ Unasked.ReadFault) ⊎ (S.faults source.new ≡ S.faults source.old)) }
-    ensures quiet_ok { OnOk result (S.faults source.new ≡ S.faults source.old) }
+    ensures fit { IfOk result (IsFit (IsRunCommand command.now)) }
+    ensures source { NamesFault Unasked.ReadFault (S.faults source.old) (S.faults source.new) result }
 {
     let bytes = match read_all(alloc, source) {
         Ok(bytes) => bytes,
@@ -173,9 +202,8 @@ fn ask_by_source<S: Source>(
 
 // What the job of a number asks for.
 fn ask_by_number(alloc: Global, number: u16) -> Result<What, OutOfMemory>
-    ensures asked { IfOk result (AsksOfRun its_device its_sequence false (job_text number)) }
-    ensures sound { IfOk result IsSound }
-    ensures used { IfOk result (λ what. what ≢ What.Answer Answer.Usage) }
+    ensures asked { IfOk result (AsksOfRun its_device its_sequence Purpose.Run (job_text number)) }
+    ensures fit { IfOk result (IsFit ⊤) }
 {
     let text = job_of_number(alloc, number)?;
     let selection = Selection {
@@ -183,15 +211,14 @@ fn ask_by_number(alloc: Global, number: u16) -> Result<What, OutOfMemory>
         variant: None,
         pname: None,
     };
-    ask_for_run(alloc, &selection, "Main", false, text.as_bytes())
+    ask_for_run(alloc, &selection, "Main", Purpose::Run, text.as_bytes())
 }
 
 // The same with the number of the job that is made.
 fn ask_with_number(alloc: Global, number: u16) -> Result<Requested, Unasked>
     ensures number { IfOk result (λ asked. asked.number ≡ Some number) }
-    ensures asked { IfOk result (λ asked. AsksOfRun its_device its_sequence false (job_text number) asked.what) }
-    ensures sound { IfOk result (λ asked. IsSound asked.what) }
-    ensures used { IfOk result (λ asked. asked.what ≢ What.Answer Answer.Usage) }
+    ensures asked { IfOk result (λ asked. AsksOfRun its_device its_sequence Purpose.Run (job_text number) asked.what) }
+    ensures fit { IfOk result (λ asked. IsFit ⊤ asked.what) }
     ensures memory { IfErr result (λ e. e ≡ Unasked.OutOfMemory) }
 {
     match ask_by_number(alloc, number) {
@@ -213,12 +240,8 @@ fn ask_by_words<S: Source>(
     ensures number { IfOk result (λ asked. asked.number ≡ None) }
     ensures asked { IfOk result (λ asked. (bytes : List ℕ) × AreBytesOf (S.left source.old) bytes × AsksOfCommand command.now bytes asked.what) }
     ensures taken { OnOk result (AreTaken (S.left source.old) (S.left source.new)) }
-    ensures sound { IfOk result (λ asked. IsSound asked.what) }
-    ensures run { IfOk result (λ asked. OnRun asked.what (λ run. IsRunCommand command.now)) }
-    ensures used { IfOk result (λ asked. asked.what ≢ What.Answer Answer.Usage) }
-    ensures failed { IsErrOf result Unasked.ReadFault → Rose (S.faults source.old) (S.faults source.new) }
-    ensures quiet { IfErr result (λ e. (e ≡ Unasked.ReadFault) ⊎ (S.faults source.new ≡ S.faults source.old)) }
-    ensures quiet_ok { OnOk result (S.faults source.new ≡ S.faults source.old) }
+    ensures fit { IfOk result (λ asked. IsFit (IsRunCommand command.now) asked.what) }
+    ensures source { NamesFault Unasked.ReadFault (S.faults source.old) (S.faults source.new) result }
 {
     match ask_by_source(alloc, command, source) {
         Ok(what) => Ok(Requested { number: None, what }),
@@ -232,24 +255,19 @@ fn number_of(command: &Command) -> Option<u16>
 {
     match command {
         Command::Gen(number) => Some(*number),
-        Command::Check(_) | Command::Run { .. } | Command::Trace { .. } | Command::Audit => None,
+        Command::Check(_) | Command::Run { .. } | Command::Trace { .. } => None,
+        Command::Load { .. } | Command::Scan { .. } | Command::Audit => None,
     }
 }
 
 /// What the words and the source ask for. Where the words are no command, and in the mode `gen`, the
 /// source is not read.
 pub fn ask<S: Source>(alloc: Global, words: &Words, source: &mut S) -> Result<Requested, Unasked>
-    ensures asked { IfOk result (λ asked. (bytes : List ℕ) × AreBytesOf (S.left source.old) bytes × Asks words.now bytes asked) }
+    ensures asked { IfOk result (IsAsked words.now (S.left source.old)) }
     ensures taken { OnOk result (IsReadLine words.now → AreTaken (S.left source.old) (S.left source.new)) }
     ensures unread { (IsReadLine words.now → ⊥) → source.new ≡ source.old }
     ensures fault { IsErrOf result Unasked.ReadFault → IsReadLine words.now }
-    ensures usage_only { IfOk result (λ asked. IsUsage words.now → asked.what ≡ What.Answer Answer.Usage) }
-    ensures usage { IfOk result (λ asked. asked.what ≡ What.Answer Answer.Usage → IsUsage words.now) }
-    ensures sound { IfOk result (λ asked. IsSound asked.what) }
-    ensures run { IfOk result (λ asked. OnRun asked.what (λ run. IsRunLine words.now)) }
-    ensures failed { IsErrOf result Unasked.ReadFault → Rose (S.faults source.old) (S.faults source.new) }
-    ensures quiet { IfErr result (λ e. (e ≡ Unasked.ReadFault) ⊎ (S.faults source.new ≡ S.faults source.old)) }
-    ensures quiet_ok { OnOk result (S.faults source.new ≡ S.faults source.old) }
+    ensures source { NamesFault Unasked.ReadFault (S.faults source.old) (S.faults source.new) result }
 {
     let command = match command_of(alloc, words) {
         Ok(command) => command,

@@ -4,7 +4,8 @@ ghost use Rattle.probe_core.specs.Ranges.{IsBenchJob};
 ghost use Rattle.job_text.specs.Answers.{Describes};
 ghost use Rattle.job_text.specs.Ranges.{AreWatched};
 ghost use Rattle.dapseq_tool.specs.Audit.{AsksOfAudit, IsAuditOf};
-ghost use Rattle.dapseq_tool.specs.Asked.{IsSound, IsSoundAnswer, OnRun};
+ghost use Rattle.dapseq_tool.specs.Asked.{IsSoundAnswer};
+ghost use Rattle.dapseq_tool.specs.Frame.{IsFit};
 
 use crate::asking::{Answer, What};
 use dap_base::OutOfMemory;
@@ -23,6 +24,7 @@ pub struct Audit {
 }
 
 // The answer to a trace that is refused, unless memory was.
+#[tactic(auto, unfolding(crate::specs::Asked::IsSoundAnswer))]
 fn refuse(fault: AuditFault) -> Result<Answer, OutOfMemory>
     ensures answer { IfOk result (λ answer. answer ≡ Answer.AuditRefused fault) }
     ensures some { IfOk result (λ answer. fault ≢ AuditFault.OutOfMemory) }
@@ -38,6 +40,7 @@ fn refuse(fault: AuditFault) -> Result<Answer, OutOfMemory>
 }
 
 // What an audit of the trace of a job answers.
+#[tactic(auto, unfolding(crate::specs::Asked::IsSoundAnswer))]
 fn audit_job(alloc: Global, job: Job) -> Result<Answer, OutOfMemory>
     requires described { (bytes : _) × Describes bytes job }
     requires bench { IsBenchJob job.bench }
@@ -59,9 +62,7 @@ fn audit_job(alloc: Global, job: Job) -> Result<Answer, OutOfMemory>
 /// What the bytes of a job ask for in the mode `audit`.
 pub fn ask_for_audit(alloc: Global, bytes: &[u8]) -> Result<What, OutOfMemory>
     ensures asked { IfOk result (AsksOfAudit bytes.now) }
-    ensures sound { IfOk result IsSound }
-    ensures no_run { IfOk result (λ what. OnRun what (λ run. ⊥)) }
-    ensures used { IfOk result (λ what. what ≢ What.Answer Answer.Usage) }
+    ensures fit { IfOk result (IsFit ⊥) }
 {
     match read_job(alloc, bytes) {
         Ok(job) => {

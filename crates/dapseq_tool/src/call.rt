@@ -1,17 +1,16 @@
 //! The whole call.
-ghost use Rattle.std.specs.Prelude.{◌≡◌, ◌≢◌, ◌⊎◌, ◌++◌, ℕ, List, Option, Ok, Err};
-ghost use Rattle.std.specs.Io.KnownBytes.{Appends};
+ghost use Rattle.std.specs.Prelude.{◌≡◌, ◌≢◌, ◌⊎◌, IfOk};
 ghost use Rattle.dap_base.specs.Causes.{IsQuiet, Rose};
 ghost use Rattle.probe_core.specs.Bench.{seen};
-ghost use Rattle.access_calls.specs.Opening.{HasBadReply};
-ghost use Rattle.dapseq_tool.specs.Answers.{answer_status, answer_text, failed_status, fault_text, head_text, IsRunStatus};
-ghost use Rattle.dapseq_tool.specs.Asked.{IsReadLine, IsRunLine, IsSound, IsSoundAnswer, IsUsage, OnRun};
+ghost use Rattle.dapseq_tool.specs.Answers.{answer_status, answer_text, failed_status, fault_text};
+ghost use Rattle.dapseq_tool.specs.Asked.{IsReadLine, IsRunLine, IsSound, IsSoundAnswer, IsUsage};
+ghost use Rattle.dapseq_tool.specs.Frame.{CountsBench, CountsSink, IsFinished, IsFramed, IsFulfilled, IsStatusFor, IsUnasked};
 ghost use Rattle.dapseq_tool.specs.Headline.{moment, AreTaken, Does, FailsWriting, IsPut};
-ghost use Rattle.dapseq_tool.specs.RunEnds.{AskedRun, DoesAfter};
+ghost use Rattle.dapseq_tool.specs.RunEnds.{DoesAfter};
 ghost use Rattle.job_runs.specs.Runs.{access_kind};
 
 use crate::answering::{status_of, write_answer, write_head};
-use crate::asking::{Answer, Unasked, What, ask};
+use crate::asking::{Answer, Requested, Unasked, What, ask};
 use crate::runs::run_asked;
 use crate::status::Status;
 use access_calls::OverBench;
@@ -42,9 +41,7 @@ fn failed_status(end: TextError) -> Status
 fn answer<K: Sink>(alloc: Global, answer: &Answer, sink: &mut K) -> Status
     requires { IsSoundAnswer answer.now }
     ensures text { IsPut (K.written sink.old) (K.written sink.new) (answer_text answer.now) (answer_status answer.now) result }
-    ensures write { result ≡ Status.WriteFault → Rose (K.faults sink.old) (K.faults sink.new) }
-    ensures sink_counted { (K.faults sink.new ≡ K.faults sink.old) ⊎ (result ≡ Status.WriteFault) }
-    ensures ends { (result ≡ answer_status answer.now) ⊎ (result ≡ Status.WriteFault) ⊎ (result ≡ Status.OutOfMemory) }
+    ensures sink { CountsSink (K.faults sink.old) (K.faults sink.new) result }
 {
     match write_answer(alloc, answer, sink) {
         Ok(()) => status_of(answer),
@@ -63,14 +60,9 @@ fn perform<B: Bench, K: Sink, A: OverBench<B>>(
     ensures does { DoesAfter (access_kind A.Access.journal A.Access.cost A.Access.is_sparing) what.now (seen B.reported B.state bench) (result.bench ≡ bench) (K.written sink.old)
         (record { written = K.written sink.new; end = result.status; bench = seen B.reported B.state result.bench }) }
     ensures identity { B.identity result.bench ≡ B.identity bench }
-    ensures write { result.status ≡ Status.WriteFault → Rose (K.faults sink.old) (K.faults sink.new) }
-    ensures bench { result.status ≡ Status.BenchFault → Rose (B.reported bench).faults (B.reported result.bench).faults }
-    ensures sink_counted { (K.faults sink.new ≡ K.faults sink.old) ⊎ (result.status ≡ Status.WriteFault) }
-    ensures bench_counted { ((B.reported result.bench).faults ≡ (B.reported bench).faults) ⊎ FailsWriting result.status }
-    ensures among { OnRun what.now (λ run. IsRunStatus result.status) }
-    ensures usage { result.status ≡ Status.Usage → what.now ≡ What.Answer Answer.Usage }
-    ensures usage_only { what.now ≡ What.Answer Answer.Usage → (result.status ≡ Status.Usage) ⊎ (result.status ≡ Status.WriteFault) ⊎ (result.status ≡ Status.OutOfMemory) }
-    ensures unread { result.status ≢ Status.ReadFault }
+    ensures sink { CountsSink (K.faults sink.old) (K.faults sink.new) result.status }
+    ensures bench { CountsBench (B.reported bench).faults (B.reported result.bench).faults result.status }
+    ensures status { IsStatusFor what.now result.status }
 {
     match what {
         What::Answer(what) => Over {
@@ -84,14 +76,91 @@ fn perform<B: Bench, K: Sink, A: OverBench<B>>(
 // Reports that the source failed.
 fn read_fault<K: Sink>(sink: &mut K) -> Status
     ensures text { IsPut (K.written sink.old) (K.written sink.new) fault_text Status.ReadFault result }
-    ensures write { result ≡ Status.WriteFault → Rose (K.faults sink.old) (K.faults sink.new) }
-    ensures sink_counted { (K.faults sink.new ≡ K.faults sink.old) ⊎ (result ≡ Status.WriteFault) }
+    ensures sink { CountsSink (K.faults sink.old) (K.faults sink.new) result }
     ensures ends { (result ≡ Status.ReadFault) ⊎ (result ≡ Status.WriteFault) }
 {
     match sink.put(b"end readfault\n") {
         Ok(()) => Status::ReadFault,
         Err(_) => Status::WriteFault,
     }
+}
+
+// Does what is asked for: the first line, and then the rest.
+fn fulfil<B: Bench, K: Sink, A: OverBench<B>>(
+    alloc: Global,
+    asked: &Requested,
+    bench: B,
+    sink: &mut K,
+) -> Over<B>
+    requires { IsSound asked.now.what }
+    ensures done { IsFulfilled (access_kind A.Access.journal A.Access.cost A.Access.is_sparing) asked.now (seen B.reported B.state bench) (result.bench ≡ bench) (K.written sink.old)
+        (record { written = K.written sink.new; end = result.status; bench = seen B.reported B.state result.bench }) }
+    ensures identity { B.identity result.bench ≡ B.identity bench }
+    ensures sink { CountsSink (K.faults sink.old) (K.faults sink.new) result.status }
+    ensures bench { CountsBench (B.reported bench).faults (B.reported result.bench).faults result.status }
+{
+    match write_head(alloc, asked.number, sink) {
+        Ok(()) => perform::<B, K, A>(alloc, &asked.what, bench, sink),
+        Err(end) => Over {
+            status: failed_status(end),
+            bench,
+        },
+    }
+}
+
+// The status where it is not known what is asked for.
+fn unasked_status<K: Sink>(end: Unasked, sink: &mut K) -> Status
+    ensures unasked { IsUnasked end (K.written sink.old) (K.written sink.new) result }
+    ensures sink { CountsSink (K.faults sink.old) (K.faults sink.new) result }
+{
+    match end {
+        Unasked::OutOfMemory => Status::OutOfMemory,
+        Unasked::ReadFault => read_fault(sink),
+    }
+}
+
+// Does what is asked for, or ends where that is not known.
+fn finish<B: Bench, K: Sink, A: OverBench<B>>(
+    alloc: Global,
+    asked: &Result<Requested, Unasked>,
+    bench: B,
+    sink: &mut K,
+) -> Over<B>
+    requires { IfOk asked.now (λ asked. IsSound asked.what) }
+    ensures done { IsFinished (access_kind A.Access.journal A.Access.cost A.Access.is_sparing) asked.now (seen B.reported B.state bench) (result.bench ≡ bench) (K.written sink.old)
+        (record { written = K.written sink.new; end = result.status; bench = seen B.reported B.state result.bench }) }
+    ensures identity { B.identity result.bench ≡ B.identity bench }
+    ensures sink { CountsSink (K.faults sink.old) (K.faults sink.new) result.status }
+    ensures bench { CountsBench (B.reported bench).faults (B.reported result.bench).faults result.status }
+{
+    match asked {
+        Ok(asked) => fulfil::<B, K, A>(alloc, asked, bench, sink),
+        Err(end) => Over {
+            status: unasked_status(*end, sink),
+            bench,
+        },
+    }
+}
+
+/// Makes a call: what [`dapseq_over`] says, in its parts.
+pub fn make_call<S: Source, K: Sink, B: Bench, A: OverBench<B>>(
+    alloc: Global,
+    words: &Words,
+    source: &mut S,
+    sink: &mut K,
+    bench: B,
+) -> Over<B>
+    ensures asked { let at = moment S.left S.faults K.written K.faults B.reported B.state in
+        Does (access_kind A.Access.journal A.Access.cost A.Access.is_sparing) (record { words = words.now; old = at source.old sink.old bench; new = at source.new sink.new result.bench; end = result.status }) (result.bench ≡ bench) }
+    ensures frame { let at = moment S.left S.faults K.written K.faults B.reported B.state in
+        IsFramed (record { words = words.now; old = at source.old sink.old bench; new = at source.new sink.new result.bench; end = result.status }) (source.new ≡ source.old) (result.bench ≡ bench) }
+    ensures identity { B.identity result.bench ≡ B.identity bench }
+{
+    let asked = ask(alloc, words, source);
+    let over = finish::<B, K, A>(alloc, &asked, bench, sink);
+    // (a call drops the parts of all that can be asked for; here they would be part of this function's proof)
+    drop(asked);
+    over
 }
 
 /// Does all that [`dapseq`](crate::dapseq) does, by any access that is begun over the bench, which it owns and hands back:
@@ -131,26 +200,5 @@ pub fn dapseq_over<S: Source, K: Sink, B: Bench, A: OverBench<B>>(
     ensures sink_counted { (K.faults sink.new ≡ K.faults sink.old) ⊎ (result.status ≡ Status.WriteFault) }
     ensures bench_counted { ((B.reported result.bench).faults ≡ (B.reported bench).faults) ⊎ FailsWriting result.status }
 {
-    let asked = match ask(alloc, words, source) {
-        Ok(asked) => asked,
-        Err(Unasked::OutOfMemory) => {
-            return Over {
-                status: Status::OutOfMemory,
-                bench,
-            };
-        }
-        Err(Unasked::ReadFault) => {
-            return Over {
-                status: read_fault(sink),
-                bench,
-            };
-        }
-    };
-    match write_head(alloc, asked.number, sink) {
-        Ok(()) => perform::<B, K, A>(alloc, &asked.what, bench, sink),
-        Err(end) => Over {
-            status: failed_status(end),
-            bench,
-        },
-    }
+    make_call::<S, K, B, A>(alloc, words, source, sink, bench)
 }

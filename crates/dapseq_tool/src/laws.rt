@@ -23,6 +23,7 @@ ghost use Rattle.dapseq_tool.specs.declared.status.Status.TheVariants as Status;
 ghost use Rattle.dapseq_tool.specs.Success.{HasCauses, HasGotBadReply, Success};
 ghost use Rattle.dapseq_tool.specs.TwoRuns.{CameToEnd, IsSameTask, LeavesSame};
 ghost use Rattle.job_runs.specs.Runs.{AccessKind};
+ghost use Rattle.dapseq_tool.specs.FollowedRuns.{RunsLay, RunsList};
 
 /// A call that nothing outside disturbed did what was asked for.
 pub fn quiet_calls_succeed()
@@ -68,4 +69,16 @@ pub fn packet_limits_do_not_matter()
     ensures { (access other : AccessKind) (x y : Run) (before : Option (List ℕ)) (p q : RunEnd) (a b : After) (m n : BenchState)
         → IsSameTask x y → IsRunTo access x before p a m → IsRunTo other y before q b n → CameToEnd p.ended.ending → CameToEnd q.ended.ending
         → LeavesSame before p q m n }
+{}
+
+/// A run of the mode `load` that is done, where the image may be loaded after the sequence, lays it over the memory that the sequence
+/// leaves, and no byte differs.
+pub fn runs_lay_images()
+    ensures { RunsLay }
+{}
+
+/// A run of the mode `scan` that is done, where words can be read by the access port after the sequence, lists the components that the
+/// words of the target show, the first 1,024 where there are more, and is full exactly there.
+pub fn runs_list_components()
+    ensures { RunsList }
 {}

@@ -2,16 +2,32 @@
 ghost use Rattle.std.specs.Prelude.{◌≡◌, ◌≢◌, ◌⊎◌};
 ghost use Rattle.dap_base.specs.Causes.{IsQuiet, Rose};
 ghost use Rattle.dapseq_tool.specs.Asked.{IsReadLine, IsRunLine, IsUsage};
+ghost use Rattle.dapseq_tool.specs.Frame.{IsCall};
 ghost use Rattle.dapseq_tool.specs.Headline.{moment, AreTaken, Does, FailsWriting};
 ghost use Rattle.dapseq_tool.specs.Success.{HasGotBadReply, Success};
 ghost use Rattle.dapseq_tool.specs.Packed.{packed};
 
-use crate::call::dapseq_over;
+use crate::call::make_call;
 use crate::status::Status;
 use dap_base::{Sink, Source, Words};
 use packed_access::Packed;
 use probe_core::Bench;
 use std::alloc::Global;
+
+// Makes a call over a lent bench.
+fn call_lent<S: Source, K: Sink, B: Bench>(
+    alloc: Global,
+    words: &Words,
+    source: &mut S,
+    sink: &mut K,
+    bench: &mut B,
+) -> Status
+    ensures { let at = moment S.left S.faults K.written K.faults B.reported B.state in
+        IsCall packed (record { words = words.now; old = at source.old sink.old bench.old; new = at source.new sink.new bench.new; end = result }) (source.new ≡ source.old) (bench.new ≡ bench.old) }
+{
+    let over = make_call::<S, K, &mut B, Packed<&mut B>>(alloc, words, source, sink, &mut *bench);
+    over.status
+}
 
 /// Does all that the program does. `check` reads a job of at most 16,777,216 bytes from the source, checks the
 /// sequences of a device, and writes what it found. `run` and `trace` run one of them over the bench, and write its
@@ -73,6 +89,5 @@ pub fn dapseq<S: Source, K: Sink, B: Bench>(
     ensures sink_counted { (K.faults sink.new ≡ K.faults sink.old) ⊎ (result ≡ Status.WriteFault) }
     ensures bench_counted { ((B.reported bench.new).faults ≡ (B.reported bench.old).faults) ⊎ FailsWriting result }
 {
-    let over = dapseq_over::<S, K, &mut B, Packed<&mut B>>(alloc, words, source, sink, &mut *bench);
-    over.status
+    call_lent(alloc, words, source, sink, bench)
 }

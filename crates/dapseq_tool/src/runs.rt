@@ -1,30 +1,65 @@
 //! A run that is asked for.
-ghost use Rattle.std.specs.Prelude.{◌≡◌, ◌≢◌, ◌⊎◌, ℕ, List, Some, IsSome};
-ghost use Rattle.dap_base.specs.Causes.{Rose};
+ghost use Rattle.std.specs.Prelude.{◌≡◌, Some};
 ghost use Rattle.probe_core.specs.Bench.{fresh, seen};
 ghost use Rattle.access_calls.specs.Opening.{IsIdle};
-ghost use Rattle.dapseq_tool.specs.Answers.{IsRunStatus, run_status, status_after, text_status};
+ghost use Rattle.dapseq_tool.specs.Answers.{IsRunStatus, close_status, run_status, status_after, text_status};
 ghost use Rattle.dapseq_tool.specs.Asked.{IsSoundRun};
-ghost use Rattle.dapseq_tool.specs.Headline.{After, FailsWriting, HasRun, RunEnd};
+ghost use Rattle.dapseq_tool.specs.Frame.{CountsBench, CountsSink};
+ghost use Rattle.dapseq_tool.specs.Headline.{HasRun, RunEnd};
 ghost use Rattle.dapseq_tool.specs.RunEnds.{AskedRun};
 ghost use Rattle.job_runs.specs.Runs.{access_kind};
+ghost use Rattle.dapseq_tool.specs.Purpose.{sequel_by, shows_packets};
+ghost use Rattle.task_runs.specs.Tasks.{sequel_of};
 
-use crate::asking::Run;
+use crate::asking::{Purpose, Run};
 use crate::call::Over;
 use crate::status::Status;
 use access_calls::{Ending, OverBench};
 use dap_base::Sink;
-use job_runs::{Ran, run_on, write_run};
+use job_runs::{Ran, run_whole, write_whole};
 use probe_core::{Bench, LoadError};
 use report_lines::TextEnd;
+use sequels::Close;
 use std::alloc::Global;
+use task_runs::Followed;
+
+// Whether the packets are shown after the report.
+fn shows_packets(purpose: Purpose) -> bool
+    ensures { result ≡ shows_packets purpose }
+{
+    matches!(purpose, Purpose::Trace)
+}
+
+// What follows the sequence.
+fn followed_of(run: &Run) -> Followed<'_>
+    ensures { sequel_of result ≡ sequel_by run.now.purpose run.now.valid.image }
+{
+    match (run.purpose, &run.valid.image) {
+        (Purpose::Load, Some(own)) => Followed::Load {
+            ap: own.ap,
+            image: &own.image,
+        },
+        (Purpose::Scan { ap }, _) => Followed::Scan { ap },
+        _ => Followed::Nothing,
+    }
+}
+
+// The status after a run that is done.
+fn close_status(close: Close) -> Status
+    ensures { result ≡ close_status close }
+{
+    match close {
+        Close::Nothing | Close::Loaded { .. } | Close::Scanned => Status::Done,
+        Close::Differs { .. } | Close::Full => Status::Stopped,
+    }
+}
 
 // The status after a run that ended so.
-fn run_status(ending: Ending) -> Status
-    ensures { result ≡ run_status ending }
+fn run_status(ending: Ending, close: Close) -> Status
+    ensures { result ≡ run_status ending close }
 {
     match ending {
-        Ending::Done => Status::Done,
+        Ending::Done => close_status(close),
         Ending::Halted(_) | Ending::Cut(_) => Status::Stopped,
         Ending::BenchFault { .. } => Status::BenchFault,
         Ending::ReplyBad => Status::ReplyBad,
@@ -45,11 +80,11 @@ fn text_status(end: TextEnd) -> Status
 }
 
 // The status after a run that ended so, by how its text was written.
-fn status_after(written: Result<(), TextEnd>, ending: Ending) -> Status
-    ensures { result ≡ status_after written ending }
+fn status_after(written: Result<(), TextEnd>, ending: Ending, close: Close) -> Status
+    ensures { result ≡ status_after written ending close }
 {
     match written {
-        Ok(()) => run_status(ending),
+        Ok(()) => run_status(ending, close),
         Err(end) => text_status(end),
     }
 }
@@ -67,17 +102,23 @@ fn run_loaded<B: Bench, K: Sink, A: OverBench<B>>(
     ensures run { (r : RunEnd) × HasRun (access_kind A.Access.journal A.Access.cost A.Access.is_sparing) run.now (B.state bench ≡ Some (fresh run.now.valid.job.bench)) (B.reported bench) (K.written sink.old) r
         (record { written = K.written sink.new; end = result.status; bench = seen B.reported B.state result.bench }) }
     ensures identity { B.identity result.bench ≡ B.identity bench }
-    ensures write { result.status ≡ Status.WriteFault → Rose (K.faults sink.old) (K.faults sink.new) }
-    ensures bench { result.status ≡ Status.BenchFault → Rose (B.reported bench).faults (B.reported result.bench).faults }
-    ensures sink_counted { (K.faults sink.new ≡ K.faults sink.old) ⊎ (result.status ≡ Status.WriteFault) }
-    ensures bench_counted { ((B.reported result.bench).faults ≡ (B.reported bench).faults) ⊎ FailsWriting result.status }
+    ensures sink { CountsSink (K.faults sink.old) (K.faults sink.new) result.status }
+    ensures bench { CountsBench (B.reported bench).faults (B.reported result.bench).faults result.status }
     ensures among { IsRunStatus result.status }
 {
-    let mut ran = run_on::<B, K, A>(alloc, &run.valid, run.sequence.as_str(), bench, sink);
-    let written = write_run(alloc, &run.valid.job, run.is_traced, &mut ran, sink);
-    let Ran { ended, bench, .. } = ran;
+    let sequence = run.sequence.as_str();
+    let followed = followed_of(run);
+    let mut ran = run_whole::<B, K, A>(alloc, &run.valid, sequence, &followed, bench, sink);
+    let is_traced = shows_packets(run.purpose);
+    let written = write_whole(alloc, &run.valid.job, is_traced, &mut ran, sink);
+    let Ran {
+        ended,
+        close,
+        bench,
+        ..
+    } = ran;
     Over {
-        status: status_after(written, ended.ending),
+        status: status_after(written, ended.ending, close),
         bench,
     }
 }
@@ -93,10 +134,8 @@ pub fn run_asked<B: Bench, K: Sink, A: OverBench<B>>(
     ensures run { AskedRun (access_kind A.Access.journal A.Access.cost A.Access.is_sparing) run.now (seen B.reported B.state bench) (K.written sink.old)
         (record { written = K.written sink.new; end = result.status; bench = seen B.reported B.state result.bench }) }
     ensures identity { B.identity result.bench ≡ B.identity bench }
-    ensures write { result.status ≡ Status.WriteFault → Rose (K.faults sink.old) (K.faults sink.new) }
-    ensures bench { result.status ≡ Status.BenchFault → Rose (B.reported bench).faults (B.reported result.bench).faults }
-    ensures sink_counted { (K.faults sink.new ≡ K.faults sink.old) ⊎ (result.status ≡ Status.WriteFault) }
-    ensures bench_counted { ((B.reported result.bench).faults ≡ (B.reported bench).faults) ⊎ FailsWriting result.status }
+    ensures sink { CountsSink (K.faults sink.old) (K.faults sink.new) result.status }
+    ensures bench { CountsBench (B.reported bench).faults (B.reported result.bench).faults result.status }
     ensures among { IsRunStatus result.status }
 {
     let mut bench = bench;

@@ -45,6 +45,18 @@ fn shown(alloc: Global, command: &Command) -> Result<String, AllocError> {
             selection,
             sequence,
         } => run_text(alloc, "trace", selection, sequence),
+        Command::Load {
+            selection,
+            sequence,
+        } => run_text(alloc, "load", selection, sequence),
+        Command::Scan {
+            selection,
+            sequence,
+            ap,
+        } => {
+            let meant = run_text(alloc, "scan", selection, sequence)?;
+            format!(in alloc; "{meant} {ap}")
+        }
         Command::Gen(number) => format!(in alloc; "gen {number}"),
         Command::Audit => String::from_str(alloc, "audit"),
     }

@@ -1,26 +1,43 @@
-use Rattle.dapseq_tool.specs.Asked.{IsSound}
-use Rattle.dapseq_tool.specs.declared.asking.Answer.TheVariants as answers
+use Rattle.std.proofs.Common.{◌≡◌, refl}
 use Rattle.dapseq_tool.specs.declared.asking.What.TheVariants as whats
-use Rattle.dapseq_tool.proofs.CallLemmas.{run_no_answer, run_no_usage, usage_answer, usage_is_answered}
+use Rattle.dapseq_tool.proofs.FrameLemmas.{does_what, none_of_bench_answer, sound_by_answer, sound_by_run, status_for, status_of_answer, status_of_run}
 use Rattle.dapseq_tool.proofs.call.perform.Goals as goal
 
 pub answer-requires : goal.answer-requires
-answer-requires g c = let sound : IsSound (whats.Answer c.in-Answer.what) = rw c.in-Answer.is at c.requires in sound.so
+answer-requires g c = sound_by_answer c.args.what.now c.in-Answer.what c.in-Answer.is c.requires
 
 pub run_asked-requires : goal.run_asked-requires
-run_asked-requires g c = let sound : IsSound (whats.Run c.in-Run.run') = rw c.in-Run.is at c.requires in sound.so
+run_asked-requires g c = sound_by_run c.args.what.now c.in-Run.run' c.in-Run.is c.requires
+
+pub returns-in-Answer-clause-does : goal.returns-in-Answer-clause-does
+returns-in-Answer-clause-does g c = does_what _ c.args.what.now (whats.Answer c.in-Answer.what) _ _ _ _ c.in-Answer.is (c.answer.ensures.text, refl)
+
+pub returns-in-Answer-clause-identity : goal.returns-in-Answer-clause-identity
+returns-in-Answer-clause-identity g c = refl
+
+pub returns-in-Answer-clause-sink : goal.returns-in-Answer-clause-sink
+returns-in-Answer-clause-sink g c = c.answer.ensures.sink
+
+pub returns-in-Answer-clause-bench : goal.returns-in-Answer-clause-bench
+returns-in-Answer-clause-bench g c =
+    none_of_bench_answer _ _ _ c.in-Answer.what c.answer.result c.answer.ensures.text (g.B.Bench.reported c.args.bench).faults
+
+pub returns-in-Answer-clause-status : goal.returns-in-Answer-clause-status
+returns-in-Answer-clause-status g c =
+    status_for c.args.what.now (whats.Answer c.in-Answer.what) c.answer.result c.in-Answer.is (status_of_answer _ _ _ c.in-Answer.what c.answer.result c.answer.ensures.text)
 
 pub returns-in-Run-clause-does : goal.returns-in-Run-clause-does
-returns-in-Run-clause-does g c = rw c.in-Run.is c.run_asked.ensures.run
+returns-in-Run-clause-does g c = does_what _ c.args.what.now (whats.Run c.in-Run.run') _ _ _ _ c.in-Run.is c.run_asked.ensures.run
 
-pub returns-in-Run-clause-usage : goal.returns-in-Run-clause-usage
-returns-in-Run-clause-usage g c = λ is. absurd (run_no_usage c.run_asked.result.status c.run_asked.ensures.among is)
+pub returns-in-Run-clause-identity : goal.returns-in-Run-clause-identity
+returns-in-Run-clause-identity g c = c.run_asked.ensures.identity
 
-pub returns-in-Run-clause-usage_only : goal.returns-in-Run-clause-usage_only
-returns-in-Run-clause-usage_only g c = λ is. absurd (run_no_answer c.args.what.now c.in-Run.run' answers.Usage c.in-Run.is is)
+pub returns-in-Run-clause-sink : goal.returns-in-Run-clause-sink
+returns-in-Run-clause-sink g c = c.run_asked.ensures.sink
 
-pub returns-in-Answer-clause-usage : goal.returns-in-Answer-clause-usage
-returns-in-Answer-clause-usage g c = λ is. usage_answer c.args.what.now c.in-Answer.what c.answer.result c.in-Answer.is c.answer.ensures.ends is
+pub returns-in-Run-clause-bench : goal.returns-in-Run-clause-bench
+returns-in-Run-clause-bench g c = c.run_asked.ensures.bench
 
-pub returns-in-Answer-clause-usage_only : goal.returns-in-Answer-clause-usage_only
-returns-in-Answer-clause-usage_only g c = λ is. usage_is_answered c.args.what.now c.in-Answer.what c.answer.result c.in-Answer.is c.answer.ensures.ends is
+pub returns-in-Run-clause-status : goal.returns-in-Run-clause-status
+returns-in-Run-clause-status g c =
+    status_for c.args.what.now (whats.Run c.in-Run.run') c.run_asked.result.status c.in-Run.is (status_of_run c.in-Run.run' c.run_asked.result.status c.run_asked.ensures.among)

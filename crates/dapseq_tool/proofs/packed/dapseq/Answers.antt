@@ -1,47 +1,54 @@
-use Rattle.dapseq_tool.specs.Success.{HasGotBadReply, Success}
-use Rattle.dapseq_tool.specs.declared.status.Status.TheVariants as status
 use Rattle.dapseq_tool.proofs.BadLemmas.{bad_reply}
 use Rattle.dapseq_tool.proofs.SuccessLemmas.{success}
-use Rattle.std.proofs.Common.{◌≡◌, ◌∙◌, ap, inl, inr, rules, subst, sym}
-use Rattle.dapseq_tool.specs.Headline.{Call, Does, moment}
-use Rattle.dapseq_tool.proofs.LentLemmas.{does_so}
 use Rattle.dapseq_tool.proofs.packed.dapseq.Goals as goal
-use Rattle.dapseq_tool.specs.Packed.{packed}
-
-pub returns-clause-bench_only_in_run : goal.returns-clause-bench_only_in_run
-returns-clause-bench_only_in_run g c =
-    let back : c.bench-1.given.0 ≡ c.dapseq_over-over.result.bench.now = search rules in
-    elim c.dapseq_over-over.ensures.bench_only_in_run [ inl same ↦ inl (back ∙ ap (λ b. b.now) same) | inr line ↦ inr line ]
 
 pub returns-clause-asked : goal.returns-clause-asked
-returns-clause-asked g c =
-    let back : c.dapseq_over-over.result.bench.now ≡ c.bench-1.given.0 = search rules in
-    subst (λ v. Does _ (record {
-      words = c.args.words.now;
-      old = moment g.S.Source.left g.S.Source.faults g.K.Sink.written g.K.Sink.faults g.B.Bench.reported g.B.Bench.state c.args.source.now c.args.sink.now c.args.bench.now;
-      new = moment g.S.Source.left g.S.Source.faults g.K.Sink.written g.K.Sink.faults g.B.Bench.reported g.B.Bench.state c.dapseq_over-over.new.source c.dapseq_over-over.new.sink v;
-      end = c.dapseq_over-over.result.status;
-    }) (v ≡ c.args.bench.now)) back
-    (does_so _ _ _ _ (λ same. ap (λ b. b.now) same) c.dapseq_over-over.ensures.asked)
+returns-clause-asked g c = c.call_lent.ensures.asked
 
 pub returns-clause-success : goal.returns-clause-success
-returns-clause-success g c =
-    let back : c.dapseq_over-over.result.bench.now ≡ c.bench-1.given.0 = search rules in
-    subst (λ v. Success packed (record {
-      words = c.args.words.now;
-      old = moment g.S.Source.left g.S.Source.faults g.K.Sink.written g.K.Sink.faults g.B.Bench.reported g.B.Bench.state c.args.source.now c.args.sink.now c.args.bench.now;
-      new = moment g.S.Source.left g.S.Source.faults g.K.Sink.written g.K.Sink.faults g.B.Bench.reported g.B.Bench.state c.dapseq_over-over.new.source c.dapseq_over-over.new.sink v;
-      end = c.dapseq_over-over.result.status;
-    })) back
-    (success _ _ _ c.dapseq_over-over.ensures.asked (record { write = c.dapseq_over-over.ensures.write; bench = c.dapseq_over-over.ensures.bench }))
+returns-clause-success g c = success _ _ _ c.call_lent.ensures.asked (record { write = c.call_lent.ensures.frame.sink.cause; bench = c.call_lent.ensures.frame.bench.cause })
 
 pub returns-clause-bad_reply : goal.returns-clause-bad_reply
-returns-clause-bad_reply g c =
-    let back : c.dapseq_over-over.result.bench.now ≡ c.bench-1.given.0 = search rules in
-    subst (λ v. c.dapseq_over-over.result.status ≡ status.ReplyBad → HasGotBadReply (record {
-      words = c.args.words.now;
-      old = moment g.S.Source.left g.S.Source.faults g.K.Sink.written g.K.Sink.faults g.B.Bench.reported g.B.Bench.state c.args.source.now c.args.sink.now c.args.bench.now;
-      new = moment g.S.Source.left g.S.Source.faults g.K.Sink.written g.K.Sink.faults g.B.Bench.reported g.B.Bench.state c.dapseq_over-over.new.source c.dapseq_over-over.new.sink v;
-      end = c.dapseq_over-over.result.status;
-    })) back
-    (λ is. bad_reply _ _ _ c.dapseq_over-over.ensures.asked is)
+returns-clause-bad_reply g c = λ is. bad_reply _ _ _ c.call_lent.ensures.asked is
+
+pub returns-clause-usage : goal.returns-clause-usage
+returns-clause-usage g c = c.call_lent.ensures.frame.usage
+
+pub returns-clause-usage_only : goal.returns-clause-usage_only
+returns-clause-usage_only g c = c.call_lent.ensures.frame.usage_only
+
+pub returns-clause-unread : goal.returns-clause-unread
+returns-clause-unread g c = c.call_lent.ensures.frame.unread
+
+pub returns-clause-taken : goal.returns-clause-taken
+returns-clause-taken g c = c.call_lent.ensures.frame.taken
+
+pub returns-clause-bench_only_in_run : goal.returns-clause-bench_only_in_run
+returns-clause-bench_only_in_run g c = c.call_lent.ensures.frame.bench_only_in_run
+
+pub returns-clause-refusal_keeps_bench : goal.returns-clause-refusal_keeps_bench
+returns-clause-refusal_keeps_bench g c = c.call_lent.ensures.frame.refusal_keeps_bench
+
+pub returns-clause-read_fault_keeps_bench : goal.returns-clause-read_fault_keeps_bench
+returns-clause-read_fault_keeps_bench g c = c.call_lent.ensures.frame.read_fault_keeps_bench
+
+pub returns-clause-source_fault_keeps_bench : goal.returns-clause-source_fault_keeps_bench
+returns-clause-source_fault_keeps_bench g c = c.call_lent.ensures.frame.source_fault_keeps_bench
+
+pub returns-clause-read : goal.returns-clause-read
+returns-clause-read g c = c.call_lent.ensures.frame.read
+
+pub returns-clause-write : goal.returns-clause-write
+returns-clause-write g c = c.call_lent.ensures.frame.sink.cause
+
+pub returns-clause-bench : goal.returns-clause-bench
+returns-clause-bench g c = c.call_lent.ensures.frame.bench.cause
+
+pub returns-clause-source_counted : goal.returns-clause-source_counted
+returns-clause-source_counted g c = c.call_lent.ensures.frame.source_counted
+
+pub returns-clause-sink_counted : goal.returns-clause-sink_counted
+returns-clause-sink_counted g c = c.call_lent.ensures.frame.sink.counted
+
+pub returns-clause-bench_counted : goal.returns-clause-bench_counted
+returns-clause-bench_counted g c = c.call_lent.ensures.frame.bench.counted

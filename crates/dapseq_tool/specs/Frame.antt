@@ -1,0 +1,97 @@
+-- What a call keeps, whatever it was asked for.
+use Rattle.std.specs.Prelude.{◌≡◌, ◌≢◌, ◌⊎◌, ℕ, List, Option, Result, Ok, Err, IsSome}
+use Rattle.std.specs.Io.KnownBytes.{Appends}
+use Rattle.dap_base.specs.Streams.{AppendsPrefix}
+use Rattle.probe_core.specs.Bench.{Seen}
+use Rattle.dapseq_tool.specs.RunEnds.{DoesAfter}
+use Rattle.dap_base.specs.Causes.{IsQuiet, Rose}
+use Rattle.dapseq_tool.specs.Answers.{IsRunStatus, fault_text, head_text}
+use Rattle.dapseq_tool.specs.Asked.{Asks, IsReadLine, IsRunLine, IsSound, IsUsage, OnRun}
+use Rattle.dapseq_tool.specs.Headline.{After, AreBytesOf, AreTaken, Call, Does, FailsPutting, FailsWriting, IsPut}
+use Rattle.job_runs.specs.Runs.{AccessKind}
+use Rattle.dapseq_tool.specs.declared.asking.Answer.TheVariants as answers
+use Rattle.dapseq_tool.specs.declared.asking.Requested.{Requested}
+use Rattle.dapseq_tool.specs.declared.asking.Unasked.{Unasked}
+use Rattle.dapseq_tool.specs.declared.asking.Unasked.TheVariants as unasked
+use Rattle.dapseq_tool.specs.declared.asking.What.{What}
+use Rattle.dapseq_tool.specs.declared.asking.What.TheVariants as whats
+use Rattle.dapseq_tool.specs.declared.status.Status.{Status}
+use Rattle.dapseq_tool.specs.declared.status.Status.TheVariants as statuses
+
+-- ---- what is asked for
+
+-- What is asked for is in its ranges, a run only where this is so, and never the usage.
+pub record IsFit (runs : Type 0) (what : What) : Type 0 where
+  pub sound : IsSound what
+  pub run : OnRun what (λ run. runs)
+  pub used : what ≢ whats.Answer answers.Usage
+
+-- The words and the bytes of a source ask for it: the usage exactly where they are no command, and a run only where they are a command
+-- that runs. It is in its ranges.
+pub record IsAsked (words : List (List ℕ)) (left : Option (List ℕ)) (asked : Requested) : Type 0 where
+  pub asks : (bytes : List ℕ) × AreBytesOf left bytes × Asks words bytes asked
+  pub usage : asked.what ≡ whats.Answer answers.Usage → IsUsage words
+  pub usage_only : IsUsage words → asked.what ≡ whats.Answer answers.Usage
+  pub sound : IsSound asked.what
+  pub run : OnRun asked.what (λ run. IsRunLine words)
+
+-- ---- what is done
+
+-- A fault of the sink has its cause, and one that comes is reported.
+pub record CountsSink (old new : ℕ) (end : Status) : Type 0 where
+  pub cause : end ≡ statuses.WriteFault → Rose old new
+  pub counted : (new ≡ old) ⊎ (end ≡ statuses.WriteFault)
+
+-- The same of the bench.
+pub record CountsBench (old new : ℕ) (end : Status) : Type 0 where
+  pub cause : end ≡ statuses.BenchFault → Rose old new
+  pub counted : (new ≡ old) ⊎ FailsWriting end
+
+-- The status is one that what is asked for can have: a run has its own, the usage comes where it is asked for, and no source is read.
+pub record IsStatusFor (what : What) (end : Status) : Type 0 where
+  pub run : OnRun what (λ run. IsRunStatus end)
+  pub usage : end ≡ statuses.Usage → what ≡ whats.Answer answers.Usage
+  pub usage_only : what ≡ whats.Answer answers.Usage → (end ≡ statuses.Usage) ⊎ (end ≡ statuses.WriteFault) ⊎ (end ≡ statuses.OutOfMemory)
+  pub unread : end ≢ statuses.ReadFault
+
+-- What is done of what is asked for: the first line was written, and then the rest was done; or it was not written whole, and the bench
+-- is the one that it was.
+pub data IsFulfilled (access : AccessKind) (asked : Requested) (old : Seen) (unchanged : Type 0) (before : Option (List ℕ)) (after : After) : Type 0 where
+  performed : (mid : Option (List ℕ)) → Appends before mid (head_text asked.number) → DoesAfter access asked.what old unchanged mid after → IsStatusFor asked.what after.end
+      → IsFulfilled access asked old unchanged before after
+  not_headed : IsSome asked.number → FailsPutting after.end → AppendsPrefix before after.written (head_text asked.number) → unchanged → IsFulfilled access asked old unchanged before after
+
+-- What is written where it is not known what is asked for, and the status: nothing, where memory was refused, and else the line of a
+-- source that failed.
+pub data IsUnasked (end : Unasked) (before now : Option (List ℕ)) (status : Status) : Type 0 where
+  memory : end ≡ unasked.OutOfMemory → status ≡ statuses.OutOfMemory → now ≡ before → IsUnasked end before now status
+  source : end ≡ unasked.ReadFault → IsPut before now fault_text statuses.ReadFault status → (status ≡ statuses.ReadFault) ⊎ (status ≡ statuses.WriteFault)
+      → IsUnasked end before now status
+
+-- What is done of what was found out of the words and the source: what is asked for, or the end where that is not known, with the bench
+-- as it was.
+pub data IsFinished (access : AccessKind) (asked : Result Requested Unasked) (old : Seen) (unchanged : Type 0) (before : Option (List ℕ)) (after : After) : Type 0 where
+  known : (x : Requested) → asked ≡ Ok x → IsFulfilled access x old unchanged before after → IsFinished access asked old unchanged before after
+  unknown : (end : Unasked) → asked ≡ Err end → IsUnasked end before after.written after.end → unchanged → IsFinished access asked old unchanged before after
+
+-- What every call keeps. The words alone decide on the usage, and whether the source is read; `untaken` says that it is the one that it
+-- was. The bench is called in the modes that run alone; `unchanged` says that it is the one that it was. Each fault has its cause, and
+-- one that comes is reported.
+pub record IsFramed (call : Call) (untaken unchanged : Type 0) : Type 0 where
+  pub usage : call.end ≡ statuses.Usage → IsUsage call.words
+  pub usage_only : IsUsage call.words → (call.end ≡ statuses.Usage) ⊎ (call.end ≡ statuses.WriteFault) ⊎ (call.end ≡ statuses.OutOfMemory)
+  pub unread : (IsReadLine call.words → ⊥) → untaken
+  pub taken : IsReadLine call.words → IsQuiet call.old.source_faults call.new.source_faults → call.end ≢ statuses.OutOfMemory → AreTaken call.old.left call.new.left
+  pub bench_only_in_run : unchanged ⊎ IsRunLine call.words
+  pub refusal_keeps_bench : call.end ≡ statuses.Refused → unchanged
+  pub read_fault_keeps_bench : call.end ≡ statuses.ReadFault → unchanged
+  pub source_fault_keeps_bench : (call.new.source_faults ≡ call.old.source_faults) ⊎ unchanged
+  pub read : call.end ≡ statuses.ReadFault → Rose call.old.source_faults call.new.source_faults
+  pub source_counted : (call.new.source_faults ≡ call.old.source_faults) ⊎ (call.end ≡ statuses.ReadFault) ⊎ (call.end ≡ statuses.WriteFault)
+  pub sink : CountsSink call.old.sink_faults call.new.sink_faults call.end
+  pub bench : CountsBench call.old.reported.faults call.new.reported.faults call.end
+
+-- A whole call: what it does, and what it keeps.
+pub record IsCall (access : AccessKind) (call : Call) (untaken unchanged : Type 0) : Type 0 where
+  pub asked : Does access call unchanged
+  pub frame : IsFramed call untaken unchanged
