@@ -11,7 +11,8 @@ pub enum Status {
     Refused,
     /// The words are no command.
     Usage,
-    /// The target, the probe or the sequence stopped the run.
+    /// The target, the probe or the sequence stopped the run, a byte of an image was read back as another one, or there
+    /// are more than 1,024 components.
     Stopped,
     /// The bench failed.
     BenchFault,
