@@ -11,7 +11,7 @@ from pdsc import conversion  # noqa: E402
 from pdsc.devices import Pack  # noqa: E402
 from pdsc.document import Document  # noqa: E402
 
-DATA = EXAMPLES.parent / "crates" / "test_examples" / "data"
+DATA = EXAMPLES.parent / "crates" / "test_jobs" / "data" / "examples"
 PACKS = EXAMPLES / "packs"
 
 

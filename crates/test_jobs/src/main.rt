@@ -4,8 +4,13 @@
 //! of the trace that is stored.
 #![tactic(auto)]
 
+mod answering;
+mod auditing;
+mod failing;
+mod stored;
+
 use std::io;
-use test_support::{run_audit, run_case, run_failing, run_silent, run_single};
+use stored::{run_audit, run_case, run_failing, run_silent, run_single};
 
 fn main(rt: HostRuntime) -> io::Result<()> {
     for line in rt.lines(rt.alloc()) {

@@ -1,14 +1,9 @@
 //! Runs stored jobs in memory, and compares what is written with what is stored beside them.
-#![tactic(auto)]
 
-mod answering;
-mod auditing;
-mod failing;
-
-use answering::{answer, answer_by_single, answer_over_silent, words_of};
-use auditing::{accepted_text, with_trace};
+use crate::answering::{answer, answer_by_single, answer_over_silent, words_of};
+use crate::auditing::{accepted_text, with_trace};
+use crate::failing::{Object, failing_calls};
 use dap_base::{OutOfMemory, Words};
-use failing::{Object, failing_calls};
 use std::io::ErrorKind;
 use std::{fs, io};
 
