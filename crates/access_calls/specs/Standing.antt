@@ -1,5 +1,5 @@
 -- How far the target has come with the journal, and what a report says of it.
-use Rattle.std.specs.Prelude.{◌≡◌, ◌⊎◌, ⊤, ℕ, ◌+◌, ◌-◌, ◌*◌, ◌<◌, ◌≤◌, Bool, true, List, length, take, drop, slice_get, slice_index, Option, Some, None}
+use Rattle.std.specs.Prelude.{◌≡◌, ◌⊎◌, ⊤, ℕ, ◌+◌, ◌-◌, ◌*◌, ◌<◌, ◌≤◌, Bool, true, List, length, take, drop, slice_get, slice_index, Option, Some, None, IfSome}
 use Rattle.std.specs.List.{AllByRecursion}
 use Rattle.target_machine.specs.Plain.{Action, Makes, Polls, Commands, commanded, polled}
 use Rattle.target_machine.specs.State.{TargetState, Agree}
@@ -14,7 +14,7 @@ use Rattle.target_calls.specs.Journal.{Entry, Passes, first_fault, target_after}
 use Rattle.target_calls.specs.Weights.{commands_in, performed, weight_in}
 use Rattle.target_calls.specs.World.{skips, start_world, stop, world_after}
 use Rattle.target_calls.specs.declared.calls.Ask.{Ask}
-use Rattle.access_calls.specs.Growing.{IsWithin}
+use Rattle.access_calls.specs.Growing.{IsAfter, IsWithin}
 use Rattle.access_calls.specs.Made.{HasMemory, units_made}
 use Rattle.access_calls.specs.Numbers.{HasNumbers}
 use Rattle.access_calls.specs.Reported.{AccessView, Beginning, start_of, world_of}
@@ -137,9 +137,11 @@ pub record HasBroken (entries : List Entry) (issued confirmed : ℕ) (b : Beginn
   pub good : Passes (start_of b) (take (begun - 1) entries)
   pub target : IsAfterPart entries count begun b m
 
--- So it is with the entries of these calls, and none that was begun is of a call after the first that ends at a fault.
-pub record IsBenchFault (asks : List Ask) (entries : List Entry) (issued confirmed : ℕ) (b : Beginning) (m : BenchState) : Type 0 where
+-- So it is with the entries of these calls, the first of which have come. All entries of those that came are confirmed: the first one that is
+-- not was issued once so many calls were asked. None that was begun is of a call after the first that ends at a fault.
+pub record IsBenchFault (asks : List Ask) (came : ℕ) (entries : List Entry) (issued confirmed : ℕ) (b : Beginning) (m : BenchState) : Type 0 where
   pub broken : HasBroken entries issued confirmed b m
+  pub later : IfSome (slice_get entries confirmed) (IsAfter came)
   pub own : StayWithin (start_of b) asks (take broken.begun entries)
 
 -- at a cut, by its cause
@@ -158,7 +160,7 @@ pub record IsCut (entries : List Entry) (r : Report) (a : AccessView) (b : Begin
 abbrev pub StandsAt : Option Stop → List Entry → AccessView → Beginning → BenchState → Type 0
 StandsAt None entries a b m = IsOpen entries a b m
 StandsAt (Some (Cut r)) entries a b m = IsCut entries r a b m
-StandsAt (Some (BenchFault issued confirmed)) entries a b m = IsBenchFault a.asks.calls entries issued confirmed b m
+StandsAt (Some (BenchFault issued confirmed)) entries a b m = IsBenchFault a.asks.calls a.came entries issued confirmed b m
 StandsAt (Some ReplyBad) entries a b m = ⊥
 StandsAt (Some OutOfMemory) entries a b m = ⊥
 

@@ -1,16 +1,17 @@
 -- How an access ends whose calls lie in a flight.
-use Rattle.std.proofs.Common.{◌≡◌, ◌∙◌, ℕ, ◌+◌, ◌≤◌, List, [], ◌∷◌, length, take, Option, Some, None, refl, sym, ap, subst, arith}
+use Rattle.std.proofs.Common.{◌≡◌, ◌∙◌, ℕ, ◌+◌, ◌≤◌, List, [], ◌∷◌, ◌++◌, length, slice_get, take, IfSome, Option, Some, None, refl, sym, ap, subst, arith}
 use Rattle.target_machine.specs.State.{TargetState}
 use Rattle.target_machine.specs.declared.access.RegAccess.{RegAccess}
 use Rattle.probe_core.specs.Bench.{BenchState}
 use Rattle.probe_core.specs.Probe.{target_of}
 use Rattle.target_calls.specs.Asks.{AreAskable}
-use Rattle.target_calls.specs.Journal.{Entry}
+use Rattle.target_calls.specs.Journal.{Entry, Passes, lines_before}
 use Rattle.target_calls.specs.declared.calls.Ask.{Ask}
 use Rattle.target_machine.specs.Fresh.{IsFresh}
 use Rattle.target_calls.specs.World.{AtLeast, results}
 use Rattle.access_regs.specs.Journal.{issued}
 use Rattle.access_regs.specs.Kept.{Kept}
+use Rattle.access_calls.specs.Growing.{IsAfter}
 use Rattle.access_calls.specs.Left.{IsLeft, IsLeftAt, IsLeftCut}
 use Rattle.access_calls.specs.Reported.{AccessView, began, world_from}
 use Rattle.access_calls.specs.Made.{HasMemory, units_made}
@@ -28,7 +29,7 @@ use Rattle.flight_laws.proofs.CutLemmas.{bench_flies, fault_flies, wait_flies}
 use Rattle.flight_laws.proofs.MadeLemmas.{fault_memory, own_unit, wait_memory}
 use Rattle.flight_laws.proofs.OpenLemmas.{came_stands, open_stands}
 use Rattle.flight_laws.proofs.OwnLemmas.{begun_stay}
-use Rattle.flight_laws.proofs.StopLemmas.{lines_cut, stops_at_fault, stops_at_wait}
+use Rattle.flight_laws.proofs.StopLemmas.{entry_at, lines_cut, stops_at_fault, stops_at_wait}
 use Rattle.access_regs.specs.declared.planner.Planner.{Planner}
 
 -- ---- from the beginning on
@@ -168,18 +169,45 @@ poll_ends p confirmed count e rest came m0 m o work r b s grown less same retrie
 
 -- ---- a bench that failed
 
+-- no entry comes after the last
+none_after : (made : List Entry) → slice_get (made ++ []) (length made) ≡ None
+none_after [] = refl
+none_after (x ∷ made) = none_after made
+
+-- the first entry that is not confirmed has the lines of all calls before it that came
+pub later_at : (entries made more : List Entry) (t : TargetState) (confirmed count : ℕ) → entries ≡ made ++ more → length made ≡ confirmed → Passes t made
+    → ((k : ℕ) → confirmed ≤ k → (cut : IsCutAt entries k t) → count ≤ lines_before cut.entry) → IfSome (slice_get entries confirmed) (IsAfter count)
+later_at entries made [] t confirmed count are at passes lines =
+    subst (λ (x : Option Entry). IfSome x (IsAfter count)) (sym ((λ j. slice_get (are j) (sym at j)) ∙ none_after made)) tt
+later_at entries made (e ∷ more) t confirmed count are at passes lines =
+    let cut : IsCutAt entries confirmed t = record { front = made; entry = e; more = more; is = are; at = at; passes = passes } in
+    subst (λ (x : Option Entry). IfSome x (IsAfter count)) (sym ((λ j. slice_get (are j) (sym at j)) ∙ entry_at made e more)) (lines confirmed (omega arith) cut)
+
+pub later_there : (p : Planner) (calls : List Ask) (confirmed count : ℕ) (flying rest : List Entry) (accesses : List RegAccess) (came : List ℕ) (m0 m : BenchState)
+    → IsSending p calls confirmed count flying rest accesses came m0 m → IfSome (slice_get (issued p (target_of m0.probe) calls) confirmed) (IsAfter count)
+later_there p calls confirmed count flying rest accesses came m0 m s =
+    later_at (issued p (target_of m0.probe) calls) s.made (flying ++ rest) (target_of m0.probe) confirmed count s.on.are s.confirmed_is s.on.passes s.lines
+
 -- what was begun is of the calls up to the first that ends at a fault
-pub bench_fault : (p : Planner) (asks : List Ask) (issued_count confirmed : ℕ) (n : Option ℕ) (m0 o : BenchState) → IsFresh (target_of m0.probe) → AreAskable asks
-    → HasBroken (issued p (target_of m0.probe) asks) issued_count confirmed (began m0 n) o → IsBenchFault asks (issued p (target_of m0.probe) asks) issued_count confirmed (began m0 n) o
-bench_fault p asks issued_count confirmed n m0 o fresh ok h = record { broken = h; own = begun_stay p (target_of m0.probe) asks h.begun fresh ok h.good }
+pub bench_fault : (p : Planner) (asks : List Ask) (came issued_count confirmed : ℕ) (n : Option ℕ) (m0 o : BenchState) → IsFresh (target_of m0.probe) → AreAskable asks
+    → IfSome (slice_get (issued p (target_of m0.probe) asks) confirmed) (IsAfter came)
+    → HasBroken (issued p (target_of m0.probe) asks) issued_count confirmed (began m0 n) o → IsBenchFault asks came (issued p (target_of m0.probe) asks) issued_count confirmed (began m0 n) o
+bench_fault p asks came issued_count confirmed n m0 o fresh ok later h = record { broken = h; later = later; own = begun_stay p (target_of m0.probe) asks h.begun fresh ok h.good }
 
 -- the calls that came stay answered
 came_left : (issued confirmed : ℕ) (b : AccessView) (n : Option ℕ) → b.end ≡ Some (BenchFault issued confirmed) → IsLeft b n → AtLeast b.came n
 came_left issued confirmed b n end left = subst (λ (e : Option Stop). IsLeftAt e b.lines b.came n) end left.so
 
+-- the calls that it counts as come are those that came
+later_here : (p : Planner) (confirmed count : ℕ) (flying rest : List Entry) (accesses : List RegAccess) (came : List ℕ) (m0 m : BenchState) (b : AccessView) → b.came ≡ count
+    → IsSending p b.asks.calls confirmed count flying rest accesses came m0 m → IfSome (slice_get (issued p (target_of m0.probe) b.asks.calls) confirmed) (IsAfter b.came)
+later_here p confirmed count flying rest accesses came m0 m b same s =
+    subst (λ (k : ℕ). IfSome (slice_get (issued p (target_of m0.probe) b.asks.calls) confirmed) (IsAfter k)) (sym same) (later_there p b.asks.calls confirmed count flying rest accesses came m0 m s)
+
 pub flight_fails : FlightFails
 flight_fails p confirmed count flying rest accesses came m0 m o part b s either never ended = record {
-  stands = λ n left. bench_fault p b.asks.calls (confirmed + length flying) confirmed n m0 o s.fresh s.askable
+  stands = λ n left. bench_fault p b.asks.calls b.came (confirmed + length flying) confirmed n m0 o s.fresh s.askable
+      (later_here p confirmed count flying rest accesses came m0 m b ended.came s)
       (subst (λ (k : ℕ). HasBroken (issued p (target_of m0.probe) b.asks.calls) (k + length flying) k (began m0 n) o) s.confirmed_is
       (bench_flies (issued p (target_of m0.probe) b.asks.calls) s.made flying rest accesses n m0 m o part s.on either never));
   results_are = λ n left.
@@ -189,7 +217,8 @@ flight_fails p confirmed count flying rest accesses came m0 m o part b s either 
 
 pub action_fails : ActionFails
 action_fails p confirmed count e rest came m0 m o work b s grown less either ended = record {
-  stands = λ n left. bench_fault p b.asks.calls (confirmed + 1) confirmed n m0 o s.fresh s.askable
+  stands = λ n left. bench_fault p b.asks.calls b.came (confirmed + 1) confirmed n m0 o s.fresh s.askable
+      (later_here p confirmed count [] (e ∷ rest) [] came m0 m b ended.came s)
       (subst (λ (k : ℕ). HasBroken (issued p (target_of m0.probe) b.asks.calls) (k + 1) k (began m0 n) o) s.confirmed_is
       (action_bench_law (issued p (target_of m0.probe) b.asks.calls) s.made e rest n m0 m o work s.on grown less either));
   results_are = λ n left.

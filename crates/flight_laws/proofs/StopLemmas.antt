@@ -1,5 +1,6 @@
 -- Where the calls of an access stop whose flight was cut.
-use Rattle.std.proofs.Common.{◌≡◌, ◌≢◌, ◌⊎◌, inl, inr, ◌∙◌, ℕ, suc, ◌+◌, ◌-◌, ◌≤◌, Bool, true, false, cond, List, [], ◌∷◌, ◌++◌, length, slice_get, Some, None, refl, sym, ap, subst, arith, length-append}
+use Rattle.std.proofs.Common.{◌≡◌, ◌≢◌, ◌⊎◌, inl, inr, ◌∙◌, ℕ, zero, suc, ◌+◌, ◌-◌, ◌<◌, ◌≤◌, Bool, true, false, cond, List, [], ◌∷◌, ◌++◌, length, slice_get, IfSome, Option, Some, None, refl, sym, ap, subst, arith, append_assoc, length-append}
+use Rattle.std.proofs.lemmas.Bool.{cases_lt}
 use Rattle.target_machine.specs.Lists.{after}
 use Rattle.target_machine.specs.State.{TargetState}
 use Rattle.target_calls.specs.Asks.{is_forgiving, is_settled}
@@ -10,16 +11,17 @@ use Rattle.target_calls.specs.declared.journal.Part.{Part}
 use Rattle.target_calls.specs.declared.journal.Part.TheVariants.{Ends, Leads, Settles, Skips}
 use Rattle.target_calls.proofs.CallLists.{results_take}
 use Rattle.target_calls.proofs.WorldLemmas.{front_first}
-use Rattle.access_regs.specs.Journal.{actions_of, entries_at, finish_of, issue_of, issued, issued_from, kept_from, numbered, steps_at}
+use Rattle.access_regs.specs.Journal.{actions_of, entries_at, finish, finish_of, issue_of, issued, issued_from, kept_from, numbered, steps_at}
 use Rattle.access_regs.specs.Kept.{Kept, nothing_kept}
 use Rattle.access_regs.specs.Stops.{StaysThere, StopsThere, world_at}
 use Rattle.access_regs.proofs.Joins.{journal_joins}
 use Rattle.access_regs.proofs.Seams.{InFirst, InSecond, seam_in}
 use Rattle.access_regs.proofs.StopLists.{fault_stops, lines_own, numbered_unit, wait_stops}
+use Rattle.access_calls.specs.Growing.{IsAfter}
 use Rattle.access_calls.specs.Numbers.{HasNumbers, lines_at}
 use Rattle.access_calls.specs.declared.stop.Report.{Report}
 use Rattle.flight_laws.specs.Flights.{IsCutAt}
-use Rattle.flight_laws.specs.Stopping.{CameBefore, ResultsStay, StopsAtFault, StopsAtWait}
+use Rattle.flight_laws.specs.Stopping.{CameBefore, CameConfirmed, ResultsStay, StopsAtFault, StopsAtWait}
 use Rattle.access_regs.specs.declared.planner.Planner.{Planner}
 
 -- the entry after the first ones
@@ -99,6 +101,78 @@ came_before p t front back c low cut = by_seam (seam_in (issued p t front) rest 
         → length front ≤ lines_before cut.entry
     by_seam (inl i) = absurd (let a = ap length i.is ∙ length-append cut.front (cut.entry ∷ i.more) in let b = cut.at in omega (arith, a, b, low))
     by_seam (inr i) = (let a = lines_from p (0 + length front) (kept_from p nothing_kept t front) (target_after t (issued p t front)) back i.back cut.entry cut.more i.is in omega (arith, a))
+
+-- ---- lines of entries of the first calls
+
+no_steps : (b : Bool) (n : ℕ) (k : Kept) (back : List Entry) (e : Entry) (more : List Entry) → b ≡ false → numbered n false (finish b k).steps ≡ back ++ e ∷ more → ⊥
+no_steps true n k back e more not is = cc
+no_steps false n k [] e more not is = cc
+no_steps false n k (x ∷ back) e more not is = cc
+
+-- fewer lines than there are units come before each of their entries, where no settling follows the last
+lines_to : (p : Planner) (n : ℕ) (k : Kept) (u : TargetState) (asks : List Ask) (front : List Entry) (e : Entry) (more : List Entry) → is_settled asks ≡ false → issued_from p n k u asks ≡ front ++ e ∷ more → lines_before e < n + length asks
+lines_to p n k u [] front e more not is = absurd (cc)
+lines_to p n k u (ask ∷ []) front e more not is =
+    by_seam (seam_in (entries_at p n u k ask) [] front e more is)
+  where
+    by_half : (more' : List Entry) → InFirst (numbered n (is_forgiving ask) (issue_of p u k ask).steps) front e ⊎ InSecond (numbered n (is_forgiving ask) (issue_of p u k ask).steps) (numbered (n + 1) false (finish_of p u k ask).steps) front e more' → lines_before e < n + length (ask ∷ [])
+    by_half more' (inl i) = (let x = lines_own n e (numbered_unit n (is_forgiving ask) (issue_of p u k ask).steps front e i.more i.is) in omega (arith, x))
+    by_half more' (inr i) = absurd (no_steps ask.settled (n + 1) (issue_of p u k ask).kept i.back e more' not i.is)
+
+    by_seam : InFirst (entries_at p n u k ask) front e ⊎ InSecond (entries_at p n u k ask) [] front e more → lines_before e < n + length (ask ∷ [])
+    by_seam (inl i) = by_half i.more (seam_in (numbered n (is_forgiving ask) (issue_of p u k ask).steps) (numbered (n + 1) false (finish_of p u k ask).steps) front e i.more i.is)
+    by_seam (inr i) = absurd (none_there i.back i.is)
+      where
+        none_there : (back : List Entry) → [] ≡ back ++ e ∷ more → ⊥
+        none_there [] h = cc
+        none_there (x ∷ back) h = cc
+lines_to p n k u (ask ∷ next ∷ asks) front e more not is =
+    by_seam (seam_in (entries_at p n u k ask) rest front e more is)
+    (λ back h. (let low = lines_to p (n + 1) (finish_of p u k ask).kept (after u (actions_of (steps_at p u k ask))) (next ∷ asks) back e more not h in omega (arith, low)))
+  where
+    rest : List Entry
+    rest = issued_from p (n + 1) (finish_of p u k ask).kept (after u (actions_of (steps_at p u k ask))) (next ∷ asks)
+
+    by_half : (more' : List Entry) → InFirst (numbered n (is_forgiving ask) (issue_of p u k ask).steps) front e ⊎ InSecond (numbered n (is_forgiving ask) (issue_of p u k ask).steps) (numbered (n + 1) false (finish_of p u k ask).steps) front e more' → lines_before e < n + length (ask ∷ next ∷ asks)
+    by_half more' (inl i) = (let x = lines_own n e (numbered_unit n (is_forgiving ask) (issue_of p u k ask).steps front e i.more i.is) in omega (arith, x))
+    by_half more' (inr i) = (let x = lines_own (n + 1) e (numbered_unit (n + 1) false (finish_of p u k ask).steps i.back e more' i.is) in omega (arith, x))
+
+    by_seam : InFirst (entries_at p n u k ask) front e ⊎ InSecond (entries_at p n u k ask) (issued_from p (n + 1) (finish_of p u k ask).kept (after u (actions_of (steps_at p u k ask))) (next ∷ asks)) front e more
+        → ((back : List Entry) → issued_from p (n + 1) (finish_of p u k ask).kept (after u (actions_of (steps_at p u k ask))) (next ∷ asks) ≡ back ++ e ∷ more → lines_before e < n + length (ask ∷ next ∷ asks)) → lines_before e < n + length (ask ∷ next ∷ asks)
+    by_seam (inl i) again = by_half i.more (seam_in (numbered n (is_forgiving ask) (issue_of p u k ask).steps) (numbered (n + 1) false (finish_of p u k ask).steps) front e i.more i.is)
+    by_seam (inr i) again = again i.back i.is
+
+-- the entry at a place of a list, and those around it
+record At (xs : List Entry) (i : ℕ) : Type 0 where
+  front : List Entry
+  entry : Entry
+  more : List Entry
+  is : xs ≡ front ++ entry ∷ more
+  at : length front ≡ i
+
+at_place : (xs : List Entry) (i : ℕ) → i < length xs → At xs i
+at_place [] i less = absurd (omega (arith, less))
+at_place (x ∷ xs) zero less = record { front = []; entry = x; more = xs; is = refl; at = refl }
+at_place (x ∷ xs) (suc i) less =
+    let a = at_place xs i (omega (arith, less)) in
+    record { front = x ∷ a.front; entry = a.entry; more = a.more; is = ap (λ (l : List Entry). x ∷ l) a.is; at = (let n = a.at in omega (arith, n)) }
+
+pub came_confirmed : CameConfirmed
+came_confirmed p t front back confirmed not later = by_place (cases_lt confirmed (length (issued p t front)))
+  where
+    split : issued p t (front ++ back) ≡ issued p t front ++ issued_from p (0 + length front) (kept_from p nothing_kept t front) (target_after t (issued p t front)) back
+    split = journal_joins p 0 nothing_kept t front back
+
+    by_place : (confirmed < length (issued p t front)) ⊎ (length (issued p t front) ≤ confirmed) → length (issued p t front) ≤ confirmed
+    by_place (inr high) = high
+    by_place (inl less) =
+        let a = at_place (issued p t front) confirmed less in
+        let others : List Entry = issued_from p (0 + length front) (kept_from p nothing_kept t front) (target_after t (issued p t front)) back in
+        let there : issued p t (front ++ back) ≡ a.front ++ a.entry ∷ (a.more ++ others) = split ∙ ap (λ (l : List Entry). l ++ others) a.is ∙ append_assoc a.front (a.entry ∷ a.more) others in
+        let after_it : length front ≤ lines_before a.entry =
+        subst (λ (x : Option Entry). IfSome x (IsAfter (length front))) ((λ j. slice_get (there j) (sym a.at j)) ∙ entry_at a.front a.entry (a.more ++ others)) later in
+        let before_it : lines_before a.entry < 0 + length front = lines_to p 0 nothing_kept t front a.front a.entry a.more not a.is in
+        absurd (omega (arith, after_it, before_it))
 
 pub results_stay : ResultsStay
 results_stay p t asks r skipped lines n fresh ok cut numbers enough =

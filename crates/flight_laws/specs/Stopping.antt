@@ -1,5 +1,5 @@
 -- Where the calls of an access stop whose flight was cut.
-use Rattle.std.specs.Prelude.{◌≡◌, ◌⊎◌, ℕ, ◌+◌, ◌-◌, ◌≤◌, true, List, ◌++◌, length, take, Option, Some, None}
+use Rattle.std.specs.Prelude.{◌≡◌, ◌⊎◌, ℕ, ◌+◌, ◌-◌, ◌≤◌, true, false, List, ◌++◌, length, take, slice_get, Option, Some, None, IfSome}
 use Rattle.target_machine.specs.Fresh.{IsFresh}
 use Rattle.target_machine.specs.State.{TargetState}
 use Rattle.target_calls.specs.Asks.{AreAskable, is_settled}
@@ -8,6 +8,7 @@ use Rattle.target_calls.specs.World.{AtLeast, results, start_world, stop}
 use Rattle.target_calls.specs.declared.calls.Ask.{Ask}
 use Rattle.access_regs.specs.Journal.{issued}
 use Rattle.access_regs.specs.declared.planner.Planner.{Planner}
+use Rattle.access_calls.specs.Growing.{IsAfter}
 use Rattle.access_calls.specs.Numbers.{HasNumbers}
 use Rattle.access_calls.specs.Standing.{StayWithin}
 use Rattle.access_calls.specs.declared.stop.Report.{Report}
@@ -30,6 +31,12 @@ StopsAtWait = (p : Planner) (t : TargetState) (asks : List Ask) (r : Report) (sk
 abbrev pub CameBefore : Type 0
 CameBefore = (p : Planner) (t : TargetState) (front back : List Ask) (c : ℕ) → length (issued p t front) ≤ c → (cut : IsCutAt (issued p t (front ++ back)) c t) →
     length front ≤ lines_before cut.entry
+
+-- Where no settling follows the first calls, and the first entry that is not confirmed was issued once these were asked, all their
+-- entries are confirmed.
+abbrev pub CameConfirmed : Type 0
+CameConfirmed = (p : Planner) (t : TargetState) (front back : List Ask) (confirmed : ℕ) → is_settled front ≡ false →
+    IfSome (slice_get (issued p t (front ++ back)) confirmed) (IsAfter (length front)) → length (issued p t front) ≤ confirmed
 
 -- Entries of which none but the last gives a fault that its unit does not forgive are of the calls up to the first that stops.
 abbrev pub BegunStay : Type 0

@@ -11,7 +11,7 @@ ghost use Rattle.flight_laws.specs.Pushing.{EntryPushed, JournalGrew, PlanGives,
 ghost use Rattle.flight_laws.specs.Room.{ActionRoom, CallRoom, ForgivenRoom, PushRoom};
 ghost use Rattle.flight_laws.specs.Sending.{ActionSends, CallSends, FinishSends, FlyingSends, ForgivenSends, PushSends, WholeSends};
 ghost use Rattle.flight_laws.specs.Small.{NotSmall, SmallAlone, SmallByCfg};
-ghost use Rattle.flight_laws.specs.Stopping.{BegunStay, CameBefore, ResultsStay, StopsAtFault, StopsAtWait};
+ghost use Rattle.flight_laws.specs.Stopping.{BegunStay, CameBefore, CameConfirmed, ResultsStay, StopsAtFault, StopsAtWait};
 ghost use Rattle.flight_laws.specs.UnderWay.{FrontPerformed};
 
 /// Exactly the entries were performed that are made.
@@ -56,6 +56,7 @@ pub fn where_calls_stop()
     ensures fault { StopsAtFault }
     ensures wait { StopsAtWait }
     ensures lines { CameBefore }
+    ensures confirmed { CameConfirmed }
     ensures results { ResultsStay }
     ensures begun { BegunStay }
 {}

@@ -1,5 +1,5 @@
 -- A poll or a command of the probe that did not come to its end.
-use Rattle.std.proofs.Common.{◌≡◌, ◌⊎◌, inl, inr, ◌∙◌, ℕ, ◌+◌, ◌*◌, ◌^◌, ◌<◌, ◌≤◌, Bool, true, false, not, ◌&&◌, List, [], ◌∷◌, ◌++◌, length, map, take, drop, Option, Some, None, refl, sym, ap, subst, arith, append_assoc, length-append}
+use Rattle.std.proofs.Common.{◌≡◌, ◌⊎◌, inl, inr, ◌∙◌, ℕ, ◌+◌, ◌*◌, ◌^◌, ◌<◌, ◌≤◌, Bool, true, false, not, ◌&&◌, List, [], ◌∷◌, ◌++◌, length, map, slice_get, take, drop, IfSome, Option, Some, None, refl, sym, ap, subst, arith, append_assoc, length-append}
 use Rattle.std.proofs.lemmas.List.{map-append}
 use Rattle.target_machine.specs.Plain.{Action, acted, given, is_fault}
 use Rattle.probe_core.specs.Bench.{BenchState, StepsTo}
@@ -9,6 +9,7 @@ use Rattle.target_calls.specs.Journal.{Entry, is_unforgiven}
 use Rattle.target_calls.specs.Weights.{weight}
 use Rattle.target_calls.specs.declared.calls.Ask.{Ask}
 use Rattle.access_regs.specs.Journal.{issued}
+use Rattle.access_calls.specs.Growing.{IsAfter}
 use Rattle.access_calls.specs.Issued.{AreKeptOf, kept_of}
 use Rattle.access_calls.specs.Left.{IsLeft}
 use Rattle.access_calls.specs.Numbers.{HasNumbers}
@@ -27,7 +28,7 @@ use Rattle.batch_packer.specs.declared.ends.FlightEnd.{FlightEnd}
 use Rattle.batch_packer.specs.declared.ends.FlightEnd.TheVariants as ends
 use Rattle.flight_laws.specs.Ending.{EndsCut, IsCutOff, IsEnded}
 use Rattle.flight_laws.specs.Sending.{IsSending}
-use Rattle.flight_laws.proofs.EndLemmas.{action_fails, flight_fails, poll_ends}
+use Rattle.flight_laws.proofs.EndLemmas.{action_fails, flight_fails, later_there, poll_ends}
 use Rattle.flight_laws.proofs.SendLemmas.{action_sends}
 use Rattle.flight_forms.specs.Flights.{Part}
 use Rattle.dap_messages.specs.declared.request.Response.TheVariants.{Good, Mismatch}
@@ -54,15 +55,17 @@ fewer_broken entries many confirmed fewer b m le both h = record {
   target = h.target;
 }
 
-fewer_stand : (asks : List Ask) (entries : List Entry) (many confirmed fewer : ℕ) (b : Beginning) (m : BenchState) → fewer ≤ confirmed → AreTogether (drop fewer (take many entries)) → IsBenchFault asks entries many confirmed b m → IsBenchFault asks entries many fewer b m
+fewer_stand : (asks : List Ask) (came : ℕ) (entries : List Entry) (many confirmed fewer : ℕ) (b : Beginning) (m : BenchState) → fewer ≤ confirmed → AreTogether (drop fewer (take many entries)) → IfSome (slice_get entries fewer) (IsAfter came)
+    → IsBenchFault asks came entries many confirmed b m → IsBenchFault asks came entries many fewer b m
 unfolding fewer_broken
-fewer_stand asks entries many confirmed fewer b m le both h = record { broken = fewer_broken entries many confirmed fewer b m le both h.broken; own = h.own }
+fewer_stand asks came entries many confirmed fewer b m le both later h = record { broken = fewer_broken entries many confirmed fewer b m le both h.broken; later = later; own = h.own }
 
 fewer_confirmed : (p : Planner) (bench : BenchReported) (state : Option BenchState) (sent got : List ℕ) (log : LogState) (many confirmed fewer : ℕ) (came : List ℕ) (m0 o : BenchState) → fewer ≤ confirmed → AreTogether (drop fewer (take many (issued p (target_of m0.probe) log.calls))) →
+    IfSome (slice_get (issued p (target_of m0.probe) log.calls) fewer) (IsAfter log.came) →
     IsEnded p (stop.BenchFault many confirmed) (reported_by bench state (record log { end = Some (stop.BenchFault many confirmed) }) sent got) came m0 o →
     IsEnded p (stop.BenchFault many fewer) (reported_by bench state (record log { end = Some (stop.BenchFault many fewer) }) sent got) came m0 o
-fewer_confirmed p bench state sent got log many confirmed fewer came m0 o le both h = record {
-  stands = λ n left. fewer_stand log.calls (issued p (target_of m0.probe) log.calls) many confirmed fewer (began m0 n) o le both (h.stands n (record { so = left.so }));
+fewer_confirmed p bench state sent got log many confirmed fewer came m0 o le both later h = record {
+  stands = λ n left. fewer_stand log.calls log.came (issued p (target_of m0.probe) log.calls) many confirmed fewer (began m0 n) o le both later (h.stands n (record { so = left.so }));
   results_are = λ n left. h.results_are n (record { so = left.so });
 }
 
@@ -136,6 +139,7 @@ module _ (p : Planner) (bench : BenchReported) (state : Option BenchState) (sent
       let sent_is : IsSending p log.calls (log.confirmed + 1) log.came [] rest [] (take log.known log.results) m0 o = action_sends p log.calls log.confirmed log.came e rest (take log.known log.results) m0 m o rest_is (d.does counts) (unforgiven d.good) room in
       let more : (log.confirmed + 1) + 0 ≡ log.confirmed + 1 = omega arith in
       fewer_confirmed p bench state sent got (with_entry log (kept_of e)) (log.confirmed + 1) (log.confirmed + 1) log.confirmed (take log.known log.results) m0 o (omega arith) alone
+      (later_there p log.calls log.confirmed log.came [] (e ∷ rest) [] (take log.known log.results) m0 m rest_is)
       (subst (λ (n : ℕ). IsEnded p (stop.BenchFault n (log.confirmed + 1)) (reported_by bench state (record (with_entry log (kept_of e)) { end = Some (stop.BenchFault n (log.confirmed + 1)) }) sent got) (take log.known log.results) m0 o) more
       (flight_fails p (log.confirmed + 1) log.came [] rest [] (take log.known log.results) m0 o o nothing
       (reported_by bench state (record (with_entry log (kept_of e)) { end = Some (stop.BenchFault ((log.confirmed + 1) + 0) (log.confirmed + 1)) }) sent got)

@@ -1,5 +1,5 @@
 -- How a flight of a unit that forgives a fault ends the access.
-use Rattle.std.proofs.Common.{◌≡◌, ◌⊎◌, inl, inr, ◌∙◌, ℕ, ◌+◌, ◌-◌, ◌^◌, ◌<◌, ◌≤◌, Bool, true, false, eqb, List, [], ◌∷◌, ◌++◌, length, take, drop, Option, Some, refl, sym, ap, subst, arith, append_assoc, length-append}
+use Rattle.std.proofs.Common.{◌≡◌, ◌⊎◌, inl, inr, ◌∙◌, ℕ, ◌+◌, ◌-◌, ◌^◌, ◌<◌, ◌≤◌, Bool, true, false, eqb, List, [], ◌∷◌, ◌++◌, length, slice_get, take, drop, IfSome, Option, Some, refl, sym, ap, subst, arith, append_assoc, length-append}
 use Rattle.target_machine.specs.Plain.{Action, Commands, forgives}
 use Rattle.target_machine.specs.State.{Agree, TargetState}
 use Rattle.target_machine.specs.declared.access.RegAccess.{RegAccess}
@@ -15,6 +15,7 @@ use Rattle.target_calls.specs.World.{results}
 use Rattle.access_regs.specs.Journal.{issued}
 use Rattle.access_regs.proofs.Seams.{passes_both}
 use Rattle.access_regs.specs.Kept.{Kept}
+use Rattle.access_calls.specs.Growing.{IsAfter}
 use Rattle.access_calls.specs.Issued.{AreKeptOf}
 use Rattle.access_calls.specs.Numbers.{HasNumbers}
 use Rattle.access_calls.specs.Reported.{AccessView, began, world_from}
@@ -33,7 +34,7 @@ use Rattle.batch_packer.specs.Flying.{Flies}
 use Rattle.flight_laws.specs.Sending.{IsSending}
 use Rattle.flight_laws.proofs.CutLemmas.{front_length, front_target, has_at, has_part, passes_but_last, split as cut_split, take_front}
 use Rattle.flight_laws.proofs.ActionLemmas.{all_performed, between, forgiving_passes}
-use Rattle.flight_laws.proofs.EndLemmas.{bench_fault, flight_ends, flight_fails}
+use Rattle.flight_laws.proofs.EndLemmas.{bench_fault, flight_ends, flight_fails, later_at}
 use Rattle.flight_laws.proofs.FlightLemmas.{flight_length}
 use Rattle.bench_flights.specs.Clearing.{ClearedOff, is_fault_end}
 use Rattle.bench_flights.specs.Flown.{BrokeOff, DidLess, HasDone, IsCutResponse, MayHaveFlown, WasCut}
@@ -146,11 +147,20 @@ module _ (p : Planner) (forgive : Bool) (bench : BenchReported) (state : Option 
       let all : length (s.made ++ fly) + 1 ≡ many = omega (arith, made_are, many_is, sure_is) in
       inr ((λ j. length (drop (sym made_are j) (take (sym all j) journal))) ∙ ap length (between journal (s.made ++ fly) (ab ∷ []) [] (s.on.are ∙ sym (append_assoc s.made fly (ab ∷ [])))))
 
+  -- ABORT is of a call that has not come
+  later_still : (sure : ℕ) → sure ≡ log.confirmed + length fly → IfSome (slice_get journal sure) (IsAfter log.came)
+  later_still sure sure_is =
+      let forgiven : Passes (target_after (target_of m0.probe) s.made) fly = forgiving_passes (target_after (target_of m0.probe) s.made) fly
+      (forgiving_all p forgive log asked k t made leads last for_end rest more m0 m h n few bounded o part flies answer forgives_it) in
+      later_at journal (s.made ++ fly) (ab ∷ []) (target_of m0.probe) sure log.came (s.on.are ∙ sym (append_assoc s.made fly (ab ∷ [])))
+      (let l = length-append s.made fly in let c = s.confirmed_is in omega (arith, l, c, sure_is))
+      (passes_both (target_of m0.probe) s.made fly s.on.passes forgiven) (λ k low cut. s.lines k (omega (arith, low, sure_is)) cut)
+
   -- so far it was performed
   performed_ends : (many sure : ℕ) → many ≡ log.confirmed + length fly + 1 → sure ≡ log.confirmed + length fly → (count : ℕ) → log.confirmed + length fly ≤ count → count ≤ log.confirmed + length fly + 1 → ((w : Option ℕ) → HasPerformed journal count (began m0 w) q) → (entries : List Issued) →
       IsEnded p (stop.BenchFault many sure) (reported_by bench state (record log { entries = entries; confirmed = sure; end = Some (stop.BenchFault many sure) }) sent got) (take log.known log.results) m0 q
   performed_ends many sure is sure_is count low high part_is entries = record {
-    stands = λ w left. bench_fault p log.calls many sure w m0 q s.fresh s.askable (record {
+    stands = λ w left. bench_fault p log.calls log.came many sure w m0 q s.fresh s.askable (later_still sure sure_is) (record {
       count = count;
       begun = count;
       count_is = (part_is w).count_is;
