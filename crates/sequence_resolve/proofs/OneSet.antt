@@ -10,7 +10,7 @@ use Rattle.sequence_resolve.specs.declared.fault.ResolveFault.TheVariants as fau
 use Rattle.sequence_resolve.specs.Places.{DevicePlace, named, requested_variant}
 use Rattle.sequence_resolve.specs.Levels.{LevelAt, path_of, deepest}
 use Rattle.sequence_resolve.specs.Effective.{Candidate, NoneAbove, AllBelow, Wins, AreWinners, candidates, entry_of}
-use Rattle.sequence_resolve.specs.Resolving.{IsEffectiveSet, HasNone}
+use Rattle.sequence_resolve.specs.Resolving.{IsSetAlong, IsEffectiveSet, HasNone}
 use Rattle.sequence_resolve.proofs.Greatest.{names_of}
 
 -- ---- one winner of each name
@@ -89,6 +89,12 @@ set_of_path : (pname : Option (List ℕ)) (xs ys : List LevelAt) (x y : SeqSet) 
 set_of_path pname xs ys x y vs ws path p q x_entries y_entries x_text y_text =
     let winners : vs ≡ ws = one_winners (candidates pname 0 ys) vs ws (subst (λ ls. AreWinners (candidates pname 0 ls) vs) path p) q in
     same_set x y (x_entries ∙ ap (map entry_of) winners ∙ sym y_entries) (x_text ∙ ap (deepest []) path ∙ sym y_text)
+
+pub one_set_along : (pack : Pack) (place : DevicePlace) (variant : Option Variant) (pname : Option (List ℕ)) (x y : SeqSet)
+    → IsSetAlong pack place variant pname x → IsSetAlong pack place variant pname y → x ≡ y
+one_set_along pack place variant pname x y p q =
+    let path = path_of pack place variant in
+    set_of_path pname path path x y p.winners q.winners refl p.greatest q.greatest p.entries q.entries p.debugvars q.debugvars
 
 pub one_set : (pack : Pack) (device : List ℕ) (variant pname : Option (List ℕ)) (x y : SeqSet)
     → IsEffectiveSet pack device variant pname x → IsEffectiveSet pack device variant pname y → x ≡ y

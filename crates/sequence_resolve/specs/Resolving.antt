@@ -11,6 +11,13 @@ use Rattle.sequence_resolve.specs.Levels.{path_of, deepest}
 use Rattle.sequence_resolve.specs.Effective.{Candidate, candidates, AreWinners, entry_of}
 use Rattle.sequence_resolve.specs.Views.{place_view}
 
+-- the set of a device, along the path to it or to this variant of it
+pub record IsSetAlong (pack : Pack) (place : DevicePlace) (variant : Option Variant) (pname : Option (List ℕ)) (set : SeqSet) : Type 0 where
+  pub winners : List Candidate
+  pub greatest : AreWinners (candidates pname 0 (path_of pack place variant)) winners
+  pub entries : set.entries ≡ map entry_of winners
+  pub debugvars : set.debugvars ≡ deepest [] (path_of pack place variant)
+
 -- the set of the one device of the name, along the path to it or to the variant that is requested
 pub record IsEffectiveSet (pack : Pack) (device : List ℕ) (variant_name pname : Option (List ℕ)) (set : SeqSet) : Type 0 where
   pub place : DevicePlace

@@ -11,7 +11,7 @@ ghost use Rattle.sequence_resolve.specs.Levels.{path_of, deepest};
 ghost use Rattle.sequence_resolve.specs.Effective.{candidates, entry_of};
 ghost use Rattle.sequence_resolve.specs.Winners.{with_all};
 ghost use Rattle.sequence_resolve.specs.Views.{place_view, winner_view};
-ghost use Rattle.sequence_resolve.specs.Resolving.{IsEffectiveSet, HasNone};
+ghost use Rattle.sequence_resolve.specs.Resolving.{IsSetAlong, IsEffectiveSet, HasNone};
 
 use crate::copy::copy_text;
 use crate::entry::{SeqEntries, SeqEntry, SeqSet};
@@ -79,6 +79,27 @@ fn set_of(
     let entries = entries_of(alloc, &winners)?;
     let debugvars = debugvars_of(alloc, &levels)?;
     Ok(SeqSet { entries, debugvars })
+}
+
+/// The sequences that apply along the path to a device of the pack, to `variant` where one is given, and for the processor
+/// `pname` where one is requested: by the rules of `effective`, which finds the place and the variant by their names.
+///
+/// The variant is to be one of the device, and `place` a place of the pack; nothing is checked of either. `OutOfMemory` where
+/// memory is refused.
+pub fn set_along(
+    alloc: Global,
+    pack: &Pack,
+    place: &DevicePlace,
+    variant: Option<&Variant>,
+    pname: Option<&str>,
+) -> Result<SeqSet, OutOfMemory>
+    ensures answer { IfOk result (IsSetAlong pack.now (place_view place.now) (option_map (λ v. v.now) variant.entry) (option_map (λ w. w.now) pname.entry)) }
+    ensures only { (set : SeqSet)
+        → IsSetAlong pack.now (place_view place.now) (option_map (λ v. v.now) variant.entry) (option_map (λ w. w.now) pname.entry) set
+        → IfOk result (λ s. s ≡ set) }
+    ensures distinct { IfOk result (λ set. IsDistinct bytes_eq (map (λ e. e.name) set.entries)) }
+{
+    set_of(alloc, pack, place, variant, pname)
 }
 
 /// The sequences that apply to the device of the name `device`, for its variant of the name

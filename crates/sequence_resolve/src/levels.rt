@@ -31,7 +31,7 @@ fn push_level<'a>(
     Ok(())
 }
 
-/// The path from the top down to the device or the variant.
+/// The path from the top down to the device or the variant. `OutOfMemory` where memory is refused.
 pub fn levels_of<'a>(
     alloc: Global,
     pack: &'a Pack,

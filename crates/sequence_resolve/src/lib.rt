@@ -11,7 +11,9 @@ mod place;
 mod selection;
 mod winners;
 
-pub use effective_set::effective;
+pub use effective_set::{effective, set_along};
 pub use entry::{LevelKind, SeqEntries, SeqEntry, SeqSet};
 pub use fault::ResolveFault;
+pub use levels::{LevelRef, levels_of};
+pub use place::DevicePlace;
 pub use selection::Selection;
