@@ -46,6 +46,10 @@ abbrev pub where_words : Option (List ℕ) → List ℕ → Part → List ℕ
 where_words None path part = codes " debugvars"
 where_words (Some name) path part = step_words name path part
 
+-- what is wrong, and where
+abbrev pub fault_words : FaultKind → Spot → List ℕ
+fault_words kind spot = kind_word kind ++ where_words spot.sequence spot.path spot.part ++ place_words spot.place
+
 abbrev pub fault_line : FaultKind → Spot → List ℕ
 fault_line kind spot =
     codes "refused check " ++ kind_word kind ++ where_words spot.sequence spot.path spot.part ++ place_words spot.place ++ codes "\n"

@@ -2,7 +2,7 @@
 ghost use Rattle.std.specs.Prelude.{◌≡◌, ◌++◌, codes, IfOk};
 ghost use Rattle.text_lines.specs.Shown.{shown};
 ghost use Rattle.check_lines.specs.Words.{level_word, kind_word};
-ghost use Rattle.check_lines.specs.CheckLines.{head_line, counts_words, sequence_line, place_words, step_words, where_words, fault_line};
+ghost use Rattle.check_lines.specs.CheckLines.{head_line, counts_words, sequence_line, place_words, step_words, where_words, fault_words, fault_line};
 
 use crate::counts::counts_of;
 use crate::words::{disabled_text, kind_text, level_text, part_text};
@@ -72,10 +72,18 @@ pub fn with_place(line: Line, place: Place) -> Result<Line, OutOfMemory>
     line.labelled(" ", place.line)?.labelled(":", place.column)
 }
 
+/// The line with what is wrong and where it stands added: the kind, the sequence, the numbers of the steps that lead to
+/// the step with dots between them, its part, and line and column there; in the code of the debug variables `debugvars`
+/// in place of sequence, steps and part. `OutOfMemory` where memory is refused; the line is then dropped.
+pub fn with_fault(line: Line, kind: FaultKind, spot: &Spot) -> Result<Line, OutOfMemory>
+    ensures { IfOk result (λ l. l ≡ line ++ fault_words kind spot.now) }
+{
+    let line = with_where(line.text(kind_text(kind))?, spot)?;
+    with_place(line, spot.place)
+}
+
 pub fn fault_text(alloc: Global, kind: FaultKind, spot: &Spot) -> Result<Line, OutOfMemory>
     ensures { IfOk result (λ line. line ≡ fault_line kind spot.now) }
 {
-    let line = Line::begin(alloc, "refused check ")?.text(kind_text(kind))?;
-    let line = with_where(line, spot)?;
-    with_place(line, spot.place)?.text("\n")
+    with_fault(Line::begin(alloc, "refused check ")?, kind, spot)?.text("\n")
 }

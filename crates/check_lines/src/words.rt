@@ -20,6 +20,7 @@ pub fn level_text(level: LevelKind) -> &'static str
     }
 }
 
+/// The word of a part of a step, as `block`.
 pub fn part_text(part: Part) -> &'static str
     ensures { result.now ≡ part_word part }
 {
@@ -32,6 +33,7 @@ pub fn part_text(part: Part) -> &'static str
     }
 }
 
+/// The word of what is wrong, as `UndefinedName`.
 pub fn kind_text(kind: FaultKind) -> &'static str
     ensures { result.now ≡ kind_word kind }
 {
