@@ -1,5 +1,5 @@
 //! The modes with their options.
-ghost use Rattle.std.specs.Prelude.{MatchOption};
+ghost use Rattle.std.specs.Prelude.{MatchOption, codes};
 ghost use Rattle.command_words.specs.Table.{IsRow, mode_text};
 
 use crate::answer::Command;
@@ -7,6 +7,29 @@ use crate::mode::Mode;
 use crate::options::{
     Options, are_none, device_alone, device_and_port, device_and_sequence, number_alone,
 };
+
+// The command `scan` with these options.
+fn scan_in(options: Options) -> Option<Command>
+    ensures { MatchOption result ((c : _) → IsRow (codes "scan") options c → ⊥) (λ c. IsRow (codes "scan") options c) }
+{
+    let (selection, sequence, ap) = device_and_port(options)?;
+    Some(Command::Scan {
+        selection,
+        sequence,
+        ap,
+    })
+}
+
+// The command `audit` with these options.
+fn audit_in(options: Options) -> Option<Command>
+    ensures { MatchOption result ((c : _) → IsRow (codes "audit") options c → ⊥) (λ c. IsRow (codes "audit") options c) }
+{
+    if are_none(&options) {
+        Some(Command::Audit)
+    } else {
+        None
+    }
+}
 
 /// The command that the mode makes with these options. `None` where they are not the mode's.
 pub fn command_in(mode: Mode, options: Options) -> Option<Command>
@@ -38,24 +61,11 @@ pub fn command_in(mode: Mode, options: Options) -> Option<Command>
                 sequence,
             })
         }
-        Mode::Scan => {
-            let (selection, sequence, ap) = device_and_port(options)?;
-            Some(Command::Scan {
-                selection,
-                sequence,
-                ap,
-            })
-        }
+        Mode::Scan => scan_in(options),
         Mode::Gen => {
             let number = number_alone(&options)?;
             Some(Command::Gen(number))
         }
-        Mode::Audit => {
-            if are_none(&options) {
-                Some(Command::Audit)
-            } else {
-                None
-            }
-        }
+        Mode::Audit => audit_in(options),
     }
 }

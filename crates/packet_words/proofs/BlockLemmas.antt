@@ -2,7 +2,7 @@
 use Rattle.std.proofs.Common.{◌≡◌, ◌+◌, ℕ, zero, suc, List, [], ◌∷◌, ◌++◌, Option, Some, drop, slice_get, refl, append_assoc, arith}
 use Rattle.dap_messages.specs.declared.request.Request.{Request}
 use Rattle.packet_words.specs.declared.fate.Fate.{Fate}
-use Rattle.packet_words.specs.declared.known.Known.{Known}
+use Rattle.register_words.specs.declared.known.Known.{Known}
 use Rattle.packet_words.specs.Requests.{Left, after_request, after_requests, block_requests, fate_of, left_after, request_line, request_lines}
 
 -- the item at a place, and those after it

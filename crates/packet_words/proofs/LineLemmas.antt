@@ -9,7 +9,7 @@ use Rattle.hex.proofs.HexLemmas.{decode_of-encode_lower}
 use Rattle.dap_messages.specs.declared.error.MessageError.{MessageError}
 use Rattle.dap_messages.specs.Commands.{Packet}
 use Rattle.dap_messages.specs.PacketReading.{packet_read}
-use Rattle.packet_words.specs.declared.known.Known.{Known}
+use Rattle.register_words.specs.declared.known.Known.{Known}
 use Rattle.packet_words.specs.Laws.{AreBytes}
 use Rattle.packet_words.specs.Requests.{first_of}
 use Rattle.packet_words.specs.Exchange.{exchange, no_packet_line, replied_line, reply_line, said_of, trace_lines, unreplied_line}

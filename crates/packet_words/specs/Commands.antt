@@ -13,9 +13,9 @@ use Rattle.dap_messages.specs.Words.{words_in}
 use Rattle.dap_replies.specs.ReplyReading.{id_byte}
 use Rattle.dap_replies.specs.ReplyViews.{Shown}
 use Rattle.text_lines.specs.Hex.{hex2, hex8, hex16}
-use Rattle.packet_words.specs.declared.known.Known.{Known}
-use Rattle.packet_words.specs.Known.{unknown, after_abort}
-use Rattle.packet_words.specs.Flags.{abort_flags, pin_names, line_name}
+use Rattle.register_words.specs.declared.known.Known.{Known}
+use Rattle.register_words.specs.Known.{unknown, after_abort}
+use Rattle.register_words.specs.Flags.{abort_flags, pin_names, line_name}
 use Rattle.packet_words.specs.Requests.{Left, request_lines, after_requests}
 
 -- ---- the words of a reply

@@ -11,8 +11,8 @@ use Rattle.dap_messages.specs.PacketReading.{packet_read, place_of}
 use Rattle.dap_replies.specs.ReplyReading.{reply_read}
 use Rattle.dap_replies.specs.ReplyViews.{Shown}
 use Rattle.text_lines.specs.Hex.{hex2}
-use Rattle.packet_words.specs.declared.known.Known.{Known}
-use Rattle.packet_words.specs.Known.{unknown}
+use Rattle.register_words.specs.declared.known.Known.{Known}
+use Rattle.register_words.specs.Known.{unknown}
 use Rattle.packet_words.specs.Commands.{first_byte, command_lines, after_command}
 use Rattle.packet_words.specs.Replies.{own_bytes}
 

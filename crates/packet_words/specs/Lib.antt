@@ -1,6 +1,3 @@
-pub mod Registers
-pub mod Known
-pub mod Flags
 pub mod Requests
 pub mod Commands
 pub mod Replies

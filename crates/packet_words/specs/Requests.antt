@@ -6,15 +6,15 @@ use Rattle.dap_messages.specs.declared.request.RequestKind.TheVariants.{Posted, 
 use Rattle.dap_messages.specs.Requests.{kind, gives_word}
 use Rattle.target_machine.specs.Registers.{csw_register, drw_register, bd_bank}
 use Rattle.text_lines.specs.Hex.{hex2, hex8}
-use Rattle.packet_words.specs.declared.known.Known.{Known}
-use Rattle.packet_words.specs.declared.known.Port.{Port}
-use Rattle.packet_words.specs.declared.register.Register.{Register}
-use Rattle.packet_words.specs.declared.register.Register.TheVariants as at
+use Rattle.register_words.specs.declared.known.Known.{Known}
+use Rattle.register_words.specs.declared.known.Port.{Port}
+use Rattle.register_words.specs.declared.register.Register.{Register}
+use Rattle.register_words.specs.declared.register.Register.TheVariants as at
 use Rattle.packet_words.specs.declared.fate.Fate.{Fate}
 use Rattle.packet_words.specs.declared.fate.Fate.TheVariants as fates
-use Rattle.packet_words.specs.Registers.{register_of, register_name}
-use Rattle.packet_words.specs.Known.{port_at, after_write, after_read, after_match}
-use Rattle.packet_words.specs.Flags.{ctrl_stat_flags, abort_flags, select_words, csw_words}
+use Rattle.register_words.specs.Registers.{register_of, register_name}
+use Rattle.register_words.specs.Known.{port_at, after_write, after_read, after_match}
+use Rattle.register_words.specs.Flags.{ctrl_stat_flags, abort_flags, select_words, csw_words}
 
 -- ---- what became of the requests
 

@@ -1,6 +1,6 @@
 -- What a call says.
 use Rattle.std.specs.Prelude.{◌≡◌, ℕ, List, ◌++◌}
-use Rattle.packet_words.specs.declared.known.Known.{Known}
+use Rattle.register_words.specs.declared.known.Known.{Known}
 use Rattle.packet_words.specs.declared.exchange.Said as call
 use Rattle.packet_words.specs.Exchange.{Said}
 

@@ -8,12 +8,11 @@ ghost use Rattle.packet_words.specs.Commands.{response_name, outcome, info_numbe
 ghost use Rattle.packet_words.specs.Requests.{request_lines, after_requests};
 
 use crate::fate::Left;
-use crate::flags::{line_name, with_abort, with_pins};
-use crate::known::Known;
 use crate::request_words::{with_block, with_requests};
 use dap_base::OutOfMemory;
 use dap_messages::{CommandValue, CommandView, Requests, Response};
 use dap_replies::ReplyView;
+use register_words::{Known, line_name, with_abort, with_pins};
 use std::alloc::Global;
 use text_lines::Line;
 

@@ -1,17 +1,18 @@
 //! The words of an exchange: a packet and its reply.
 ghost use Rattle.std.specs.Prelude.{◌≡◌, ◌++◌, ◌∷◌, IfOk, OnOk, codes, decimal, drop, length};
 ghost use Rattle.std.specs.Option.{option_copied};
-ghost use Rattle.dap_messages.specs.PacketReading.{packet_read, place_of};
-ghost use Rattle.packet_words.specs.Known.{unknown};
+ghost use Rattle.dap_messages.specs.PacketReading.{packet_read};
+ghost use Rattle.register_words.specs.Known.{unknown};
 ghost use Rattle.packet_words.specs.Saying.{Says, SaysAll};
-ghost use Rattle.packet_words.specs.Exchange.{fault_name, fault_words, unanswered_lines, misanswer_line, misanswered, answered, kind_words, head_words, is_head, head_fault, all_answered, packet_answered, replied_line, unreplied_line, packet_said, no_packet_line, no_packet, said_of, reply_line, trace_lines, exchange};
+ghost use Rattle.packet_words.specs.Exchange.{unanswered_lines, misanswer_line, misanswered, answered, kind_words, head_words, is_head, head_fault, all_answered, packet_answered, replied_line, unreplied_line, packet_said, no_packet_line, no_packet, said_of, reply_line, trace_lines, exchange};
 
 use crate::command_words::{first_byte, with_command, with_digits};
-use crate::known::Known;
+use crate::fault::with_fault;
 use crate::replies::own_bytes;
 use dap_base::OutOfMemory;
 use dap_messages::{CommandView, Commands, MessageError, PacketKind, PacketView, packet_view};
 use dap_replies::reply_view;
+use register_words::Known;
 use std::alloc::Global;
 use text_lines::Line;
 
@@ -22,42 +23,6 @@ pub struct Said {
     pub line: Line,
     /// Whether they are a packet, and a reply that it may get where there is one.
     pub is_good: bool,
-}
-
-#[tactic(auto, unfolding(crate::specs::Exchange::fault_name))]
-fn fault_name(fault: MessageError) -> &'static str
-    ensures { result.now ≡ fault_name fault }
-{
-    match fault {
-        MessageError::Long(_) => "Long",
-        MessageError::Short(_) => "Short",
-        MessageError::BadId(_) => "BadId",
-        MessageError::BadCount(_) => "BadCount",
-        MessageError::BadRequest(_) => "BadRequest",
-        MessageError::TrailingBytes(_) => "TrailingBytes",
-    }
-}
-
-fn place_of(fault: MessageError) -> usize
-    ensures { result ≡ place_of fault }
-{
-    match fault {
-        MessageError::Long(place)
-        | MessageError::Short(place)
-        | MessageError::BadId(place)
-        | MessageError::BadCount(place)
-        | MessageError::BadRequest(place)
-        | MessageError::TrailingBytes(place) => place,
-    }
-}
-
-// A fault and its place.
-#[tactic(auto, unfolding(crate::specs::Exchange::fault_words))]
-fn with_fault(line: Line, fault: MessageError) -> Result<Line, OutOfMemory>
-    ensures { IfOk result (λ l. l ≡ line ++ fault_words fault) }
-{
-    line.text(fault_name(fault))?
-        .labelled(" at ", place_of(fault) as u64)
 }
 
 // The lines of commands whose replies are not known. Nothing is known after them.

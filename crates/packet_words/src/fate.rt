@@ -2,12 +2,11 @@
 ghost use Rattle.std.specs.Prelude.{◌≡◌};
 ghost use Rattle.dap_messages.specs.Words.{words_in};
 ghost use Rattle.dap_messages.specs.Requests.{kind_of};
-ghost use Rattle.packet_words.specs.Registers.{register_of};
+ghost use Rattle.register_words.specs.Registers.{register_of};
 ghost use Rattle.packet_words.specs.Requests.{first_of, rest_of, given, executed, fate_of, left_after, after_done, after_request};
 
-use crate::known::Known;
-use crate::register::register_of;
 use dap_messages::{Request, RequestKind};
+use register_words::{Known, register_of};
 use std::marker::Model;
 
 /// What became of a request.
@@ -112,7 +111,7 @@ impl<'a> Left<'a> {
 }
 
 // What is known after a request that is no normal read was executed.
-#[tactic(auto, unfolding(crate::specs::Requests::after_done, crate::specs::Registers::register_of))]
+#[tactic(auto, unfolding(crate::specs::Requests::after_done, register_words::specs::Registers::register_of))]
 fn execute(known: &mut Known, request: Request)
     ensures { known.new ≡ after_done (kind_of request.byte) known.old (register_of known.old.select request.byte) request.word }
 {

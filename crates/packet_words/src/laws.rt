@@ -1,7 +1,7 @@
 //! A law of words, as the contract of a function that does nothing.
 ghost use Rattle.std.specs.Prelude.{◌≡◌, ℕ, List, Option};
 ghost use Rattle.hex.specs.Hex.{IsBytes};
-ghost use Rattle.packet_words.specs.declared.known.Known.{Known};
+ghost use Rattle.register_words.specs.declared.known.Known.{Known};
 ghost use Rattle.packet_words.specs.Exchange.{exchange};
 ghost use Rattle.packet_words.specs.Laws.{AreBytes};
 

@@ -4,11 +4,12 @@ ghost use Rattle.text_lines.specs.Hex.{hex2};
 ghost use Rattle.packet_words.specs.Requests.{mark, subject, read_part, value_part, address_words, banked_address, csw_note, port_note, note, match_note, done_note, request_note, line_of, request_line, block_requests, request_lines, after_requests};
 
 use crate::fate::{Fate, Left, follow};
-use crate::flags::{with_abort, with_csw, with_ctrl_stat, with_select};
-use crate::known::{Known, Port};
-use crate::register::{Register, register_of, with_register};
 use dap_base::OutOfMemory;
 use dap_messages::{Request, RequestKind, Requests, WordBytes};
+use register_words::{
+    Known, Port, Register, register_of, with_abort, with_csw, with_ctrl_stat, with_register,
+    with_select,
+};
 use target_machine::registers::{BD_BANK, CSW, DRW};
 use text_lines::Line;
 

@@ -1,8 +1,8 @@
 -- A walk over the bytes of a trace: what is written at each byte, and what is kept for the next.
 use Rattle.std.specs.Prelude.{ℕ, ◌+◌, ◌-◌, ◌^◌, ◌==◌, nat_lt, not, Bool, true, false, ◌&&◌, List, [], ◌∷◌, ◌++◌, length, min, codes, Option, Some, None, if◌then◌else◌}
 use Rattle.hex.specs.Hex.{encode_lower}
-use Rattle.packet_words.specs.declared.known.Known.{Known}
-use Rattle.packet_words.specs.Known.{unknown}
+use Rattle.register_words.specs.declared.known.Known.{Known}
+use Rattle.register_words.specs.Known.{unknown}
 use Rattle.packet_words.specs.Exchange.{Said, exchange}
 use Rattle.trace_words.specs.Entries.{entry_in}
 

@@ -7,7 +7,8 @@ ghost use Rattle.trace_words.specs.Steps.{Steps};
 
 use crate::entry::{Entry, entry_in};
 use dap_base::OutOfMemory;
-use packet_words::{Known, exchange_words};
+use packet_words::exchange_words;
+use register_words::Known;
 use std::alloc::Global;
 use std::marker::Model;
 use text_lines::Line;

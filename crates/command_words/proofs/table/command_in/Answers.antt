@@ -1,6 +1,6 @@
-use Rattle.std.proofs.Common.{◌≡◌, ap, codes, subst}
-use Rattle.command_words.specs.Table.{IsRow, mode_text, no_options}
-use Rattle.command_words.proofs.TableLemmas.{no_audit, no_check, no_gen, no_load, no_run, no_scan, no_trace, none_of}
+use Rattle.std.proofs.Common.{ap, codes}
+use Rattle.command_words.specs.Table.{mode_text}
+use Rattle.command_words.proofs.TableLemmas.{no_check, no_gen, no_load, no_run, no_trace, none_of}
 use Rattle.command_words.proofs.table.command_in.Goals as goal
 
 pub returns-in_err-selection-in-Check : goal.returns-in_err-selection-in-Check
@@ -15,13 +15,5 @@ returns-in_err-selection-in-Trace c = none_of _ (codes "trace") _ _ c.from_resid
 pub returns-in_err-selection-in-Load : goal.returns-in_err-selection-in-Load
 returns-in_err-selection-in-Load c = none_of _ (codes "load") _ _ c.from_residual-in_err-selection-in-Load.ensures (ap mode_text c.in-Load.is) (no_load _ c.in_err-selection-in-Load.ensures)
 
-pub returns-in_err-selection-in-Scan : goal.returns-in_err-selection-in-Scan
-returns-in_err-selection-in-Scan c = none_of _ (codes "scan") _ _ c.from_residual-in_err-selection-in-Scan.ensures (ap mode_text c.in-Scan.is) (no_scan _ c.in_err-selection-in-Scan.ensures)
-
 pub returns-in_err-number-in-Gen : goal.returns-in_err-number-in-Gen
 returns-in_err-number-in-Gen c = none_of _ (codes "gen") _ _ c.from_residual-in_err-number-in-Gen.ensures (ap mode_text c.in-Gen.is) (no_gen _ c.in_err-number-in-Gen.ensures)
-
-pub returns : goal.returns
-returns c =
-    let never : c.args.options ≡ no_options → ⊥ = λ e. (let given = c.if-are_none.ensures.1 e in cc) in
-    λ it row. no_audit c.args.options never it (subst (λ text. IsRow text c.args.options it) (ap mode_text c.in-Audit.is) row)

@@ -1,6 +1,6 @@
 use Rattle.std.proofs.Common.{append_assoc, refl}
 use Rattle.packet_words.specs.Commands.{command_words}
-use Rattle.packet_words.proofs.Chains.{added}
+use Rattle.register_words.proofs.Chains.{added}
 use Rattle.packet_words.proofs.command_words.with_configure.Goals as goal
 
 pub returns : goal.returns

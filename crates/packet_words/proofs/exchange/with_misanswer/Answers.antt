@@ -1,6 +1,6 @@
 use Rattle.std.proofs.Common.{append_assoc, refl}
 use Rattle.packet_words.specs.Exchange.{misanswer_line}
-use Rattle.packet_words.proofs.Chains.{added}
+use Rattle.register_words.proofs.Chains.{added}
 use Rattle.packet_words.proofs.exchange.with_misanswer.Goals as goal
 
 pub returns : goal.returns

@@ -3,10 +3,10 @@ use Rattle.std.specs.Prelude.{ℕ, ◌+◌, ◌-◌, ◌*◌, ◌%◌, ◌^◌, 
 use Rattle.std.specs.List.{slice_index_or}
 use Rattle.dap_base.specs.Bits.{has_bit}
 use Rattle.target_machine.specs.Registers.{csw_register, tar_register, drw_register, csw_size, csw_addrinc, addrinc_single}
-use Rattle.packet_words.specs.declared.known.Port.{Port}
-use Rattle.packet_words.specs.declared.known.Known.{Known}
-use Rattle.packet_words.specs.declared.register.Register.{Register}
-use Rattle.packet_words.specs.declared.register.Register.TheVariants as at
+use Rattle.register_words.specs.declared.known.Port.{Port}
+use Rattle.register_words.specs.declared.known.Known.{Known}
+use Rattle.register_words.specs.declared.register.Register.{Register}
+use Rattle.register_words.specs.declared.register.Register.TheVariants as at
 
 -- nothing is known of a port
 abbrev pub unknown_port : Port

@@ -1,6 +1,6 @@
 //! The bits of registers, the pins and the line sequences by name.
 ghost use Rattle.std.specs.Prelude.{◌≡◌, ◌++◌, IfOk};
-ghost use Rattle.packet_words.specs.Flags.{flag, power_flags, reset_flags, sticky_flags, ctrl_stat_flags, clear_flags, abort_flags, size_name, increment_name, csw_flags, csw_words, dp_bank_words, select_words, reset_pins, line_pins, pin_names, switch_name, reset_name, line_name};
+ghost use Rattle.register_words.specs.Flags.{flag, power_flags, reset_flags, sticky_flags, ctrl_stat_flags, clear_flags, abort_flags, size_name, increment_name, csw_flags, csw_words, dp_bank_words, select_words, reset_pins, line_pins, pin_names, switch_name, reset_name, line_name};
 
 use dap_base::OutOfMemory;
 use target_machine::registers::{APBANKSEL, CSW_ADDRINC, CSW_SIZE, DPBANKSEL};
@@ -45,7 +45,7 @@ fn with_sticky_flags(line: Line, word: u32) -> Result<Line, OutOfMemory>
     with_flag(line, word, 0x01, " ORUNDETECT")
 }
 
-/// The bits of CTRL/STAT that are set.
+/// The bits of CTRL/STAT that are set, added to a line. `OutOfMemory` where memory is refused.
 #[tactic(auto, unfolding(crate::specs::Flags::ctrl_stat_flags))]
 pub fn with_ctrl_stat(line: Line, word: u32) -> Result<Line, OutOfMemory>
     ensures { IfOk result (λ l. l ≡ line ++ ctrl_stat_flags word) }
@@ -64,7 +64,7 @@ fn with_clear_flags(line: Line, word: u32) -> Result<Line, OutOfMemory>
     with_flag(line, word, 0x02, " STKCMPCLR")
 }
 
-/// The bits of ABORT that are set.
+/// The bits of ABORT that are set, added to a line. `OutOfMemory` where memory is refused.
 #[tactic(auto, unfolding(crate::specs::Flags::abort_flags))]
 pub fn with_abort(line: Line, word: u32) -> Result<Line, OutOfMemory>
     ensures { IfOk result (λ l. l ≡ line ++ abort_flags word) }
@@ -105,7 +105,7 @@ fn with_csw_flags(line: Line, word: u32) -> Result<Line, OutOfMemory>
     with_flag(line, word, 0x40, " DeviceEn")
 }
 
-/// Size and AddrInc of CSW, and bits 31, 7 and 6.
+/// Size and AddrInc of CSW, and bits 31, 7 and 6, added to a line. `OutOfMemory` where memory is refused.
 #[tactic(auto, unfolding(crate::specs::Flags::csw_words))]
 pub fn with_csw(line: Line, word: u32) -> Result<Line, OutOfMemory>
     ensures { IfOk result (λ l. l ≡ line ++ csw_words word) }
@@ -126,7 +126,7 @@ fn with_dp_bank(line: Line, bank: u32) -> Result<Line, OutOfMemory>
     }
 }
 
-/// APSEL, APBANKSEL and DPBANKSEL of SELECT.
+/// APSEL, APBANKSEL and DPBANKSEL of SELECT, added to a line. `OutOfMemory` where memory is refused.
 #[tactic(auto, unfolding(crate::specs::Flags::select_words))]
 pub fn with_select(line: Line, word: u32) -> Result<Line, OutOfMemory>
     ensures { IfOk result (λ l. l ≡ line ++ select_words word) }
@@ -152,7 +152,7 @@ fn with_line_pins(line: Line, pins: u32) -> Result<Line, OutOfMemory>
     with_flag(line, pins, 0x01, " SWCLK/TCK")
 }
 
-/// The pins of `DAP_SWJ_Pins` whose bits are set.
+/// The pins of `DAP_SWJ_Pins` whose bits are set, added to a line. `OutOfMemory` where memory is refused.
 #[tactic(auto, unfolding(crate::specs::Flags::pin_names))]
 pub fn with_pins(line: Line, pins: u8) -> Result<Line, OutOfMemory>
     ensures { IfOk result (λ l. l ≡ line ++ pin_names pins) }

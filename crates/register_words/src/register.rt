@@ -1,6 +1,6 @@
 //! The register that a request accesses, and its name.
 ghost use Rattle.std.specs.Prelude.{◌≡◌, ◌<◌, ◌++◌, Option, IfOk, codes};
-ghost use Rattle.packet_words.specs.Registers.{in_bank, banked, dp_register, apsel, ap_register, register_of, ap_name, register_name};
+ghost use Rattle.register_words.specs.Registers.{in_bank, banked, dp_register, apsel, ap_register, register_of, ap_name, register_name};
 
 use dap_base::OutOfMemory;
 use dap_messages::{ADDRESS_BITS, APNDP, RNW};
@@ -133,7 +133,7 @@ fn with_ap_name(line: Line, register: u8) -> Result<Line, OutOfMemory>
     }
 }
 
-/// The name of a register, after that of its port.
+/// The name of a register after that of its port, added to a line. `OutOfMemory` where memory is refused.
 #[tactic(auto, unfolding(crate::specs::Registers::register_name))]
 pub fn with_register(line: Line, register: Register) -> Result<Line, OutOfMemory>
     ensures { IfOk result (λ l. l ≡ line ++ register_name register) }

@@ -4,8 +4,8 @@ use Rattle.dap_base.specs.Bits.{has_bit}
 use Rattle.dap_messages.specs.Requests.{apndp, rnw, address_bits}
 use Rattle.target_machine.specs.Registers.{dpbanksel, apbanksel}
 use Rattle.text_lines.specs.Hex.{hex2}
-use Rattle.packet_words.specs.declared.register.Register.{Register}
-use Rattle.packet_words.specs.declared.register.Register.TheVariants as at
+use Rattle.register_words.specs.declared.register.Register.{Register}
+use Rattle.register_words.specs.declared.register.Register.TheVariants as at
 
 -- the register of the debug port at 0x4, by SELECT.DPBANKSEL
 unfoldable pub in_bank : ℕ → Register

@@ -1,6 +1,6 @@
-use Rattle.packet_words.specs.Flags.{sticky_flags}
-use Rattle.packet_words.proofs.Chains.{four}
-use Rattle.packet_words.proofs.flags.with_sticky_flags.Goals as goal
+use Rattle.register_words.specs.Flags.{sticky_flags}
+use Rattle.register_words.proofs.Chains.{four}
+use Rattle.register_words.proofs.flags.with_sticky_flags.Goals as goal
 
 pub returns : goal.returns
 unfolding sticky_flags

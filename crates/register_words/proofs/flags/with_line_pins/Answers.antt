@@ -1,6 +1,6 @@
-use Rattle.packet_words.specs.Flags.{line_pins}
-use Rattle.packet_words.proofs.Chains.{four}
-use Rattle.packet_words.proofs.flags.with_line_pins.Goals as goal
+use Rattle.register_words.specs.Flags.{line_pins}
+use Rattle.register_words.proofs.Chains.{four}
+use Rattle.register_words.proofs.flags.with_line_pins.Goals as goal
 
 pub returns : goal.returns
 unfolding line_pins

@@ -1,7 +1,7 @@
 //! What is known of SELECT, and of CSW and TAR of each access port.
 ghost use Rattle.std.specs.Prelude.{◌≡◌, ◌⊎◌, Option, bit_and};
 ghost use Rattle.target_machine.specs.Registers.{csw_size};
-ghost use Rattle.packet_words.specs.Known.{unknown_port, unknown, unknown_ports, port_at, with_port, moved, bytes_of, moved_by, stepped, next_tar, accessed, kept_tar, port_written, port_read, port_matched, after_abort, after_write, after_read, after_match};
+ghost use Rattle.register_words.specs.Known.{unknown_port, unknown, unknown_ports, port_at, with_port, moved, bytes_of, moved_by, stepped, next_tar, accessed, kept_tar, port_written, port_read, port_matched, after_abort, after_write, after_read, after_match};
 
 use crate::register::Register;
 use target_machine::registers::{ADDRINC_SINGLE, CSW, CSW_ADDRINC, CSW_SIZE, DRW, TAR};

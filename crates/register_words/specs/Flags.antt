@@ -3,7 +3,7 @@ use Rattle.std.specs.Prelude.{ℕ, ◌/◌, ◌==◌, ◌&&◌, nat_le, List, []
 use Rattle.dap_base.specs.Bits.{has_bit}
 use Rattle.target_machine.specs.Registers.{dpbanksel, apbanksel, csw_size, csw_addrinc}
 use Rattle.text_lines.specs.Hex.{hex2}
-use Rattle.packet_words.specs.Registers.{apsel}
+use Rattle.register_words.specs.Registers.{apsel}
 
 -- a name, where the bit is set
 unfoldable pub flag : ℕ → ℕ → List ℕ → List ℕ

@@ -1,0 +1,3 @@
+pub mod Registers
+pub mod Known
+pub mod Flags
