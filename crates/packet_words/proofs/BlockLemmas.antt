@@ -3,6 +3,8 @@ use Rattle.std.proofs.Common.{◌≡◌, ◌+◌, ℕ, zero, suc, List, [], ◌�
 use Rattle.dap_messages.specs.declared.request.Request.{Request}
 use Rattle.packet_words.specs.declared.fate.Fate.{Fate}
 use Rattle.register_words.specs.declared.known.Known.{Known}
+use Rattle.register_words.specs.declared.access.Access.{Access}
+use Rattle.packet_words.specs.Accesses.{request_access, requests_accesses}
 use Rattle.packet_words.specs.Requests.{Left, after_request, after_requests, block_requests, fate_of, left_after, request_line, request_lines}
 
 -- the item at a place, and those after it
@@ -24,6 +26,16 @@ pub block_text : (line next all : List ℕ) (known later : Known) (left rest : L
     → line ++ request_lines known left (block_requests byte (drop i words)) ≡ all
     → next ++ request_lines later rest (block_requests byte (drop (i + 1) words)) ≡ all
 block_text line next all known later left rest byte words i word fate at fate_is next_is later_is rest_is before =
+    let h = rw (drop_at words i word at) at before in
+    simp (next_is, later_is, rest_is, fate_is, append_assoc) h
+
+-- one access more
+pub block_accesses : (made next all : List Access) (known later : Known) (left rest : Left) (byte : ℕ) (words : List ℕ) (i word : ℕ) (fate : Fate)
+    → slice_get words i ≡ Some word → fate ≡ fate_of left (word_request byte word) → next ≡ made ++ request_access known (word_request byte word) fate
+    → later ≡ after_request known (word_request byte word) fate → rest ≡ left_after left (word_request byte word)
+    → made ++ requests_accesses known left (block_requests byte (drop i words)) ≡ all
+    → next ++ requests_accesses later rest (block_requests byte (drop (i + 1) words)) ≡ all
+block_accesses made next all known later left rest byte words i word fate at fate_is next_is later_is rest_is before =
     let h = rw (drop_at words i word at) at before in
     simp (next_is, later_is, rest_is, fate_is, append_assoc) h
 

@@ -4,3 +4,4 @@ pub mod Replies
 pub mod Exchange
 pub mod Saying
 pub mod Laws
+pub mod Accesses

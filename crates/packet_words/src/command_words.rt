@@ -250,7 +250,7 @@ fn with_command_line(
 
 // What a reply says of the requests of its command.
 #[tactic(auto, unfolding(crate::specs::Commands::left_of))]
-fn left_of<'a>(reply: &Reply<'a>) -> Left<'a>
+pub fn left_of<'a>(reply: &Reply<'a>) -> Left<'a>
     ensures { result ≡ left_of reply.now }
 {
     match reply {
@@ -289,7 +289,7 @@ fn with_its_requests(
 
 // What is known after a command whose requests were gone through.
 #[tactic(auto, unfolding(crate::specs::Commands::after_known))]
-fn follow_reply(known: &mut Known, command: &CommandValue<'_>, reply: &Reply<'_>)
+pub fn follow_reply(known: &mut Known, command: &CommandValue<'_>, reply: &Reply<'_>)
     ensures { known.new ≡ after_known known.old command.now reply.now }
 {
     let Some(reply) = reply else {

@@ -142,7 +142,7 @@ fn is_head(kind: PacketKind, byte: u8) -> bool
 
 // The fault of the first two bytes of a reply to so many commands, where they have one.
 #[tactic(auto, unfolding(crate::specs::Exchange::head_fault))]
-fn head_fault(kind: PacketKind, count: u8, bytes: &[u8]) -> Option<MessageError>
+pub fn head_fault(kind: PacketKind, count: u8, bytes: &[u8]) -> Option<MessageError>
     ensures { result ≡ head_fault kind count bytes.now }
 {
     match bytes {
@@ -172,7 +172,7 @@ fn with_all_answers(
 }
 
 // The bytes after the first two.
-fn after_head(bytes: &[u8]) -> &[u8]
+pub fn after_head(bytes: &[u8]) -> &[u8]
     ensures { result.now ≡ drop 2 bytes.now }
 {
     match bytes {

@@ -1,6 +1,7 @@
 //! The words of a packet of CMSIS-DAP and of its reply.
 #![tactic(auto)]
 
+mod accesses;
 mod command_words;
 mod exchange;
 mod fate;
@@ -9,6 +10,7 @@ pub mod laws;
 mod replies;
 mod request_words;
 
+pub use accesses::{Accesses, exchange_accesses};
 pub use command_words::Reply;
 pub use exchange::{Said, exchange_words};
 pub use fate::Fate;

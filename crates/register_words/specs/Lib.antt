@@ -1,3 +1,4 @@
 pub mod Registers
 pub mod Known
 pub mod Flags
+pub mod Accesses

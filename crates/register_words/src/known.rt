@@ -14,7 +14,7 @@ pub struct Port {
 }
 
 /// SELECT, where it is known, and what is known of the access ports 0 to 255.
-#[derive(Debug, Drop)]
+#[derive(Clone, Debug, Drop)]
 pub struct Known {
     pub select: Option<u32>,
     pub ports: [Port; 256],

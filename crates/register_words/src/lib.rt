@@ -1,10 +1,12 @@
 //! The registers of ADIv5 in words: their names, their bits, and what is known of them.
 #![tactic(auto)]
 
+mod access;
 mod flags;
 mod known;
 mod register;
 
+pub use access::{Access, register_at};
 pub use flags::{line_name, with_abort, with_csw, with_ctrl_stat, with_pins, with_select};
 pub use known::{Known, Port};
 pub use register::{Register, register_of, with_register};
