@@ -1,0 +1,145 @@
+-- Sets that are checked one after another, and that a pack has one answer.
+use Rattle.std.proofs.Common.{◌≡◌, ◌∙◌, ◌↔◌, ℕ, ◌+◌, Bool, true, false, cond, ◌||◌, List, [], ◌∷◌, ◌++◌, map, count_by, length, refl, ap, sym, subst, true≢false}
+use Rattle.std.specs.List.{AllByRecursion, list_any}
+use Rattle.std.proofs.lemmas.List.{map-append, length-map}
+use Rattle.std.proofs.lemmas.List.Sums.{sum_by-cons}
+use Rattle.device_tree.specs.declared.pack.Pack.{Pack}
+use Rattle.sequence_resolve.specs.declared.entry.SeqSet.{SeqSet}
+use Rattle.sequence_resolve.specs.Resolving.{IsSetAlong}
+use Rattle.sequence_resolve.proofs.OneSet.{one_set_along}
+use Rattle.seq_check.specs.Valid.{IsValid}
+use Rattle.set_faults.specs.declared.site.Fault.{Fault}
+use Rattle.set_faults.specs.declared.phase.SetFaults.{SetFaults}
+use Rattle.set_faults.specs.Answers.{AreSetFaults}
+use Rattle.set_faults.proofs.PhaseLemmas as faults
+use Rattle.pack_faults.specs.declared.request.Request.{Request}
+use Rattle.pack_faults.specs.declared.answer.Found.{Found}
+use Rattle.pack_faults.specs.declared.answer.PackFault.{PackFault}
+use Rattle.pack_faults.specs.declared.answer.PackFaults.{PackFaults}
+use Rattle.pack_faults.specs.declared.checking.Checking.{Checking}
+use Rattle.pack_faults.specs.Sets.{SetAt, sets_of}
+use Rattle.pack_faults.specs.Merged.{same_found, all_found, each_once, with_sets, merged}
+use Rattle.pack_faults.specs.Answers.{found_in, Checked, IsChecked, AreChecked, is_unread, is_unfinished, ArePackFaults, IsValidAt, AreValid}
+use Rattle.pack_faults.specs.Steps.{with_each, AreDone}
+use Rattle.pack_faults.proofs.SameLemmas.{same_itself}
+use Rattle.pack_faults.proofs.MergeLemmas.{merged_set, has-each_once}
+
+-- ---- one more set
+
+are_checked-append : (pack : Pack) (sets : List SetAt) (s : SetAt) (checked : List Checked) (c : Checked)
+    → AreChecked pack sets checked → IsChecked pack s c → AreChecked pack (sets ++ s ∷ []) (checked ++ c ∷ [])
+are_checked-append pack [] s checked c are is = (c, [], is, ap (λ cs. cs ++ c ∷ []) are, refl)
+are_checked-append pack (t ∷ sets) s checked c are is =
+    (are.0, are.1 ++ c ∷ [], are.2, ap (λ cs. cs ++ c ∷ []) are.3, are_checked-append pack sets s are.1 c are.4 is)
+
+-- the checks of these sets, and of one more
+pub done_one : (pack : Pack) (sets : List SetAt) (s : SetAt) (c : Checked) (old new : Checking) → AreDone pack sets old → IsChecked pack s c
+    → new.phases ≡ old.phases ++ c.phase ∷ [] → new.faults.items ≡ with_each (length old.phases) c.found old.faults.items → AreDone pack (sets ++ s ∷ []) new
+done_one pack sets s c old new done is phases faults =
+    let lists = map (λ x. x.found) done.checked in
+    let size : length old.phases ≡ length lists =
+        ap length done.phases ∙ length-map done.checked (λ x. x.phase) ∙ sym (length-map done.checked (λ x. x.found)) in
+    let list : new.faults.items ≡ merged (lists ++ c.found ∷ []) =
+        faults ∙ ap (λ n. with_each n c.found old.faults.items) size ∙ ap (with_each (length lists) c.found) done.faults ∙ merged_set lists c.found in
+    record {
+      checked = done.checked ++ c ∷ [];
+      are = are_checked-append pack sets s done.checked c done.are is;
+      phases = phases ∙ ap (λ ps. ps ++ c.phase ∷ []) done.phases ∙ sym (map-append (λ x. x.phase) done.checked (c ∷ []));
+      faults = list ∙ ap merged (sym (map-append (λ x. x.found) done.checked (c ∷ [])));
+    }
+
+-- ---- counts
+
+pub count-map : {A B : Type 0} (p : B → Bool) (f : A → B) (xs : List A) → count_by p (map f xs) ≡ count_by (λ x. p (f x)) xs
+count-map p f [] = refl
+count-map p f (x ∷ xs) =
+    sum_by-cons (λ y. cond (p y) 1 0) (f x) (map f xs) ∙ ap (λ n. cond (p (f x)) 1 0 + n) (count-map p f xs) ∙ sym (sum_by-cons (λ y. cond (p (f y)) 1 0) x xs)
+
+-- ---- one answer
+
+one_checked : (pack : Pack) (s : SetAt) (c d : Checked) → IsChecked pack s c → IsChecked pack s d → c ≡ d
+one_checked pack s c d p q =
+    let set : p.set ≡ q.set = one_set_along pack s.place s.variant s.pname p.set q.set p.is_set q.is_set in
+    let are : AreSetFaults q.set p.faults = subst (λ (x : SeqSet). AreSetFaults x p.faults) set p.are in
+    let faults : p.faults ≡ q.faults = faults.one_answer q.set p.faults q.faults are q.are in
+    let one : c ≡ record { phase = q.faults.phase; found = map (found_in p.set) q.faults.faults } =
+        p.is ∙ ap (λ (x : SetFaults). record { phase = x.phase; found = map (found_in p.set) x.faults }) faults in
+    let two : c ≡ record { phase = q.faults.phase; found = map (found_in q.set) q.faults.faults } =
+        one ∙ ap (λ (x : SeqSet). record { phase = q.faults.phase; found = map (found_in x) q.faults.faults }) set in
+    two ∙ sym q.is
+
+one_list : (pack : Pack) (sets : List SetAt) (xs ys : List Checked) → AreChecked pack sets xs → AreChecked pack sets ys → xs ≡ ys
+one_list pack [] xs ys p q = p ∙ sym q
+one_list pack (s ∷ sets) xs ys p q =
+    let first : p.0 ≡ q.0 = one_checked pack s p.0 q.0 p.2 q.2 in
+    let rest : p.1 ≡ q.1 = one_list pack sets p.1 q.1 p.4 q.4 in
+    p.3 ∙ ap (λ c. c ∷ p.1) first ∙ ap (λ cs. q.0 ∷ cs) rest ∙ sym q.3
+
+same_answer : (x y : PackFaults) → x.devices ≡ y.devices → x.sets ≡ y.sets → x.faults ≡ y.faults → x.unread ≡ y.unread → x.unreached ≡ y.unreached → x ≡ y
+same_answer x y p q r s t =
+    let one : x ≡ record x { devices = y.devices } = ap (λ v. record x { devices = v }) p in
+    let two : record x { devices = y.devices } ≡ record x { devices = y.devices; sets = y.sets } = ap (λ v. record x { devices = y.devices; sets = v }) q in
+    let three : record x { devices = y.devices; sets = y.sets } ≡ record y { unread = x.unread; unreached = x.unreached } =
+        ap (λ v. record x { devices = y.devices; sets = y.sets; faults = v }) r in
+    let four : record y { unread = x.unread; unreached = x.unreached } ≡ record y { unreached = x.unreached } = ap (λ v. record y { unread = v; unreached = x.unreached }) s in
+    let five : record y { unreached = x.unreached } ≡ y = ap (λ v. record y { unreached = v }) t in
+    one ∙ two ∙ three ∙ four ∙ five
+
+pub one_answer : (pack : Pack) (request : Request) (x y : PackFaults) → ArePackFaults pack request x → ArePackFaults pack request y → x ≡ y
+one_answer pack request x y p q =
+    let list : p.checked ≡ q.checked = one_list pack (sets_of pack request) p.checked q.checked p.are q.are in
+    same_answer x y (p.devices ∙ sym q.devices) (p.sets ∙ sym q.sets)
+    (p.faults ∙ ap (λ (cs : List Checked). merged (map (λ c. c.found) cs)) list ∙ sym q.faults)
+    (p.unread ∙ ap (λ (cs : List Checked). count_by (λ c. is_unread c.phase) cs) list ∙ sym q.unread)
+    (p.unreached ∙ ap (λ (cs : List Checked). count_by (λ c. is_unfinished c.phase) cs) list ∙ sym q.unreached)
+
+-- ---- no fault
+
+map_empty : {A B : Type 0} (f : A → B) (xs : List A) → map f xs ≡ [] → xs ≡ []
+map_empty f [] e = refl
+map_empty f (x ∷ xs) e = absurd cc
+
+append_empty : {A : Type 0} (xs ys : List A) → xs ++ ys ≡ [] → (xs ≡ []) × (ys ≡ [])
+append_empty [] ys e = (refl, e)
+append_empty (x ∷ xs) ys e = absurd cc
+
+none_found : (fs : List Found) → each_once [] fs ≡ [] → fs ≡ []
+none_found [] e = refl
+none_found (f ∷ fs) e =
+    let is : (same_found f f || list_any (same_found f) fs) ≡ false = sym (has-each_once [] (f ∷ fs) f) ∙ ap (list_any (same_found f)) e in
+    absurd (true≢false (sym (ap (λ b. b || list_any (same_found f) fs) (same_itself f)) ∙ is))
+
+valid_at : (pack : Pack) (s : SetAt) (c : Checked) → IsChecked pack s c → c.found ≡ [] → IsValidAt pack s
+valid_at pack s c p e = λ set is.
+    let same : p.set ≡ set = one_set_along pack s.place s.variant s.pname p.set set p.is_set is in
+    let none : p.faults.faults ≡ [] = map_empty (found_in p.set) p.faults.faults (sym (ap (λ (x : Checked). x.found) p.is) ∙ e) in
+    subst (λ (x : SeqSet). IsValid x) same ((faults.empty_where_valid p.set p.faults p.are).0 none)
+
+none_at : (pack : Pack) (s : SetAt) (c : Checked) → IsChecked pack s c → IsValidAt pack s → c.found ≡ []
+none_at pack s c p valid =
+    let none : p.faults.faults ≡ [] = (faults.empty_where_valid p.set p.faults p.are).1 (valid p.set p.is_set) in
+    ap (λ (x : Checked). x.found) p.is ∙ ap (map (found_in p.set)) none
+
+abbrev lists_of : List Checked → List Found
+lists_of cs = all_found (map (λ c. c.found) cs)
+
+all_valid : (pack : Pack) (sets : List SetAt) (cs : List Checked) → AreChecked pack sets cs → lists_of cs ≡ [] → AreValid pack sets
+all_valid pack [] cs are e = tt
+all_valid pack (s ∷ sets) cs are e =
+    let parts = append_empty are.0.found (lists_of are.1) (sym (ap lists_of are.3) ∙ e) in
+    (valid_at pack s are.0 are.2 parts.0, all_valid pack sets are.1 are.4 parts.1)
+
+all_none : (pack : Pack) (sets : List SetAt) (cs : List Checked) → AreChecked pack sets cs → AreValid pack sets → lists_of cs ≡ []
+all_none pack [] cs are valid = ap lists_of are
+all_none pack (s ∷ sets) cs are valid =
+    ap lists_of are.3 ∙ ap (λ fs. fs ++ lists_of are.1) (none_at pack s are.0 are.2 valid.0) ∙ all_none pack sets are.1 are.4 valid.1
+
+pub empty_where_valid : (pack : Pack) (request : Request) (answer : PackFaults) → ArePackFaults pack request answer → (answer.faults ≡ []) ↔ AreValid pack (sets_of pack request)
+empty_where_valid pack request answer p =
+    let lists = map (λ c. c.found) p.checked in
+    let there : answer.faults ≡ [] → AreValid pack (sets_of pack request) =
+        (λ (e : answer.faults ≡ []). all_valid pack (sets_of pack request) p.checked p.are
+        (none_found (all_found lists) (map_empty (with_sets lists) (each_once [] (all_found lists)) (sym p.faults ∙ e)))) in
+    let back : AreValid pack (sets_of pack request) → answer.faults ≡ [] =
+        (λ (valid : AreValid pack (sets_of pack request)). p.faults ∙ ap (λ fs. map (with_sets lists) (each_once [] fs)) (all_none pack (sets_of pack request) p.checked p.are valid)) in
+    (there, back)

@@ -1,0 +1,6 @@
+pub mod Sets
+pub mod Lines
+pub mod Merged
+pub mod Answers
+pub mod Views
+pub mod Steps

@@ -1,0 +1,19 @@
+//! All faults of the sequences of all devices, variants and processors of a pack, each once with the sets that have it.
+#![tactic(auto)]
+
+mod answer;
+mod checking;
+mod devices;
+mod faults;
+pub mod laws;
+mod lines;
+mod merging;
+mod refusals;
+mod request;
+mod same;
+mod sets;
+mod texts;
+
+pub use answer::{Found, PackFault, PackFaults};
+pub use faults::pack_faults;
+pub use request::{PackRefusal, Request, SetName};

@@ -1,0 +1,59 @@
+//! Whether two faults are the same.
+ghost use Rattle.std.specs.Prelude.{◌≡◌, option_map};
+ghost use Rattle.std.specs.Str.{bytes_eq};
+ghost use Rattle.device_tree.specs.Same.{same_text};
+ghost use Rattle.code_check.specs.Order.{rank};
+ghost use Rattle.pack_faults.specs.Merged.{part_number, same_spot, same_found};
+
+use crate::answer::Found;
+use crate::texts::name_of;
+use code_check::FaultKind;
+use sequence_trees::{Part, Spot};
+use set_faults::Fault;
+
+fn rank(kind: FaultKind) -> u8
+    ensures { result ≡ rank kind }
+{
+    kind as u8
+}
+
+fn part_number(part: Part) -> u8
+    ensures { result ≡ part_number part }
+{
+    part as u8
+}
+
+fn same_text(text: Option<&str>, other: Option<&str>) -> bool
+    ensures { result ≡ same_text (option_map (λ w. w.now) text.entry) (option_map (λ w. w.now) other.entry) }
+{
+    match (text, other) {
+        (None, None) => true,
+        (Some(text), Some(other)) => text == other,
+        _ => false,
+    }
+}
+
+fn same_path(path: &[u64], other: &[u64]) -> bool
+    ensures { result ≡ bytes_eq path.now other.now }
+{
+    path == other
+}
+
+fn same_spot(spot: &Spot, other: &Spot) -> bool
+    ensures { result ≡ same_spot spot.now other.now }
+{
+    same_text(name_of(&spot.sequence), name_of(&other.sequence))
+        && same_path(spot.path.as_slice(), other.path.as_slice())
+        && part_number(spot.part) == part_number(other.part)
+        && spot.place.line == other.place.line
+        && spot.place.column == other.place.column
+}
+
+/// Whether the fault in this line is the one that was found.
+pub fn is_same(fault: &Fault, line: Option<&str>, found: &Found) -> bool
+    ensures { result ≡ same_found (record { fault = fault.now; line = option_map (λ w. w.now) line.entry }) found.now }
+{
+    rank(fault.kind) == rank(found.fault.kind)
+        && same_spot(&fault.spot, &found.fault.spot)
+        && same_text(line, name_of(&found.line))
+}

@@ -1,0 +1,36 @@
+//! Names as they are requested and held.
+ghost use Rattle.std.specs.Prelude.{◌≡◌, IfOk, option_map};
+ghost use Rattle.std.specs.Option.{option_copied};
+
+use dap_base::{NameText, OutOfMemory};
+use std::alloc::Global;
+
+/// The name, lent without a copy.
+pub fn name_of(name: &Option<NameText>) -> Option<&str>
+    ensures { option_map (λ w. w.now) result ≡ name.now }
+{
+    match name {
+        Some(name) => Some(name.as_str()),
+        None => None,
+    }
+}
+
+/// The name as a text.
+pub fn text_of(name: Option<&NameText>) -> Option<&str>
+    ensures { option_map (λ w. w.now) result ≡ option_map (λ w. w.now) name.entry }
+{
+    match name {
+        Some(name) => Some(name.as_str()),
+        None => None,
+    }
+}
+
+/// A copy of the text.
+pub fn copy_of(alloc: Global, text: Option<&str>) -> Result<Option<NameText>, OutOfMemory>
+    ensures { IfOk result (λ copy. copy ≡ option_map (λ w. w.now) text.entry) }
+{
+    match text {
+        Some(text) => Ok(Some(NameText::new(alloc, text)?)),
+        None => Ok(None),
+    }
+}
