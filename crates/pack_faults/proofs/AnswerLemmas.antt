@@ -38,9 +38,9 @@ pub done_one : (pack : Pack) (sets : List SetAt) (s : SetAt) (c : Checked) (old 
 done_one pack sets s c old new done is phases faults =
     let lists = map (λ x. x.found) done.checked in
     let size : length old.phases ≡ length lists =
-        ap length done.phases ∙ length-map done.checked (λ x. x.phase) ∙ sym (length-map done.checked (λ x. x.found)) in
+    ap length done.phases ∙ length-map done.checked (λ x. x.phase) ∙ sym (length-map done.checked (λ x. x.found)) in
     let list : new.faults.items ≡ merged (lists ++ c.found ∷ []) =
-        faults ∙ ap (λ n. with_each n c.found old.faults.items) size ∙ ap (with_each (length lists) c.found) done.faults ∙ merged_set lists c.found in
+    faults ∙ ap (λ n. with_each n c.found old.faults.items) size ∙ ap (with_each (length lists) c.found) done.faults ∙ merged_set lists c.found in
     record {
       checked = done.checked ++ c ∷ [];
       are = are_checked-append pack sets s done.checked c done.are is;
@@ -63,9 +63,9 @@ one_checked pack s c d p q =
     let are : AreSetFaults q.set p.faults = subst (λ (x : SeqSet). AreSetFaults x p.faults) set p.are in
     let faults : p.faults ≡ q.faults = faults.one_answer q.set p.faults q.faults are q.are in
     let one : c ≡ record { phase = q.faults.phase; found = map (found_in p.set) q.faults.faults } =
-        p.is ∙ ap (λ (x : SetFaults). record { phase = x.phase; found = map (found_in p.set) x.faults }) faults in
+    p.is ∙ ap (λ (x : SetFaults). record { phase = x.phase; found = map (found_in p.set) x.faults }) faults in
     let two : c ≡ record { phase = q.faults.phase; found = map (found_in q.set) q.faults.faults } =
-        one ∙ ap (λ (x : SeqSet). record { phase = q.faults.phase; found = map (found_in x) q.faults.faults }) set in
+    one ∙ ap (λ (x : SeqSet). record { phase = q.faults.phase; found = map (found_in x) q.faults.faults }) set in
     two ∙ sym q.is
 
 one_list : (pack : Pack) (sets : List SetAt) (xs ys : List Checked) → AreChecked pack sets xs → AreChecked pack sets ys → xs ≡ ys
@@ -80,7 +80,7 @@ same_answer x y p q r s t =
     let one : x ≡ record x { devices = y.devices } = ap (λ v. record x { devices = v }) p in
     let two : record x { devices = y.devices } ≡ record x { devices = y.devices; sets = y.sets } = ap (λ v. record x { devices = y.devices; sets = v }) q in
     let three : record x { devices = y.devices; sets = y.sets } ≡ record y { unread = x.unread; unreached = x.unreached } =
-        ap (λ v. record x { devices = y.devices; sets = y.sets; faults = v }) r in
+    ap (λ v. record x { devices = y.devices; sets = y.sets; faults = v }) r in
     let four : record y { unread = x.unread; unreached = x.unreached } ≡ record y { unreached = x.unreached } = ap (λ v. record y { unread = v; unreached = x.unreached }) s in
     let five : record y { unreached = x.unreached } ≡ y = ap (λ v. record y { unreached = v }) t in
     one ∙ two ∙ three ∙ four ∙ five
@@ -138,8 +138,8 @@ pub empty_where_valid : (pack : Pack) (request : Request) (answer : PackFaults) 
 empty_where_valid pack request answer p =
     let lists = map (λ c. c.found) p.checked in
     let there : answer.faults ≡ [] → AreValid pack (sets_of pack request) =
-        (λ (e : answer.faults ≡ []). all_valid pack (sets_of pack request) p.checked p.are
-        (none_found (all_found lists) (map_empty (with_sets lists) (each_once [] (all_found lists)) (sym p.faults ∙ e)))) in
+    (λ (e : answer.faults ≡ []). all_valid pack (sets_of pack request) p.checked p.are
+    (none_found (all_found lists) (map_empty (with_sets lists) (each_once [] (all_found lists)) (sym p.faults ∙ e)))) in
     let back : AreValid pack (sets_of pack request) → answer.faults ≡ [] =
-        (λ (valid : AreValid pack (sets_of pack request)). p.faults ∙ ap (λ fs. map (with_sets lists) (each_once [] fs)) (all_none pack (sets_of pack request) p.checked p.are valid)) in
+    (λ (valid : AreValid pack (sets_of pack request)). p.faults ∙ ap (λ fs. map (with_sets lists) (each_once [] fs)) (all_none pack (sets_of pack request) p.checked p.are valid)) in
     (there, back)

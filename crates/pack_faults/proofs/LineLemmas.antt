@@ -21,5 +21,5 @@ pub text_named : (set : SeqSet) (sequence : Option (List ℕ)) (name : List ℕ)
     → t ≡ text_in set sequence path part
 text_named set sequence name path part entry t text entries named same all found is =
     let there : Some entry ≡ find (λ (e : SeqEntry). bytes_eq name e.name) set.entries =
-        found ∙ ap (λ (n : List ℕ). find (λ (e : SeqEntry). bytes_eq n e.name) entries) same ∙ ap (find (λ (e : SeqEntry). bytes_eq name e.name)) all in
+    found ∙ ap (λ (n : List ℕ). find (λ (e : SeqEntry). bytes_eq n e.name) entries) same ∙ ap (find (λ (e : SeqEntry). bytes_eq name e.name)) all in
     is ∙ ap (option_and_then (λ (e : SeqEntry). text_along part path e.steps)) there ∙ ap (λ s. text_in set s path part) (sym named)

@@ -81,8 +81,7 @@ Apart (f ∷ fs) = (has f fs ≡ false) × Apart fs
 apart_last : (seen : List Found) (f : Found) → has f seen ≡ false → Apart seen → Apart (seen ++ f ∷ [])
 apart_last [] f lacks apart = (refl, tt)
 apart_last (g ∷ seen) f lacks apart =
-    let parts = or_false (same_found f g) (has f seen) lacks in
-    (
+    let parts = or_false (same_found f g) (has f seen) lacks in (
       list_any-append (same_found g) seen (f ∷ []) ∙ false_or (has g seen) (same_found g f || false) apart.0 (or_nil (same_found g f) ∙ turned f g parts.0),
       apart_last seen f parts.1 apart.1,
     )
@@ -169,9 +168,9 @@ sets_noted done found x =
     let k : 0 + length done ≡ length done = omega arith in
     let ns = sets_having x 0 done in
     let new : sets_having x 0 (after done found x) ≡ ns ++ length done ∷ [] =
-        sets_having-append x 0 done (found ++ x ∷ []) ∙ ap (λ b. ns ++ one_if b (0 + length done)) (has_last found x) ∙ ap (λ m. ns ++ m ∷ []) k in
+    sets_having-append x 0 done (found ++ x ∷ []) ∙ ap (λ b. ns ++ one_if b (0 + length done)) (has_last found x) ∙ ap (λ m. ns ++ m ∷ []) k in
     let old : sets_having x 0 (before done found) ≡ ns ++ one_if (has x found) (length done) =
-        sets_having-append x 0 done found ∙ ap (λ m. ns ++ one_if (has x found) m) k in
+    sets_having-append x 0 done found ∙ ap (λ m. ns ++ one_if (has x found) m) k in
     new ∙ sym (noted_at (has x found) (length done) ns (having_under x 0 (length done) done k)) ∙ ap (noted (length done)) (sym old)
 
 sets_other : (done : Lists) (found : List Found) (x g : Found) → same_found g x ≡ false → sets_having g 0 (after done found x) ≡ sets_having g 0 (before done found)
@@ -195,25 +194,25 @@ others done found x [] lacks = refl
 others done found x (g ∷ es) lacks =
     let parts = or_false (same_found x g) (has x es) lacks in
     let first : with_sets (after done found x) g ≡ with_sets (before done found) g =
-        with_equal (after done found x) g (sets_having g 0 (before done found)) (sets_other done found x g (turned x g parts.0)) in
+    with_equal (after done found x) g (sets_having g 0 (before done found)) (sets_other done found x g (turned x g parts.0)) in
     let rest = others done found x es parts.1 in
     ap (λ p. p ∷ map (with_sets (after done found x)) es) first ∙ ap (λ ps. with_sets (before done found) g ∷ ps) rest
 
 present_at : (done : Lists) (found : List Found) (x g : Found) (es : List Found) (b : Bool) → same_found x g ≡ b → has g es ≡ false
     → (b ≡ false → with_found (length done) x (map (with_sets (before done found)) es) ≡ map (with_sets (after done found x)) es)
     → cond b (record { found = g; sets = noted (length done) (sets_having g 0 (before done found)) } ∷ map (with_sets (before done found)) es)
-        (with_sets (before done found) g ∷ with_found (length done) x (map (with_sets (before done found)) es))
+    (with_sets (before done found) g ∷ with_found (length done) x (map (with_sets (before done found)) es))
     ≡ with_sets (after done found x) g ∷ map (with_sets (after done found x)) es
 present_at done found x g es true is apart rest =
     let equal : x ≡ g = same_equal x g is in
     let lacks : has x es ≡ false = subst (λ (z : Found). has z es ≡ false) (sym equal) apart in
     let sets : sets_having g 0 (after done found x) ≡ noted (length done) (sets_having g 0 (before done found)) =
-        subst (λ (z : Found). sets_having z 0 (after done found x) ≡ noted (length done) (sets_having z 0 (before done found))) equal (sets_noted done found x) in
+    subst (λ (z : Found). sets_having z 0 (after done found x) ≡ noted (length done) (sets_having z 0 (before done found))) equal (sets_noted done found x) in
     let first = with_equal (after done found x) g _ sets in
     ap (λ p. p ∷ map (with_sets (before done found)) es) (sym first) ∙ ap (λ ps. with_sets (after done found x) g ∷ ps) (sym (others done found x es lacks))
 present_at done found x g es false is apart rest =
     let first : with_sets (after done found x) g ≡ with_sets (before done found) g =
-        with_equal (after done found x) g (sets_having g 0 (before done found)) (sets_other done found x g (turned x g is)) in
+    with_equal (after done found x) g (sets_having g 0 (before done found)) (sets_other done found x g (turned x g is)) in
     ap (λ p. p ∷ with_found (length done) x (map (with_sets (before done found)) es)) (sym first) ∙ ap (λ ps. with_sets (after done found x) g ∷ ps) (rest refl)
 
 or_true : (a b : Bool) → a || b ≡ true → a ≡ false → b ≡ true
@@ -249,9 +248,9 @@ merged_one : (done : Lists) (found : List Found) (x : Found) → with_found (len
 merged_one done found x =
     let es = each_once [] (all_found (before done found)) in
     let none : has x es ≡ false → sets_having x 0 (before done found) ≡ [] =
-        (λ (lacks : has x es ≡ false). no_sets x 0 (before done found) (sym (has-each_once [] (all_found (before done found)) x) ∙ lacks)) in
+    (λ (lacks : has x es ≡ false). no_sets x 0 (before done found) (sym (has-each_once [] (all_found (before done found)) x) ∙ lacks)) in
     let list : all_found (after done found x) ≡ all_found (before done found) ++ x ∷ [] =
-        all_found-append done (found ++ x ∷ []) ∙ sym (append_assoc (all_found done) found (x ∷ [])) ∙ ap (λ fs. fs ++ x ∷ []) (sym (all_found-append done found)) in
+    all_found-append done (found ++ x ∷ []) ∙ sym (append_assoc (all_found done) found (x ∷ [])) ∙ ap (λ fs. fs ++ x ∷ []) (sym (all_found-append done found)) in
     either done found x es (has x es) refl (apart-each_once [] (all_found (before done found)) tt) none
     ∙ ap (map (with_sets (after done found x))) (sym (ap (each_once []) list ∙ each_once-append [] (all_found (before done found)) x))
 

@@ -112,9 +112,9 @@ spot_itself x =
 found_equal_at : (x y : Found) → x.fault.kind ≡ y.fault.kind → x.fault.spot ≡ y.fault.spot → x.line ≡ y.line → x ≡ y
 found_equal_at x y p q r =
     let fault : x.fault ≡ y.fault = (
-        let one : x.fault ≡ record y.fault { spot = x.fault.spot } = ap (λ v. record x.fault { kind = v }) p in
-        let two : record y.fault { spot = x.fault.spot } ≡ y.fault = ap (λ v. record y.fault { spot = v }) q in
-        one ∙ two) in
+    let one : x.fault ≡ record y.fault { spot = x.fault.spot } = ap (λ v. record x.fault { kind = v }) p in
+    let two : record y.fault { spot = x.fault.spot } ≡ y.fault = ap (λ v. record y.fault { spot = v }) q in
+    one ∙ two) in
     let first : x ≡ record y { line = x.line } = ap (λ v. record x { fault = v }) fault in
     let second : record y { line = x.line } ≡ y = ap (λ v. record y { line = v }) r in
     first ∙ second

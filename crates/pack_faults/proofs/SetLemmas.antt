@@ -86,7 +86,7 @@ pub has_grown : (pack : Pack) (r : Request) (place : spec.DevicePlace) (old new 
 has_grown pack r place old new e =
     let ds = device_sets pack r place in
     let sizes : length new ≡ length old + length ds =
-        sym (length-map new set_view) ∙ ap length e ∙ length-append (map set_view old) ds ∙ ap (λ n. n + length ds) (length-map old set_view) in
+    sym (length-map new set_view) ∙ ap length e ∙ length-append (map set_view old) ds ∙ ap (λ n. n + length ds) (length-map old set_view) in
     grown ds (length old) (length new) sizes
 
 pub next_device : (pack : Pack) (r : Request) (places : List DevicePlace) (i : ℕ) (x : DevicePlace) (old new : List SetRef) → i < length places → x ≡ get_or places i x

@@ -57,13 +57,7 @@ fn push_subs<'a>(
         ++ filter (is_device (option_map (λ w. w.now) requested.entry)) (places_in_subs family.now subs.now)) }
 {
     for sub in subs {
-        push_devices(
-            places,
-            family,
-            Some(sub),
-            sub.devices.as_slice(),
-            requested,
-        )?;
+        push_devices(places, family, Some(sub), sub.devices.as_slice(), requested)?;
     }
     Ok(())
 }

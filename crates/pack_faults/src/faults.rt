@@ -88,11 +88,7 @@ fn count_unfinished(phases: &[Phase]) -> usize
 /// `NoDevice` comes exactly where a device is requested that the pack has not; else `NoVariant` where none of the devices
 /// has the requested variant; else `NoPname` where no sequence for them has the requested `Pname`. `OutOfMemory` where memory
 /// is refused.
-pub fn pack_faults(
-    alloc: Global,
-    pack: &Pack,
-    request: &Request,
-) -> Result<PackFaults, PackRefusal>
+pub fn pack_faults(alloc: Global, pack: &Pack, request: &Request) -> Result<PackFaults, PackRefusal>
     ensures answer { IfOk result (ArePackFaults pack.now request.now) }
     ensures only { (other : PackFaults) → ArePackFaults pack.now request.now other → IfOk result (λ answer. answer ≡ other) }
     ensures answer_fault { IfErr result (λ e. (e ≡ refusals.OutOfMemory) ⊎ (refusal pack.now request.now ≡ Some e)) }

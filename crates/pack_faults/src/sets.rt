@@ -71,10 +71,7 @@ fn add_pnames<'a>(
 }
 
 // The processors of the sequences of a path.
-fn pnames_of<'a>(
-    alloc: Global,
-    levels: &[LevelRef<'a>],
-) -> Result<Vec<&'a NameText>, OutOfMemory>
+fn pnames_of<'a>(alloc: Global, levels: &[LevelRef<'a>]) -> Result<Vec<&'a NameText>, OutOfMemory>
     ensures { IfOk result (λ names. names_view names.items ≡ pnames_along [] (map level_view levels.now)) }
 {
     let mut names = Vec::new(alloc);
@@ -115,7 +112,7 @@ fn push_pnames<'a>(
 ) -> Result<(), OutOfMemory>
     ensures ok { OnOk result (map set_view sets.new.items ≡ map set_view sets.old.items
         ++ map (set_at (place_view place.entry) (option_map (λ v. v.now) variant.entry))
-            (map (λ name. Some name) (filter (is_requested (option_map (λ w. w.now) requested.entry)) (names_view names.now)))) }
+        (map (λ name. Some name) (filter (is_requested (option_map (λ w. w.now) requested.entry)) (names_view names.now)))) }
 {
     for name in names {
         if is_requested(requested, name.as_str()) {
@@ -151,7 +148,7 @@ fn push_processors<'a>(
 ) -> Result<(), OutOfMemory>
     ensures { OnOk result (map set_view sets.new.items ≡ map set_view sets.old.items
         ++ map (set_at (place_view place.entry) (option_map (λ v. v.now) variant.entry))
-            (processors_of (option_map (λ w. w.now) requested.entry) (names_view names.now))) }
+        (processors_of (option_map (λ w. w.now) requested.entry) (names_view names.now))) }
 {
     match requested {
         None => push_all(sets, place, variant, names),
@@ -187,7 +184,7 @@ fn push_variants<'a>(
 ) -> Result<(), OutOfMemory>
     ensures ok { OnOk result (map set_view sets.new.items ≡ map set_view sets.old.items
         ++ sets_with pack.now request.now (place_view place.entry)
-            (map (λ v. Some v) (filter (λ v. is_requested request.now.variant v.name) variants.now))) }
+        (map (λ v. Some v) (filter (λ v. is_requested request.now.variant v.name) variants.now))) }
 {
     for variant in variants {
         if is_requested(name_of(&request.variant), variant.name.as_str()) {

@@ -9,7 +9,7 @@ returns-in-Some c =
     let x : Found = record { fault = c.args.fault.now; line = option_map (λ w. w.now) c.args.line } in
     on_ok c.note.result (c.note.new.sets ≡ noted c.args.number c.index_mut.result.now.sets) _ c.note.ensures
     (λ e. noted_there c.args.number x c.args.faults.now.items c.as_slice.result.now c.in-Some.place c.index_mut.result.now c.note.new.sets c.as_slice.ensures.value
-      c.in-Some.ensures.place c.index_mut.ensures.value e)
+    c.in-Some.ensures.place c.index_mut.ensures.value e)
 
 pub returns-in-None : goal.returns-in-None
 returns-in-None c =
