@@ -1,0 +1,63 @@
+-- The line that a fault stands in as it is shown, the caret below it, and the name that begins at its place.
+use Rattle.std.specs.Prelude.{ℕ, ◌-◌, ◌==◌, nat_lt, nat_le, Bool, true, false, not, ◌&&◌, ◌||◌, List, [], ◌∷◌, ◌++◌, take, drop, map, codes, if◌then◌else◌}
+use Rattle.std.specs.Char.{is_ascii_alphanumeric}
+use Rattle.std.specs.List.{flat_map}
+use Rattle.std.specs.Str.Lines.{strip_carriage_return}
+
+-- ---- names
+
+-- what follows in the line from this column on; columns count bytes from 1
+abbrev pub from_column : List ℕ → ℕ → List ℕ
+from_column line column = drop (column - 1) line
+
+-- an ASCII letter, a digit or `_`
+abbrev pub is_word : ℕ → Bool
+is_word b = is_ascii_alphanumeric b || b == 95
+
+-- the letters, digits and `_` at the front
+abbrev pub word_front : List ℕ → List ℕ
+word_front [] = []
+word_front (b ∷ bs) = if is_word b then b ∷ word_front bs else []
+
+-- what stands before the quote (0x22) that ends it; the byte after a backslash (0x5C) ends nothing
+abbrev pub before_quote : Bool → List ℕ → List ℕ
+before_quote escaped [] = []
+before_quote escaped (b ∷ bs) = if b == 34 && not escaped then [] else b ∷ before_quote (b == 92 && not escaped) bs
+
+-- the name that begins at this column
+abbrev pub word_at : List ℕ → ℕ → List ℕ
+word_at line column = word_front (from_column line column)
+
+-- what stands between the quotes of the text that begins at this column
+abbrev pub quoted_at : List ℕ → ℕ → List ℕ
+quoted_at line column = before_quote false (drop 1 (from_column line column))
+
+-- ---- lines
+
+-- below a space, but no tab (0x09), or 0x7F
+abbrev pub is_control : ℕ → Bool
+is_control b = nat_lt b 32 && not (b == 9) || b == 127
+
+-- a byte of the line: a question mark for a control character other than a tab
+abbrev pub line_byte : ℕ → ℕ
+line_byte b = if is_control b then 63 else b
+
+-- four blanks and the line, without a carriage return at its end
+abbrev pub source_line : List ℕ → List ℕ
+source_line line = codes "    " ++ map line_byte (strip_carriage_return line) ++ codes "\n"
+
+-- 0x80 to 0xBF, which go on with a character of UTF-8
+abbrev pub goes_on : ℕ → Bool
+goes_on b = nat_le 128 b && nat_lt b 192
+
+-- what stands below a byte before the place: a tab below a tab, and one blank below any other character
+abbrev pub below : ℕ → List ℕ
+below b = if b == 9 then 9 ∷ [] else (if goes_on b then [] else 32 ∷ [])
+
+-- four blanks, and a caret below the byte at this column
+abbrev pub caret_line : List ℕ → ℕ → List ℕ
+caret_line line column = codes "    " ++ flat_map below (take (column - 1) line) ++ codes "^\n"
+
+-- the line, and the caret below its place
+abbrev pub place_lines : List ℕ → ℕ → List ℕ
+place_lines line column = source_line line ++ caret_line line column

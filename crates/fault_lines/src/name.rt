@@ -1,0 +1,68 @@
+//! The name that begins at a place of a line.
+ghost use Rattle.std.specs.Prelude.{◌≡◌, false, take};
+ghost use Rattle.fault_lines.specs.Source as source;
+ghost use Rattle.fault_lines.specs.Source.{from_column, is_word, word_front, before_quote};
+
+// What follows in the line from this column on.
+fn from_column(line: &[u8], column: u64) -> &[u8]
+    ensures { result.now ≡ from_column line.now column }
+{
+    let start = column.saturating_sub(1) as usize;
+    line.get(start..).unwrap_or(&[])
+}
+
+fn is_word(byte: u8) -> bool
+    ensures { result ≡ is_word byte }
+{
+    byte.is_ascii_alphanumeric() || byte == b'_'
+}
+
+// How many letters, digits and `_` stand at the front.
+fn word_len(bytes: &[u8]) -> usize
+    ensures { take result bytes.now ≡ word_front bytes.now }
+{
+    for (index, byte) in bytes.iter().enumerate() {
+        if !is_word(*byte) {
+            return index;
+        }
+    }
+    bytes.len()
+}
+
+// How many bytes stand before the quote that ends them.
+fn quoted_len(bytes: &[u8]) -> usize
+    ensures { take result bytes.now ≡ before_quote false bytes.now }
+{
+    let mut escaped = false;
+    for (index, byte) in bytes.iter().enumerate() {
+        if *byte == b'"' && !escaped {
+            return index;
+        }
+        escaped = *byte == b'\\' && !escaped;
+    }
+    bytes.len()
+}
+
+// The first bytes, or all where there are no more.
+fn front(bytes: &[u8], len: usize) -> &[u8]
+    ensures { result.now ≡ take len bytes.now }
+{
+    bytes.get(..len).unwrap_or(bytes)
+}
+
+/// The name that begins at this column of the line: letters, digits and `_`. Columns count bytes from 1.
+pub fn word_at(line: &[u8], column: u64) -> &[u8]
+    ensures { result.now ≡ source.word_at line.now column }
+{
+    let bytes = from_column(line, column);
+    front(bytes, word_len(bytes))
+}
+
+/// What stands between the quotes of the text that begins at this column of the line, as it is spelled. Columns
+/// count bytes from 1.
+pub fn quoted_at(line: &[u8], column: u64) -> &[u8]
+    ensures { result.now ≡ source.quoted_at line.now column }
+{
+    let quoted = from_column(line, column).get(1..).unwrap_or(&[]);
+    front(quoted, quoted_len(quoted))
+}
