@@ -1,5 +1,4 @@
-pub mod Entries
-pub mod Walks
-pub mod Steps
+pub mod Telling
+pub mod Tells
 pub mod Words
 pub mod Calls

@@ -2,9 +2,9 @@
 #![tactic(auto)]
 
 mod call;
-mod entry;
+mod teller;
 mod trace;
-mod walk;
 
 pub use call::{Status, dapseq_words};
+pub use teller::{Teller, slice_of};
 pub use trace::{TraceEnd, trace_words};

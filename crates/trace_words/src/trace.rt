@@ -1,19 +1,17 @@
 //! The words of a trace, from a source into a sink.
-#![tactic(auto, using(text_lines::proofs::PutLemmas::no_part, crate::proofs::FaultLemmas::names_other))]
+#![tactic(auto, using(text_lines::proofs::PutLemmas::no_part, crate::proofs::FaultLemmas::names_other, crate::proofs::TraceLemmas::going_start, crate::proofs::TraceLemmas::going_on))]
 
 ghost use Rattle.std.specs.Prelude.{◌≡◌, ◌≢◌, ℕ, List, Some, IfOk, IfErr, OnErr, OnOk};
 ghost use Rattle.std.specs.Io.KnownBytes.{Appends};
 ghost use Rattle.dap_base.specs.Streams.{AppendsPrefix, PutAppends};
 ghost use Rattle.text_lines.specs.Causes.{NamesFault};
+ghost use Rattle.trace_words.specs.Telling.{tell};
 ghost use Rattle.trace_words.specs.Words.{words, are_good};
-ghost use Rattle.trace_words.specs.Walks.{take_bytes, take_end};
 
-use crate::walk::Walk;
+use crate::teller::Teller;
 use dap_base::{Sink, Source};
 use std::alloc::Global;
-
-// How many bytes are asked of a source at once.
-const CHUNK: usize = 4096;
+use trace_events::{Event, Events, ReadEnd};
 
 /// Why the words of a trace were not written to their end.
 #[derive(Clone, Copy, Debug, PartialEq, Eq)]
@@ -38,33 +36,22 @@ fn put<K: Sink>(text: &[u8], sink: &mut K) -> Result<(), TraceEnd>
     }
 }
 
-// Puts what is written for the next bytes.
-fn put_bytes<K: Sink>(
+// Puts the words of an event.
+fn put_event<K: Sink>(
     alloc: Global,
-    walk: &mut Walk,
-    bytes: &[u8],
+    teller: &mut Teller,
+    event: Event,
     sink: &mut K,
 ) -> Result<(), TraceEnd>
-    ensures text { PutAppends (K.written sink.old) (K.written sink.new) result (take_bytes walk.old bytes.now).text }
-    ensures walk { OnOk result (walk.new ≡ (take_bytes walk.old bytes.now).walk) }
+    ensures text { PutAppends (K.written sink.old) (K.written sink.new) result (tell teller.old event).text }
+    ensures teller { OnOk result (teller.new ≡ (tell teller.old event).telling) }
     ensures sink { NamesFault TraceEnd.WriteFault (K.faults sink.old) (K.faults sink.new) result }
     ensures other { IfErr result (λ e. e ≢ TraceEnd.ReadFault) }
 {
-    match walk.bytes(alloc, bytes) {
-        Ok(text) => put(&text, sink),
-        Err(_) => Err(TraceEnd::OutOfMemory),
-    }
-}
-
-// Puts what is written at the end of all bytes.
-fn put_end<K: Sink>(alloc: Global, walk: &mut Walk, sink: &mut K) -> Result<(), TraceEnd>
-    ensures text { PutAppends (K.written sink.old) (K.written sink.new) result (take_end walk.old).text }
-    ensures walk { OnOk result (walk.new ≡ (take_end walk.old).walk) }
-    ensures sink { NamesFault TraceEnd.WriteFault (K.faults sink.old) (K.faults sink.new) result }
-    ensures other { IfErr result (λ e. e ≢ TraceEnd.ReadFault) }
-{
-    match walk.end(alloc) {
-        Ok(text) => put(&text, sink),
+    let told = teller.tell(alloc, &event);
+    drop(event);
+    match told {
+        Ok(text) => put(text.as_slice(), sink),
         Err(_) => Err(TraceEnd::OutOfMemory),
     }
 }
@@ -88,17 +75,18 @@ pub fn trace_words<S: Source, K: Sink>(
     ensures source { NamesFault TraceEnd.ReadFault (S.faults source.old) (S.faults source.new) result }
     ensures sink { NamesFault TraceEnd.WriteFault (K.faults sink.old) (K.faults sink.new) result }
 {
-    let mut walk = Walk::new(alloc);
-    let mut chunk = [0u8; CHUNK];
+    let mut events = Events::new(alloc);
+    let mut teller = Teller::new();
     for _ in 0..u64::MAX {
-        let Ok(count) = source.take(&mut chunk) else {
-            return Err(TraceEnd::ReadFault);
+        let event = match events.next(alloc, source) {
+            Ok(event) => event,
+            Err(ReadEnd::ReadFault) => return Err(TraceEnd::ReadFault),
+            Err(ReadEnd::OutOfMemory) => return Err(TraceEnd::OutOfMemory),
         };
-        if count == 0 {
-            put_end(alloc, &mut walk, sink)?;
-            return Ok(walk.is_good());
-        }
-        put_bytes(alloc, &mut walk, &chunk[..count], sink)?;
+        let Some(event) = event else {
+            return Ok(teller.is_good());
+        };
+        put_event(alloc, &mut teller, event, sink)?;
     }
     Err(TraceEnd::OutOfMemory)
 }

@@ -1,0 +1,5 @@
+pub mod Entries
+pub mod Inputs
+pub mod Readings
+pub mod Steps
+pub mod Events

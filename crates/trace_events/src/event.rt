@@ -1,0 +1,13 @@
+//! An event of a trace.
+use crate::bytes::Bytes;
+
+/// What a trace says.
+#[derive(Debug, Drop)]
+pub enum Event {
+    /// A packet, with its reply where it has one.
+    Exchange { packet: Bytes, reply: Option<Bytes> },
+    /// A reply that no packet waits for.
+    Stray(Bytes),
+    /// A line that is neither a packet nor a reply, or a part of one, as it is.
+    Other(Bytes),
+}
