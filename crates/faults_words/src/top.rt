@@ -1,0 +1,72 @@
+//! From the words to what they ask for.
+ghost use Rattle.std.specs.Prelude.{◌≡◌, IfOk, IfErr, MatchResult, map};
+ghost use Rattle.clap.specs.Words.{first_value, found_of};
+ghost use Rattle.faults_words.specs.Asks.{Asks, IsAskedBy};
+ghost use Rattle.faults_words.specs.declared.answer.WordsError.TheVariants as errors;
+
+use crate::answer::{Asked, WordsError};
+use crate::format::format_of;
+use crate::line::{DEVICE, FORMAT, PNAME, VARIANT, matches_in};
+use clap::ArgMatches;
+use dap_base::{NameText, OutOfMemory, Words};
+use std::alloc::{AllocError, Global};
+
+fn texts_of<'a>(alloc: Global, words: &'a Words) -> Result<Vec<&'a str>, AllocError>
+    ensures { IfOk result (λ texts. map (λ t. t.now) texts.items ≡ words.now) }
+{
+    let mut texts = Vec::new(alloc);
+    for word in words.as_slice() {
+        texts.push(word.as_str())?;
+    }
+    Ok(texts)
+}
+
+// The value of an option, which then outlives the list of texts that clap lends it from.
+fn value_of(
+    alloc: Global,
+    matches: &ArgMatches<'_>,
+    name: &str,
+) -> Result<Option<NameText>, OutOfMemory>
+    ensures { IfOk result (λ v. v ≡ first_value (found_of matches.now) name.now) }
+{
+    match matches.get_str(name) {
+        Some(text) => {
+            let value = NameText::new(alloc, text)?;
+            Ok(Some(value))
+        }
+        None => Ok(None),
+    }
+}
+
+// What the values of the options ask for.
+fn asked_by(alloc: Global, matches: &ArgMatches<'_>) -> Result<Asked, WordsError>
+    ensures answer { IfOk result (IsAskedBy (first_value (found_of matches.now))) }
+    ensures usage { IfErr result (λ e. e ≡ errors.Usage → (a : _) → IsAskedBy (first_value (found_of matches.now)) a → ⊥) }
+{
+    let Some(format) = format_of(matches.get_str(FORMAT)) else {
+        return Err(WordsError::Usage);
+    };
+    Ok(Asked {
+        device: value_of(alloc, matches, DEVICE)?,
+        variant: value_of(alloc, matches, VARIANT)?,
+        pname: value_of(alloc, matches, PNAME)?,
+        format,
+    })
+}
+
+/// What the words after the program's name ask for.
+///
+/// `clap` reads them as the options `--device`, `--variant`, `--pname` and `--format`, each with one value and at
+/// most once. A format is `text`, `json` or `sarif`, and `text` where none is given. The names are copies.
+///
+/// `Usage` exactly where `clap` refuses the words for another cause than memory, which its answers to `--help` and
+/// `-h` are, or where the format is none of these. `OutOfMemory` where memory is refused.
+pub fn asked_of(alloc: Global, words: &Words) -> Result<Asked, WordsError>
+    ensures answer { IfOk result (Asks words.now) }
+    ensures only { (a : _) → Asks words.now a → MatchResult result (λ r. r ≡ a) (λ e. e ≡ errors.OutOfMemory) }
+    ensures usage { IfErr result (λ e. e ≡ errors.Usage → (a : _) → Asks words.now a → ⊥) }
+{
+    let texts = texts_of(alloc, words)?;
+    let matches = matches_in(alloc, texts.as_slice())?;
+    asked_by(alloc, &matches)
+}
