@@ -1,20 +1,17 @@
 -- Sets that are checked one after another, and that a pack has one answer.
-use Rattle.std.proofs.Common.{◌≡◌, ◌∙◌, ◌↔◌, ℕ, ◌+◌, Bool, true, false, cond, ◌||◌, List, [], ◌∷◌, ◌++◌, map, count_by, length, refl, ap, sym, subst, true≢false}
-use Rattle.std.specs.List.{AllByRecursion, list_any}
+use Rattle.std.proofs.Common.{◌≡◌, ◌∙◌, ◌↔◌, ◌+◌, Bool, false, cond, ◌||◌, List, [], ◌∷◌, ◌++◌, map, count_by, length, refl, ap, sym, subst, true≢false}
+use Rattle.std.specs.List.{list_any}
 use Rattle.std.proofs.lemmas.List.{map-append, length-map}
 use Rattle.std.proofs.lemmas.List.Sums.{sum_by-cons}
 use Rattle.device_tree.specs.declared.pack.Pack.{Pack}
 use Rattle.sequence_resolve.specs.declared.entry.SeqSet.{SeqSet}
-use Rattle.sequence_resolve.specs.Resolving.{IsSetAlong}
 use Rattle.sequence_resolve.proofs.OneSet.{one_set_along}
 use Rattle.seq_check.specs.Valid.{IsValid}
-use Rattle.set_faults.specs.declared.site.Fault.{Fault}
 use Rattle.set_faults.specs.declared.phase.SetFaults.{SetFaults}
 use Rattle.set_faults.specs.Answers.{AreSetFaults}
 use Rattle.set_faults.proofs.PhaseLemmas as faults
 use Rattle.pack_faults.specs.declared.request.Request.{Request}
 use Rattle.pack_faults.specs.declared.answer.Found.{Found}
-use Rattle.pack_faults.specs.declared.answer.PackFault.{PackFault}
 use Rattle.pack_faults.specs.declared.answer.PackFaults.{PackFaults}
 use Rattle.pack_faults.specs.declared.checking.Checking.{Checking}
 use Rattle.pack_faults.specs.Sets.{SetAt, sets_of}

@@ -1,5 +1,5 @@
 -- What is found in one more set, after what was found before.
-use Rattle.std.proofs.Common.{◌≡◌, ◌∙◌, ℕ, zero, suc, ◌+◌, ◌-◌, ◌<◌, ◌==◌, Bool, true, false, cond, not, ◌||◌, List, [], ◌∷◌, ◌++◌, map, length, position, Option, Some, None, Result, Ok, Err, OnOk, nat_lt, ltb-false, ◌≤◌, get_or, slice_get, slice_set, append_assoc, append-nil, refl, ap, sym, subst, true≢false, eq-eqb, ne_eqb, arith}
+use Rattle.std.proofs.Common.{◌≡◌, ◌∙◌, ℕ, zero, suc, ◌+◌, ◌-◌, ◌<◌, ◌==◌, Bool, true, false, cond, ◌||◌, List, [], ◌∷◌, ◌++◌, map, length, position, Some, None, Result, Ok, Err, OnOk, nat_lt, ltb-false, ◌≤◌, get_or, slice_set, append_assoc, append-nil, refl, ap, sym, subst, true≢false, eq-eqb, ne_eqb, arith}
 use Rattle.std.specs.List.{AllByRecursion, list_any, position_or_len}
 use Rattle.std.proofs.lemmas.List.{map-append}
 use Rattle.std.proofs.lemmas.List.Folds.{list_any-append}

@@ -9,7 +9,6 @@ use Rattle.code_check.specs.declared.fault.FaultKind.{FaultKind}
 use Rattle.code_check.specs.declared.fault.FaultKind.TheVariants as k
 use Rattle.code_check.specs.Order.{rank}
 use Rattle.dap_base.specs.declared.text.Place.{Place}
-use Rattle.set_faults.specs.declared.site.Fault.{Fault}
 use Rattle.pack_faults.specs.declared.answer.Found.{Found}
 use Rattle.pack_faults.specs.Merged.{part_number, same_spot, same_found}
 

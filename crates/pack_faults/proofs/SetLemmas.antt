@@ -1,7 +1,7 @@
 -- Devices, variants and processors that are requested.
 use Rattle.std.proofs.Common.{◌≡◌, ◌∙◌, ℕ, zero, suc, ◌+◌, ◌<◌, ◌≤◌, nat_lt, lt-ltb, le-ltb, Bool, cond, take, drop, get_or, drop-cons, add-one, append_assoc, true, false, not, List, [], ◌∷◌, ◌++◌, map, filter, length, Option, Some, None, option_map, Bor, refl, ap, sym, subst, arith}
 use Rattle.std.specs.Prelude.{count_by}
-use Rattle.std.proofs.lemmas.List.{map-append, length-append, length-map}
+use Rattle.std.proofs.lemmas.List.{length-append, length-map}
 use Rattle.std.proofs.lemmas.List.Sums.{sum_by-cons}
 use Rattle.device_tree.specs.declared.pack.Variant.{Variant}
 use Rattle.device_tree.specs.declared.pack.Pack.{Pack}

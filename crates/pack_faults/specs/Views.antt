@@ -1,5 +1,5 @@
 -- What is held by reference, without where it lies in memory: what private contracts cite.
-use Rattle.std.specs.Prelude.{◌≡◌, ℕ, Bool, List, [], ◌∷◌, ◌++◌, map, Option, option_map}
+use Rattle.std.specs.Prelude.{ℕ, List, map, option_map}
 use Rattle.std.specs.Borrow.{Bor}
 use Rattle.sequence_resolve.specs.Views.{place_view}
 use Rattle.pack_faults.specs.declared.sets.SetRef.{SetRef}

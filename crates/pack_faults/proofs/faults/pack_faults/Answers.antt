@@ -1,6 +1,4 @@
-use Rattle.std.proofs.Common.{◌≡◌, ◌∙◌, List, map, ap, sym, subst}
-use Rattle.set_faults.specs.declared.phase.Phase.{Phase}
-use Rattle.pack_faults.specs.declared.sets.SetRef.{SetRef}
+use Rattle.std.proofs.Common.{◌≡◌, ◌∙◌, List, map, ap, subst}
 use Rattle.std.proofs.Common.{count_by}
 use Rattle.pack_faults.specs.Sets.{SetAt, set_name, sets_of}
 use Rattle.pack_faults.specs.Views.{set_view}
