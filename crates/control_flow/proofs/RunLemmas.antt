@@ -335,6 +335,10 @@ module _ (w : World) where
   stops_closing end ReplyBad s out q lines r is p answered stops calls written = let e = ends_so end s out is in settling_broken r out q p (rw e calls) (rw e written)
   stops_closing end OutOfMemory s out q lines r is p answered stops calls written = let e = ends_so end s out is in settling_broken r out q p (rw e calls) (rw e written)
 
+  -- so it is in each world that is left
+  pub left_closing : (end : Ending) (s : State Value Late) (out : L) (q : Q) (r : Ran) → OutIs end s out → Pair w out q → r.asks.calls ≡ settled_last s.rest.asks.calls → r.written ≡ s.rest.written → IsPart (outcome_of q) r
+  left_closing end s out q r is p calls written = let e = ends_so end s out is in settling_broken r out q p (rw e calls) (rw e written)
+
   pub settles : (calls : List Ask) (lines : ℕ) (st : Stop) → StopsCalls w (settled_last calls) lines st → StopsSettling w calls lines st
   settles calls lines (Cut r) h = record { so = by_cause r.cause (sym (stop_marked w calls) ∙ h.so) }
     where

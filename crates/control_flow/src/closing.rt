@@ -15,7 +15,7 @@ ghost use Rattle.sequence_rules.specs.Shared.{bindings_of};
 ghost use Rattle.function_calls.specs.Ends.{EndsBy};
 ghost use Rattle.function_calls.specs.Frame.{Keeps};
 ghost use Rattle.function_calls.specs.Held.{state_of};
-ghost use Rattle.control_flow.specs.Answers.{EndBy, EndsAs, HasNeeds, ran};
+ghost use Rattle.control_flow.specs.Answers.{EndBy, EndsAs, HasNeeds, IsPart, ran};
 ghost use Rattle.control_flow.specs.Closing.{AreAsked, ComesToEnd, NoWriteFault, OutIs, numbers_in};
 
 use access_calls::{Access, Ended, Ending, Stop};
@@ -113,6 +113,9 @@ pub(crate) fn ended_whole<A: Access>(
         → OutIs ending (state_of held.now (A.reported access.old).asks written) out → Pair (world_from m (answered_by (A.reported access.new))) out q
         → EndsAs result.ending (A.reported access.new).lines (outcome_of q) (ran result (A.reported access.new).asks written) × HasNeeds result.ending
         (A.reported access.new).asks out }
+    ensures part { (m : BenchState) (answered : Option ℕ) (written : Option (List ℕ)) (out : Out Value Late (Unit {0})) (q : Out ℕ Now (Unit {0})) → A.begun access.old m
+        → IsLeft (A.reported access.new) answered → OutIs ending (state_of held.now (A.reported access.old).asks written) out → Pair (world_from m answered) out q
+        → (ComesToEnd result.ending → ⊥) → IsPart (outcome_of q) (ran result (A.reported access.new).asks written) }
     ensures goes { (m : BenchState) (answered : Option ℕ) → A.begun access.old m → IsLeft (A.reported access.new) answered → ComesToEnd result.ending
         → stop (world_from m answered) (A.reported access.new).asks.calls ≡ None }
     ensures counted { ComesToEnd result.ending → result.units ≡ length (A.reported access.new).asks.calls }

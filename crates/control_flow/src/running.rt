@@ -11,7 +11,8 @@ ghost use Rattle.seq_check.specs.Answers.{checked_trees};
 ghost use Rattle.sequence_rules.specs.Runs.{late_meaning, meaning, outcome_of, program_of};
 ghost use Rattle.sequence_rules.specs.Known.{Knows, known_part};
 ghost use Rattle.function_calls.specs.Frame.{Keeps};
-ghost use Rattle.control_flow.specs.Answers.{EndBy, EndsAs, HasLines, HasNeeds, HasSinkCause, ran};
+ghost use Rattle.control_flow.specs.Answers.{EndBy, EndsAs, HasLines, HasNeeds, HasSinkCause, IsPart, ran};
+ghost use Rattle.control_flow.specs.Closing.{ComesToEnd};
 
 use crate::closing::{ended_early, ended_whole};
 use crate::runner::Runner;
@@ -51,6 +52,12 @@ pub fn run<A: Access, K: Sink>(
         → EndsAs result.ending (A.reported access.new).lines
         (outcome_of (meaning (world_from m (answered_by (A.reported access.new))) (program_of (checked_trees checked.now) start.now settings.now)
         (known_part known (K.written sink.old))))
+        (ran result (A.reported access.new).asks (known_part known (K.written sink.new))) }
+    // Where it is neither done nor halted, what is written comes first in the lines of each world that is left: all calls before a line had
+    // come when it was written.
+    ensures part { (m : BenchState) (answered : Option ℕ) (known : Bool) → A.begun access.old m → IsLeft (A.reported access.new) answered → Knows known (K.written sink.old)
+        → (ComesToEnd result.ending → ⊥)
+        → IsPart (outcome_of (meaning (world_from m answered) (program_of (checked_trees checked.now) start.now settings.now) (known_part known (K.written sink.old))))
         (ran result (A.reported access.new).asks (known_part known (K.written sink.new))) }
     // What was asked has the need points of the meaning with results that come later, and one for the end.
     ensures needs { (m : BenchState) (known : Bool) → A.begun access.old m → Knows known (K.written sink.old)

@@ -19,7 +19,7 @@ use Rattle.target_calls.specs.World.{stop as call_stop}
 use Rattle.target_calls.specs.declared.calls.Ask.{Ask}
 use Rattle.target_calls.proofs.MarkLemmas.{after_marked, marked_settled}
 use Rattle.access_calls.specs.Bounds.{AreNextWrites, KeepsBounds, KeepsBoundsIf, block_words, capacity, starting_since}
-use Rattle.access_calls.specs.Left.{answered_at, answered_by, answered_cut}
+use Rattle.access_calls.specs.Left.{IsLeft, IsLeftAt, answered_at, answered_by, answered_cut}
 use Rattle.access_calls.specs.Growing.{IsWithin, JournalGrows, JournalSettles}
 use Rattle.access_calls.specs.Made.{HasMemory, units_made}
 use Rattle.access_calls.specs.Numbers.{HasNumbers, StopNumbers, lines_at, unit_at}
@@ -39,6 +39,7 @@ use Rattle.sequence_rules.specs.Machine.{end_state}
 use Rattle.sequence_rules.proofs.Writing.{only_written}
 use Rattle.control_flow.specs.Answers as answers
 use Rattle.control_flow.specs.Answers.{EndBy, EndsAs, EndsAtCut, HasNeeds, IsAll, IsPart, Ran, SharesCalls, StopsAfter, ran}
+use Rattle.control_flow.specs.Closing.{ComesToEnd}
 use Rattle.sequence_rules.specs.Known.{Knows, known_part}
 use Rattle.target_machine.specs.Counts.{one_if}
 use Rattle.sequels.specs.Limits.{GoesOnFrom}
@@ -192,15 +193,25 @@ module _ (access : AccessKind) (grows : JournalGrows access.journal) (settles : 
         retries = at.retries;
       }
 
-  is_broken : (issued confirmed : ℕ) (a : AccessView) (l : Left) → IsPart whole (ran l.ended a.asks l.written)
-      → s.IsBenchFault a.asks.calls (entries a) issued confirmed (began first None) l.bench → IsBroken run issued confirmed l
-  is_broken issued confirmed a l part fault =
+  -- So it is in each world that is left, where it is neither done nor halted.
+  abbrev IsPartThere : Ending → AccessView → Left → Type 0
+  IsPartThere ending a l = (n : Option ℕ) → IsLeft a n → (ComesToEnd ending → ⊥) → IsPart (followed.outcome_in (world_from first n) k before) (ran l.ended a.asks l.written)
+
+  -- the calls that came are answered
+  came_left : (issued confirmed : ℕ) (a : AccessView) → a.end ≡ Some (stop.BenchFault issued confirmed) → IsLeft a (Some a.came)
+  came_left issued confirmed a end = record { so = subst (λ (x : Option Stop). IsLeftAt x a.lines a.came (Some a.came)) (sym end) (let le : a.came ≤ a.came = omega arith in le) }
+
+  is_broken : (issued confirmed : ℕ) (a : AccessView) (l : Left) → IsPart whole (ran l.ended a.asks l.written) → IsPart (outcome_with run a.came) (ran l.ended a.asks l.written)
+      → s.IsBenchFault a.asks.calls a.came (entries a) issued confirmed (began first None) l.bench → IsBroken run issued confirmed l
+  is_broken issued confirmed a l part short fault =
       let broken = fault.broken in
       let share = shared_by a broken.begun part.calls fault.own (let high = broken.high in let within = broken.within in omega (arith, high, within)) in
       record {
         asked = a.asks.calls;
+        came = a.came;
         stands = fault;
         front = is_front a broken.begun l part share;
+        lines = short.written;
         target = part_shared (entries a) (entries_in run (calls_in run)) broken.count broken.begun (began first None) l.bench share.same broken.target;
       }
 
@@ -348,29 +359,30 @@ module _ (access : AccessKind) (grows : JournalGrows access.journal) (settles : 
   -- What a run leaves, by how it ended.
   pub leaves : (ending : Ending) (a : AccessView) (l : Left) → EndBy ending a.end → l.ended.skipped ≡ a.skipped → a.state ≡ Some l.bench → SendsFew ending a
       → EndsAs ending a.lines (followed.outcome_in (world_from first (answered_by a)) k before) (ran l.ended a.asks l.written)
-      → Stands access.journal a (began first (answered_by a)) → LeavesAs ending run l
-  leaves e.Done a l end skipped seen few ends stands =
+      → IsPartThere ending a l → Stands access.journal a (began first (answered_by a)) → LeavesAs ending run l
+  leaves e.Done a l end skipped seen few ends parts stands =
       let so = ends_at e.Done k a first before (ran l.ended a.asks l.written) None end ends in (
         so.0,
         is_whole a l so.1 (stands_at access.journal a first l.bench None end seen stands)
             (few_if access.is_sparing (is_none k.sequel) (answered_by a) a l end seen few.limits_are few.opening so.1.calls (λ none. counted_needs a (all_needs e.Done a end (few.points none))) few.bounds),
       )
-  leaves (e.Halted cause) a l end skipped seen few ends stands =
+  leaves (e.Halted cause) a l end skipped seen few ends parts stands =
       let so = ends_at (e.Halted cause) k a first before (ran l.ended a.asks l.written) None end ends in (
         so.0,
         is_whole a l so.1 (stands_at access.journal a first l.bench None end seen stands)
             (few_if access.is_sparing (is_none k.sequel) (answered_by a) a l end seen few.limits_are few.opening so.1.calls (λ none. counted_needs a (all_needs (e.Halted cause) a end (few.points none))) few.bounds),
       )
-  leaves (e.Cut r) a l end skipped seen few ends stands =
+  leaves (e.Cut r) a l end skipped seen few ends parts stands =
       let at : s.IsCut (entries a) r a (began first (answered_cut r.cause a.lines)) l.bench = stands_at access.journal a first l.bench (Some (stop.Cut r)) end seen stands in
       is_stop r.cause a r l refl (ends_at (e.Cut r) k a first before (ran l.ended a.asks l.written) (Some (stop.Cut r)) end ends) skipped at.stands at.own at.memory
-  leaves (e.BenchFault issued confirmed) a l end skipped seen few ends stands =
+  leaves (e.BenchFault issued confirmed) a l end skipped seen few ends parts stands =
       is_broken issued confirmed a l (ends_at (e.BenchFault issued confirmed) k a first before (ran l.ended a.asks l.written) (Some (stop.BenchFault issued confirmed)) end ends)
+      (parts (Some a.came) (came_left issued confirmed a end) (λ never. never))
       (stands_at access.journal a first l.bench (Some (stop.BenchFault issued confirmed)) end seen stands)
-  leaves e.ReplyBad a l end skipped seen few ends stands = stands_at access.journal a first l.bench (Some stop.ReplyBad) end seen stands
-  leaves e.WriteFault a l end skipped seen few ends stands =
+  leaves e.ReplyBad a l end skipped seen few ends parts stands = stands_at access.journal a first l.bench (Some stop.ReplyBad) end seen stands
+  leaves e.WriteFault a l end skipped seen few ends parts stands =
       is_left_off a l (ends_at e.WriteFault k a first before (ran l.ended a.asks l.written) None end ends) (stands_at access.journal a first l.bench None end seen stands)
-  leaves e.OutOfMemory a l end skipped seen few ends stands =
+  leaves e.OutOfMemory a l end skipped seen few ends parts stands =
       is_left_off a l (ends_at e.OutOfMemory k a first before (ran l.ended a.asks l.written) None end ends) (stands_at access.journal a first l.bench None end seen stands)
 
 -- what was known before is known, or nothing is
@@ -425,6 +437,10 @@ where_seen (Some n) P h = (n, refl)
 abbrev EndsOf : Task → BenchState → AccessView → Ended → Option (List ℕ) → Option (List ℕ) → Type 0
 EndsOf k first a ended before after = EndsAs ended.ending a.lines (followed.outcome_in (world_from first (answered_by a)) k before) (ran ended a.asks after)
 
+-- what it wrote in a world that is left
+abbrev PartOf : Task → BenchState → Option ℕ → AccessView → Ended → Option (List ℕ) → Option (List ℕ) → Type 0
+PartOf k first n a ended before after = IsPart (followed.outcome_in (world_from first n) k before) (ran ended a.asks after)
+
 -- where it began
 abbrev began_at : Config → BenchJob → BenchState
 began_at config job = opened_bench config (fresh job)
@@ -434,7 +450,8 @@ pub opened_run : (access : AccessKind) → JournalGrows access.journal → Journ
     → (Stands access.journal a (began (began_at config job) (answered_by a))
     × ((known : Bool) → Knows known before → EndsOf k (began_at config job) a ended (known_part known before) (known_part known mid))
     × ((known : Bool) → Knows known before → is_none k.sequel ≡ true → HasNeeds ended.ending a.asks (late_meaning access.cost (world_from (began_at config job) (answered_by a)) k.program (known_part known before)))
-    × KeepsBoundsIf access.is_sparing (access.journal (target_of (began_at config job).probe) a.asks.calls) a (began (began_at config job) (answered_by a)))
+    × KeepsBoundsIf access.is_sparing (access.journal (target_of (began_at config job).probe) a.asks.calls) a (began (began_at config job) (answered_by a))
+    × ((n : Option ℕ) (known : Bool) → IsLeft a n → Knows known before → (ComesToEnd ended.ending → ⊥) → PartOf k (began_at config job) n a ended (known_part known before) (known_part known mid)))
     → EndBy ended.ending a.end → ended.skipped ≡ a.skipped → a.bench.limits ≡ job.limits
     → (n : BenchState) × (a.state ≡ Some n) × ComesTo access config job k before (record { ended = ended; written = known_after before mid; bench = n })
 opened_run access grows settles config job k before mid a ended h end skipped limits_are =
@@ -444,11 +461,13 @@ opened_run access grows settles config job k before mid a ended h end skipped li
     let ends : EndsOf k first a ended before (known_after before mid) =
     subst (λ (x : Option (List ℕ)). EndsOf k first a ended before x) known.3
     (subst (λ (x : Option (List ℕ)). EndsOf k first a ended x (known_part known.0 mid)) known.2 (h.1 known.0 known.1)) in
+    let parts = λ (n : Option ℕ) (left : IsLeft a n) (never : ComesToEnd ended.ending → ⊥). subst (λ (x : Option (List ℕ)). PartOf k first n a ended before x) known.3
+    (subst (λ (x : Option (List ℕ)). PartOf k first n a ended x (known_part known.0 mid)) known.2 (h.4 n known.0 left known.1 never)) in
     let points = λ (none : is_none k.sequel ≡ true). subst (λ (x : Option (List ℕ)). HasNeeds ended.ending a.asks (late_meaning access.cost (world_from first (answered_by a)) k.program x)) known.2 (h.2 known.0 known.1 none) in
     let few : SendsFew access grows settles job.limits k first before ended.ending a = record { limits_are = limits_are; opening = refl; points = points; bounds = h.3 } in (
       seen.0,
       seen.1,
-      opened (leaves access grows settles job.limits k first before ended.ending a (record { ended = ended; written = known_after before mid; bench = seen.0 }) end skipped seen.1 few ends h.0),
+      opened (leaves access grows settles job.limits k first before ended.ending a (record { ended = ended; written = known_after before mid; bench = seen.0 }) end skipped seen.1 few ends parts h.0),
     )
 
 -- nothing was written

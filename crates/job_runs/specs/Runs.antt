@@ -218,11 +218,14 @@ pub record IsFront (run : Run) (asked : List Ask) (begun : ℕ) (l : Left) : Typ
   pub within : begun ≤ length (entries_in run (calls_in run))
 
 -- Where the bench failed: at least the confirmed entries were performed, and perhaps a part of the next; and at most those that were
--- issued were begun. The target is the one after as many of the journal of the outcome's calls.
+-- issued were begun. The target is the one after as many of the journal of the outcome's calls. So many calls have come, all of whose entries
+-- are confirmed; and what was written comes first in the lines of the outcome with only so many units answered.
 pub record IsBroken (run : Run) (issued confirmed : ℕ) (l : Left) : Type 0 where
   pub asked : List Ask
-  pub stands : IsBenchFault asked (entries_in run asked) issued confirmed (began run.first None) l.bench
+  pub came : ℕ
+  pub stands : IsBenchFault asked came (entries_in run asked) issued confirmed (began run.first None) l.bench
   pub front : IsFront run asked stands.broken.begun l
+  pub lines : Grows l.written (outcome_with run came).written
   pub target : IsAfterPart (entries_in run (calls_in run)) stands.broken.count stands.broken.begun (began run.first None) l.bench
 
 -- Where the sink failed or memory was refused: exactly the entries that were sent were performed.

@@ -21,7 +21,8 @@ use Rattle.sequels.specs.declared.close.Close.{Close}
 use Rattle.sequels.specs.declared.close.Close.TheVariants as close
 use Rattle.followed_runs.specs.Followed as followed
 use Rattle.followed_runs.specs.Followed.{closed_at, followed_at, joined}
-use Rattle.control_flow.specs.Answers.{EndBy, EndsAs, HasLines, HasSinkCause, IsAll, ran}
+use Rattle.control_flow.specs.Answers.{EndBy, EndsAs, HasLines, HasSinkCause, IsAll, IsPart, ran}
+use Rattle.control_flow.specs.Closing.{ComesToEnd}
 use Rattle.function_calls.specs.Lines.{AppendsLines}
 use Rattle.function_calls.proofs.WholeLines.{lines_more}
 use Rattle.task_runs.specs.Following as following
@@ -34,7 +35,7 @@ use Rattle.task_runs.specs.declared.following.Unclosed.{Unclosed}
 use Rattle.task_runs.specs.declared.following.Unclosed.TheVariants as unclosed
 use Rattle.task_runs.specs.declared.task.TaskEnded.{TaskEnded}
 use Rattle.image_load.specs.LoadSequel.{loaded}
-use Rattle.task_runs.proofs.JoinLemmas.{follows}
+use Rattle.task_runs.proofs.JoinLemmas.{Closes, follows, follows_part}
 use Rattle.task_runs.proofs.TaskLemmas.{done_elsewhere}
 
 -- ---- where something follows
@@ -140,25 +141,25 @@ where_closed (Err u) end P is f = tt
 
 -- ---- together
 
--- What is known of a run that was done and of what followed it, over an access that reported a0 between and reports a now.
-pub record Going (f : Followed) (m : BenchState) (p : Program) (before : Option (List ℕ)) (a0 a : AccessView) (ended : Ended) (closed : Result Closed Unclosed) (task : TaskEnded) (known : Bool) (mid now : Option (List ℕ)) : Type 0 where
+-- What is known of a run that was done and of what followed it, over an access that reported a0 between and reports a now, in a world that is left.
+pub record Going (f : Followed) (m : BenchState) (n : Option ℕ) (p : Program) (before : Option (List ℕ)) (a0 a : AccessView) (ended : Ended) (closed : Result Closed Unclosed) (task : TaskEnded) (known : Bool) (mid now : Option (List ℕ)) : Type 0 where
   pub sequel : Sequel Close
   pub is : sequel_of f ≡ Some sequel
   pub done : ended.ending ≡ ending.Done
   pub no_end : a0.end ≡ None
   pub ends : EndsAs ended.ending a0.lines (outcome_of (meaning (world_from m (answered_by a0)) p before)) (ran ended a0.asks (known_part known mid))
-  pub whole : stop (world_from m (answered_by a)) a0.asks.calls ≡ None
-  pub follows : FollowsAs a.lines (comes (world_after (world_from m (answered_by a)) a0.asks.calls) sequel) closed a0.asks.calls a.asks.calls mid now
+  pub whole : stop (world_from m n) a0.asks.calls ≡ None
+  pub follows : FollowsAs a.lines (comes (world_after (world_from m n) a0.asks.calls) sequel) closed a0.asks.calls a.asks.calls mid now
   pub end : EndIs closed a.end
   pub skipped : ℕ
   pub closes : IsClosed closed ended skipped task
   pub knows : Knows known mid
   pub units : IfOk closed (λ x. length a.asks.calls ≡ ended.units + x.units)
-  pub skips : IfOk closed (λ x. (skipped ≡ skips (world_from m (answered_by a)) a.asks.calls) × (skipped < 2 ^ 32))
+  pub skips : IfOk closed (λ x. (skipped ≡ skips (world_from m n) a.asks.calls) × (skipped < 2 ^ 32))
 
-module _ (f : Followed) (m : BenchState) (p : Program) (before : Option (List ℕ)) (a0 a : AccessView) (ended : Ended) (closed : Result Closed Unclosed) (task : TaskEnded) (known : Bool) (mid now : Option (List ℕ)) (g : Going f m p before a0 a ended closed task known mid now) where
+module _ (f : Followed) (m : BenchState) (n : Option ℕ) (p : Program) (before : Option (List ℕ)) (a0 a : AccessView) (ended : Ended) (closed : Result Closed Unclosed) (task : TaskEnded) (known : Bool) (mid now : Option (List ℕ)) (g : Going f m n p before a0 a ended closed task known mid now) where
   abbrev w : World
-  w = world_from m (answered_by a)
+  w = world_from m n
 
   abbrev o : Outcome
   o = outcome p (target_of m.probe) before
@@ -171,7 +172,7 @@ module _ (f : Followed) (m : BenchState) (p : Program) (before : Option (List �
   whole_here = sym (stop_marked w o.calls) ∙ ap (stop w) (sym done_all.1.calls) ∙ g.whole
 
   same : outcome_of (meaning w p before) ≡ o
-  same = done_elsewhere (target_of m.probe) (answered_by a) p before whole_here
+  same = done_elsewhere (target_of m.probe) n p before whole_here
 
   here : world_after w a0.asks.calls ≡ world_after w o.calls
   here = ap (world_after w) done_all.1.calls ∙ after_marked w o.calls
@@ -187,19 +188,26 @@ module _ (f : Followed) (m : BenchState) (p : Program) (before : Option (List �
   closed_is = ap (λ (q : Option (Sequel Close)). followed.closed q w (outcome_of (meaning w p before))) g.is
       ∙ ap (λ (x : Outcome). followed.closed (Some g.sequel) w x) same ∙ ap (closed_at w g.sequel o) done_all.0
 
-  pub goes_so : EndsAs task.ended.ending a.lines (followed.followed (sequel_of f) w (outcome_of (meaning w p before))) (ran task.ended a.asks (known_part known now))
-  goes_so = subst (λ (x : Outcome). EndsAs task.ended.ending a.lines x (ran task.ended a.asks (known_part known now))) (sym joins)
-      (follows w g.sequel o whole_here a.lines closed ended task a.asks a0.asks.calls known mid now a.end (record {
-        ending = g.done;
-        variables = done_all.1.variables;
-        lines = done_all.1.written;
-        knows = g.knows;
-        calls = done_all.1.calls;
-        skipped = g.skipped;
-        is = g.closes;
-        units = g.units;
-        skips = g.skips;
-      }) refl g.end followed_here)
+  closing : Closes w g.sequel o whole_here closed ended task a.asks a0.asks.calls known mid
+  closing = record {
+    ending = g.done;
+    variables = done_all.1.variables;
+    lines = done_all.1.written;
+    knows = g.knows;
+    calls = done_all.1.calls;
+    skipped = g.skipped;
+    is = g.closes;
+    units = g.units;
+    skips = g.skips;
+  }
+
+  pub goes_so : n ≡ answered_by a → EndsAs task.ended.ending a.lines (followed.followed (sequel_of f) w (outcome_of (meaning w p before))) (ran task.ended a.asks (known_part known now))
+  goes_so by = subst (λ (x : Outcome). EndsAs task.ended.ending a.lines x (ran task.ended a.asks (known_part known now))) (sym joins)
+      (follows w g.sequel o whole_here a.lines closed ended task a.asks a0.asks.calls known mid now a.end closing by g.end followed_here)
+
+  pub part_so : (ComesToEnd task.ended.ending → ⊥) → IsPart (followed.followed (sequel_of f) w (outcome_of (meaning w p before))) (ran task.ended a.asks (known_part known now))
+  part_so never = subst (λ (x : Outcome). IsPart x (ran task.ended a.asks (known_part known now))) (sym joins)
+      (follows_part w g.sequel o whole_here a.lines closed ended task a.asks a0.asks.calls known mid now closing never followed_here)
 
   pub closes_here : task.ended.ending ≡ ending.Done → task.close ≡ followed.closed (sequel_of f) w (outcome_of (meaning w p before))
   closes_here done = by_closed closed g.closes followed_here ∙ sym closed_is

@@ -1,5 +1,5 @@
 -- What a run that was done comes to with what follows it, by how far that has come.
-use Rattle.std.proofs.Common.{◌≡◌, ◌∙◌, inl, inr, ℕ, ◌+◌, ◌-◌, ◌^◌, ◌<◌, ◌≤◌, min, nat_lt, Bool, true, false, cond, List, [], ◌∷◌, ◌++◌, append_assoc, length, Option, None, Some, Result, Ok, Err, refl, sym, ap, subst, arith}
+use Rattle.std.proofs.Common.{◌≡◌, ◌∙◌, inl, inr, ℕ, ◌+◌, ◌-◌, ◌^◌, ◌<◌, ◌≤◌, min, nat_lt, Bool, true, false, cond, List, [], ◌∷◌, ◌++◌, append-nil, append_assoc, length, Option, None, Some, Result, Ok, Err, refl, sym, ap, subst, arith}
 use Rattle.std.specs.Io.KnownBytes.{Appends}
 use Rattle.std.specs.Prelude.{IfOk, MatchOption, is_some, option_map}
 use Rattle.std.proofs.lemmas.Bool.{lt-ltb}
@@ -30,6 +30,7 @@ use Rattle.sequels.proofs.SequelLemmas.{stops_by_end}
 use Rattle.followed_runs.specs.Followed.{faulted_last, joined, stopped_by}
 use Rattle.control_flow.specs.Answers as answers
 use Rattle.control_flow.specs.Answers.{EndsAs, EndsAtCut, IsAll, IsFaulted, IsPart, Ran, SharesCalls, StopsAfter, ran}
+use Rattle.control_flow.specs.Closing.{ComesToEnd}
 use Rattle.task_runs.specs.Following.{CameToEnd, CutOff, EndIs, FollowsAs, IsClosed, LeftOff, Shares, StopsAt}
 use Rattle.task_runs.specs.declared.following.Closed.{Closed}
 use Rattle.task_runs.specs.declared.following.Unclosed.{Unclosed}
@@ -185,6 +186,23 @@ module _ (w : World) (s : Sequel Close) (o : Outcome) (none : stop w o.calls ≡
     written = wrote known mid now c.written knows wrote_is h.written;
     calls = shared old asks.calls calls h.calls;
   }
+
+  cut_part : (cause : StopCause) (lines : ℕ) (task : TaskEnded) (asks : Asks) (old : List Ask) (known : Bool) (mid now : Option (List ℕ)) → Knows known mid → known_part known mid ≡ o.written → old ≡ settled_last o.calls
+      → CutOff cause lines c old asks.calls mid now → IsPart j (ran task.ended asks (known_part known now))
+  cut_part cause lines task asks old known mid now knows wrote_is calls h = record {
+    written = grew known mid now c.written [] knows wrote_is h.written (sym (append-nil c.written));
+    calls = shared old asks.calls calls h.calls;
+  }
+
+  -- what was not closed comes first in the whole
+  pub follows_part : (lines : ℕ) (closed : Result Closed Unclosed) (ended : Ended) (task : TaskEnded) (asks : Asks) (old : List Ask) (known : Bool) (mid now : Option (List ℕ)) → Closes closed ended task asks old known mid → (ComesToEnd task.ended.ending → ⊥)
+      → FollowsAs lines c closed old asks.calls mid now → IsPart j (ran task.ended asks (known_part known now))
+  follows_part lines (Ok x) ended task asks old known mid now k never h = absurd (never (subst ComesToEnd (sym (k.is.ending ∙ k.ending)) tt))
+  follows_part lines (Err unclosed.WriteFault) ended task asks old known mid now k never h = part_of task asks old known mid now k.knows k.lines k.calls h
+  follows_part lines (Err (unclosed.Stopped (Cut r))) ended task asks old known mid now k never h = cut_part r.cause lines task asks old known mid now k.knows k.lines k.calls h
+  follows_part lines (Err (unclosed.Stopped (BenchFault issued confirmed))) ended task asks old known mid now k never h = part_of task asks old known mid now k.knows k.lines k.calls h
+  follows_part lines (Err (unclosed.Stopped ReplyBad)) ended task asks old known mid now k never h = part_of task asks old known mid now k.knows k.lines k.calls h
+  follows_part lines (Err (unclosed.Stopped OutOfMemory)) ended task asks old known mid now k never h = part_of task asks old known mid now k.knows k.lines k.calls h
 
   pub follows : (lines : ℕ) (closed : Result Closed Unclosed) (ended : Ended) (task : TaskEnded) (asks : Asks) (old : List Ask) (known : Bool) (mid now : Option (List ℕ)) (end : Option Stop)
       → Closes closed ended task asks old known mid → w.answered ≡ answered_at end lines → EndIs closed end → FollowsAs lines c closed old asks.calls mid now

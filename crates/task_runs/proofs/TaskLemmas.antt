@@ -184,3 +184,9 @@ stays (Load ap' image) m answered p before en lines r end none is by h =
 stays (Scan ap') m answered p before en lines r end none is by h =
     ends_on (world_from m answered) (scanning ap') (outcome_of (meaning (world_from m answered) p before)) en lines r end none (are_made (world_from m answered) p before).made.ending is by
     (sequel_quiet (Scan ap') (scanning ap') refl) h
+
+-- what was left in its middle comes first in the whole
+pub part_stays : (f : Followed) (w : World) (o : Outcome) (r : Ran) → IsPart o r → IsPart (followed (sequel_of f) w o) r
+part_stays Nothing w o r h = h
+part_stays (Load ap' image) w o r h = part_on w (loaded ap' image.now) o r h
+part_stays (Scan ap') w o r h = part_on w (scanning ap') o r h

@@ -1,9 +1,9 @@
 //! A run over an access, with what follows it.
-ghost use Rattle.std.specs.Prelude.{◌≡◌, ◌+◌, ◌^◌, ◌<◌, ℕ, Bool, true, None, IfOk, is_none, map};
+ghost use Rattle.std.specs.Prelude.{◌≡◌, ◌+◌, ◌^◌, ◌<◌, ℕ, Bool, true, Option, None, IfOk, is_none, map};
 ghost use Rattle.function_table.specs.Variables.{predefined};
 ghost use Rattle.probe_core.specs.Bench.{BenchState};
 ghost use Rattle.target_calls.specs.NeedPoints.{nothing_asked};
-ghost use Rattle.access_calls.specs.Left.{answered_by};
+ghost use Rattle.access_calls.specs.Left.{IsLeft, answered_by};
 ghost use Rattle.access_calls.specs.Reported.{world_from};
 ghost use Rattle.access_calls.specs.declared.ended.Ending.TheVariants as ends;
 ghost use Rattle.seq_check.specs.Answers.{checked_trees};
@@ -11,7 +11,8 @@ ghost use Rattle.sequence_rules.specs.Known.{Knows, known_part};
 ghost use Rattle.sequence_rules.specs.Runs.{late_meaning, program_of};
 ghost use Rattle.followed_runs.specs.Followed.{close_in, outcome_in};
 ghost use Rattle.function_calls.specs.Frame.{Keeps};
-ghost use Rattle.control_flow.specs.Answers.{EndBy, EndsAs, HasLines, HasNeeds, HasSinkCause, ran};
+ghost use Rattle.control_flow.specs.Answers.{EndBy, EndsAs, HasLines, HasNeeds, HasSinkCause, IsPart, ran};
+ghost use Rattle.control_flow.specs.Closing.{ComesToEnd};
 ghost use Rattle.sequels.specs.declared.close.Close.TheVariants.{Nothing};
 ghost use Rattle.task_runs.specs.Following.{IsClosed, ending_by};
 ghost use Rattle.task_runs.specs.Tasks.{ClosesAs, goes_on, sequel_of, task_of};
@@ -109,6 +110,12 @@ pub fn run_task<A: Access, K: Sink>(
         → EndsAs result.ended.ending (A.reported access.new).lines
         (outcome_in (world_from m (answered_by (A.reported access.new))) (task_of (program_of (checked_trees checked.now) start.now settings.now) followed.now)
         (known_part known (K.written sink.old)))
+        (ran result.ended (A.reported access.new).asks (known_part known (K.written sink.new))) }
+    // Where it is neither done nor halted, what is written comes first in the lines of each world that is left: all calls before a line had
+    // come when it was written.
+    ensures part { (m : BenchState) (answered : Option ℕ) (known : Bool) → A.begun access.old m → IsLeft (A.reported access.new) answered → Knows known (K.written sink.old)
+        → (ComesToEnd result.ended.ending → ⊥)
+        → IsPart (outcome_in (world_from m answered) (task_of (program_of (checked_trees checked.now) start.now settings.now) followed.now) (known_part known (K.written sink.old)))
         (ran result.ended (A.reported access.new).asks (known_part known (K.written sink.new))) }
     // So is how what follows came to its end.
     ensures close { (m : BenchState) (known : Bool) → A.begun access.old m → Knows known (K.written sink.old) → result.ended.ending ≡ ends.Done

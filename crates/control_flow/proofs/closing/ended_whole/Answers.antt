@@ -10,7 +10,7 @@ use Rattle.function_calls.specs.Held.{state_of}
 use Rattle.function_calls.proofs.Leaves.{stopped_ended}
 use Rattle.control_flow.specs.Answers.{EndsAs, HasNeeds, ran}
 use Rattle.control_flow.proofs.EndRules.{answered_as, stopped_short}
-use Rattle.control_flow.proofs.RunLemmas.{stops_closing, settles, closes, no_needs, finished_calls, skipped_is}
+use Rattle.control_flow.proofs.RunLemmas.{left_closing, stops_closing, settles, closes, no_needs, finished_calls, skipped_is}
 use Rattle.control_flow.proofs.closing.ended_whole.Goals as goal
 
 pub returns-in-Err-clause-answer : goal.returns-in-Err-clause-answer
@@ -80,3 +80,17 @@ returns-in-Ok-look_up_variables-clause-counted g c = λ comes.
 pub returns-in-Err-look_up_variables-clause-counted : goal.returns-in-Err-look_up_variables-clause-counted
 returns-in-Err-look_up_variables-clause-counted g c = λ comes.
     absurd (stopped_short c.in-Err-look_up_variables.stop c.ended_early-in-Err-look_up_variables.result.ending (c.ended_early-in-Err-look_up_variables.ensures.ending ∙ c.from-in-Err-look_up_variables.ensures) comes)
+
+pub returns-in-Err-clause-part : goal.returns-in-Err-clause-part
+returns-in-Err-clause-part g c = λ m answered written out q b left is p never.
+    let s = state_of c.args.held.now (g.A.Access.reported c.args.access.now).asks written in
+    left_closing (world_from m answered) c.args.ending s out q _ is p (finished_calls (g.A.Access.reported c.args.access.now) _ c.requires.open c.in-Err.ensures.calls) refl
+
+pub returns-in-Ok-look_up_variables-clause-part : goal.returns-in-Ok-look_up_variables-clause-part
+returns-in-Ok-look_up_variables-clause-part g c = λ m answered written out q b left is p never. absurd (never c.requires.whole)
+
+pub returns-in-Err-look_up_variables-clause-part : goal.returns-in-Err-look_up_variables-clause-part
+returns-in-Err-look_up_variables-clause-part g c = λ m answered written out q b left is p never.
+    let s = state_of c.args.held.now (g.A.Access.reported c.args.access.now).asks written in
+    let calls = finished_calls (g.A.Access.reported c.args.access.now) (g.A.Access.reported c.finish.new.self).asks.calls c.requires.open c.in-Ok.ensures.calls in
+    left_closing (world_from m answered) c.args.ending s out q _ is p (c.in-Err-look_up_variables.ensures.calls ∙ calls) refl

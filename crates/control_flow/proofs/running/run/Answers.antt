@@ -142,3 +142,54 @@ returns-in-Err-Halted-clause-counted g c = λ is. c.ended_whole-in-Err-Halted.en
 pub returns-in-Err-Stopped-clause-counted : goal.returns-in-Err-Stopped-clause-counted
 returns-in-Err-Stopped-clause-counted g c = λ is.
     absurd (stopped_short c.in-Err-Stopped.stop c.ended_early-in-Err-Stopped.result.ending (c.ended_early-in-Err-Stopped.ensures.ending ∙ c.from.ensures) (subst ComesToEnd (sym is) tt))
+
+pub returns-in_default-clause-part : goal.returns-in_default-clause-part
+returns-in_default-clause-part g c = λ m n known b left knows never.
+    let p = program_of (checked_trees c.args.checked.now) c.args.start.now c.args.settings.now in
+    not_begun (world_from m n) p (known_part known (g.K.Sink.written c.args.sink.now)) _ c.requires.fresh refl
+
+pub returns-in-Ok-run_all-clause-part : goal.returns-in-Ok-run_all-clause-part
+returns-in-Ok-run_all-clause-part g c = λ m n known b left knows never.
+    let w = world_from m n in
+    let p = program_of (checked_trees c.args.checked.now) c.args.start.now c.args.settings.now in
+    let before = known_part known (g.K.Sink.written c.args.sink.now) in
+    let after = known_part known (g.K.Sink.written c.run_all.new.sink) in
+    let now = state_of c.run_all.new.held (g.A.Access.reported c.run_all.new.access).asks after in
+    let same = at_start g.A.Access.cost w p c.in-Ok.held (g.A.Access.reported c.args.access.now).asks before c.requires.fresh (c.in-Ok.ensures.state g.A.Access.cost w before) in
+    c.ended_whole.ensures.part m n after (late_meaning g.A.Access.cost w p before) (meaning w p before) (c.run_all.ensures.keeps.on m b) left
+    (at_end (ending.Done) now _ _ same ((c.in-Ok-run_all.ensures.gives m n known b (c.ended_whole.ensures.keeps.goes.left n left) knows))) (late_pair g.A.Access.cost w p before) never
+
+pub returns-in-Err-Halted-clause-part : goal.returns-in-Err-Halted-clause-part
+returns-in-Err-Halted-clause-part g c = λ m n known b left knows never.
+    let w = world_from m n in
+    let p = program_of (checked_trees c.args.checked.now) c.args.start.now c.args.settings.now in
+    let before = known_part known (g.K.Sink.written c.args.sink.now) in
+    let after = known_part known (g.K.Sink.written c.run_all.new.sink) in
+    let now = state_of c.run_all.new.held (g.A.Access.reported c.run_all.new.access).asks after in
+    let same = at_start g.A.Access.cost w p c.in-Ok.held (g.A.Access.reported c.args.access.now).asks before c.requires.fresh (c.in-Ok.ensures.state g.A.Access.cost w before) in
+    c.ended_whole-in-Err-Halted.ensures.part m n after (late_meaning g.A.Access.cost w p before) (meaning w p before) (c.run_all.ensures.keeps.on m b) left
+    (at_end (ending.Halted c.in-Err-Halted.cause) now _ _ same (rw c.in-Err-Halted.field-0-is at (c.in-Err-Halted.ensures.gives m n known b (c.ended_whole-in-Err-Halted.ensures.keeps.goes.left n left) knows))) (late_pair g.A.Access.cost w p before) never
+
+pub returns-in-Err-Stopped-clause-part : goal.returns-in-Err-Stopped-clause-part
+returns-in-Err-Stopped-clause-part g c = λ m n known b left knows never.
+    let a = g.A.Access.reported c.run_all.new.access in
+    let w = world_from m n in
+    let p = program_of (checked_trees c.args.checked.now) c.args.start.now c.args.settings.now in
+    let before = known_part known (g.K.Sink.written c.args.sink.now) in
+    let after = known_part known (g.K.Sink.written c.run_all.new.sink) in
+    let now = state_of c.run_all.new.held a.asks after in
+    let same = at_start g.A.Access.cost w p c.in-Ok.held (g.A.Access.reported c.args.access.now).asks before c.requires.fresh (c.in-Ok.ensures.state g.A.Access.cost w before) in
+    is_broken w (ran c.ended_early-in-Err-Stopped.result a.asks after) now (late_meaning g.A.Access.cost w p before) (meaning w p before) (late_pair g.A.Access.cost w p before)
+    (left_end w a.lines c.in-Err-Stopped.stop now _ _ same (rw c.in-Err-Stopped.field-0-is at (c.in-Err-Stopped.ensures.gives m n known b left knows))).later refl refl
+
+pub returns-clause-part : goal.returns-clause-part
+returns-clause-part g c = λ m n known b left knows never.
+    let a = g.A.Access.reported c.run_all.new.access in
+    let w = world_from m n in
+    let p = program_of (checked_trees c.args.checked.now) c.args.start.now c.args.settings.now in
+    let before = known_part known (g.K.Sink.written c.args.sink.now) in
+    let after = known_part known (g.K.Sink.written c.run_all.new.sink) in
+    let now = state_of c.run_all.new.held a.asks after in
+    let same = at_start g.A.Access.cost w p c.in-Ok.held (g.A.Access.reported c.args.access.now).asks before c.requires.fresh (c.in-Ok.ensures.state g.A.Access.cost w before) in
+    is_broken w (ran c.ended_early-in-Err-WriteFault.result a.asks after) now (late_meaning g.A.Access.cost w p before) (meaning w p before) (late_pair g.A.Access.cost w p before)
+    (later_end w now _ _ same (rw c.in-Err-WriteFault.field-0-is at (c.in-Err-WriteFault.ensures.gives m n known b left knows))) refl refl

@@ -26,8 +26,13 @@ returns-in-Ok-clause-run g c = λ is.
     let spares = g.met.A.Access.spares c.run_task-task.new.access first (answered_by a) (c.run_task-task.ensures.keeps.on first begun) (left_by a) in
     let began_limits = c.in-Ok.ensures.goes.limits in
     let r = opened_run (access_kind g.A.Access.journal g.A.Access.cost g.A.Access.is_sparing) g.met.A.Access.grows g.met.A.Access.settles (config_of c.args.run_of.now.job.settings) c.args.run_of.now.job.bench
-    (task_with c.args.run_of.now c.args.sequence.now (sequel_of c.args.followed.now)) (g.K.Sink.written c.args.sink.now) (g.K.Sink.written c.run_task-task.new.sink) a c.run_task-task.result.ended
-    (stands, (λ known knows. c.run_task-task.ensures.answer first known begun knows), (λ known knows none. c.run_task-task.ensures.needs first known begun knows none), spares)
+    (task_with c.args.run_of.now c.args.sequence.now (sequel_of c.args.followed.now)) (g.K.Sink.written c.args.sink.now) (g.K.Sink.written c.run_task-task.new.sink) a c.run_task-task.result.ended (
+      stands,
+      (λ known knows. c.run_task-task.ensures.answer first known begun knows),
+      (λ known knows none. c.run_task-task.ensures.needs first known begun knows none),
+      spares,
+      (λ n known left knows never. c.run_task-task.ensures.part first n known begun left knows never),
+    )
     c.run_task-task.ensures.end c.run_task-task.ensures.skipped (c.run_task-task.ensures.keeps.goes.limits ∙ began_limits ∙ sym c.requires.limits) in
     (r.0, c.into_bench-bench.ensures.state ∙ r.1, r.2)
 
