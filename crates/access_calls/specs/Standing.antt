@@ -119,7 +119,7 @@ IsMade (Makes a) = ⊤
 IsMade (Polls mask requested turns) = ⊥
 IsMade (Commands c) = ⊥
 
--- the entries can be handed over together: register accesses, which fit into one flight, or one poll or command of the probe
+-- the entries are of a kind that is handed over together: register accesses, of any number, or one poll or command of the probe
 abbrev pub AreTogether : List Entry → Type 0
 AreTogether entries = AllByRecursion (λ e. IsMade e.action) entries ⊎ (length entries ≡ 1)
 
