@@ -79,7 +79,8 @@ HasFlownBy form accesses (Some progress) values m n = HasFlown form accesses (pa
 -- a flight of which a bench call failed: it did nothing, or a part of its accesses
 abbrev pub MayHaveFlown : Form → List RegAccess → BenchState → BenchState → Type 0
 MayHaveFlown form accesses m n =
-    (transfers_of n ≡ transfers_of m) ⊎ ((part : Part) × DoesPart (transfers_of m) (transfers_of n) accesses part × OnceBy form accesses part (transfers_of m) (transfers_of n))
+    (transfers_of n ≡ transfers_of m) ⊎ ((part : Part) × DoesPart (transfers_of m) (transfers_of n) accesses part
+    × OnceBy form accesses part (transfers_of m) (transfers_of n))
 
 -- limits of at most these
 pub record IsWithin (limits given : Limits) : Type 0 where

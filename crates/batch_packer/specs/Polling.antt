@@ -1,5 +1,6 @@
 -- A portion of a poll in one packet: what its reply says, and what it does.
-use Rattle.std.specs.Prelude.{◌≡◌, ◌⊎◌, ℕ, ◌-◌, ◌==◌, ◌&&◌, Bool, true, false, if◌then◌else◌, is_some, List, [], ◌∷◌, length, slice_index, slice_range, Option, Some, None, Result, Ok, Err}
+use Rattle.std.specs.Prelude.{◌≡◌, ◌⊎◌, ℕ, ◌-◌, ◌==◌, ◌&&◌, Bool, true, false, if◌then◌else◌, is_some}
+use Rattle.std.specs.Prelude.{List, [], ◌∷◌, length, slice_index, slice_range, Option, Some, None, Result, Ok, Err}
 use Rattle.target_machine.specs.Plain.{Action, Polls, polled}
 use Rattle.dap_messages.specs.declared.command_value.CommandValue.{CommandValue}
 use Rattle.dap_messages.specs.declared.command_value.CommandValue.TheVariants.{Configure, Transfer}
@@ -82,7 +83,8 @@ pub record HasPolled (config : Config) (ask : PollAsk) (matched : Bool) (m n : B
 
 -- the poll was made or not; where it was, the retry number is the one that it was given
 abbrev pub MayHavePolled : Config → PollAsk → BenchState → BenchState → Type 0
-MayHavePolled config ask m n = (transfers_of n ≡ transfers_of m) ⊎ (Acts (reads_of ask) (transfers_of m) (transfers_of n) × ((transfers_of n).setting.retry ≡ config.retry))
+MayHavePolled config ask m n = (transfers_of n ≡ transfers_of m)
+    ⊎ (Acts (reads_of ask) (transfers_of m) (transfers_of n) × ((transfers_of n).setting.retry ≡ config.retry))
 
 -- What was done where a poll is answered so. A reply is never bad, and no read waits or faults.
 abbrev pub PolledBy : Config → PollAsk → Result Bool FlightEnd → BenchState → BenchState → Type 0

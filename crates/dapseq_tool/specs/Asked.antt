@@ -126,7 +126,8 @@ AsksOfCommand c bytes what = MatchBool (nat_le (length bytes) limit) (AsksOfByte
 pub data Asks (words : List (List ℕ)) (bytes : List ℕ) (asked : Requested) : Type 0 where
   usage : IsUsage words → asked.number ≡ None → asked.what ≡ whats.Answer answers.Usage → Asks words bytes asked
   command : (c : Command) → IsCommand words c → ReadsSource c → asked.number ≡ None → AsksOfCommand c bytes asked.what → Asks words bytes asked
-  generated : (n : ℕ) → IsCommand words (commands.Gen n) → asked.number ≡ Some n → AsksOfRun its_device its_sequence purposes.Run (job_text n) asked.what → Asks words bytes asked
+  generated : (n : ℕ) → IsCommand words (commands.Gen n) → asked.number ≡ Some n →
+      AsksOfRun its_device its_sequence purposes.Run (job_text n) asked.what → Asks words bytes asked
 
 -- ---- a run that is asked for
 

@@ -51,7 +51,8 @@ RunsLay = (access : AccessKind) (run : Run) (before : Option (List ℕ)) (r : Ru
 -- are more, and the scan is full exactly there. The words are those that the sequence leaves.
 pub record IsListed (run : Run) (before : Option (List ℕ)) (ap : ℕ) (r : RunEnd) (n : BenchState) : Type 0 where
   pub written : known_after before r.written
-      ≡ option_map (λ bytes. bytes ++ lines_of (take 1024 (shown (first_world run) (program_by run) before ap))) (alone_in (first_world run) (program_by run) before).written
+      ≡ option_map (λ bytes. bytes ++ lines_of (take 1024 (shown (first_world run) (program_by run) before ap)))
+      (alone_in (first_world run) (program_by run) before).written
   pub words : (target_of n.probe).words ≡ (left_world run before).target.words
   pub close : r.close ≡ close_of (listed_within 1024 (shown (first_world run) (program_by run) before ap))
 

@@ -57,9 +57,11 @@ pub record IsStatusFor (what : What) (end : Status) : Type 0 where
 -- What is done of what is asked for: the first line was written, and then the rest was done; or it was not written whole, and the bench
 -- is the one that it was.
 pub data IsFulfilled (access : AccessKind) (asked : Requested) (old : Seen) (unchanged : Type 0) (before : Option (List ℕ)) (after : After) : Type 0 where
-  performed : (mid : Option (List ℕ)) → Appends before mid (head_text asked.number) → DoesAfter access asked.what old unchanged mid after → IsStatusFor asked.what after.end
+  performed : (mid : Option (List ℕ)) → Appends before mid (head_text asked.number) →
+      DoesAfter access asked.what old unchanged mid after → IsStatusFor asked.what after.end
       → IsFulfilled access asked old unchanged before after
-  not_headed : IsSome asked.number → FailsPutting after.end → AppendsPrefix before after.written (head_text asked.number) → unchanged → IsFulfilled access asked old unchanged before after
+  not_headed : IsSome asked.number → FailsPutting after.end → AppendsPrefix before after.written (head_text asked.number) →
+      unchanged → IsFulfilled access asked old unchanged before after
 
 -- What is written where it is not known what is asked for, and the status: nothing, where memory was refused, and else the line of a
 -- source that failed.

@@ -123,7 +123,8 @@ pub record After : Type 0 where
 -- a run of the job's probe.
 pub record IsRunTo (access : AccessKind) (run : Run) (before : Option (List ℕ)) (r : RunEnd) (a : After) (n : BenchState) : Type 0 where
   pub state : a.bench.state ≡ Some n
-  pub comes : ComesTo access (config_of run.valid.job.settings) run.valid.job.bench (task_by run) before (record { ended = r.ended; written = known_after before r.written; bench = n })
+  pub comes : ComesTo access (config_of run.valid.job.settings) run.valid.job.bench (task_by run) before
+      (record { ended = r.ended; written = known_after before r.written; bench = n })
   pub close : r.ended.ending ≡ e.Done → r.close ≡ job_close (config_of run.valid.job.settings) run.valid.job.bench (task_by run) before
   pub text : IsWritten r.written a.written (whole_text (shows_packets run.purpose) r.ended r.close r.sent r.got run.valid.job n) (run_status r.ended.ending r.close) a.end
   pub log : IsWholeRun (fresh_probe run.valid.job.bench) n
@@ -134,7 +135,8 @@ pub record IsRunTo (access : AccessKind) (run : Run) (before : Option (List ℕ)
 -- that is reported.
 pub record HasRun (access : AccessKind) (run : Run) (observable : Type 0) (old : Reported) (before : Option (List ℕ)) (r : RunEnd) (a : After) : Type 0 where
   pub comes : observable → (n : BenchState) × IsRunTo access run before r a n
-  pub alone : shows_target r.ended.ending ≡ false → IsPut r.written a.written (ending_lines r.ended.ending r.ended r.sent r.got) (run_status r.ended.ending closes.Nothing) a.end
+  pub alone : shows_target r.ended.ending ≡ false →
+      IsPut r.written a.written (ending_lines r.ended.ending r.ended r.sent r.got) (run_status r.ended.ending closes.Nothing) a.end
   pub lines : HasLines r.ended.ending before r.written
   pub front : BeginsWith r.written a.written (first_lines r.ended r.close r.sent r.got) (run_status r.ended.ending r.close) a.end
   pub status : (a.end ≡ run_status r.ended.ending r.close) ⊎ FailsWriting a.end
@@ -149,7 +151,8 @@ after_of m end = record { written = m.written; end = end; bench = record { repor
 
 -- What is done of a run: there is a head, and it is not written whole; or the bench was not loaded, and is as it was; or it ran.
 pub data Runs (access : AccessKind) (call : Call) (unchanged : Type 0) (number : Option ℕ) (run : Run) : Type 0 where
-  not_headed : IsSome number → FailsPutting call.end → AppendsPrefix call.old.written call.new.written (head_text number) → unchanged → Runs access call unchanged number run
+  not_headed : IsSome number → FailsPutting call.end → AppendsPrefix call.old.written call.new.written (head_text number) →
+      unchanged → Runs access call unchanged number run
   not_loaded : (call.end ≡ status.BenchFault) ⊎ (call.end ≡ status.OutOfMemory) → Appends call.old.written call.new.written (head_text number)
       → call.new.state ≡ call.old.state → Runs access call unchanged number run
   ran : (before : Option (List ℕ)) (r : RunEnd) → Appends call.old.written before (head_text number)
@@ -168,5 +171,6 @@ DoesWhat access call unchanged number (whats.Run run) = Runs access call unchang
 pub data Does (access : AccessKind) (call : Call) (unchanged : Type 0) : Type 0 where
   does : (bytes : List ℕ) (asked : Requested) → AreBytesOf call.old.left bytes → Asks call.words bytes asked
       → DoesWhat access call unchanged asked.number asked.what → Does access call unchanged
-  unread : Rose call.old.source_faults call.new.source_faults → IsPut call.old.written call.new.written fault_text status.ReadFault call.end → unchanged → Does access call unchanged
+  unread : Rose call.old.source_faults call.new.source_faults → IsPut call.old.written call.new.written fault_text status.ReadFault call.end →
+      unchanged → Does access call unchanged
   no_memory : call.end ≡ status.OutOfMemory → call.new.written ≡ call.old.written → unchanged → Does access call unchanged

@@ -15,14 +15,16 @@ use Rattle.function_calls.specs.Held.{seen, state_of}
 
 -- A call without a sink. The world is that of a state in which the access began and of a number of calls that may still be answered
 -- after the call; the meaning goes from the state before the call to the one after it.
-abbrev pub MeansCall : {S A : Type 0} → (S → BenchState → Type 0) → (S → AccessView) → S → S → Held → Held → Result A End → (World → State Value Late → Out Value Late A) → Type 0
+abbrev pub MeansCall : {S A : Type 0} → (S → BenchState → Type 0) → (S → AccessView) → S → S → Held → Held → Result A End →
+    (World → State Value Late → Out Value Late A) → Type 0
 MeansCall begun reported old new before now result meaning =
     (m : BenchState) (answered : Option ℕ) (written : Option (List ℕ)) → begun old m → IsLeft (reported new) answered
     → MeansLate (world_from m answered) (reported new).lines result (state_of now (reported new).asks written)
     (meaning (world_from m answered) (state_of before (reported old).asks written))
 
 -- the same, where an answer stands for what this makes of it
-abbrev pub MeansCallBy : {S A B : Type 0} → (A → B) → (S → BenchState → Type 0) → (S → AccessView) → S → S → Held → Held → Result A End → (World → State Value Late → Out Value Late B) → Type 0
+abbrev pub MeansCallBy : {S A B : Type 0} → (A → B) → (S → BenchState → Type 0) → (S → AccessView) → S → S → Held → Held → Result A End →
+    (World → State Value Late → Out Value Late B) → Type 0
 MeansCallBy view begun reported old new before now result meaning =
     (m : BenchState) (answered : Option ℕ) (written : Option (List ℕ)) → begun old m → IsLeft (reported new) answered
     → MeansLateBy (world_from m answered) (reported new).lines view result (state_of now (reported new).asks written)

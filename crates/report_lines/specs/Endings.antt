@@ -44,7 +44,8 @@ stop_line report = codes "end " ++ stop_word report.cause ++ codes " unit " ++ d
 
 -- how many units were attempted, and how many entries of the journal were performed and confirmed
 abbrev pub attempted_line : Report → List ℕ
-attempted_line report = codes "attempted " ++ decimal report.attempted ++ codes " accesses " ++ decimal report.accesses ++ codes " confirmed " ++ decimal report.confirmed ++ codes "\n"
+attempted_line report = codes "attempted " ++ decimal report.attempted ++ codes " accesses " ++ decimal report.accesses ++
+    codes " confirmed " ++ decimal report.confirmed ++ codes "\n"
 
 -- a run whose bench failed
 abbrev pub bench_fault_line : ℕ → ℕ → List ℕ

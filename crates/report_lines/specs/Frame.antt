@@ -31,7 +31,8 @@ pub record EndsPutting {T K : Type 0} (written : K → Option (List ℕ)) (fault
 
 -- How a call ends that asks a bench: the same, and the bench's count of faults rose where the answer says that it failed, and else it
 -- is the same.
-pub record EndsShowing {T K : Type 0} (written : K → Option (List ℕ)) (faults : K → ℕ) (result : Result T TextEnd) (bench_old bench_new : Reported) (old new : K) : Type 0 where
+pub record EndsShowing {T K : Type 0} (written : K → Option (List ℕ)) (faults : K → ℕ) (result : Result T TextEnd)
+    (bench_old bench_new : Reported) (old new : K) : Type 0 where
   pub some : AppendsSome (written old) (written new)
   pub bench : NamesFault ends.BenchFault bench_old.faults bench_new.faults result
   pub sink : NamesFault ends.WriteFault (faults old) (faults new) result

@@ -19,7 +19,8 @@ variable_line name value = codes "var " ++ name ++ codes " " ++ hex value ++ cod
 -- the debug port: SELECT, CTRL/STAT, STICKYERR, and the reads of CTRL/STAT
 abbrev pub dp_line : DpImage → List ℕ
 dp_line image =
-    codes "dp select " ++ hex8 image.select ++ codes " ctrl " ++ hex8 image.ctrl ++ codes " sticky " ++ bit_word image.sticky ++ codes " reads " ++ decimal image.reads ++ codes "\n"
+    codes "dp select " ++ hex8 image.select ++ codes " ctrl " ++ hex8 image.ctrl ++
+    codes " sticky " ++ bit_word image.sticky ++ codes " reads " ++ decimal image.reads ++ codes "\n"
 
 abbrev pub high_part : Option ℕ → List ℕ
 high_part None = []
@@ -32,7 +33,8 @@ ap_line ap image = codes "ap " ++ decimal ap ++ codes " csw " ++ hex8 image.csw 
 -- the lines of the probe
 abbrev pub lines_line : LinesImage → List ℕ
 lines_line image =
-    codes "lines pins " ++ hex2 image.pins ++ codes " bits " ++ decimal image.bits ++ codes " last " ++ hex16 image.last ++ codes " clock " ++ decimal image.clock ++ codes " delay " ++ decimal image.delay ++ codes "\n"
+    codes "lines pins " ++ hex2 image.pins ++ codes " bits " ++ decimal image.bits ++ codes " last " ++ hex16 image.last ++
+    codes " clock " ++ decimal image.clock ++ codes " delay " ++ decimal image.delay ++ codes "\n"
 
 abbrev pub place_part : Option ℕ → List ℕ
 place_part None = []

@@ -43,7 +43,8 @@ EntryPut log index (Err end) old new = (new ≡ old) ⊎ ((entry : Entry) × (sl
 
 -- the same with how many are kept: one more with this one, as many as before, or there is none of the number
 unfoldable pub StepPut : Log → ℕ → ℕ → Result (Option ℕ) TextEnd → Option (List ℕ) → Option (List ℕ) → Type 0
-StepPut log index kept (Ok (Some next)) old new = ((next ≡ kept + 1) × EntryPut log index (Ok seen.Kept) old new) ⊎ ((next ≡ kept) × EntryPut log index (Ok seen.NotKept) old new)
+StepPut log index kept (Ok (Some next)) old new = ((next ≡ kept + 1) × EntryPut log index (Ok seen.Kept) old new) ⊎
+    ((next ≡ kept) × EntryPut log index (Ok seen.NotKept) old new)
 StepPut log index kept (Ok None) old new = EntryPut log index (Ok seen.Past) old new
 StepPut log index kept (Err end) old new = EntryPut log index (Err end) old new
 

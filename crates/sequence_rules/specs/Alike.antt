@@ -57,7 +57,8 @@ CallEnds Rest End k e t Unanswered u = End (Some e) t k Unanswered u
 CallEnds Rest End k e t Lost u = End (Some e) t k Lost u
 
 -- what comes of a unit on both
-abbrev pub CallMatches : {T U X Y : Type 0} → (ℕ → T → U → Type 0) → EndRelation T U → (T → X → Y → Type 0) → ℕ → Result (X × T) (Over × T) → Result (Y × U) (Over × U) → Type 0
+abbrev pub CallMatches : {T U X Y : Type 0} → (ℕ → T → U → Type 0) → EndRelation T U → (T → X → Y → Type 0) →
+    ℕ → Result (X × T) (Over × T) → Result (Y × U) (Over × U) → Type 0
 CallMatches Rest End Same k (Ok x) (Ok y) = Rest k x.1 y.1 × Same x.1 x.0 y.0
 CallMatches Rest End Same k (Err e) (Ok y) = ⊥
 CallMatches Rest End Same k (Ok x) (Err y) = EndsAlone End x.1 k y.0 y.1
@@ -68,7 +69,8 @@ abbrev pub Equal : {T A : Type 0} → T → A → A → Type 0
 Equal t x y = y ≡ x
 
 -- The machine m does what the machine d does: each operation of theirs is related. `Step` is kept by each operation of m.
-pub record Tracks {V W T U : Type 0} (m : Machine V T) (d : Machine W U) (Val : T → V → W → Type 0) (Rest : ℕ → T → U → Type 0) (Step : T → T → Type 0) (End : EndRelation T U) : Type 0 where
+pub record Tracks {V W T U : Type 0} (m : Machine V T) (d : Machine W U) (Val : T → V → W → Type 0) (Rest : ℕ → T → U → Type 0)
+    (Step : T → T → Type 0) (End : EndRelation T U) : Type 0 where
   pub steady : Steady m Step
   -- values stay related, and an end of d alone stays one, also where m ends later
   pub keeps : (k : ℕ) (t t2 : T) (u : U) (v : V) (w : W) → Step t t2 → Rest k t2 u → Val t v w → Val t2 v w
@@ -77,7 +79,8 @@ pub record Tracks {V W T U : Type 0} (m : Machine V T) (d : Machine W U) (Val : 
   pub lost : (k : ℕ) (t : T) (u : U) → d.is_watchful ≡ true → Rest k t u → End None t k Lost u
   pub number : (t : T) (n : ℕ) → Val t (m.number n) (d.number n)
   pub used : (k : ℕ) (t : T) (u : U) (v : V) (w : W) → Rest k t u → Val t v w → ((d.used w u).0 ≡ (m.used v t).0) × Rest k (m.used v t).1 (d.used w u).1
-  pub asked : (k : ℕ) (t : T) (u : U) (unit : AccessUnit) (forgive : Bool) → Rest k t u → CallMatches Rest End Val (k + 1) (m.asked unit forgive t) (d.asked unit forgive u)
+  pub asked : (k : ℕ) (t : T) (u : U) (unit : AccessUnit) (forgive : Bool) → Rest k t u →
+      CallMatches Rest End Val (k + 1) (m.asked unit forgive t) (d.asked unit forgive u)
   pub commanded : (k : ℕ) (t : T) (u : U) (c : ProbeCall) → Rest k t u → CallMatches Rest End Equal (k + 1) (m.commanded c t) (d.commanded c u)
   pub confirmed : (k : ℕ) (t : T) (u : U) → Rest k t u → Rest k (m.confirmed t) (d.confirmed u)
   pub written : (k : ℕ) (t : T) (u : U) (line : List ℕ) → Rest k t u → Rest k (m.written line t) (d.written line u)

@@ -1,5 +1,6 @@
 -- What a call of a function does, once its arguments are numbers.
-use Rattle.std.specs.Prelude.{ℕ, ◌+◌, ◌*◌, ◌/◌, ◌%◌, ◌^◌, Bool, true, false, not, ◌&&◌, ◌||◌, List, drop, slice_index, codes, Option, Some, None, Result, Ok, Err, if◌then◌else◌, nat_lt, nat_eq}
+use Rattle.std.specs.Prelude.{ℕ, ◌+◌, ◌*◌, ◌/◌, ◌%◌, ◌^◌, Bool, true, false, not, ◌&&◌, ◌||◌}
+use Rattle.std.specs.Prelude.{List, drop, slice_index, codes, Option, Some, None, Result, Ok, Err, if◌then◌else◌, nat_lt, nat_eq}
 use Rattle.function_table.specs.declared.function.Function.{Function}
 use Rattle.function_table.specs.declared.function.Function.TheVariants as f
 use Rattle.target_machine.specs.declared.unit.HaltCause.{HaltCause}

@@ -124,7 +124,8 @@ LinesAreOnlyWritten = (cost : Costs) (w : World) (p : Program) (a b : Option (Li
 
 -- a run with results that come later adds calls at the end, and lines, but none once the calls stop
 abbrev pub LateRunsOnlyAdd : Type 0
-LateRunsOnlyAdd = (cost : Costs) (w : World) (turn_us : ℕ) (set : SetTrees) (start : List ℕ) (s : State Value Late) → Goes (Later w) s (run_of (late cost w) turn_us set start s)
+LateRunsOnlyAdd = (cost : Costs) (w : World) (turn_us : ℕ) (set : SetTrees) (start : List ℕ)
+    (s : State Value Late) → Goes (Later w) s (run_of (late cost w) turn_us set start s)
 
 -- ---- cuts
 

@@ -111,7 +111,8 @@ Divides = (w : World) → RunsTo w divides (ending.Halted DivideByZero) 3 (0 ∷
 
 -- `__var n = 0; __var a = 1 / 0;` and no steps
 abbrev pub half_made : Program
-half_made = program (declare (codes "n") (t.Number 3) ∷ declare (codes "a") (t.Binary b.Div (t.Number 1) (t.Number 0)) ∷ []) (record { name = codes "Main"; steps = c.NoSteps } ∷ [])
+half_made = program (declare (codes "n") (t.Number 3) ∷ declare (codes "a") (t.Binary b.Div (t.Number 1) (t.Number 0)) ∷ [])
+    (record { name = codes "Main"; steps = c.NoSteps } ∷ [])
 
 -- a debug variable whose declaration was not completed is 0
 abbrev pub HalfMade : Type 0
@@ -134,7 +135,8 @@ abbrev pub loops_until : Program
 loops_until = program (declare (codes "n") (t.Number 0) ∷ [])
     (record {
       name = codes "Main";
-      steps = only (c.Control None (Some (t.Binary b.Lt (v (codes "n")) (t.Number 2))) (Some 50) (only (c.Block (assign (codes "n") (t.Binary b.Add (v (codes "n")) (t.Number 1)) ∷ []))));
+      steps = only (c.Control None (Some (t.Binary b.Lt (v (codes "n")) (t.Number 2))) (Some 50)
+          (only (c.Block (assign (codes "n") (t.Binary b.Add (v (codes "n")) (t.Number 1)) ∷ []))));
     } ∷ [])
 
 -- two turns of two steps, and the turn that finds 0 is a step too

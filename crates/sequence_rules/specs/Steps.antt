@@ -1,5 +1,6 @@
 -- What steps, sequences and whole runs mean.
-use Rattle.std.specs.Prelude.{ℕ, zero, suc, ◌/◌, max, Bool, true, false, not, ◌&&◌, List, [], ◌∷◌, ◌++◌, length, take, codes, Option, Some, None, unwrap_or, Ok, if◌then◌else◌, nat_lt, nat_le, nat_eq}
+use Rattle.std.specs.Prelude.{ℕ, zero, suc, ◌/◌, max, Bool, true, false, not, ◌&&◌}
+use Rattle.std.specs.Prelude.{List, [], ◌∷◌, ◌++◌, length, take, codes, Option, Some, None, unwrap_or, Ok, if◌then◌else◌, nat_lt, nat_le, nat_eq}
 use Rattle.dap_base.specs.Outcome.{◌>>=◌}
 use Rattle.expr_grammar.specs.declared.code.Name.{Name}
 use Rattle.expr_grammar.specs.Tree as t
@@ -130,7 +131,8 @@ module _ {V T : Type 0} (m : Machine V T) where
   -- `__dp`, `__ap` and `__errorcontrol` as they were
   abbrev pub given_back : List (Binding V) → List (Binding V) → List (Binding V)
   given_back before now =
-      set_in (set_in (set_in now (codes "__dp") (of_global before (codes "__dp"))) (codes "__ap") (of_global before (codes "__ap"))) (codes "__errorcontrol") (of_global before (codes "__errorcontrol"))
+      set_in (set_in (set_in now (codes "__dp") (of_global before (codes "__dp"))) (codes "__ap") (of_global before (codes "__ap")))
+      (codes "__errorcontrol") (of_global before (codes "__errorcontrol"))
 
   -- A called sequence sees no variables that its caller declared. After it the caller has them again, and its `__dp`, `__ap` and
   -- `__errorcontrol`.

@@ -48,7 +48,8 @@ shown w p before ap = components (shows (world_then w p before).target) (base_at
 -- 1,024 where there are more, and it is full exactly there. The words are those that the sequence leaves.
 pub record EndsListed (w : World) (p : Program) (before : Option (List ℕ)) (ap : ℕ) : Type 0 where
   pub ending : (outcome_in w (with_sequel p (scanning ap)) before).ending ≡ runs.Done
-  pub written : (outcome_in w (with_sequel p (scanning ap)) before).written ≡ option_map (λ bytes. bytes ++ lines_of (take 1024 (shown w p before ap))) (alone_in w p before).written
+  pub written : (outcome_in w (with_sequel p (scanning ap)) before).written
+      ≡ option_map (λ bytes. bytes ++ lines_of (take 1024 (shown w p before ap))) (alone_in w p before).written
   pub words : (outcome_in w (with_sequel p (scanning ap)) before).target.words ≡ (world_then w p before).target.words
   pub close : close_in w (with_sequel p (scanning ap)) before ≡ close_of (listed_within 1024 (shown w p before ap))
 
