@@ -2,6 +2,7 @@
 #![tactic(auto)]
 
 mod checks;
+mod exchanges;
 mod images;
 mod options;
 mod reading;
@@ -35,6 +36,7 @@ fn answer(alloc: Global, row: &Row) -> Result<Vec<u8>, AllocError> {
         "image" => images::image(alloc, input),
         "filled" => images::filled(alloc, input),
         "report" => reports::reported(alloc, input),
+        "write" => exchanges::write(alloc, input),
         _ => checked(alloc, kind, words, input),
     }
 }

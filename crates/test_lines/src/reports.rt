@@ -164,8 +164,9 @@ fn texts<B: Bench>(
     trace_text(alloc, bench, sink)
 }
 
-// A run of three units with the ending that words begin with.
-fn ended_of(alloc: Global, words: &str, numbers: Numbers) -> Result<Ended, AllocError> {
+/// A run of three units with the ending that words begin with.
+pub fn ended_of(alloc: Global, words: &str) -> Result<Ended, AllocError> {
+    let numbers = numbers_of(words);
     Ok(Ended {
         ending: ending_of(words, numbers),
         units: 3,
@@ -198,12 +199,12 @@ fn written(
     Ok(text)
 }
 
-// What is written of a run of a job on a bench. The put of this number fails.
-fn text_of(
+/// What is written of a run of a job on a bench. The put of this number fails.
+pub fn text_of<B: Bench>(
     alloc: Global,
     job: &Job,
     ended: &Ended,
-    bench: &mut FaultyBench,
+    bench: &mut B,
     put: u32,
 ) -> Result<Vec<u8>, AllocError>
     requires bench { IsBenchJob job.now.bench }
@@ -220,7 +221,7 @@ fn report_of(alloc: Global, job: &Job, words: &str) -> Result<Vec<u8>, AllocErro
     requires watch { AreWatched job.now.bench.target.memory job.now.watch }
 {
     let numbers = numbers_of(words);
-    let ended = ended_of(alloc, words, numbers)?;
+    let ended = ended_of(alloc, words)?;
     let mut bench = bench_of(alloc, &job.bench, numbers.call)?;
     text_of(alloc, job, &ended, &mut bench, numbers.put)
 }

@@ -1,4 +1,4 @@
-//! Tries the tables of messages, transfers, the probe and the benches that standard input names.
+//! Tries the tables of the target, messages, transfers, the probe and the benches that standard input names.
 #![tactic(auto)]
 
 mod benches;
@@ -7,6 +7,7 @@ mod exchanges;
 mod packets;
 mod replies;
 mod requests;
+mod target;
 mod transfers;
 
 use benches::AnyBench;
@@ -17,6 +18,7 @@ use replies::{ReplyViews, Responses, WrittenReplies};
 use requests::NamedRequests;
 use std::io;
 use std::io::ErrorKind;
+use target::OneTarget;
 use test_words::try_table;
 use transfers::{Blocks, Transfers};
 
@@ -25,6 +27,9 @@ fn main(rt: HostRuntime) -> io::Result<()> {
         let line = line?;
         let name = line.as_str();
         match name {
+            "debug_port" | "access_ports" | "memory" | "lines" => {
+                try_table::<OneTarget>(&rt, name)?
+            }
             "commands" => try_table::<WrittenCommands>(&rt, name)?,
             "requests" => try_table::<NamedRequests>(&rt, name)?,
             "packets" => try_table::<PacketViews>(&rt, name)?,

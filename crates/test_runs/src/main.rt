@@ -1,10 +1,12 @@
 //! Tables of tests of what calls and variables mean, and of calls and of runs over an access whose results are given: each row is tried
-//! as its form says.
+//! as its form says. Then whole jobs by the direct runner.
 #![tactic(auto)]
 
 mod calls;
 mod ends;
 mod given;
+mod jobs;
+mod outcomes;
 mod reading;
 mod runs;
 mod sets;
@@ -56,7 +58,10 @@ fn try_table(rt: &HostRuntime, name: &str) -> io::Result<()> {
 fn main(rt: HostRuntime) -> io::Result<()> {
     for line in rt.lines(rt.alloc()) {
         let line = line?;
-        try_table(&rt, line.as_str())?;
+        match line.strip_prefix("job ") {
+            Some(job) => jobs::run_named(&rt, job)?,
+            None => try_table(&rt, line.as_str())?,
+        }
     }
     Ok(())
 }

@@ -1,4 +1,4 @@
-//! What a run made and left, as lines.
+//! What the run of a job made and left, as lines.
 use sequence_meaning::{Direct, Recorded};
 use std::io;
 use std::io::ErrorKind;
