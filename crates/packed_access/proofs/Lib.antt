@@ -1,3 +1,4 @@
+pub mod CountedLemmas
 pub mod LogLemmas
 pub mod PushLemmas
 pub mod FillLemmas

@@ -1,3 +1,4 @@
+pub mod Counted
 pub mod Logs
 pub mod Actions
 pub mod Marks
@@ -12,3 +13,4 @@ pub mod Spares
 pub mod Blocks
 pub mod NextWrites
 pub mod Grows
+pub mod Tails

@@ -1,5 +1,5 @@
 -- What an access keeps of its calls, and what it reports by that.
-use Rattle.std.specs.Prelude.{◌≡◌, ℕ, zero, suc, ◌+◌, ◌-◌, ◌*◌, ◌<◌, ◌≤◌, nat_lt, if◌then◌else◌, List, [], ◌∷◌, ◌++◌, length, drop, slice_get, slice_set}
+use Rattle.std.specs.Prelude.{◌≡◌, ℕ, zero, suc, ◌+◌, ◌-◌, ◌*◌, ◌<◌, ◌≤◌, nat_lt, if◌then◌else◌, List, [], ◌∷◌, ◌++◌, length, drop, take, slice_get, slice_set}
 use Rattle.std.specs.Prelude.{slice_index, Option, Some, None, refl}
 use Rattle.std.specs.List.{AllByRecursion}
 use Rattle.std.specs.Option.{unwrap_or}
@@ -23,6 +23,8 @@ use Rattle.access_calls.specs.declared.stop.StopCause.TheVariants.{Faulted, NoAn
 use Rattle.batch_packer.specs.SlotList.{slot_at}
 use Rattle.batch_packer.specs.declared.ends.FlightEnd.{FlightEnd}
 use Rattle.batch_packer.specs.declared.ends.FlightEnd.TheVariants as ends
+use Rattle.packed_access.specs.Counted.{IsCountOf}
+use Rattle.packed_access.specs.declared.confirmed.Confirmed.{Confirmed}
 
 -- The calls that were asked, with a result for each, of which the first `known` have come, and the number of the entry that gives it;
 -- the entries that were issued, for how many there is room, and how many of them are confirmed; how many calls were issued whole, and
@@ -53,21 +55,25 @@ abbrev pub IsOfCall : ℕ → Issued → Type 0
 IsOfCall calls entry = (0 < entry.unit) × (entry.unit ≤ calls)
 
 -- What is kept is within its room: there is a result and a place for each call, the entries have room, each is of one of the calls,
--- and the calls may be asked.
-pub record IsSoundLog (calls : List Ask) (results places : List ℕ) (room : ℕ) (entries : List Issued) (issued confirmed whole came known fence : ℕ)
-    (end : Option Stop) : Type 0 where
+-- and the calls may be asked. Of calls that came, all but the last were let go; of the entries that are confirmed, their numbers are kept.
+pub record IsSoundLog (calls : List Ask) (results places : List ℕ) (room : ℕ) (entries : List Issued) (confirmed whole came known fence : ℕ)
+    (end : Option Stop) (calls_gone places_gone memory : ℕ) (counted : Confirmed) : Type 0 where
   pub few : length calls ≤ 10000000
   pub sound : AllByRecursion (λ ask. IsSoundCall ask.call) calls
   pub results_long : length results ≡ length calls
   pub places_long : length places ≡ length calls
-  pub within : issued ≤ room
-  pub bounded : issued ≤ most_entries * length calls
+  pub within : length entries ≤ room
+  pub taken : room ≤ memory
+  pub bounded : length entries ≤ most_entries * length calls
   pub units : AllByRecursion (IsOfCall (length calls)) entries
-  pub confirmed_within : confirmed ≤ issued
+  pub confirmed_within : confirmed ≤ length entries
   pub whole_within : whole ≤ length calls
   pub came_within : came ≤ length calls
   pub known_within : known ≤ length calls
   pub fence_within : fence ≤ length calls
+  pub calls_late : calls_gone ≤ came - 1
+  pub places_late : places_gone ≤ came - 1
+  pub counts : IsCountOf counted (take confirmed entries)
   pub open_order : end ≡ None → came ≤ whole
   pub open_known : end ≡ None → known ≡ came
   pub later : end ≡ None → AllByRecursion (λ e. came ≤ lines_before_kept e) (drop confirmed entries)

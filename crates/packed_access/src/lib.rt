@@ -4,6 +4,7 @@
 mod access;
 mod asking;
 mod calls;
+mod confirmed;
 mod forgiving;
 mod issuing;
 mod log;
@@ -13,6 +14,7 @@ mod planned;
 mod polls;
 mod results;
 mod sender;
+mod tails;
 mod trying;
 
 pub use access::{Packed, PackedAccess, Single};

@@ -6,10 +6,13 @@ ghost use Rattle.target_calls.specs.NeedPoints.{used};
 ghost use Rattle.access_calls.specs.Issued.{lines_before_kept};
 ghost use Rattle.access_calls.specs.declared.stop.Stop.TheVariants as Stop;
 ghost use Rattle.batch_packer.specs.FlightEnds.{IsShort};
+ghost use Rattle.packed_access.specs.Tails.{IsRoomier};
 ghost use Rattle.packed_access.specs.Logs.{IsLogCut, IsOfCall, IsSoundState, IsStopped, all_confirmed, asks_of, entries_confirmed, most_entries, nothing_logged, pending, pending_place, result_at, result_for, all_issued, with_asks, with_call, with_entry, with_needs, with_result};
 
+use crate::confirmed::Confirmed;
 use crate::results::result_of;
-use access_calls::{Issued, Report, Stop, StopCause, mark_last, stop_report};
+use crate::tails::TailList;
+use access_calls::{Issued, Report, Stop, StopCause};
 use batch_packer::{Cut, FlightEnd};
 use dap_base::OutOfMemory;
 use std::alloc::Global;
@@ -17,44 +20,47 @@ use std::marker::Model;
 use target_calls::{Ask, Part, Slot};
 
 // How many entries of the journal a call has at most, with a settling after it.
-const MOST_ENTRIES: usize = 13;
+const MOST_ENTRIES: u32 = 13;
 
-// An entry to fill the room with.
-const UNUSED: Issued = Issued {
-    unit: 0,
-    part: Part::Leads,
-};
-
-// Takes the room for the entries of one call more, after so many that were issued.
-fn take_room(entries: &mut Vec<Issued>, issued: u32) -> Result<(), OutOfMemory>
-    requires { issued ≤ length entries.old.items }
-    ensures kept { take issued entries.new.items ≡ take issued entries.old.items }
-    ensures longer { length entries.old.items ≤ length entries.new.items }
-    ensures room { OnOk result (issued + most_entries ≤ length entries.new.items) }
+// Takes the memory for one call more and its entries.
+fn take_room(
+    asks: &mut TailList<Ask>,
+    places: &mut TailList<u32>,
+    entries: &mut TailList<Issued>,
+) -> Result<(), OutOfMemory>
+    ensures asks { IsRoomier asks.old asks.new }
+    ensures places { IsRoomier places.old places.new }
+    ensures entries { IsRoomier entries.old entries.new }
+    ensures call { OnOk result ((length asks.new.all < asks.new.room) × (length places.new.all < places.new.room)) }
+    ensures room { OnOk result (length entries.new.all + most_entries ≤ entries.new.room) }
 {
-    let room = issued as usize + MOST_ENTRIES;
-    for _ in entries.len()..room {
-        if entries.push(UNUSED).is_err() {
-            return Err(OutOfMemory);
-        }
+    match asks.reserve(1) {
+        Ok(()) => {}
+        Err(OutOfMemory) => return Err(OutOfMemory),
     }
-    Ok(())
+    match places.reserve(1) {
+        Ok(()) => {}
+        Err(OutOfMemory) => return Err(OutOfMemory),
+    }
+    entries.reserve(MOST_ENTRIES)
 }
 
-/// What was asked and issued, and how it ended. Contracts see all of it, and how many entries there is room for.
+/// What was asked and issued, and how it ended. Contracts see all of it, and how many entries there is room for. Of calls that came
+/// their results are kept, and of entries that are confirmed what they count for.
 #[derive(Drop)]
 pub(crate) struct CallLog {
-    calls: Vec<Ask>,
+    // the calls that have not come, and the one before them
+    asks: TailList<Ask>,
     // one for each call; 0 where it has not come
     results: Vec<u32>,
-    // for each call, the number of the entry that gives its result
-    places: Vec<u32>,
-    // the journal, with room for what a call may issue
-    entries: Vec<Issued>,
-    // how many entries were issued
-    issued: u32,
-    // how many of them are confirmed
-    confirmed: u32,
+    // for each of these calls, the number of the entry that gives its result
+    places: TailList<u32>,
+    // the entries that are not confirmed
+    entries: TailList<Issued>,
+    // how many entries there may be
+    room: u32,
+    // the entries that are confirmed
+    confirmed: Confirmed,
     // how many calls were issued whole
     whole: u32,
     // how many calls are known to be answered
@@ -71,18 +77,17 @@ pub(crate) struct CallLog {
 }
 
 impl Model for CallLog {
-    ghost use Rattle.std.specs.Prelude.{length, take};
     ghost use Rattle.packed_access.specs.Logs.{IsSoundLog, LogState};
 
     ghost Value = { LogState };
 
     ghost view = { λ l. record {
-      calls = l.calls.items;
+      calls = l.asks.all;
       results = l.results.items;
-      places = l.places.items;
-      entries = take l.issued l.entries.items;
-      room = length l.entries.items;
-      confirmed = l.confirmed;
+      places = l.places.all;
+      entries = l.entries.all;
+      room = l.room;
+      confirmed = l.entries.gone;
       whole = l.whole;
       came = l.came;
       known = l.known;
@@ -93,8 +98,8 @@ impl Model for CallLog {
       skipped = l.skipped;
     } };
 
-    ghost invariant = { λ l. IsSoundLog l.calls.items l.results.items l.places.items (length l.entries.items) (take l.issued l.entries.items)
-        l.issued l.confirmed l.whole l.came l.known l.fence l.end };
+    ghost invariant = { λ l. IsSoundLog l.asks.all l.results.items l.places.all l.room l.entries.all l.entries.gone l.whole l.came l.known l.fence l.end
+        l.asks.gone l.places.gone l.entries.room l.confirmed };
 }
 
 impl CallLog {
@@ -104,12 +109,12 @@ impl CallLog {
         ensures sound { IsSoundState result }
     {
         CallLog {
-            calls: Vec::new(alloc),
+            asks: TailList::new(alloc),
             results: Vec::new(alloc),
-            places: Vec::new(alloc),
-            entries: Vec::new(alloc),
-            issued: 0,
-            confirmed: 0,
+            places: TailList::new(alloc),
+            entries: TailList::new(alloc),
+            room: 0,
+            confirmed: Confirmed::none(),
             whole: 0,
             came: 0,
             known: 0,
@@ -125,7 +130,7 @@ impl CallLog {
     pub(crate) fn count(&self) -> u32
         ensures { result ≡ length self.now.calls }
     {
-        self.calls.len() as u32
+        self.asks.len()
     }
 
     pub(crate) fn end(&self) -> Option<Stop>
@@ -144,7 +149,7 @@ impl CallLog {
     pub(crate) fn pending(&self) -> u32
         ensures { result ≡ pending self.now }
     {
-        self.issued - self.confirmed
+        self.entries.len() - self.entries.gone()
     }
 
     // How many calls came, and how many were issued whole.
@@ -170,23 +175,16 @@ impl CallLog {
         ensures longer { self.old.room ≤ self.new.room }
         ensures sound { IsSoundState self.new }
     {
-        match take_room(&mut self.entries, self.issued) {
+        match take_room(&mut self.asks, &mut self.places, &mut self.entries) {
             Ok(()) => {}
             Err(OutOfMemory) => return Err(OutOfMemory),
         }
-        let count = self.calls.len();
+        self.room = self.room.max(self.entries.len() + MOST_ENTRIES);
         if self.results.push(0).is_err() {
             return Err(OutOfMemory);
         }
-        if self.places.push(0).is_err() {
-            self.results.truncate(count);
-            return Err(OutOfMemory);
-        }
-        if self.calls.push(ask).is_err() {
-            self.results.truncate(count);
-            self.places.truncate(count);
-            return Err(OutOfMemory);
-        }
+        self.places.push(0);
+        self.asks.push(ask);
         Ok(())
     }
 
@@ -200,8 +198,7 @@ impl CallLog {
         ensures answer { self.new ≡ with_entry self.old (record { unit = unit; part = part }) }
         ensures sound { IsSoundState self.new }
     {
-        self.entries[self.issued as usize] = Issued { unit, part };
-        self.issued += 1;
+        self.entries.push(Issued { unit, part });
     }
 
     // All entries of the calls that were asked are issued. The last of them gives the result of the last call.
@@ -210,26 +207,28 @@ impl CallLog {
         ensures answer { self.new ≡ all_issued self.old }
         ensures sound { IsSoundState self.new }
     {
-        let count = self.calls.len();
-        self.whole = count as u32;
-        self.places[count - 1] = self.issued.saturating_sub(1);
+        self.whole = self.asks.len();
+        self.places
+            .set(self.whole - 1, self.entries.len().saturating_sub(1));
     }
 
     // The place of the entry that gives the result of a call, among those that are not confirmed.
     pub(crate) fn pending_place(&self, index: u32) -> u32
-        requires { index < length self.now.calls }
+        requires within { index < length self.now.calls }
+        requires later { self.now.came ≤ index }
         ensures { result ≡ pending_place self.now index }
     {
-        self.places[index as usize].saturating_sub(self.confirmed)
+        self.places.get(index).saturating_sub(self.entries.gone())
     }
 
     // The entry that gives the result of a call gave this word.
     pub(crate) fn take(&mut self, index: u32, word: u32)
-        requires { index < length self.old.calls }
+        requires within { index < length self.old.calls }
+        requires later { self.old.came ≤ index + 1 }
         ensures answer { self.new ≡ with_result self.old index (result_for (slice_get self.old.calls index) word) }
         ensures sound { IsSoundState self.new }
     {
-        self.results[index as usize] = result_of(&self.calls[index as usize].call, word);
+        self.results[index as usize] = result_of(&self.asks.get(index).call, word);
     }
 
     // All entries are confirmed, and all calls that were issued whole came.
@@ -238,9 +237,22 @@ impl CallLog {
         ensures answer { self.new ≡ all_confirmed self.old }
         ensures sound { IsSoundState self.new }
     {
-        self.confirmed = self.issued;
+        self.let_entries_go();
+        let last = self.whole.saturating_sub(1);
+        self.asks.let_go(last);
+        self.places.let_go(last);
         self.came = self.whole;
         self.known = self.whole;
+    }
+
+    // All entries are confirmed, and what they count for is kept alone.
+    fn let_entries_go(&mut self)
+        ensures answer { self.new ≡ entries_confirmed self.old }
+        ensures sound { IsSoundState self.new }
+    {
+        self.confirmed.add(self.entries.kept());
+        let count = self.entries.len();
+        self.entries.let_go(count);
     }
 
     // All entries are confirmed: their replies were received. The last call has not come.
@@ -248,7 +260,7 @@ impl CallLog {
         ensures answer { self.new ≡ entries_confirmed self.old }
         ensures sound { IsSoundState self.new }
     {
-        self.confirmed = self.issued;
+        self.let_entries_go();
     }
 
     // So many need points come, where so many calls have been asked.
@@ -271,7 +283,7 @@ impl CallLog {
         ensures sound { IsSoundState self.new }
     {
         if slot.index >= self.fence {
-            let count = self.calls.len() as u32;
+            let count = self.asks.len();
             self.need(1, count);
         }
         if slot.index < self.known {
@@ -290,12 +302,22 @@ impl CallLog {
     }
 
     // A `finish` is made after the last call.
-    #[tactic(auto, using(crate::proofs::LogLemmas::marked_sound))]
+    #[tactic(auto, using(crate::proofs::LogLemmas::marked_sound, crate::proofs::LogLemmas::marked_at))]
     pub(crate) fn mark(&mut self)
         ensures answer { self.new ≡ record self.old { calls = settled_last self.old.calls } }
         ensures sound { IsSoundState self.new }
     {
-        mark_last(&mut self.calls);
+        let count = self.asks.len();
+        if count > 0 {
+            let last = self.asks.get(count - 1);
+            self.asks.set(
+                count - 1,
+                Ask {
+                    settled: true,
+                    ..last
+                },
+            );
+        }
     }
 
     // Whether the result of this call is known.
@@ -318,13 +340,10 @@ impl CallLog {
             0x02 => StopCause::NoAnswer,
             _ => StopCause::Faulted,
         };
-        let stop = stop_report(
-            &self.entries.as_slice()[..self.issued as usize],
-            self.calls.as_slice(),
-            self.confirmed + cut.performed,
-            self.confirmed + cut.confirmed,
-            cause,
-        );
+        let entries = self.entries.kept();
+        let named = entries[cut.confirmed as usize];
+        let what = self.asks.get(named.unit - 1).call;
+        let stop = self.confirmed.stop_report(entries, what, cut, cause);
         let report = stop.report;
         self.skipped = stop.skipped;
         self.lines = stop.lines;
@@ -343,8 +362,8 @@ impl CallLog {
         let stop = match end {
             FlightEnd::Cut(cut) => return Stop::Cut(self.cut(cut)),
             FlightEnd::BenchFault => Stop::BenchFault {
-                issued: self.issued,
-                confirmed: self.confirmed,
+                issued: self.entries.len(),
+                confirmed: self.entries.gone(),
             },
             FlightEnd::ReplyBad => Stop::ReplyBad,
         };

@@ -1,13 +1,18 @@
-use Rattle.std.proofs.Common.{rules, arith}
-use Rattle.packed_access.proofs.LogLemmas.{sound_asked, sound_state}
+use Rattle.std.proofs.Common.{rules, arith, ◌∙◌, ◌++◌, ◌∷◌, [], List, ℕ, ap}
+use Rattle.target_calls.specs.declared.calls.Ask.{Ask}
+use Rattle.packed_access.proofs.LogLemmas.{sound_taken}
 use Rattle.packed_access.proofs.log.CallLog.ask.Goals as goal
 
-pub invariant_of-self-else-is_err-3 : goal.invariant_of-self-else-is_err-3
-invariant_of-self-else-is_err-3 c =
-    sound_asked c.self.inside.calls.items _ c.self.inside.results.items _ c.self.inside.places.items _ _ _ _ _ _ _ _ _ _ _ _ c.args.ask c.self.invariant
-    (search rules) (search rules) (search rules) c.take_room.ensures.longer c.take_room.ensures.kept c.requires.sound (search rules)
-
-pub returns-clause-sound : goal.returns-clause-sound
-returns-clause-sound c =
-    sound_state _ _ _ _ _ _ _ _ _ _ _ _ _ _ (sound_asked c.self.inside.calls.items _ c.self.inside.results.items _ c.self.inside.places.items _ _ _ _ _ _ _ _ _ _ _ _ c.args.ask c.self.invariant
-    (search rules) (search rules) (search rules) c.take_room.ensures.longer c.take_room.ensures.kept c.requires.sound (search rules))
+pub invariant_of-self-2 : goal.invariant_of-self-2
+invariant_of-self-2 c =
+    let before = c.self.invariant.taken in
+    let more = c.in-Ok.ensures.entries.room in
+    let many = c.len.ensures in
+    let room = c.in-Ok.ensures.room in
+    let most = c.max-self-inside.ensures in
+    sound_taken _ _ _ _ _ _ _ _ _ _ _ _ _ _ _ _ _ _ _ _ _ _ _ _ c.args.ask c.self.invariant
+    (c.push-3.ensures.added ∙ ap (λ (l : List Ask). l ++ c.args.ask ∷ []) c.in-Ok.ensures.asks.all)
+    (search rules)
+    (c.push-2.ensures.added ∙ ap (λ (l : List ℕ). l ++ 0 ∷ []) c.in-Ok.ensures.places.all)
+    (omega (arith, most)) (omega (arith, before, more, many, room, most)) c.in-Ok.ensures.entries.all c.in-Ok.ensures.entries.gone
+    (c.push-3.ensures.gone ∙ c.in-Ok.ensures.asks.gone) (c.push-2.ensures.gone ∙ c.in-Ok.ensures.places.gone) c.requires.sound (search rules)
