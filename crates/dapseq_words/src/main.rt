@@ -1,14 +1,16 @@
-//! The program: it makes the real source and sink, and calls `dapseq_words`.
+//! The program: it makes the real source, file and sink, and calls `dapseq_words`.
 #![tactic(auto)]
 
+mod file;
 mod words;
 
 use dap_base::{OutOfMemory, ReadSource, Words, WriteSink};
+use file::FileSource;
 use std::alloc::Global;
 use std::io::ErrorKind;
 use std::process::ExitCode;
 use std::{env, io};
-use trace_words::{Status, dapseq_words};
+use trace_compare::{Status, dapseq_words};
 use words::{unreadable, words_of};
 
 // The words after the program's name. One word where they cannot be read as text, so that the call is a wrong one.
@@ -29,8 +31,9 @@ fn main(rt: HostRuntime) -> ExitCode {
     let status = match read_words(&rt, alloc) {
         Ok(words) => {
             let mut source = ReadSource::new(rt.reader());
+            let mut file = FileSource::new(&rt);
             let mut sink = WriteSink::new(io::writer(&rt));
-            dapseq_words(alloc, &words, &mut source, &mut sink)
+            dapseq_words(alloc, &words, &mut source, &mut file, &mut sink)
         }
         Err(OutOfMemory) => Status::OutOfMemory,
     };

@@ -1,10 +1,17 @@
 //! Tries the rows of the tables that standard input names: traces, and their words.
 #![tactic(auto)]
 
-use dap_base::{MemorySink, MemorySource, Words};
+mod file;
+
+use dap_base::{MemorySink, MemorySource, NameText, OutOfMemory, Words};
+use file::MemoryFile;
+use std::alloc::Global;
 use std::io;
 use test_tables::{Row, Tally, table_of};
-use trace_words::{Status, dapseq_words};
+use trace_compare::{Status, dapseq_words};
+
+// What parts the two traces of a row.
+const PARTED: &[u8] = b"AGAINST\n";
 
 // How a call ended.
 fn status_text(status: Status) -> &'static str {
@@ -13,22 +20,51 @@ fn status_text(status: Status) -> &'static str {
         Status::Wrong => "status 1\n",
         Status::Usage => "status 2\n",
         Status::ReadFault => "status 5\n",
+        Status::FileFault => "status 5 of the file\n",
+        Status::NotOpened => "status 5 without the file\n",
         Status::WriteFault => "status 6\n",
         Status::OutOfMemory => "status 7\n",
     }
 }
 
-// What comes of a row: the words of its input, and how the call ended.
+// The words of a row: those of its form.
+fn words_of(alloc: Global, form: &str) -> Result<Words, OutOfMemory> {
+    let mut words = Words::new(alloc);
+    for word in form.split_whitespace() {
+        words.push(NameText::new(alloc, word)?)?;
+    }
+    Ok(words)
+}
+
+// The two traces of a row.
+fn traces_of(input: &[u8]) -> (&[u8], &[u8]) {
+    for at in 0..input.len() {
+        let (front, rest) = input.split_at(at);
+        if rest.starts_with(PARTED) {
+            return (front, &rest[PARTED.len()..]);
+        }
+    }
+    (input, &[])
+}
+
+// Makes the call of a row.
+fn call(alloc: Global, row: &Row, sink: &mut MemorySink) -> Result<Status, OutOfMemory> {
+    let words = words_of(alloc, row.form.as_str())?;
+    let (trace, against) = traces_of(row.input.as_slice());
+    let mut source = MemorySource::new(alloc, trace, &[])?;
+    let mut file = MemoryFile::new(alloc, against)?;
+    Ok(dapseq_words(alloc, &words, &mut source, &mut file, sink))
+}
+
+// What comes of a row: what is written, and how the call ended.
 fn answer(rt: &HostRuntime, row: &Row) -> io::Result<Vec<u8>> {
     let alloc = rt.alloc();
-    let words = Words::new(alloc);
-    let Ok(mut source) = MemorySource::new(alloc, row.input.as_slice(), &[]) else {
-        return Ok(Vec::from_slice(alloc, b"out of memory\n")?);
-    };
     let Ok(mut sink) = MemorySink::new(alloc, &[]) else {
         return Ok(Vec::from_slice(alloc, b"out of memory\n")?);
     };
-    let status = dapseq_words(alloc, &words, &mut source, &mut sink);
+    let Ok(status) = call(alloc, row, &mut sink) else {
+        return Ok(Vec::from_slice(alloc, b"out of memory\n")?);
+    };
     let mut written = Vec::from_slice(alloc, sink.bytes())?;
     written.extend_from_slice(status_text(status).as_bytes())?;
     Ok(written)

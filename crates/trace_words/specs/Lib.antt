@@ -1,4 +1,3 @@
 pub mod Telling
 pub mod Tells
 pub mod Words
-pub mod Calls

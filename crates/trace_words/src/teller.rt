@@ -1,5 +1,5 @@
 //! The words of the events of a trace.
-ghost use Rattle.std.specs.Prelude.{◌≡◌, IfOk};
+ghost use Rattle.std.specs.Prelude.{◌≡◌, IfOk, true};
 ghost use Rattle.std.specs.Option.{option_copied};
 ghost use Rattle.packet_words.specs.Exchange.{exchange};
 ghost use Rattle.trace_words.specs.Telling.{start, next_number, told_said, stray_line, tell};
@@ -86,6 +86,14 @@ impl Teller {
         ensures { result ≡ self.now.good }
     {
         self.is_good
+    }
+
+    /// Whether each packet and reply is one since the last such call, or since the first event. Those to come are judged anew.
+    pub fn judge(&mut self) -> bool
+        ensures value { result ≡ self.old.good }
+        ensures telling { self.new ≡ record self.old { good = true } }
+    {
+        std::mem::replace(&mut self.is_good, true)
     }
 
     // The words of an exchange.

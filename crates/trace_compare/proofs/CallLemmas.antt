@@ -1,0 +1,21 @@
+-- The statuses of a file that cannot be opened.
+use Rattle.std.proofs.Common.{◌≡◌, ℕ, true, List, Option}
+use Rattle.dap_base.specs.Causes.{Rose}
+use Rattle.trace_compare.specs.declared.call.Status.{Status}
+use Rattle.trace_compare.specs.declared.call.Status.TheVariants as status
+use Rattle.trace_compare.specs.Blames.{BlamesFile, leaves_file}
+use Rattle.trace_compare.specs.Calls.{WritesRefusal}
+
+leaves : (name : List ℕ) (result : Status) (old new : Option (List ℕ)) → WritesRefusal name result old new → leaves_file result ≡ true → ⊥
+leaves name status.Done old new text is = text
+leaves name status.Wrong old new text is = text
+leaves name status.Usage old new text is = text
+leaves name status.ReadFault old new text is = text
+leaves name status.FileFault old new text is = text
+leaves name status.NotOpened old new text is = let no : ⊥ = cc in no
+leaves name status.WriteFault old new text is = let no : ⊥ = cc in no
+leaves name status.OutOfMemory old new text is = let no : ⊥ = cc in no
+
+-- the count of the file rose
+pub refused : (name : List ℕ) (result : Status) (old new : Option (List ℕ)) (before now : ℕ) → WritesRefusal name result old new → Rose before now → BlamesFile result before now
+refused name result old new before now text rose = record { failed = λ is. rose; else = λ is. absurd (leaves name result old new text is) }

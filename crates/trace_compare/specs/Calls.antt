@@ -1,0 +1,81 @@
+-- What a call of the program writes, and how it ends.
+use Rattle.std.specs.Prelude.{◌≡◌, ◌⊎◌, ℕ, true, false, List, [], ◌∷◌, ◌++◌, Option, Some, None, codes, if◌then◌else◌}
+use Rattle.std.specs.Io.KnownBytes.{Appends}
+use Rattle.std.specs.Str.{bytes_eq}
+use Rattle.dap_base.specs.Streams.{AppendsPrefix}
+use Rattle.text_lines.specs.Shown.{shown}
+use Rattle.trace_words.specs.Words.{words, are_good}
+use Rattle.trace_compare.specs.Comparison.{are_alike, words_against}
+use Rattle.trace_compare.specs.declared.call.Status.{Status}
+use Rattle.trace_compare.specs.declared.call.Status.TheVariants as status
+
+-- the status as the number with which the program ends
+abbrev pub code_of : Status → ℕ
+code_of status.Done = 0
+code_of status.Wrong = 1
+code_of status.Usage = 2
+code_of status.ReadFault = 5
+code_of status.FileFault = 5
+code_of status.NotOpened = 5
+code_of status.WriteFault = 6
+code_of status.OutOfMemory = 7
+
+-- ---- words
+
+-- the name after `--against`, where the words are these two
+abbrev pub file_named : List (List ℕ) → Option (List ℕ)
+file_named [] = None
+file_named (option ∷ []) = None
+file_named (option ∷ name ∷ []) = if bytes_eq option (codes "--against") then Some name else None
+file_named (option ∷ name ∷ other ∷ others) = None
+
+-- ---- what is written
+
+-- What is written for these bytes of a trace, by how the call ended: all words, and whether each packet and reply is one; at a fault a
+-- part of the words, from the front.
+abbrev pub Writes : List ℕ → Status → Option (List ℕ) → Option (List ℕ) → Type 0
+Writes bytes status.Done old new = Appends old new (words bytes) × (are_good bytes ≡ true)
+Writes bytes status.Wrong old new = Appends old new (words bytes) × (are_good bytes ≡ false)
+Writes bytes status.Usage old new = ⊥
+Writes bytes status.ReadFault old new = AppendsPrefix old new (words bytes)
+Writes bytes status.FileFault old new = ⊥
+Writes bytes status.NotOpened old new = ⊥
+Writes bytes status.WriteFault old new = AppendsPrefix old new (words bytes)
+Writes bytes status.OutOfMemory old new = AppendsPrefix old new (words bytes)
+
+-- The same for these bytes of a trace and of the one that it is compared with: the whole comparison, and whether both are alike; at a
+-- fault a part of it.
+abbrev pub WritesAgainst : List ℕ → List ℕ → Status → Option (List ℕ) → Option (List ℕ) → Type 0
+WritesAgainst bytes others status.Done old new = Appends old new (words_against bytes others) × (are_alike bytes others ≡ true)
+WritesAgainst bytes others status.Wrong old new = Appends old new (words_against bytes others) × (are_alike bytes others ≡ false)
+WritesAgainst bytes others status.Usage old new = ⊥
+WritesAgainst bytes others status.ReadFault old new = AppendsPrefix old new (words_against bytes others)
+WritesAgainst bytes others status.FileFault old new = AppendsPrefix old new (words_against bytes others)
+WritesAgainst bytes others status.NotOpened old new = ⊥
+WritesAgainst bytes others status.WriteFault old new = AppendsPrefix old new (words_against bytes others)
+WritesAgainst bytes others status.OutOfMemory old new = AppendsPrefix old new (words_against bytes others)
+
+-- the line of a file that cannot be opened
+unfoldable pub refusal_line : List ℕ → List ℕ
+refusal_line name = codes "file " ++ shown name ++ codes " cannot be opened\n"
+
+-- what is written where it cannot be, by how the call ended
+abbrev pub WritesRefusal : List ℕ → Status → Option (List ℕ) → Option (List ℕ) → Type 0
+WritesRefusal name status.NotOpened old new = Appends old new (refusal_line name)
+WritesRefusal name status.WriteFault old new = AppendsPrefix old new (refusal_line name)
+WritesRefusal name status.OutOfMemory old new = new ≡ old
+WritesRefusal name other old new = ⊥
+
+-- a comparison with the file of this name, or its refusal
+abbrev pub WritesFile : List ℕ → List ℕ → List ℕ → Status → Option (List ℕ) → Option (List ℕ) → Type 0
+WritesFile name bytes others result old new = WritesAgainst bytes others result old new ⊎ WritesRefusal name result old new
+
+-- the line of a wrong call
+abbrev pub usage_line : List ℕ
+usage_line = codes "usage dapseq_words [--against FILE] < TRACE\n"
+
+-- what is written at a wrong call, by how it ended
+abbrev pub WritesUsage : Status → Option (List ℕ) → Option (List ℕ) → Type 0
+WritesUsage status.Usage old new = Appends old new usage_line
+WritesUsage status.WriteFault old new = AppendsPrefix old new usage_line
+WritesUsage other old new = ⊥

@@ -1,0 +1,22 @@
+-- How many accesses there are of each register.
+use Rattle.std.specs.Prelude.{ℕ, List, [], ◌∷◌, replicate, slice_index, slice_set}
+use Rattle.register_words.specs.declared.access.Access.{Access}
+use Rattle.register_words.specs.Accesses.{place}
+use Rattle.trace_words.specs.Telling.{next_number}
+
+-- so many zeros
+unfoldable pub zeros : ℕ → List ℕ
+zeros count = replicate count 0
+
+-- no access of any of the 32,800 places
+abbrev pub no_counts : List ℕ
+no_counts = zeros 32800
+
+-- one access more, at its place; a count stops at 2^64 - 1
+unfoldable pub counted : List ℕ → Access → List ℕ
+counted counts access = slice_set counts (place access) (next_number (slice_index counts (place access)))
+
+-- accesses, one after the other
+abbrev pub all_counted : List ℕ → List Access → List ℕ
+all_counted counts [] = counts
+all_counted counts (access ∷ others) = all_counted (counted counts access) others

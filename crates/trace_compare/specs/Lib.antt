@@ -1,0 +1,10 @@
+pub mod Counts
+pub mod Counting
+pub mod Exchanges
+pub mod Coming
+pub mod Texts
+pub mod Comparison
+pub mod Pairs
+pub mod Faults
+pub mod Blames
+pub mod Calls

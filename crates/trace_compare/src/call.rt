@@ -1,0 +1,188 @@
+//! A call of the program `dapseq_words`.
+ghost use Rattle.std.specs.Prelude.{◌≡◌, ◌≢◌, ℕ, List, [], IfOk, Some, None, false};
+ghost use Rattle.std.specs.Option.{option_copied};
+ghost use Rattle.trace_compare.specs.Blames.{Blames, BlamesFile, is_of_file};
+ghost use Rattle.trace_compare.specs.Calls.{code_of, file_named, refusal_line, Writes, WritesAgainst, WritesFile, WritesRefusal, WritesUsage};
+
+use crate::compare::{CompareEnd, compare_traces};
+use crate::file::NamedFile;
+use dap_base::{OutOfMemory, Sink, Source, Words};
+use std::alloc::Global;
+use text_lines::Line;
+use trace_words::{TraceEnd, trace_words};
+
+/// How a call of `dapseq_words` ended.
+#[derive(Clone, Copy, Debug, PartialEq, Eq)]
+pub enum Status {
+    /// Each packet and reply is one; two traces are alike.
+    Done,
+    /// Some packet or reply is none, or two traces differ.
+    Wrong,
+    /// The words after the program's name are wrong.
+    Usage,
+    /// The source failed.
+    ReadFault,
+    /// The file failed.
+    FileFault,
+    /// The file cannot be opened.
+    NotOpened,
+    /// The sink failed.
+    WriteFault,
+    /// Memory was refused.
+    OutOfMemory,
+}
+
+impl Status {
+    /// The number with which the program ends: 0, 1 and 2 in the order of the variants, 5 where an input failed, then 6
+    /// and 7.
+    pub fn code(&self) -> u8
+        ensures { result ≡ code_of self.now }
+    {
+        match self {
+            Status::Done => 0,
+            Status::Wrong => 1,
+            Status::Usage => 2,
+            Status::ReadFault | Status::FileFault | Status::NotOpened => 5,
+            Status::WriteFault => 6,
+            Status::OutOfMemory => 7,
+        }
+    }
+}
+
+// The line of a wrong call.
+fn write_usage<K: Sink>(sink: &mut K) -> Status
+    ensures usage { WritesUsage result (K.written sink.old) (K.written sink.new) }
+    ensures sink { Blames Status.WriteFault result (K.faults sink.old) (K.faults sink.new) }
+{
+    match sink.put(b"usage dapseq_words [--against FILE] < TRACE\n") {
+        Ok(()) => Status::Usage,
+        Err(_) => Status::WriteFault,
+    }
+}
+
+// The name after `--against`, where the words are these two.
+fn file_named(words: &Words) -> Option<&str>
+    ensures { option_copied result ≡ file_named words.now }
+{
+    match words.as_slice() {
+        [option, name] if option.as_str() == "--against" => Some(name.as_str()),
+        _ => None,
+    }
+}
+
+// The line of a file that cannot be opened.
+#[tactic(auto, unfolding(crate::specs::Calls::refusal_line))]
+fn refusal_line(alloc: Global, name: &str) -> Result<Line, OutOfMemory>
+    ensures { IfOk result (λ line. line ≡ refusal_line name.now) }
+{
+    let line = Line::begin(alloc, "file ")?.shown(name.as_bytes())?;
+    line.text(" cannot be opened\n")
+}
+
+// Writes it.
+fn write_refusal<K: Sink>(alloc: Global, name: &str, sink: &mut K) -> Status
+    ensures text { WritesRefusal name.now result (K.written sink.old) (K.written sink.new) }
+    ensures sink { Blames Status.WriteFault result (K.faults sink.old) (K.faults sink.new) }
+{
+    let Ok(line) = refusal_line(alloc, name) else {
+        return Status::OutOfMemory;
+    };
+    match sink.put(line.as_bytes()) {
+        Ok(()) => Status::NotOpened,
+        Err(_) => Status::WriteFault,
+    }
+}
+
+// A call without words.
+fn write_words<S: Source, K: Sink>(alloc: Global, source: &mut S, sink: &mut K) -> Status
+    ensures words { (bytes : List ℕ) → S.left source.old ≡ Some bytes → Writes bytes result (K.written sink.old) (K.written sink.new) }
+    ensures source { Blames Status.ReadFault result (S.faults source.old) (S.faults source.new) }
+    ensures sink { Blames Status.WriteFault result (K.faults sink.old) (K.faults sink.new) }
+    ensures file { is_of_file result ≡ false }
+{
+    match trace_words(alloc, source, sink) {
+        Ok(true) => Status::Done,
+        Ok(false) => Status::Wrong,
+        Err(TraceEnd::ReadFault) => Status::ReadFault,
+        Err(TraceEnd::WriteFault) => Status::WriteFault,
+        Err(TraceEnd::OutOfMemory) => Status::OutOfMemory,
+    }
+}
+
+// A comparison with the file that is open.
+fn write_comparison<S: Source, F: Source, K: Sink>(
+    alloc: Global,
+    source: &mut S,
+    file: &mut F,
+    sink: &mut K,
+) -> Status
+    ensures text { (bytes others : List ℕ) → S.left source.old ≡ Some bytes → F.left file.old ≡ Some others
+        → WritesAgainst bytes others result (K.written sink.old) (K.written sink.new) }
+    ensures source { Blames Status.ReadFault result (S.faults source.old) (S.faults source.new) }
+    ensures file { BlamesFile result (F.faults file.old) (F.faults file.new) }
+    ensures sink { Blames Status.WriteFault result (K.faults sink.old) (K.faults sink.new) }
+{
+    match compare_traces(alloc, source, file, sink) {
+        Ok(true) => Status::Done,
+        Ok(false) => Status::Wrong,
+        Err(CompareEnd::ReadFault) => Status::ReadFault,
+        Err(CompareEnd::AgainstFault) => Status::FileFault,
+        Err(CompareEnd::WriteFault) => Status::WriteFault,
+        Err(CompareEnd::OutOfMemory) => Status::OutOfMemory,
+    }
+}
+
+// A comparison with the file of this name.
+fn write_against<S: Source, F: NamedFile, K: Sink>(
+    alloc: Global,
+    name: &str,
+    source: &mut S,
+    file: &mut F,
+    sink: &mut K,
+) -> Status
+    ensures text { (bytes others : List ℕ) → S.left source.old ≡ Some bytes → F.contents file.old name.now ≡ Some others
+        → WritesFile name.now bytes others result (K.written sink.old) (K.written sink.new) }
+    ensures source { Blames Status.ReadFault result (S.faults source.old) (S.faults source.new) }
+    ensures file { BlamesFile result (F.faults file.old) (F.faults file.new) }
+    ensures sink { Blames Status.WriteFault result (K.faults sink.old) (K.faults sink.new) }
+{
+    match file.open(name) {
+        Ok(()) => write_comparison(alloc, source, file, sink),
+        Err(_) => write_refusal(alloc, name, sink),
+    }
+}
+
+/// A call with these words after the program's name. Without words it writes the words of the trace that the source
+/// has. With `--against` and a name it writes the comparison of this trace with that of the file of this name, or the
+/// line of a file that cannot be opened. With any other words it writes the line of a wrong call, and the source and
+/// the file are as they were.
+pub fn dapseq_words<S: Source, F: NamedFile, K: Sink>(
+    alloc: Global,
+    words: &Words,
+    source: &mut S,
+    file: &mut F,
+    sink: &mut K,
+) -> Status
+    // The words of all bytes of the source, where they are known; at a fault a part of them, from the front.
+    ensures words { words.now ≡ [] → (bytes : List ℕ) → S.left source.old ≡ Some bytes
+        → Writes bytes result (K.written sink.old) (K.written sink.new) }
+    // The comparison of all bytes of both, where they are known; at a fault a part of it, from the front.
+    ensures against { (name : List ℕ) → file_named words.now ≡ Some name → (bytes others : List ℕ) → S.left source.old ≡ Some bytes → F.contents file.old name ≡ Some others
+        → WritesFile name bytes others result (K.written sink.old) (K.written sink.new) }
+    // With other words after the name, the line of a wrong call.
+    ensures usage { words.now ≢ [] → file_named words.now ≡ None → WritesUsage result (K.written sink.old) (K.written sink.new) }
+    ensures unread { words.now ≢ [] → file_named words.now ≡ None → source.new ≡ source.old }
+    ensures unopened { file_named words.now ≡ None → file.new ≡ file.old }
+    // A fault is that of the object that failed.
+    ensures source { Blames Status.ReadFault result (S.faults source.old) (S.faults source.new) }
+    ensures file { BlamesFile result (F.faults file.old) (F.faults file.new) }
+    ensures sink { Blames Status.WriteFault result (K.faults sink.old) (K.faults sink.new) }
+{
+    if words.is_empty() {
+        return write_words(alloc, source, sink);
+    }
+    match file_named(words) {
+        Some(name) => write_against(alloc, name, source, file, sink),
+        None => write_usage(sink),
+    }
+}

@@ -1,0 +1,72 @@
+//! What is counted of two traces, into a sink.
+ghost use Rattle.std.specs.Prelude.{◌≡◌, ◌<◌, ◌≤◌, IfErr, slice_index};
+ghost use Rattle.dap_base.specs.Streams.{PutAppends};
+ghost use Rattle.text_lines.specs.Causes.{NamesFault};
+ghost use Rattle.trace_compare.specs.Comparison.{summary};
+ghost use Rattle.trace_compare.specs.Faults.{IsOfSink};
+ghost use Rattle.trace_compare.specs.Texts.{count_line, count_lines};
+
+use crate::compare::CompareEnd;
+use crate::counter::Counter;
+use crate::counts::{Counts, PLACES};
+use crate::put::put_line;
+use crate::texts::{count_line, wrong_line};
+use dap_base::Sink;
+use std::alloc::Global;
+
+// Puts how many accesses there are of a place, where the numbers differ.
+#[tactic(auto, unfolding(crate::specs::Texts::count_line), using(text_lines::proofs::PutLemmas::nothing))]
+fn put_count<K: Sink>(
+    alloc: Global,
+    place: u16,
+    first: u64,
+    second: u64,
+    sink: &mut K,
+) -> Result<(), CompareEnd>
+    requires { place < 32800 }
+    ensures text { PutAppends (K.written sink.old) (K.written sink.new) result (count_line place first second) }
+    ensures sink { NamesFault CompareEnd.WriteFault (K.faults sink.old) (K.faults sink.new) result }
+    ensures other { IfErr result IsOfSink }
+{
+    if first == second {
+        return Ok(());
+    }
+    put_line(count_line(alloc, place, first, second), sink)
+}
+
+// Puts how many accesses there are of each place, where the numbers differ.
+fn put_counts<K: Sink>(
+    alloc: Global,
+    first: &Counts,
+    second: &Counts,
+    sink: &mut K,
+) -> Result<(), CompareEnd>
+    ensures text { PutAppends (K.written sink.old) (K.written sink.new) result (count_lines 32800 first.now second.now) }
+    ensures sink { NamesFault CompareEnd.WriteFault (K.faults sink.old) (K.faults sink.new) result }
+    ensures other { IfErr result IsOfSink }
+{
+    for place in 0..PLACES {
+        match put_count(alloc, place, first.get(place), second.get(place), sink) {
+            Ok(()) => {}
+            Err(end) => return Err(end),
+        }
+    }
+    Ok(())
+}
+
+/// Puts what is counted of two traces.
+pub fn put_summary<K: Sink>(
+    alloc: Global,
+    first: &Counter,
+    second: &Counter,
+    sink: &mut K,
+) -> Result<(), CompareEnd>
+    ensures text { PutAppends (K.written sink.old) (K.written sink.new) result (summary first.now second.now) }
+    ensures sink { NamesFault CompareEnd.WriteFault (K.faults sink.old) (K.faults sink.new) result }
+    ensures other { IfErr result IsOfSink }
+{
+    match put_line(wrong_line(alloc, first.wrong(), second.wrong()), sink) {
+        Ok(()) => put_counts(alloc, first.counts(), second.counts(), sink),
+        Err(end) => Err(end),
+    }
+}
