@@ -9,7 +9,7 @@ use Rattle.pack_faults.specs.declared.request.SetName.{SetName}
 use Rattle.pack_faults.specs.declared.answer.Found.{Found}
 use Rattle.pack_faults.specs.declared.answer.PackFault.{PackFault}
 use Rattle.pack_faults.specs.declared.answer.PackFaults.{PackFaults}
-use Rattle.fault_lines.specs.Source.{word_at, quoted_at, place_lines}
+use Rattle.fault_lines.specs.Source.{word_at, quoted_at, called_at, place_lines}
 use Rattle.fault_lines.specs.Counted.{counts_line}
 
 -- ---- the name
@@ -29,8 +29,8 @@ name_in k.BadDebugvars line column = None
 name_in k.UnboundedLoop line column = None
 name_in k.TimeoutTooLong line column = None
 name_in k.NestedTooDeep line column = None
-name_in k.CallCycle line column = None
-name_in k.CallsTooDeep line column = None
+name_in k.CallCycle line column = called_at line column
+name_in k.CallsTooDeep line column = called_at line column
 
 -- the same in the line of the fault, where it has one
 abbrev pub name_if : FaultKind → Option (List ℕ) → ℕ → Option (List ℕ)

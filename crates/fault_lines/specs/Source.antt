@@ -1,7 +1,8 @@
 -- The line that a fault stands in as it is shown, the caret below it, and the name that begins at its place.
-use Rattle.std.specs.Prelude.{ℕ, ◌-◌, ◌==◌, nat_lt, nat_le, Bool, true, false, not, ◌&&◌, ◌||◌, List, [], ◌∷◌, ◌++◌, take, drop, map, codes, if◌then◌else◌}
+use Rattle.std.specs.Prelude.{ℕ, ◌-◌, ◌==◌, nat_lt, nat_le, Bool, true, false, not, ◌&&◌, ◌||◌, List, [], ◌∷◌, ◌++◌, take, drop, map, codes, Option, Some, None, option_map, if◌then◌else◌}
 use Rattle.std.specs.Char.{is_ascii_alphanumeric}
 use Rattle.std.specs.List.{flat_map}
+use Rattle.std.specs.Option.{option_and_then}
 use Rattle.std.specs.Str.Lines.{strip_carriage_return}
 
 -- ---- names
@@ -31,6 +32,34 @@ word_at line column = word_front (from_column line column)
 -- what stands between the quotes of the text that begins at this column
 abbrev pub quoted_at : List ℕ → ℕ → List ℕ
 quoted_at line column = before_quote false (drop 1 (from_column line column))
+
+-- a blank or a tab (0x20, 0x09)
+abbrev pub is_blank : ℕ → Bool
+is_blank b = b == 32 || b == 9
+
+-- without the blanks at the front
+abbrev pub after_blanks : List ℕ → List ℕ
+after_blanks [] = []
+after_blanks (b ∷ bs) = if is_blank b then after_blanks bs else b ∷ bs
+
+-- without the letters, digits and `_` at the front
+abbrev pub after_word : List ℕ → List ℕ
+after_word [] = []
+after_word (b ∷ bs) = if is_word b then after_word bs else b ∷ bs
+
+-- what follows this byte at the front
+abbrev pub after_first : ℕ → List ℕ → Option (List ℕ)
+after_first byte [] = None
+after_first byte (b ∷ bs) = if b == byte then Some bs else None
+
+-- what follows this byte, where it comes next after blanks
+abbrev pub after_byte : ℕ → List ℕ → Option (List ℕ)
+after_byte byte bs = after_first byte (after_blanks bs)
+
+-- what stands between the quotes (0x22) of the text that comes first between the parentheses (0x28) of the call at this column; none where
+-- that is not in this line
+abbrev pub called_at : List ℕ → ℕ → Option (List ℕ)
+called_at line column = option_map (before_quote false) (option_and_then (after_byte 34) (after_byte 40 (after_word (from_column line column))))
 
 -- ---- lines
 

@@ -3,7 +3,7 @@ ghost use Rattle.std.specs.Prelude.{◌≡◌, ◌++◌, IfOk, slice_get, option
 ghost use Rattle.fault_lines.specs.FaultText as text;
 ghost use Rattle.fault_lines.specs.FaultText.{name_in, name_if, first_words, after_blank, set_words, set_at, more_words, for_words};
 
-use crate::name::{quoted_at, word_at};
+use crate::name::{called_at, quoted_at, word_at};
 use check_lines::with_fault;
 use code_check::FaultKind;
 use dap_base::{NameText, OutOfMemory};
@@ -28,14 +28,13 @@ fn name_in(kind: FaultKind, line: &[u8], column: u64) -> Option<&[u8]>
         | FaultKind::BadDebugvars
         | FaultKind::UnboundedLoop
         | FaultKind::TimeoutTooLong
-        | FaultKind::NestedTooDeep
-        | FaultKind::CallCycle
-        | FaultKind::CallsTooDeep => None,
+        | FaultKind::NestedTooDeep => None,
+        FaultKind::CallCycle | FaultKind::CallsTooDeep => called_at(line, column),
     }
 }
 
 /// The name that the fault is about, as its line spells it: the variable or function that is used, declared or called,
-/// or the sequence that a text names. `None` where it is about none.
+/// or the sequence that a text names. `None` where it is about none, or where a call names its sequence in another line.
 pub fn name_of(found: &Found) -> Option<&[u8]>
     ensures { option_map (λ name. name.now) result ≡ text.name_of found.now }
 {
