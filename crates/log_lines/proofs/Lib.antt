@@ -1,0 +1,4 @@
+mod CodeLemmas
+mod LineLemmas
+mod Cutting
+mod Rows

@@ -1,0 +1,12 @@
+//! The text of a log: what is seen of a run, line by line.
+#![tactic(auto)]
+
+mod code;
+pub mod laws;
+mod lines;
+mod log;
+mod marks;
+mod places;
+mod units;
+
+pub use log::{Log, LogMark};

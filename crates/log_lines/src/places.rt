@@ -1,0 +1,65 @@
+//! Places of a set as text.
+ghost use Rattle.std.specs.Prelude.{◌≡◌, ◌++◌, IfOk, Some};
+ghost use Rattle.log_lines.specs.Places.{code_place, debug_spot, part_word, place_words, spot_in, spot_words, step_words};
+
+use dap_base::{OutOfMemory, Place};
+use sequence_trees::Part;
+use text_lines::Line;
+
+fn part_text(part: Part) -> &'static str
+    ensures { result.now ≡ part_word part }
+{
+    match part {
+        Part::Debugvars => "debugvars",
+        Part::Control => "control",
+        Part::Block => "block",
+        Part::If => "if",
+        Part::While => "while",
+    }
+}
+
+// A line and a column.
+fn with_place(line: Line, place: Place) -> Result<Line, OutOfMemory>
+    ensures { IfOk result (λ l. l ≡ line ++ place_words place) }
+{
+    line.labelled(" ", place.line)?.labelled(":", place.column)
+}
+
+// A place in code.
+fn with_code_place(line: Line, part: Part, place: Place) -> Result<Line, OutOfMemory>
+    ensures { IfOk result (λ l. l ≡ line ++ code_place part place) }
+{
+    match part {
+        Part::Debugvars | Part::Block => with_place(line, place),
+        Part::Control | Part::If | Part::While => Ok(line),
+    }
+}
+
+// A step of a sequence.
+fn with_step(line: Line, sequence: &str, path: &[u64]) -> Result<Line, OutOfMemory>
+    ensures { IfOk result (λ l. l ≡ line ++ step_words (Some sequence.now) path.now) }
+{
+    let line = line.shown(sequence.as_bytes())?.text(" ")?;
+    line.dotted(path)?.text(" ")
+}
+
+/// A place in a step of a sequence.
+pub fn with_spot(
+    line: Line,
+    sequence: &str,
+    path: &[u64],
+    part: Part,
+    place: Place,
+) -> Result<Line, OutOfMemory>
+    ensures { IfOk result (λ l. l ≡ line ++ spot_words (spot_in sequence.now path.now part place)) }
+{
+    let line = with_step(line, sequence, path)?.text(part_text(part))?;
+    with_code_place(line, part, place)
+}
+
+/// A place in the debug variables.
+pub fn with_debug_spot(line: Line, place: Place) -> Result<Line, OutOfMemory>
+    ensures { IfOk result (λ l. l ≡ line ++ spot_words (debug_spot place)) }
+{
+    with_place(line.text("debugvars")?, place)
+}
