@@ -214,7 +214,7 @@ impl Log {
     }
 
     /// A unit is made: its number from 1, the call, and how it ends, `None` where it is not answered.
-    pub fn make(&mut self, number: u32, ask: &Ask, end: Option<Made>) -> Result<(), OutOfMemory>
+    pub fn make(&mut self, number: u64, ask: &Ask, end: Option<Made>) -> Result<(), OutOfMemory>
         ensures { OnOk result (self.new ≡ noted self.old (e.Makes (record { number = number; ask = ask.now; end = option_map call_end_of end }))) }
     {
         let line = begin_below(self.alloc, self.depth)?;

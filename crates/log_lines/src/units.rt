@@ -188,13 +188,13 @@ fn with_end(
 pub fn with_made(
     alloc: Global,
     line: Line,
-    number: u32,
+    number: u64,
     ask: &Ask,
     end: Option<Made>,
 ) -> Result<Line, OutOfMemory>
     ensures { IfOk result (λ l. l ≡ line ++ made_text (record { number = number; ask = ask.now; end = option_map call_end_of end })) }
 {
-    let line = line.labelled("unit ", u64::from(number))?.text(" ")?;
+    let line = line.labelled("unit ", number)?.text(" ")?;
     let call = ask.call;
     let line = with_call(alloc, line, call)?;
     with_end(alloc, line, has_result(call), end)
