@@ -1,16 +1,14 @@
 //! The program: it makes the real source, file and sink, and calls `dapseq_words`.
 #![tactic(auto)]
 
-mod file;
 mod words;
 
 use dap_base::{OutOfMemory, ReadSource, Words, WriteSink};
-use file::FileSource;
 use std::alloc::Global;
 use std::io::ErrorKind;
 use std::process::ExitCode;
 use std::{env, io};
-use trace_compare::{Status, dapseq_words};
+use trace_compare::{FileSource, Status, dapseq_words};
 use words::{unreadable, words_of};
 
 // The words after the program's name. One word where they cannot be read as text, so that the call is a wrong one.

@@ -8,7 +8,7 @@ use file::MemoryFile;
 use std::alloc::Global;
 use std::io;
 use test_tables::{Row, Tally, table_of};
-use trace_compare::{Status, dapseq_words};
+use trace_compare::{FileSource, Status, dapseq_words};
 
 // What parts the two traces of a row.
 const PARTED: &[u8] = b"AGAINST\n";
@@ -47,11 +47,16 @@ fn traces_of(input: &[u8]) -> (&[u8], &[u8]) {
     (input, &[])
 }
 
-// Makes the call of a row.
-fn call(alloc: Global, row: &Row, sink: &mut MemorySink) -> Result<Status, OutOfMemory> {
+// Makes the call of a row. A name with a dot is that of a file of the folder that the program runs in.
+fn call(rt: &HostRuntime, row: &Row, sink: &mut MemorySink) -> Result<Status, OutOfMemory> {
+    let alloc = rt.alloc();
     let words = words_of(alloc, row.form.as_str())?;
     let (trace, against) = traces_of(row.input.as_slice());
     let mut source = MemorySource::new(alloc, trace, &[])?;
+    if row.form.as_str().contains('.') {
+        let mut file = FileSource::new(rt);
+        return Ok(dapseq_words(alloc, &words, &mut source, &mut file, sink));
+    }
     let mut file = MemoryFile::new(alloc, against)?;
     Ok(dapseq_words(alloc, &words, &mut source, &mut file, sink))
 }
@@ -62,7 +67,7 @@ fn answer(rt: &HostRuntime, row: &Row) -> io::Result<Vec<u8>> {
     let Ok(mut sink) = MemorySink::new(alloc, &[]) else {
         return Ok(Vec::from_slice(alloc, b"out of memory\n")?);
     };
-    let Ok(status) = call(alloc, row, &mut sink) else {
+    let Ok(status) = call(rt, row, &mut sink) else {
         return Ok(Vec::from_slice(alloc, b"out of memory\n")?);
     };
     let mut written = Vec::from_slice(alloc, sink.bytes())?;

@@ -15,4 +15,4 @@ mod traces;
 
 pub use call::{Status, dapseq_words};
 pub use compare::{CompareEnd, compare_traces};
-pub use file::NamedFile;
+pub use file::{FileSource, NamedFile};
