@@ -1,10 +1,6 @@
 -- Two traces side by side.
 use Rattle.std.specs.Prelude.{◌≡◌, ℕ, Bool, List, Option, Some}
 use Rattle.std.specs.Io.KnownBytes.{Appends}
-use Rattle.trace_events.specs.declared.events.ReadEnd.{ReadEnd}
-use Rattle.trace_events.specs.declared.events.ReadEnd.TheVariants as ends
-use Rattle.trace_compare.specs.declared.compare.CompareEnd.{CompareEnd}
-use Rattle.trace_compare.specs.declared.compare.CompareEnd.TheVariants as end
 use Rattle.trace_compare.specs.declared.traces.Traces.{Traces}
 use Rattle.trace_compare.specs.declared.traces.Two.{Two}
 use Rattle.trace_compare.specs.Coming.{Contents, GivesExchange, TakesAll, contents_left, first_coming}
@@ -34,15 +30,6 @@ pub record Compared : Type 0 where
 
 abbrev pub compared : ℕ → Contents → Contents → Compared
 compared last a b = record { text = difference last a.exchanges b.exchanges; same = are_same a.exchanges b.exchanges; trace = a.counting; against = b.counting }
-
--- why a trace is not read on
-abbrev pub trace_end : ReadEnd → CompareEnd
-trace_end ends.ReadFault = end.ReadFault
-trace_end ends.OutOfMemory = end.OutOfMemory
-
-abbrev pub against_end : ReadEnd → CompareEnd
-against_end ends.ReadFault = end.AgainstFault
-against_end ends.OutOfMemory = end.OutOfMemory
 
 -- the difference was put, and this is counted in all
 pub record IsPut (c : Compared) (trace against : Counting) (written now : Option (List ℕ)) (same : Bool) : Type 0 where

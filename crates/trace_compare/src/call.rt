@@ -167,7 +167,8 @@ pub fn dapseq_words<S: Source, F: NamedFile, K: Sink>(
     ensures words { words.now ≡ [] → (bytes : List ℕ) → S.left source.old ≡ Some bytes
         → Writes bytes result (K.written sink.old) (K.written sink.new) }
     // The comparison of all bytes of both, where they are known; at a fault a part of it, from the front.
-    ensures against { (name : List ℕ) → file_named words.now ≡ Some name → (bytes others : List ℕ) → S.left source.old ≡ Some bytes → F.contents file.old name ≡ Some others
+    ensures against { (name : List ℕ) → file_named words.now ≡ Some name
+        → (bytes others : List ℕ) → S.left source.old ≡ Some bytes → F.contents file.old name ≡ Some others
         → WritesFile name bytes others result (K.written sink.old) (K.written sink.new) }
     // With other words after the name, the line of a wrong call.
     ensures usage { words.now ≢ [] → file_named words.now ≡ None → WritesUsage result (K.written sink.old) (K.written sink.new) }

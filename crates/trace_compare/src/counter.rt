@@ -2,7 +2,7 @@
 ghost use Rattle.std.specs.Prelude.{◌≡◌, IfOk, OnOk, true};
 ghost use Rattle.trace_words.specs.Telling.{tell};
 ghost use Rattle.trace_compare.specs.Counts.{all_counted};
-ghost use Rattle.trace_compare.specs.Counting.{begin, accesses_of, after_event, wrong_after};
+ghost use Rattle.trace_compare.specs.Counting.{begin, accesses_of, wrong_after};
 ghost use Rattle.trace_compare.specs.Exchanges.{exchange_of};
 ghost use Rattle.trace_compare.specs.Coming.{Counted};
 

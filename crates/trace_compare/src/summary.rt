@@ -1,5 +1,5 @@
 //! What is counted of two traces, into a sink.
-ghost use Rattle.std.specs.Prelude.{◌≡◌, ◌<◌, ◌≤◌, IfErr, slice_index};
+ghost use Rattle.std.specs.Prelude.{◌<◌, IfErr};
 ghost use Rattle.dap_base.specs.Streams.{PutAppends};
 ghost use Rattle.text_lines.specs.Causes.{NamesFault};
 ghost use Rattle.trace_compare.specs.Comparison.{summary};

@@ -1,7 +1,8 @@
 //! Two traces side by side.
 ghost use Rattle.std.specs.Prelude.{◌≡◌, ◌≢◌, IfErr, IfOk, OnOk};
 ghost use Rattle.text_lines.specs.Causes.{NamesFault};
-ghost use Rattle.trace_compare.specs.Pairs.{against_end, first_two, GivesTwo, TakesBoth, trace_end};
+ghost use Rattle.trace_compare.specs.Faults.{against_end, trace_end};
+ghost use Rattle.trace_compare.specs.Pairs.{first_two, GivesTwo, TakesBoth};
 ghost use Rattle.trace_compare.specs.Comparison.{same_number, is_end};
 
 use crate::compare::CompareEnd;
