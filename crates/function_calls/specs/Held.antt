@@ -5,6 +5,7 @@ use Rattle.target_calls.specs.NeedPoints.{Asks}
 use Rattle.sequence_rules.specs.declared.bindings.Binding.{Binding}
 use Rattle.sequence_rules.specs.Known.{known_part}
 use Rattle.sequence_rules.specs.Late.{Late, late_of}
+use Rattle.sequence_rules.specs.Locals.{locals_of}
 use Rattle.sequence_rules.specs.Machine.{State}
 use Rattle.sequence_rules.specs.Shared.{bindings_of}
 use Rattle.function_calls.specs.declared.held.Held.{Held}
@@ -16,7 +17,7 @@ state_with globals locals units lines steps asks written =
 
 -- the state of a run that holds this, of which this was asked and written
 abbrev pub state_of : Held → Asks → Option (List ℕ) → State Value Late
-state_of held asks written = state_with (bindings_of held.globals) held.locals.items held.units held.lines held.steps asks written
+state_of held asks written = state_with (bindings_of held.globals) (locals_of held.locals) held.units held.lines held.steps asks written
 
 -- the same, with what was written where it is asked for
 abbrev pub seen : Bool → Held → Asks → Option (List ℕ) → State Value Late

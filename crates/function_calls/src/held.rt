@@ -5,6 +5,7 @@ ghost use Rattle.target_calls.specs.World.{World};
 ghost use Rattle.target_calls.specs.declared.calls.Value.{Value};
 ghost use Rattle.target_calls.specs.declared.calls.Value.TheVariants.{Number};
 ghost use Rattle.sequence_rules.specs.Late.{Late, late, late_of};
+ghost use Rattle.sequence_rules.specs.Locals.{locals_of};
 ghost use Rattle.sequence_rules.specs.Machine.{State, with_locals, with_variables};
 ghost use Rattle.sequence_rules.specs.Shared.{bindings_of};
 ghost use Rattle.sequence_rules.specs.Steps as m;
@@ -13,7 +14,7 @@ ghost use Rattle.function_calls.specs.Ends.{CountsStep};
 ghost use Rattle.function_calls.specs.Held.{state_of};
 
 use dap_base::{NameText, OutOfMemory};
-use sequence_rules::{Binding, Globals, MOST_STEPS, has_in, newest_in, set_newest};
+use sequence_rules::{Globals, Locals, MOST_STEPS};
 use std::alloc::Global;
 use std::mem;
 use target_calls::Value;
@@ -25,7 +26,7 @@ pub struct Held {
     /// The variables that all sequences share.
     pub globals: Globals<Value>,
     /// Those that the running sequence declared, the newest last.
-    pub locals: Vec<Binding<Value>>,
+    pub locals: Locals<Value>,
     /// How many units were asked, at most 1,000,000.
     pub units: u32,
     /// How many lines were written, at most 100,000.
@@ -43,7 +44,7 @@ impl Held {
     {
         Held {
             globals,
-            locals: Vec::new(alloc),
+            locals: Locals::new(alloc),
             units: 0,
             lines: 0,
             steps: 0,
@@ -72,10 +73,10 @@ impl Held {
 
     /// The value of a visible variable, 0 where there is none.
     pub fn get_visible(&self, name: &str) -> Value
-        ensures { (s : State Value Late) → s.globals ≡ bindings_of self.now.globals → s.locals ≡ self.now.locals.items
+        ensures { (s : State Value Late) → s.globals ≡ bindings_of self.now.globals → s.locals ≡ locals_of self.now.locals
             → result ≡ unwrap_or (visible name.now s) (Number 0) }
     {
-        match newest_in(&self.locals, name) {
+        match self.locals.get(name) {
             Some(value) => value,
             None => self.get_global(name),
         }
@@ -87,9 +88,7 @@ impl Held {
             → state_of self.new asks written ≡ set_visible name.now value (state_of self.old asks written) }
         ensures units { self.new.units ≡ self.old.units }
     {
-        if has_in(&self.locals, name) {
-            set_newest(&mut self.locals, name, value);
-        } else {
+        if !self.locals.set(name, value) {
             self.globals.set(name, value);
         }
     }
@@ -102,38 +101,34 @@ impl Held {
         value: Value,
     ) -> Result<(), OutOfMemory>
         ensures state { (asks : Asks) (written : Option (List ℕ))
-            → OnOk result (state_of self.new asks written ≡ with_locals (state_of self.old asks written) (self.old.locals.items ++ bound name.now value ∷ [])) }
+            → OnOk result (state_of self.new asks written ≡ with_locals (state_of self.old asks written) (locals_of self.old.locals ++ bound name.now value ∷ [])) }
         ensures same { (asks : Asks) (written : Option (List ℕ)) → OnErr result (state_of self.new asks written ≡ state_of self.old asks written) }
         ensures units { self.new.units ≡ self.old.units }
     {
-        let name = NameText::new(alloc, name.as_str())?;
-        match self.locals.push(Binding { name, value }) {
-            Ok(()) => Ok(()),
-            Err(_) => Err(OutOfMemory),
-        }
+        self.locals.add(alloc, name.as_str(), value)
     }
 
     /// How many variables the running sequence has.
     pub fn local_count(&self) -> usize
-        ensures { result ≡ length self.now.locals.items }
+        ensures { result ≡ length (locals_of self.now.locals) }
     {
         self.locals.len()
     }
 
     /// Takes the variables of the running sequence out.
-    pub fn take_locals(&mut self, alloc: Global) -> Vec<Binding<Value>>
-        ensures taken { result.items ≡ self.old.locals.items }
+    pub fn take_locals(&mut self, alloc: Global) -> Locals<Value>
+        ensures taken { locals_of result ≡ locals_of self.old.locals }
         ensures none { (asks : Asks) (written : Option (List ℕ))
             → state_of self.new asks written ≡ with_locals (state_of self.old asks written) [] }
         ensures units { self.new.units ≡ self.old.units }
     {
-        mem::replace(&mut self.locals, Vec::new(alloc))
+        mem::replace(&mut self.locals, Locals::new(alloc))
     }
 
     /// Drops the variables of the running sequence after the first `len`.
     pub fn cut_back(&mut self, len: usize)
         ensures state { (asks : Asks) (written : Option (List ℕ))
-            → state_of self.new asks written ≡ with_locals (state_of self.old asks written) (take len self.old.locals.items) }
+            → state_of self.new asks written ≡ with_locals (state_of self.old asks written) (take len (locals_of self.old.locals)) }
         ensures units { self.new.units ≡ self.old.units }
     {
         self.locals.truncate(len);
@@ -142,25 +137,25 @@ impl Held {
     // Gives a variable that all sequences share a value.
     fn set_global(&mut self, name: &str, value: Value)
         ensures state { (asks : Asks) (written : Option (List ℕ)) → state_of self.new asks written
-            ≡ with_variables (state_of self.old asks written) (set_in (bindings_of self.old.globals) name.now value) self.old.locals.items }
+            ≡ with_variables (state_of self.old asks written) (set_in (bindings_of self.old.globals) name.now value) (locals_of self.old.locals) }
         ensures units { self.new.units ≡ self.old.units }
     {
         self.globals.set(name, value);
     }
 
-    fn set_locals(&mut self, locals: Vec<Binding<Value>>)
+    fn set_locals(&mut self, locals: Locals<Value>)
         ensures state { (asks : Asks) (written : Option (List ℕ))
-            → state_of self.new asks written ≡ with_locals (state_of self.old asks written) locals.items }
+            → state_of self.new asks written ≡ with_locals (state_of self.old asks written) (locals_of locals) }
         ensures units { self.new.units ≡ self.old.units }
     {
         self.locals = locals;
     }
 
     /// Returns from a called sequence: gives the caller its `__dp`, `__ap` and `__errorcontrol`, and its own variables.
-    pub fn give_back(&mut self, dp: Value, ap: Value, control: Value, locals: Vec<Binding<Value>>)
+    pub fn give_back(&mut self, dp: Value, ap: Value, control: Value, locals: Locals<Value>)
         ensures state { (asks : Asks) (written : Option (List ℕ)) → state_of self.new asks written
             ≡ with_variables (state_of self.old asks written)
-            (set_in (set_in (set_in (bindings_of self.old.globals) (codes "__dp") dp) (codes "__ap") ap) (codes "__errorcontrol") control) locals.items }
+            (set_in (set_in (set_in (bindings_of self.old.globals) (codes "__dp") dp) (codes "__ap") ap) (codes "__errorcontrol") control) (locals_of locals) }
         ensures units { self.new.units ≡ self.old.units }
     {
         self.set_global("__dp", dp);

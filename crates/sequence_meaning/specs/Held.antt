@@ -10,6 +10,7 @@ use Rattle.sequence_rules.specs.Direct.{Now, direct}
 use Rattle.sequence_rules.specs.Known.{known_part}
 use Rattle.sequence_rules.specs.Machine as machine
 use Rattle.sequence_rules.specs.Laws.{Adds}
+use Rattle.sequence_rules.specs.Locals.{locals_of}
 use Rattle.sequence_rules.specs.Machine.{State, Out, end_state}
 use Rattle.sequence_rules.specs.Steps.{sequence_at}
 use Rattle.sequence_rules.specs.Shared.{bindings_of}
@@ -23,7 +24,7 @@ use Rattle.sequence_meaning.specs.declared.runner.DirectRunner.{DirectRunner}
 abbrev pub state_of : DirectHeld → TargetState → Option (List ℕ) → State ℕ Now
 state_of held target written = record {
   globals = bindings_of held.globals.variables;
-  locals = held.locals.items;
+  locals = locals_of held.locals;
   units = held.units;
   lines = held.lines;
   steps = held.steps;

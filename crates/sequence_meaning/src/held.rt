@@ -3,6 +3,7 @@ ghost use Rattle.std.specs.Prelude.{◌≡◌, ◌++◌, [], ◌∷◌, ℕ, Lis
 ghost use Rattle.target_machine.specs.State.{TargetState};
 ghost use Rattle.target_calls.specs.World.{World, start_world};
 ghost use Rattle.sequence_rules.specs.Direct.{Now, now_at};
+ghost use Rattle.sequence_rules.specs.Locals.{locals_of};
 ghost use Rattle.sequence_rules.specs.Machine.{State, with_locals, with_variables};
 ghost use Rattle.sequence_rules.specs.Variables.{bound, set_in, set_visible, value_named, visible};
 ghost use Rattle.sequence_rules.specs.Shared.{bindings_of};
@@ -12,7 +13,7 @@ use crate::end::DirectEnd;
 use crate::shared::SharedVariables;
 use dap_base::{NameText, OutOfMemory};
 use direct_calls::CallList;
-use sequence_rules::{Binding, Globals, has_in, newest_in, set_newest};
+use sequence_rules::{Globals, Locals};
 use std::alloc::Global;
 use std::mem;
 
@@ -20,7 +21,7 @@ use std::mem;
 #[derive(Drop)]
 pub(crate) struct DirectHeld {
     pub globals: SharedVariables,
-    pub locals: Vec<Binding<u64>>,
+    pub locals: Locals<u64>,
     pub units: u32,
     pub lines: u32,
     pub steps: u32,
@@ -41,7 +42,7 @@ impl DirectHeld {
     {
         DirectHeld {
             globals: SharedVariables::new(globals),
-            locals: Vec::new(alloc),
+            locals: Locals::new(alloc),
             units: 0,
             lines: 0,
             steps: 0,
@@ -55,10 +56,10 @@ impl DirectHeld {
 
     /// The value of a visible variable, 0 where there is none.
     pub fn get_visible(&self, name: &str) -> u64
-        ensures { (s : State ℕ Now) → s.globals ≡ bindings_of self.now.globals.variables → s.locals ≡ self.now.locals.items
+        ensures { (s : State ℕ Now) → s.globals ≡ bindings_of self.now.globals.variables → s.locals ≡ locals_of self.now.locals
             → result ≡ unwrap_or (visible name.now s) 0 }
     {
-        match newest_in(&self.locals, name) {
+        match self.locals.get(name) {
             Some(value) => value,
             None => self.globals.get(name),
         }
@@ -70,9 +71,7 @@ impl DirectHeld {
             → state_of self.new target written ≡ set_visible name.now value (state_of self.old target written) }
         ensures made { (w : World) (target : TargetState) → IsMade w self.old target → IsMade w self.new target }
     {
-        if has_in(&self.locals, name) {
-            set_newest(&mut self.locals, name, value);
-        } else {
+        if !self.locals.set(name, value) {
             self.globals.set(name, value);
         }
     }
@@ -91,38 +90,34 @@ impl DirectHeld {
     /// Declares a variable of the running sequence.
     pub fn declare(&mut self, alloc: Global, name: &NameText, value: u64) -> Result<(), OutOfMemory>
         ensures state { (target : TargetState) (written : Option (List ℕ))
-            → OnOk result (state_of self.new target written ≡ with_locals (state_of self.old target written) (self.old.locals.items ++ bound name.now value ∷ [])) }
+            → OnOk result (state_of self.new target written ≡ with_locals (state_of self.old target written) (locals_of self.old.locals ++ bound name.now value ∷ [])) }
         ensures made { (w : World) (target : TargetState) → IsMade w self.old target → IsMade w self.new target }
         ensures same { (target : TargetState) (written : Option (List ℕ)) → OnErr result (state_of self.new target written ≡ state_of self.old target written) }
     {
-        let name = NameText::new(alloc, name.as_str())?;
-        match self.locals.push(Binding { name, value }) {
-            Ok(()) => Ok(()),
-            Err(_) => Err(OutOfMemory),
-        }
+        self.locals.add(alloc, name.as_str(), value)
     }
 
     /// How many variables the running sequence has.
     pub fn local_count(&self) -> usize
-        ensures { result ≡ length self.now.locals.items }
+        ensures { result ≡ length (locals_of self.now.locals) }
     {
         self.locals.len()
     }
 
     /// Takes the variables of the running sequence out.
-    pub fn take_locals(&mut self, alloc: Global) -> Vec<Binding<u64>>
-        ensures taken { result.items ≡ self.old.locals.items }
+    pub fn take_locals(&mut self, alloc: Global) -> Locals<u64>
+        ensures taken { locals_of result ≡ locals_of self.old.locals }
         ensures none { (target : TargetState) (written : Option (List ℕ))
             → state_of self.new target written ≡ with_locals (state_of self.old target written) [] }
         ensures made { (w : World) (target : TargetState) → IsMade w self.old target → IsMade w self.new target }
     {
-        mem::replace(&mut self.locals, Vec::new(alloc))
+        mem::replace(&mut self.locals, Locals::new(alloc))
     }
 
     /// Drops the variables of the running sequence after the first `len`.
     pub fn cut_back(&mut self, len: usize)
         ensures state { (target : TargetState) (written : Option (List ℕ))
-            → state_of self.new target written ≡ with_locals (state_of self.old target written) (take len self.old.locals.items) }
+            → state_of self.new target written ≡ with_locals (state_of self.old target written) (take len (locals_of self.old.locals)) }
         ensures made { (w : World) (target : TargetState) → IsMade w self.old target → IsMade w self.new target }
     {
         self.locals.truncate(len);
@@ -131,25 +126,25 @@ impl DirectHeld {
     // Gives a variable that all sequences share a value.
     fn set_global(&mut self, name: &str, value: u64)
         ensures state { (target : TargetState) (written : Option (List ℕ)) → state_of self.new target written
-            ≡ with_variables (state_of self.old target written) (set_in (bindings_of self.old.globals.variables) name.now value) self.old.locals.items }
+            ≡ with_variables (state_of self.old target written) (set_in (bindings_of self.old.globals.variables) name.now value) (locals_of self.old.locals) }
         ensures made { (w : World) (target : TargetState) → IsMade w self.old target → IsMade w self.new target }
     {
         self.globals.set(name, value);
     }
 
-    fn set_locals(&mut self, locals: Vec<Binding<u64>>)
+    fn set_locals(&mut self, locals: Locals<u64>)
         ensures state { (target : TargetState) (written : Option (List ℕ))
-            → state_of self.new target written ≡ with_locals (state_of self.old target written) locals.items }
+            → state_of self.new target written ≡ with_locals (state_of self.old target written) (locals_of locals) }
         ensures made { (w : World) (target : TargetState) → IsMade w self.old target → IsMade w self.new target }
     {
         self.locals = locals;
     }
 
     /// Returns from a called sequence: gives the caller its `__dp`, `__ap` and `__errorcontrol`, and its own variables.
-    pub fn give_back(&mut self, dp: u64, ap: u64, control: u64, locals: Vec<Binding<u64>>)
+    pub fn give_back(&mut self, dp: u64, ap: u64, control: u64, locals: Locals<u64>)
         ensures state { (target : TargetState) (written : Option (List ℕ)) → state_of self.new target written
             ≡ with_variables (state_of self.old target written)
-            (set_in (set_in (set_in (bindings_of self.old.globals.variables) (codes "__dp") dp) (codes "__ap") ap) (codes "__errorcontrol") control) locals.items }
+            (set_in (set_in (set_in (bindings_of self.old.globals.variables) (codes "__dp") dp) (codes "__ap") ap) (codes "__errorcontrol") control) (locals_of locals) }
         ensures made { (w : World) (target : TargetState) → IsMade w self.old target → IsMade w self.new target }
     {
         self.set_global("__dp", dp);

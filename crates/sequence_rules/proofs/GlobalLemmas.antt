@@ -1,14 +1,16 @@
 -- The variables of a table, as a list.
-use Rattle.std.proofs.Common.{◌≡◌, ◌∙◌, ap, refl, sym, subst, true≢false, ℕ, zero, suc, slice_get, Bool, true, false, cond, List, [], ◌∷◌, ◌++◌, map, Option, None, Some, is_some, String, Global, bytes_eq, string_bytes}
+use Rattle.std.proofs.Common.{◌≡◌, ◌∙◌, ap, refl, sym, subst, true≢false, ℕ, zero, suc, slice_get, Bool, true, false, cond, List, [], ◌∷◌, ◌++◌, map, length, Option, None, Some, is_some, String, Global, bytes_eq, string_bytes, arith}
 use Rattle.std.proofs.lemmas.List.{map-append}
 use Rattle.std.proofs.lemmas.Slice.Eq.{bytes_eq-Decides}
 use Rattle.std.specs.List.{AllByRecursion, IsDistinct}
 use Rattle.std.specs.Map.{keys_of, lookup, set_value}
+use Rattle.std.specs.Option.{option_or}
 use Rattle.std.specs.String.{string_eq}
 use Rattle.indexmap.specs.IndexMap.{IndexMap, insert_entry, set_value_at}
 use Rattle.indexmap.proofs.CallerLemmas.{insert_entry-new}
 use Rattle.sequence_rules.specs.Shared.{entry_binding}
-use Rattle.sequence_rules.specs.Variables.{bound, has_in, value_named, set_in, with_new}
+use Rattle.sequence_rules.specs.Variables.{bound, has_in, newest_in, value_named, set_in, set_newest, with_new}
+use Rattle.sequence_rules.proofs.VariableLemmas.{newest_none, set_newest_none}
 
 abbrev has_name : List ℕ → String Global → Bool
 has_name name k = bytes_eq name (string_bytes k)
@@ -91,3 +93,50 @@ module _ {V : Type 0} where
       let same : e ≡ (k, w) = cc in
       ap (λ (p : String Global × V). (p.0, w) ∷ es) same ∙ sym (ap (λ (p : String Global × V). p ∷ es) same)
   same_value (e ∷ es) (suc i) k w at = ap (λ (l : List (String Global × V)). e ∷ l) (same_value es i k w at)
+
+pub none_there : {V : Type 0} (name : List ℕ) (es : List (String Global × V)) → length es ≡ 0 → has_in (map entry_binding es) name ≡ false
+none_there name [] h = refl
+none_there name (e ∷ es) h = absurd (omega arith)
+
+-- ---- no two have one name, so that the newest one is the only one
+
+module _ {V : Type 0} (name : List ℕ) where
+  none_like : (es : List (String Global × V)) (first : String Global) → AllByRecursion (λ y. string_eq first y ≡ false) (keys_of es) → name ≡ string_bytes first → has_in (map entry_binding es) name ≡ false
+  none_like [] first all is = refl
+  none_like (e ∷ es) first all is =
+      let not : has_name name e.0 ≡ false = ap (λ n. bytes_eq n (string_bytes e.0)) is ∙ all.0 in
+      rw not (none_like es first all.1 is)
+
+  pub newest_once : (es : List (String Global × V)) → IsDistinct string_eq (keys_of es) → value_named (map entry_binding es) name ≡ newest_in (map entry_binding es) name
+  unfolding IsDistinct
+  newest_once [] unique = refl
+  newest_once (e ∷ es) unique = either (has_name name e.0) refl (newest_once es unique.1)
+    where
+      or_none : (o : Option V) → o ≡ option_or o None
+      or_none None = refl
+      or_none (Some v) = refl
+
+      either : (p : Bool) → has_name name e.0 ≡ p → value_named (map entry_binding es) name ≡ newest_in (map entry_binding es) name
+          → cond p (Some e.1) (value_named (map entry_binding es) name) ≡ option_or (newest_in (map entry_binding es) name) (cond p (Some e.1) None)
+      either true h k =
+          let none : has_in (map entry_binding es) name ≡ false = none_like es e.0 unique.0 ((bytes_eq-Decides name (string_bytes e.0)).0 h) in
+          rw (newest_none (map entry_binding es) name none) refl
+      either false h k = k ∙ or_none (newest_in (map entry_binding es) name)
+
+  pub set_once : (es : List (String Global × V)) (v : V) → IsDistinct string_eq (keys_of es) → set_in (map entry_binding es) name v ≡ set_newest (map entry_binding es) name v
+  unfolding IsDistinct
+  set_once [] v unique = refl
+  set_once (e ∷ es) v unique = either (has_name name e.0) refl (set_once es v unique.1)
+    where
+      later : (p : Bool) → has_in (map entry_binding es) name ≡ p → set_in (map entry_binding es) name v ≡ set_newest (map entry_binding es) name v
+          → entry_binding e ∷ set_in (map entry_binding es) name v ≡ cond p (entry_binding e ∷ set_newest (map entry_binding es) name v) (entry_binding e ∷ map entry_binding es)
+      later true h k = ap (λ bs. entry_binding e ∷ bs) k
+      later false h k = ap (λ bs. entry_binding e ∷ bs) (k ∙ set_newest_none (map entry_binding es) name v h)
+
+      either : (p : Bool) → has_name name e.0 ≡ p → set_in (map entry_binding es) name v ≡ set_newest (map entry_binding es) name v
+          → cond p (bound (string_bytes e.0) v ∷ map entry_binding es) (entry_binding e ∷ set_in (map entry_binding es) name v)
+          ≡ cond (has_in (map entry_binding es) name) (entry_binding e ∷ set_newest (map entry_binding es) name v) (cond p (bound (string_bytes e.0) v ∷ map entry_binding es) (entry_binding e ∷ map entry_binding es))
+      either true h k =
+          let none : has_in (map entry_binding es) name ≡ false = none_like es e.0 unique.0 ((bytes_eq-Decides name (string_bytes e.0)).0 h) in
+          rw none refl
+      either false h k = later (has_in (map entry_binding es) name) refl k

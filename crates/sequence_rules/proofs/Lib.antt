@@ -18,6 +18,7 @@ pub mod LineLemmas
 pub mod PollLemmas
 pub mod VariableLemmas
 pub mod GlobalLemmas
+pub mod LocalLemmas
 pub mod Rows
 pub mod Sizes
 pub mod PredefinedNames

@@ -15,3 +15,4 @@ pub mod Runs
 pub mod Complete
 pub mod Laws
 pub mod Rows
+pub mod Locals

@@ -1,5 +1,5 @@
 -- What the variables of `Globals` are, as a plain list.
-use Rattle.std.specs.Prelude.{ℕ, List, map, String, string_bytes}
+use Rattle.std.specs.Prelude.{ℕ, List, ◌++◌, map, String, string_bytes}
 use Rattle.std.specs.Borrow.{Bor}
 use Rattle.std.specs.declared.alloc.Global.{Global}
 use Rattle.sequence_rules.specs.declared.bindings.Binding.{Binding}
@@ -17,3 +17,7 @@ bindings_of globals = map entry_binding globals.values.entries
 -- a name and a value as a variable
 abbrev pub pair_of : {V : Type 0} → Bor (List ℕ) × V → Binding V
 pair_of pair = bound pair.0.now pair.1
+
+-- the variables of a sequence: the first ones, those that are found by their names, and those from the first that hides another one on
+abbrev pub joined : {V : Type 0} → List (Binding V) → Globals V → List (Binding V) → List (Binding V)
+joined first named hiding = first ++ bindings_of named ++ hiding

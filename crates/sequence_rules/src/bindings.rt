@@ -12,8 +12,8 @@ pub struct Binding<V> {
     pub value: V,
 }
 
-/// Whether a variable has the name.
-pub fn has_in<V>(bindings: &[Binding<V>], name: &str) -> bool
+// Whether a variable has the name.
+pub(crate) fn has_in<V>(bindings: &[Binding<V>], name: &str) -> bool
     ensures { result ≡ has_in bindings.now name.now }
 {
     for binding in bindings {
@@ -24,8 +24,8 @@ pub fn has_in<V>(bindings: &[Binding<V>], name: &str) -> bool
     false
 }
 
-/// The value of the newest variable with the name, sought from the last. `None` exactly where none has it.
-pub fn newest_in<V: Copy>(bindings: &[Binding<V>], name: &str) -> Option<V>
+// The value of the newest variable with the name, sought from the last. `None` exactly where none has it.
+pub(crate) fn newest_in<V: Copy>(bindings: &[Binding<V>], name: &str) -> Option<V>
     ensures { result ≡ newest_in bindings.now name.now }
 {
     let mut index = bindings.len();
@@ -38,8 +38,8 @@ pub fn newest_in<V: Copy>(bindings: &[Binding<V>], name: &str) -> Option<V>
     None
 }
 
-/// Gives the newest variable with the name this value. Where none has it, nothing changes.
-pub fn set_newest<V: Copy>(bindings: &mut [Binding<V>], name: &str, value: V)
+// Gives the newest variable with the name this value. Where none has it, nothing changes.
+pub(crate) fn set_newest<V: Copy>(bindings: &mut [Binding<V>], name: &str, value: V)
     ensures { bindings.new ≡ set_newest bindings.old name.now value }
 {
     let mut index = bindings.len();

@@ -1,10 +1,10 @@
 //! The variables that all sequences share.
 
-ghost use Rattle.std.specs.Prelude.{◌≡◌, ◌<◌, true, false, [], IfSome, OnOk, OnErr, Some, length, option_map, slice_get};
+ghost use Rattle.std.specs.Prelude.{◌≡◌, ◌<◌, true, false, [], IfSome, OnOk, OnErr, Some, length, option_map, slice_get, take};
 ghost use Rattle.std.specs.Str.{bytes_eq};
 ghost use Rattle.indexmap.specs.IndexMap.{index_map_len};
 ghost use Rattle.sequence_rules.specs.Shared.{bindings_of, pair_of};
-ghost use Rattle.sequence_rules.specs.Variables.{has_in, value_named, set_in, with_new};
+ghost use Rattle.sequence_rules.specs.Variables.{has_in, newest_in, value_named, set_in, set_newest, with_new};
 
 use dap_base::OutOfMemory;
 use indexmap::IndexMap;
@@ -55,6 +55,9 @@ impl<V: Copy> Globals<V> {
     pub fn has(&self, name: &str) -> bool
         ensures { result ≡ has_in (bindings_of self.now) name.now }
     {
+        if self.values.len() == 0 {
+            return false;
+        }
         self.values.contains_key(name)
     }
 
@@ -164,5 +167,30 @@ impl<V: Copy> Globals<V> {
             Ok(_) => Ok(()),
             Err(_) => Err(OutOfMemory),
         }
+    }
+
+    // The value of the newest variable with the name, which is the only one.
+    pub(crate) fn get_newest(&self, name: &str) -> Option<V>
+        ensures { result ≡ newest_in (bindings_of self.now) name.now }
+    {
+        if self.values.len() == 0 {
+            return None;
+        }
+        self.get(name)
+    }
+
+    // Gives the newest variable with the name this value, which is the only one. Where none has it, nothing changes.
+    pub(crate) fn set_newest(&mut self, name: &str, value: V)
+        ensures { bindings_of self.new ≡ set_newest (bindings_of self.old) name.now value }
+    {
+        let _entries = self.values.as_slice();
+        self.set(name, value);
+    }
+
+    // Drops the variables after the first `len`.
+    pub(crate) fn truncate(&mut self, len: usize)
+        ensures { bindings_of self.new ≡ take len (bindings_of self.old) }
+    {
+        self.values.truncate(len);
     }
 }

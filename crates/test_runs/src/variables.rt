@@ -1,11 +1,9 @@
 //! Variables: those of a sequence, of which the newest is last, and those that all sequences share. An input has steps between `, `, and what
 //! comes of those that ask for something is shown.
 use crate::reading::{no_memory, number_in};
-use dap_base::{NameText, OutOfMemory, number};
-use sequence_rules::{Binding, Globals, has_in, newest_in, set_newest};
+use dap_base::number;
+use sequence_rules::{Globals, Locals};
 use std::alloc::{AllocError, Global};
-
-type Locals = Vec<Binding<u64>>;
 
 // The three words of a step: what is done, the variable, and a number.
 fn step_words(step: &str) -> (&str, &str, u64) {
@@ -33,22 +31,15 @@ fn flag_text(alloc: Global, flag: bool) -> Result<String, AllocError> {
     String::from_str(alloc, if flag { "yes " } else { "no " })
 }
 
-fn declare(alloc: Global, locals: &mut Locals, name: &str, value: u64) -> Result<(), OutOfMemory> {
-    let name = NameText::new(alloc, name)?;
-    locals
-        .push(Binding { name, value })
-        .map_err(|_| OutOfMemory)
-}
-
 // One step with the variables of a sequence.
-fn local_step(alloc: Global, locals: &mut Locals, step: &str) -> Result<String, AllocError> {
+fn local_step(alloc: Global, locals: &mut Locals<u64>, step: &str) -> Result<String, AllocError> {
     let (verb, name, value) = step_words(step);
     match verb {
-        "declare" => declare(alloc, locals, name, value).map_err(no_memory)?,
-        "set" => set_newest(locals, name, value),
+        "declare" => locals.add(alloc, name, value).map_err(no_memory)?,
+        "set" => return flag_text(alloc, locals.set(name, value)),
         "keep" => locals.truncate(index_in(name)),
-        "get" => return value_text(alloc, newest_in(locals, name)),
-        "has" => return flag_text(alloc, has_in(locals, name)),
+        "count" => return format!(in alloc; "{} ", locals.len()),
+        "get" => return value_text(alloc, locals.get(name)),
         _ => return String::from_str(alloc, "? "),
     }
     Ok(String::new(alloc))
@@ -56,7 +47,7 @@ fn local_step(alloc: Global, locals: &mut Locals, step: &str) -> Result<String, 
 
 /// What comes of steps with the variables of a sequence.
 pub(crate) fn locals_text(alloc: Global, steps: &str) -> Result<String, AllocError> {
-    let mut locals = Vec::new(alloc);
+    let mut locals = Locals::new(alloc);
     let mut text = String::new(alloc);
     for step in steps.split(", ") {
         text.push_str(local_step(alloc, &mut locals, step)?.as_str())?;

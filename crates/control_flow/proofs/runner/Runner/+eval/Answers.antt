@@ -4,6 +4,7 @@ use Rattle.access_calls.specs.Reported.{world_from}
 use Rattle.seq_check.specs.Answers.{checked_trees}
 use Rattle.sequence_trees.specs.Trees.{NoSteps, step_tree, steps_tree, steps_named}
 use Rattle.sequence_rules.specs.Late.{late}
+use Rattle.sequence_rules.specs.Locals.{locals_of}
 use Rattle.sequence_rules.specs.Steps.{statement}
 use Rattle.sequence_rules.specs.Shared.{bindings_of}
 use Rattle.sequence_rules.proofs.LoopLemmas as loop
@@ -221,7 +222,7 @@ call-returns-in_err-numbers-clause-gives g t c = λ m answered known b l knows.
     passed _ _ _ _ _ c.from_residual-in_err-numbers.result c.from_residual-in_err-numbers.ensures.1
     (call_second g.A.Access.cost (world_from m answered) (calls_of g.A.Access.cost (world_from m answered) c.args.self.now c.args.depth) _ c.in_err-numbers.field-0.0 c.args.called.now.name (arg_trees c.args.args.now) _ c.evaluate_arguments.new.values.items _ _ (later_sequence g.A.Access.cost (world_from m answered) c.args.self.now.turn_us (checked_trees c.args.self.now.set.now) c.args.depth)
     (rw c.new-values.ensures.items at (c.in_ok-evaluate_arguments.ensures.gives m answered known b (c.use_values.ensures.keeps.goes.left answered l) knows))
-    (rw c.as_slice.ensures.value at (c.in_err-numbers.ensures.gives m answered (bindings_of h.globals) h.locals.items h.units h.lines h.steps before (c.in_ok-evaluate_arguments.ensures.keeps.on m b) l)))
+    (rw c.as_slice.ensures.value at (c.in_err-numbers.ensures.gives m answered (bindings_of h.globals) (locals_of h.locals) h.units h.lines h.steps before (c.in_ok-evaluate_arguments.ensures.keeps.on m b) l)))
 
 pub call-returns-clause-gives : goal.call-returns-clause-gives
 call-returns-clause-gives g t c = λ m answered known b l knows.
@@ -231,7 +232,7 @@ call-returns-clause-gives g t c = λ m answered known b l knows.
     let on = c.in_ok-evaluate_arguments.ensures.keeps.on m b in
     call_on g.A.Access.cost (world_from m answered) (calls_of g.A.Access.cost (world_from m answered) c.args.self.now c.args.depth) _ c.args.called.now.name (arg_trees c.args.args.now) _ c.evaluate_arguments.new.values.items c.in_ok-numbers.numbers.items _ _ _ c.call_function.result c.args.called.now.function c.text_of.result.now
     (rw c.new-values.ensures.items at (c.in_ok-evaluate_arguments.ensures.gives m answered known b (c.use_values.ensures.keeps.goes.left answered mid) knows))
-    (rw c.as_slice.ensures.value at (c.in_ok-numbers.ensures.gives m answered (bindings_of h.globals) h.locals.items h.units h.lines h.steps before on mid))
+    (rw c.as_slice.ensures.value at (c.in_ok-numbers.ensures.gives m answered (bindings_of h.globals) (locals_of h.locals) h.units h.lines h.steps before on mid))
     c.args.called.now.found c.text_of.ensures
     (rw c.as_slice-2.ensures.value at (c.call_function.ensures.gives m answered known (c.in_ok-numbers.ensures.keeps.on m on) l (c.in_ok-evaluate_arguments.ensures.ends.knows known knows)))
 
