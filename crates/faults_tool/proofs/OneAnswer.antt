@@ -1,0 +1,122 @@
+-- Words and bytes ask for one answer, and its status is that of a success exactly where each set is valid.
+use Rattle.std.proofs.Common.{◌≡◌, ◌∙◌, ◌<◌, ◌≤◌, ℕ, List, [], ◌∷◌, length, Option, None, Some, refl, ap, sym, subst, arith}
+use Rattle.device_tree.specs.declared.pack.Pack.{Pack}
+use Rattle.job_check.specs.declared.answer.Refusal.{Refusal}
+use Rattle.pack_faults.specs.declared.answer.PackFault.{PackFault}
+use Rattle.pack_faults.specs.declared.answer.PackFaults.{PackFaults}
+use Rattle.pack_faults.specs.declared.request.PackRefusal.{PackRefusal}
+use Rattle.pack_faults.specs.declared.request.PackRefusal.TheVariants as packs
+use Rattle.pack_faults.specs.Answers.{AreValid}
+use Rattle.pack_faults.specs.Sets.{refusal, sets_of}
+use Rattle.pack_faults.proofs.AnswerLemmas as faults_lemmas
+use Rattle.faults_words.specs.declared.answer.Asked.{Asked}
+use Rattle.faults_words.specs.Asks as words
+use Rattle.faults_words.proofs.AskLemmas.{one_asked}
+use Rattle.faults_tool.specs.Answers.{answer_status, list_status}
+use Rattle.faults_tool.specs.Asked.{AreAllValid, Asks, AsksOfBytes, AsksOfPack, job, limit, no_pack, no_set, of_refusal, pack, request_of, sets, too_long, usage}
+use Rattle.faults_tool.specs.declared.asking.Answer.{Answer}
+use Rattle.faults_tool.specs.declared.asking.Answer.TheVariants as answers
+use Rattle.faults_tool.specs.declared.status.Status.TheVariants as status
+use Rattle.faults_tool.proofs.PackLaws.{no_refusal, one_pack, one_refusal}
+
+-- ---- one answer
+
+no_some : (r : PackRefusal) (found : Option PackRefusal) → found ≡ Some r → found ≡ None → ⊥
+no_some r found a b = cc
+
+same_some : {A : Type 0} (x y : A) (found : Option A) → found ≡ Some x → found ≡ Some y → x ≡ y
+same_some x y found a b = cc
+
+one_of_pack : (p : Pack) (a : Asked) (x y : Answer) → AsksOfPack p a x → AsksOfPack p a y → x ≡ y
+one_of_pack p a x y (no_set r is of) (no_set s other of_other) =
+    let same : r ≡ s = same_some r s (refusal p (request_of a)) is other in
+    same_some x y (of_refusal s) (subst (λ (q : PackRefusal). of_refusal q ≡ Some x) same of) of_other
+one_of_pack p a x y (no_set r is of) (sets faults none are e) = absurd (no_some r (refusal p (request_of a)) is none)
+one_of_pack p a x y (sets faults none are e) (no_set r is of) = absurd (no_some r (refusal p (request_of a)) is none)
+one_of_pack p a x y (sets faults none are e) (sets others nothing are_others f) =
+    e ∙ ap (λ (q : PackFaults). answers.Faults a.format q) (faults_lemmas.one_answer p (request_of a) faults others are are_others) ∙ sym f
+
+abbrev refused : Refusal → Answer
+refused r = answers.Refused r
+
+one_of_bytes : (bytes : List ℕ) (a : Asked) (x y : Answer) → AsksOfBytes bytes a x → AsksOfBytes bytes a y → x ≡ y
+one_of_bytes bytes a x y (no_pack r is e) (no_pack s other f) = e ∙ ap refused (one_refusal bytes r s is other) ∙ sym f
+one_of_bytes bytes a x y (no_pack r is e) (pack p says of) = absurd (no_refusal bytes p r says is)
+one_of_bytes bytes a x y (pack p says of) (no_pack r is e) = absurd (no_refusal bytes p r says is)
+one_of_bytes bytes a x y (pack p says of) (pack q others of_others) =
+    one_of_pack q a x y (subst (λ (z : Pack). AsksOfPack z a x) (one_pack bytes p q says others) of) of_others
+
+not_both : (n : ℕ) → limit < n → n ≤ limit → ⊥
+not_both n long short = omega (arith, long, short)
+
+pub one_answer : (given : List (List ℕ)) (bytes : List ℕ) (x y : Answer) → Asks given bytes x → Asks given bytes y → x ≡ y
+one_answer given bytes x y (usage none e) (usage nothing f) = e ∙ sym f
+one_answer given bytes x y (usage none e) (too_long line long f) = absurd (none line.0 line.1)
+one_answer given bytes x y (usage none e) (job a asks short of) = absurd (none a asks)
+one_answer given bytes x y (too_long line long e) (usage none f) = absurd (none line.0 line.1)
+one_answer given bytes x y (too_long line long e) (too_long other far f) = e ∙ sym f
+one_answer given bytes x y (too_long line long e) (job a asks short of) = absurd (not_both (length bytes) long short)
+one_answer given bytes x y (job a asks short of) (usage none f) = absurd (none a asks)
+one_answer given bytes x y (job a asks short of) (too_long line long e) = absurd (not_both (length bytes) long short)
+one_answer given bytes x y (job a asks short of) (job b others few of_others) =
+    one_of_bytes bytes b x y (subst (λ (z : Asked). AsksOfBytes bytes z x) (one_asked given a b asks others) of) of_others
+
+-- ---- a success
+
+list_empty : (faults : List PackFault) → list_status faults ≡ status.Done → faults ≡ []
+list_empty [] e = refl
+list_empty (f ∷ fs) e = absurd (cc)
+
+empty_done : (faults : List PackFault) → faults ≡ [] → list_status faults ≡ status.Done
+empty_done faults e = ap list_status e
+
+status_of_list : (a : Asked) (answer : Answer) (faults : PackFaults) → answer ≡ answers.Faults a.format faults → answer_status answer ≡ list_status faults.faults
+unfolding answer_status
+status_of_list a answer faults e = ap answer_status e
+
+not_done : (r : Refusal) (answer : Answer) → answer ≡ answers.Refused r → answer_status answer ≡ status.Done → ⊥
+unfolding answer_status
+not_done r answer e done = (let is : answer_status answer ≡ status.Refused = ap answer_status e in cc)
+
+no_set_not_done : (r : PackRefusal) (answer : Answer) → of_refusal r ≡ Some answer → answer_status answer ≡ status.Done → ⊥
+unfolding answer_status
+no_set_not_done packs.NoDevice answer e done = (let is : answer_status answer ≡ status.Refused = ap answer_status (sym (same_some _ _ _ refl e)) in cc)
+no_set_not_done packs.NoVariant answer e done = (let is : answer_status answer ≡ status.Refused = ap answer_status (sym (same_some _ _ _ refl e)) in cc)
+no_set_not_done packs.NoPname answer e done = (let is : answer_status answer ≡ status.Refused = ap answer_status (sym (same_some _ _ _ refl e)) in cc)
+no_set_not_done packs.OutOfMemory answer e done = cc
+
+usage_not_done : (answer : Answer) → answer ≡ answers.Usage → answer_status answer ≡ status.Done → ⊥
+unfolding answer_status
+usage_not_done answer e done = (let is : answer_status answer ≡ status.Usage = ap answer_status e in cc)
+
+too_long_not_done : (answer : Answer) → answer ≡ answers.TooLong → answer_status answer ≡ status.Done → ⊥
+unfolding answer_status
+too_long_not_done answer e done = (let is : answer_status answer ≡ status.Refused = ap answer_status e in cc)
+
+pub valid_of : (given : List (List ℕ)) (bytes : List ℕ) (answer : Answer) → Asks given bytes answer → answer_status answer ≡ status.Done → AreAllValid given bytes
+valid_of given bytes answer (usage none e) done = absurd (usage_not_done answer e done)
+valid_of given bytes answer (too_long line long e) done = absurd (too_long_not_done answer e done)
+valid_of given bytes answer (job a asks short (no_pack r is e)) done = absurd (not_done r answer e done)
+valid_of given bytes answer (job a asks short (pack p says (no_set r is of))) done = absurd (no_set_not_done r answer of done)
+valid_of given bytes answer (job a asks short (pack p says (sets faults none are e))) done =
+    let empty : faults.faults ≡ [] = list_empty faults.faults (sym (status_of_list a answer faults e) ∙ done) in
+    record { asked = a; asks = asks; short = short; pack = p; describes = says; some = none; valid = (faults_lemmas.empty_where_valid p (request_of a) faults are).0 empty }
+
+-- where each set is valid, the faults of the pack are none
+none_of_valid : (given : List (List ℕ)) (bytes : List ℕ) (a : Asked) (answer : Answer) (v : AreAllValid given bytes) → words.Asks given a → AsksOfBytes bytes a answer → answer_status answer ≡ status.Done
+none_of_valid given bytes a answer v asks (no_pack r is e) = absurd (no_refusal bytes v.pack r v.describes is)
+none_of_valid given bytes a answer v asks (pack p says (no_set r is of)) =
+    let asked : a ≡ v.asked = one_asked given a v.asked asks v.asks in
+    let same : p ≡ v.pack = one_pack bytes p v.pack says v.describes in
+    absurd (no_some r (refusal p (request_of a)) is (ap (λ q. refusal q (request_of a)) same ∙ ap (λ b. refusal v.pack (request_of b)) asked ∙ v.some))
+none_of_valid given bytes a answer v asks (pack p says (sets faults none are e)) =
+    let asked : v.asked ≡ a = one_asked given v.asked a v.asks asks in
+    let same : v.pack ≡ p = one_pack bytes v.pack p v.describes says in
+    let valid : AreValid p (sets_of p (request_of a)) =
+    subst (λ (b : Asked). AreValid p (sets_of p (request_of b))) asked (subst (λ (q : Pack). AreValid q (sets_of q (request_of v.asked))) same v.valid) in
+    status_of_list a answer faults e ∙ empty_done faults.faults ((faults_lemmas.empty_where_valid p (request_of a) faults are).1 valid)
+
+pub done_of : (given : List (List ℕ)) (bytes : List ℕ) (answer : Answer) → Asks given bytes answer → AreAllValid given bytes → answer_status answer ≡ status.Done
+done_of given bytes answer (usage none e) v = absurd (none v.asked v.asks)
+done_of given bytes answer (too_long line long e) v = absurd (not_both (length bytes) long v.short)
+done_of given bytes answer (job a asks short of) v = none_of_valid given bytes a answer v asks of

@@ -1,0 +1,74 @@
+-- What is written, and the exit statuses.
+use Rattle.std.specs.Prelude.{ℕ, List, [], ◌∷◌, codes}
+use Rattle.text_lines.specs.declared.putting.TextError.{TextError}
+use Rattle.text_lines.specs.declared.putting.TextError.TheVariants as errors
+use Rattle.check_lines.specs.RefusalLines.{refusal_line, too_long_line}
+use Rattle.pack_faults.specs.declared.answer.PackFault.{PackFault}
+use Rattle.pack_faults.specs.declared.answer.PackFaults.{PackFaults}
+use Rattle.fault_lines.specs.FaultText.{faults_text}
+use Rattle.fault_json.specs.FaultsJson.{faults_json}
+use Rattle.fault_json.specs.SarifLog.{faults_sarif}
+use Rattle.faults_words.specs.declared.format.Format.{Format}
+use Rattle.faults_words.specs.declared.format.Format.TheVariants as formats
+use Rattle.faults_tool.specs.declared.asking.Answer.{Answer}
+use Rattle.faults_tool.specs.declared.asking.Answer.TheVariants as answers
+use Rattle.faults_tool.specs.declared.status.Status.{Status}
+use Rattle.faults_tool.specs.declared.status.Status.TheVariants as status
+
+-- the status as the number with which the program ends
+abbrev pub code_of : Status → ℕ
+code_of status.Done = 0
+code_of status.Faulty = 1
+code_of status.Refused = 1
+code_of status.Usage = 2
+code_of status.ReadFault = 5
+code_of status.WriteFault = 6
+code_of status.OutOfMemory = 7
+
+-- ---- what is written
+
+-- the line of words that ask for nothing
+abbrev pub usage_line : List ℕ
+usage_line = codes "usage dapseq_faults [--device NAME] [--variant NAME] [--pname NAME] [--format text|json|sarif] < JOB\n"
+
+-- the line of a processor that no sequence is for
+abbrev pub no_pname_line : List ℕ
+no_pname_line = codes "refused NoPname\n"
+
+-- the line of a source that failed
+abbrev pub fault_text : List ℕ
+fault_text = codes "end readfault\n"
+
+-- all faults, in this format
+abbrev pub formatted : Format → PackFaults → List ℕ
+formatted formats.Text faults = faults_text faults
+formatted formats.Json faults = faults_json faults
+formatted formats.Sarif faults = faults_sarif faults
+
+-- the text of an answer
+unfoldable pub answer_text : Answer → List ℕ
+answer_text answers.Usage = usage_line
+answer_text answers.TooLong = too_long_line
+answer_text (answers.Refused refusal) = refusal_line refusal
+answer_text answers.NoPname = no_pname_line
+answer_text (answers.Faults format faults) = formatted format faults
+
+-- ---- statuses
+
+-- the status where faults are written
+abbrev pub list_status : List PackFault → Status
+list_status [] = status.Done
+list_status (f ∷ fs) = status.Faulty
+
+-- the status where an answer is written
+unfoldable pub answer_status : Answer → Status
+answer_status answers.Usage = status.Usage
+answer_status answers.TooLong = status.Refused
+answer_status (answers.Refused refusal) = status.Refused
+answer_status answers.NoPname = status.Refused
+answer_status (answers.Faults format faults) = list_status faults.faults
+
+-- the status where a text was not written whole
+abbrev pub failed_status : TextError → Status
+failed_status errors.Failed = status.WriteFault
+failed_status errors.OutOfMemory = status.OutOfMemory

@@ -1,0 +1,71 @@
+-- What the words and the bytes of a source ask for.
+use Rattle.std.specs.Prelude.{◌≡◌, ℕ, ◌<◌, ◌≤◌, List, length, Option, Some, None}
+use Rattle.device_tree.specs.declared.pack.Pack.{Pack}
+use Rattle.job_check.specs.declared.answer.Refusal.{Refusal}
+use Rattle.job_check.specs.declared.answer.Refusal.TheVariants as refusals
+use Rattle.pack_faults.specs.declared.request.Request.{Request}
+use Rattle.pack_faults.specs.declared.request.PackRefusal.{PackRefusal}
+use Rattle.pack_faults.specs.declared.request.PackRefusal.TheVariants as packs
+use Rattle.pack_faults.specs.declared.answer.PackFaults.{PackFaults}
+use Rattle.pack_faults.specs.Sets.{refusal, sets_of}
+use Rattle.pack_faults.specs.Answers.{ArePackFaults, AreValid}
+use Rattle.faults_words.specs.declared.answer.Asked.{Asked}
+use Rattle.faults_words.specs.Asks as words
+use Rattle.faults_tool.specs.declared.asking.Answer.{Answer}
+use Rattle.faults_tool.specs.declared.asking.Answer.TheVariants as answers
+use Rattle.faults_tool.specs.Packs.{Describes, NoPack}
+
+-- ---- the words
+
+-- the words ask for nothing
+abbrev pub IsUsage : List (List ℕ) → Type 0
+IsUsage given = (a : Asked) → words.Asks given a → ⊥
+
+-- the words ask for something
+abbrev pub IsLine : List (List ℕ) → Type 0
+IsLine given = (a : Asked) × words.Asks given a
+
+-- whose sets they name
+abbrev pub request_of : Asked → Request
+request_of a = record { device = a.device; variant = a.variant; pname = a.pname }
+
+-- ---- the bytes
+
+-- the most bytes of a job
+abbrev pub limit : ℕ
+limit = 16777216
+
+-- the answer where there is no set, unless memory ran out
+abbrev pub of_refusal : PackRefusal → Option Answer
+of_refusal packs.NoDevice = Some (answers.Refused refusals.NoDevice)
+of_refusal packs.NoVariant = Some (answers.Refused refusals.NoVariant)
+of_refusal packs.NoPname = Some answers.NoPname
+of_refusal packs.OutOfMemory = None
+
+-- what is asked for of a pack: why there is no set, or all faults of the sets, in the format that is named
+pub data AsksOfPack (pack : Pack) (a : Asked) (answer : Answer) : Type 0 where
+  no_set : (r : PackRefusal) → refusal pack (request_of a) ≡ Some r → of_refusal r ≡ Some answer → AsksOfPack pack a answer
+  sets : (faults : PackFaults) → refusal pack (request_of a) ≡ None → ArePackFaults pack (request_of a) faults → answer ≡ answers.Faults a.format faults → AsksOfPack pack a answer
+
+-- the same of bytes: why they describe no pack, or what is asked for of the pack
+pub data AsksOfBytes (bytes : List ℕ) (a : Asked) (answer : Answer) : Type 0 where
+  no_pack : (r : Refusal) → NoPack bytes r → answer ≡ answers.Refused r → AsksOfBytes bytes a answer
+  pack : (pack : Pack) → Describes bytes pack → AsksOfPack pack a answer → AsksOfBytes bytes a answer
+
+-- This is what the words and all the bytes of the source ask for.
+pub data Asks (given : List (List ℕ)) (bytes : List ℕ) (answer : Answer) : Type 0 where
+  usage : IsUsage given → answer ≡ answers.Usage → Asks given bytes answer
+  too_long : IsLine given → limit < length bytes → answer ≡ answers.TooLong → Asks given bytes answer
+  job : (a : Asked) → words.Asks given a → length bytes ≤ limit → AsksOfBytes bytes a answer → Asks given bytes answer
+
+-- ---- valid sets
+
+-- the bytes describe a pack that has sets which the words name, and each of these is valid
+pub record AreAllValid (given : List (List ℕ)) (bytes : List ℕ) : Type 0 where
+  pub asked : Asked
+  pub asks : words.Asks given asked
+  pub short : length bytes ≤ limit
+  pub pack : Pack
+  pub describes : Describes bytes pack
+  pub some : refusal pack (request_of asked) ≡ None
+  pub valid : AreValid pack (sets_of pack (request_of asked))

@@ -1,0 +1,4 @@
+pub mod Packs
+pub mod Asked
+pub mod Answers
+pub mod Calls

@@ -1,0 +1,61 @@
+-- Which pack the bytes of a job have.
+use Rattle.std.specs.Prelude.{◌≡◌, ◌≢◌, ℕ, codes, List, Result, Ok, Err}
+use Rattle.serde_json.specs.Data.{Data}
+use Rattle.json_form.specs.declared.fault.JobFault.{JobFault}
+use Rattle.json_form.specs.declared.fault.JobFault.TheVariants as faults
+use Rattle.dap_base.specs.Outcome.{◌>>=◌}
+use Rattle.json_form.specs.Form.{HasOnly, Has}
+use Rattle.json_form.specs.Reading.{only_keys, required}
+use Rattle.device_tree.specs.declared.pack.Pack.{Pack}
+use Rattle.device_tree.specs.PackForm.{IsPack}
+use Rattle.device_tree.specs.PackReading.{pack_in}
+use Rattle.job_text.specs.Answers.{IsTextOf}
+use Rattle.job_text.specs.Keys.{job_keys}
+use Rattle.job_check.specs.declared.answer.Refusal.{Refusal}
+use Rattle.job_check.specs.declared.answer.Refusal.TheVariants as refusals
+use Rattle.job_check.specs.declared.answer.CheckRefusal.{CheckRefusal}
+use Rattle.job_check.specs.declared.answer.CheckRefusal.TheVariants as ends
+
+-- The value has no other keys than a job may have, and this pack. What is below the other keys is not read.
+pub record HasPack (d : Data) (p : Pack) : Type 0 where
+  pub known : HasOnly job_keys d
+  pub pack : Has (codes "pack") IsPack d p
+
+-- the bytes are the JSON text of such a value
+abbrev pub Describes : List ℕ → Pack → Type 0
+Describes bytes pack = (d : Data) × IsTextOf bytes d × HasPack d pack
+
+-- reading the pack, or the first fault: of the keys, and then of the pack
+unfoldable pub pack_in_job : Data → Result Pack JobFault
+pack_in_job d = do
+  known ← only_keys job_keys d
+  required (codes "pack") pack_in d
+
+-- the bytes are the text of no value, or this is its first fault
+abbrev pub NoPack : List ℕ → Refusal → Type 0
+NoPack bytes refusals.BadJson = (d : Data) → IsTextOf bytes d → ⊥
+NoPack bytes (refusals.Job fault) = (d : Data) × IsTextOf bytes d × (pack_in_job d ≡ Err fault) × (fault ≢ faults.OutOfMemory)
+NoPack bytes refusals.NoDevice = ⊥
+NoPack bytes refusals.AmbiguousDevice = ⊥
+NoPack bytes refusals.NoVariant = ⊥
+NoPack bytes (refusals.Dbgconf kind at) = ⊥
+NoPack bytes (refusals.Image what line) = ⊥
+NoPack bytes (refusals.Check kind spot) = ⊥
+
+-- ---- what is answered to bytes
+
+-- a fact on the refusal, unless memory ran out
+abbrev pub OnRefusal : (Refusal → Type 0) → CheckRefusal → Type 0
+OnRefusal P (ends.Refused r) = P r
+OnRefusal P ends.OutOfMemory = Unit {0}
+
+-- this pack, unless memory ran out
+abbrev pub IsAnswer : Pack → Result Pack CheckRefusal → Type 0
+IsAnswer pack (Ok read) = read ≡ pack
+IsAnswer pack (Err (ends.Refused r)) = ⊥
+IsAnswer pack (Err ends.OutOfMemory) = Unit {0}
+
+-- it is what reading gives, unless memory ran out
+abbrev pub Answers : List ℕ → Result Pack CheckRefusal → Type 0
+Answers bytes (Ok pack) = (d : Data) × IsTextOf bytes d × (pack_in_job d ≡ Ok pack)
+Answers bytes (Err end) = OnRefusal (NoPack bytes) end

@@ -1,0 +1,89 @@
+//! What is written.
+ghost use Rattle.std.specs.Prelude.{◌≡◌};
+ghost use Rattle.dap_base.specs.Streams.{PutAppends};
+ghost use Rattle.text_lines.specs.Causes.{NamesFault};
+ghost use Rattle.faults_tool.specs.Answers.{answer_text, answer_status, formatted, list_status, no_pname_line, usage_line};
+
+use crate::asking::Answer;
+use crate::status::Status;
+use check_lines::{write_refusal, write_too_long};
+use dap_base::Sink;
+use fault_json::{write_json, write_sarif};
+use fault_lines::write_faults;
+use faults_words::Format;
+use pack_faults::{PackFault, PackFaults};
+use std::alloc::Global;
+use text_lines::{TextError, put_text};
+
+// The status where these faults are written.
+fn list_status(faults: &[PackFault]) -> Status
+    ensures { result ≡ list_status faults.now }
+{
+    match faults {
+        [] => Status::Done,
+        _ => Status::Faulty,
+    }
+}
+
+/// The status where an answer is written.
+#[tactic(auto, unfolding(crate::specs::Answers::answer_status))]
+pub fn status_of(answer: &Answer) -> Status
+    ensures { result ≡ answer_status answer.now }
+{
+    match answer {
+        Answer::Usage => Status::Usage,
+        Answer::TooLong | Answer::Refused(_) | Answer::NoPname => Status::Refused,
+        Answer::Faults(_, faults) => list_status(faults.faults.as_slice()),
+    }
+}
+
+const USAGE: &[u8] =
+    b"usage dapseq_faults [--device NAME] [--variant NAME] [--pname NAME] [--format text|json|sarif] < JOB\n";
+
+// Writes the line of words that ask for nothing.
+fn write_usage<K: Sink>(sink: &mut K) -> Result<(), TextError>
+    ensures text { PutAppends (K.written sink.old) (K.written sink.new) result usage_line }
+    ensures sink { NamesFault TextError.Failed (K.faults sink.old) (K.faults sink.new) result }
+{
+    put_text(USAGE, sink)
+}
+
+// Writes the line of a processor that no sequence is for.
+fn write_no_pname<K: Sink>(sink: &mut K) -> Result<(), TextError>
+    ensures text { PutAppends (K.written sink.old) (K.written sink.new) result no_pname_line }
+    ensures sink { NamesFault TextError.Failed (K.faults sink.old) (K.faults sink.new) result }
+{
+    put_text(b"refused NoPname\n", sink)
+}
+
+// Writes all faults in this format.
+fn write_formatted<K: Sink>(
+    alloc: Global,
+    format: Format,
+    faults: &PackFaults,
+    sink: &mut K,
+) -> Result<(), TextError>
+    ensures text { PutAppends (K.written sink.old) (K.written sink.new) result (formatted format faults.now) }
+    ensures sink { NamesFault TextError.Failed (K.faults sink.old) (K.faults sink.new) result }
+{
+    match format {
+        Format::Text => write_faults(alloc, faults, sink),
+        Format::Json => write_json(alloc, faults, sink),
+        Format::Sarif => write_sarif(alloc, faults, sink),
+    }
+}
+
+/// Writes the text of an answer. At an error a part of it was written, from its front.
+#[tactic(auto, unfolding(crate::specs::Answers::answer_text))]
+pub fn write_answer<K: Sink>(alloc: Global, answer: &Answer, sink: &mut K) -> Result<(), TextError>
+    ensures text { PutAppends (K.written sink.old) (K.written sink.new) result (answer_text answer.now) }
+    ensures sink { NamesFault TextError.Failed (K.faults sink.old) (K.faults sink.new) result }
+{
+    match answer {
+        Answer::Usage => write_usage(sink),
+        Answer::TooLong => write_too_long(sink),
+        Answer::Refused(refusal) => write_refusal(alloc, refusal, sink),
+        Answer::NoPname => write_no_pname(sink),
+        Answer::Faults(format, faults) => write_formatted(alloc, *format, faults, sink),
+    }
+}

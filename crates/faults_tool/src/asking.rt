@@ -1,0 +1,110 @@
+//! What a call is asked for.
+ghost use Rattle.std.specs.Prelude.{◌≡◌, ℕ, List, Some, IfOk, OnOk, IsErrOf};
+ghost use Rattle.text_lines.specs.Causes.{NamesFault};
+ghost use Rattle.faults_words.specs.Asks as words_asked;
+ghost use Rattle.faults_tool.specs.Asked.{Asks, AsksOfBytes, AsksOfPack, IsLine, of_refusal};
+ghost use Rattle.faults_tool.specs.Calls.{AreBytesOf, AreTaken};
+
+use crate::packs::read_pack;
+use crate::reading::{Unread, read_all};
+use dap_base::{OutOfMemory, Source, Words};
+use device_tree::Pack;
+use faults_words::{Asked, Format, WordsError, asked_of};
+use job_check::{CheckRefusal, Refusal};
+use pack_faults::{PackFaults, PackRefusal, Request, pack_faults};
+use std::alloc::Global;
+
+/// What is answered.
+#[derive(Drop)]
+pub enum Answer {
+    /// The words ask for nothing.
+    Usage,
+    /// The source has more bytes than a job may have.
+    TooLong,
+    /// The job is refused, or its pack has no set of the names.
+    Refused(Refusal),
+    /// No sequence for the devices and variants has the `Pname`.
+    NoPname,
+    /// All faults of the sets that are requested, and how they are written.
+    Faults(Format, PackFaults),
+}
+
+/// Why it is not known what is asked for.
+#[derive(Clone, Copy, Debug, PartialEq, Eq)]
+pub enum Unasked {
+    /// The source failed.
+    ReadFault,
+    /// Memory was refused.
+    OutOfMemory,
+}
+
+// What is answered where there is no set.
+fn refused_by(refusal: PackRefusal) -> Result<Answer, OutOfMemory>
+    ensures { IfOk result (λ answer. of_refusal refusal ≡ Some answer) }
+{
+    match refusal {
+        PackRefusal::NoDevice => Ok(Answer::Refused(Refusal::NoDevice)),
+        PackRefusal::NoVariant => Ok(Answer::Refused(Refusal::NoVariant)),
+        PackRefusal::NoPname => Ok(Answer::NoPname),
+        PackRefusal::OutOfMemory => Err(OutOfMemory),
+    }
+}
+
+// What is asked for of a pack.
+fn ask_of_pack(alloc: Global, asked: Asked, pack: &Pack) -> Result<Answer, OutOfMemory>
+    ensures { IfOk result (AsksOfPack pack.now asked) }
+{
+    let request = Request {
+        device: asked.device,
+        variant: asked.variant,
+        pname: asked.pname,
+    };
+    match pack_faults(alloc, pack, &request) {
+        Ok(faults) => Ok(Answer::Faults(asked.format, faults)),
+        Err(refusal) => refused_by(refusal),
+    }
+}
+
+// What is asked for of the bytes of a job.
+fn ask_of_bytes(alloc: Global, asked: Asked, bytes: &[u8]) -> Result<Answer, OutOfMemory>
+    ensures { IfOk result (AsksOfBytes bytes.now asked) }
+{
+    match read_pack(alloc, bytes) {
+        Ok(pack) => ask_of_pack(alloc, asked, &pack),
+        Err(CheckRefusal::Refused(refusal)) => Ok(Answer::Refused(refusal)),
+        Err(CheckRefusal::OutOfMemory) => Err(OutOfMemory),
+    }
+}
+
+// What the source asks for.
+fn ask_of_source<S: Source>(alloc: Global, asked: Asked, source: &mut S) -> Result<Answer, Unasked>
+    ensures asked { (given : List (List ℕ)) → words_asked.Asks given asked → IfOk result (λ answer. (bytes : List ℕ) × AreBytesOf (S.left source.old) bytes × Asks given bytes answer) }
+    ensures taken { OnOk result (AreTaken (S.left source.old) (S.left source.new)) }
+    ensures source { NamesFault Unasked.ReadFault (S.faults source.old) (S.faults source.new) result }
+{
+    let bytes = match read_all(alloc, source) {
+        Ok(bytes) => bytes,
+        Err(Unread::TooLong) => return Ok(Answer::TooLong),
+        Err(Unread::Failed) => return Err(Unasked::ReadFault),
+        Err(Unread::OutOfMemory) => return Err(Unasked::OutOfMemory),
+    };
+    match ask_of_bytes(alloc, asked, &bytes) {
+        Ok(answer) => Ok(answer),
+        Err(OutOfMemory) => Err(Unasked::OutOfMemory),
+    }
+}
+
+/// What the words and the source ask for. Where the words ask for nothing, the source is not read.
+pub fn ask<S: Source>(alloc: Global, words: &Words, source: &mut S) -> Result<Answer, Unasked>
+    ensures asked { IfOk result (λ answer. (bytes : List ℕ) × AreBytesOf (S.left source.old) bytes × Asks words.now bytes answer) }
+    ensures taken { OnOk result (IsLine words.now → AreTaken (S.left source.old) (S.left source.new)) }
+    ensures unread { (IsLine words.now → ⊥) → source.new ≡ source.old }
+    ensures fault { IsErrOf result Unasked.ReadFault → IsLine words.now }
+    ensures source { NamesFault Unasked.ReadFault (S.faults source.old) (S.faults source.new) result }
+{
+    match asked_of(alloc, words) {
+        Ok(asked) => ask_of_source(alloc, asked, source),
+        Err(WordsError::Usage) => Ok(Answer::Usage),
+        Err(WordsError::OutOfMemory) => Err(Unasked::OutOfMemory),
+    }
+}

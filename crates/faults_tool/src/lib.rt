@@ -1,0 +1,13 @@
+//! The top call: all faults of a pack, over any source and sink.
+#![tactic(auto)]
+
+mod answering;
+mod asking;
+mod call;
+pub mod laws;
+mod packs;
+mod reading;
+mod status;
+
+pub use call::dapseq_faults;
+pub use status::Status;

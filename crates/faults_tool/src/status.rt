@@ -1,0 +1,39 @@
+//! How a call ends.
+ghost use Rattle.std.specs.Prelude.{◌≡◌};
+ghost use Rattle.faults_tool.specs.Answers.{code_of};
+
+/// How a call of `dapseq_faults` ended.
+#[derive(Clone, Copy, Debug, PartialEq, Eq)]
+pub enum Status {
+    /// Each of the sets is valid.
+    Done,
+    /// There is at least one fault.
+    Faulty,
+    /// The job was refused, or it has no set of the names.
+    Refused,
+    /// The words ask for nothing.
+    Usage,
+    /// The source failed.
+    ReadFault,
+    /// The sink failed.
+    WriteFault,
+    /// Memory was refused.
+    OutOfMemory,
+}
+
+impl Status {
+    /// The number with which the program ends: 0, 1 for both `Faulty` and `Refused`, 2, 5, 6 and 7, in the order of the
+    /// variants.
+    pub fn code(&self) -> u8
+        ensures { result ≡ code_of self.now }
+    {
+        match self {
+            Status::Done => 0,
+            Status::Faulty | Status::Refused => 1,
+            Status::Usage => 2,
+            Status::ReadFault => 5,
+            Status::WriteFault => 6,
+            Status::OutOfMemory => 7,
+        }
+    }
+}
