@@ -26,8 +26,10 @@ pub struct FileSource<'r> {
 }
 
 impl<'r> FileSource<'r> {
-    /// No file is open.
-    pub fn new(rt: &'r HostRuntime) -> FileSource<'r> {
+    /// No file is open, and there is no fault so far.
+    pub fn new(rt: &'r HostRuntime) -> FileSource<'r>
+        ensures { result.faults ≡ 0 }
+    {
         FileSource {
             rt,
             file: None,
