@@ -1,0 +1,3 @@
+mod NotedLemmas
+mod EndLemmas
+mod PortLemmas

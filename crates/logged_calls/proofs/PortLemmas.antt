@@ -1,0 +1,28 @@
+-- The predefined variables, where each call is made at once.
+use Rattle.std.proofs.Common.{◌≡◌, ℕ, ◌%◌, false, List, Option, None, Some, unwrap_or, Ok, nat_eq, codes, refl, sym, ap, ◌∙◌}
+use Rattle.sequence_rules.specs.declared.bindings.Binding.{Binding}
+use Rattle.sequence_rules.specs.Direct.{Now, direct}
+use Rattle.sequence_rules.specs.Machine.{State}
+use Rattle.sequence_rules.specs.Variables.{value_named}
+use Rattle.dap_base.specs.Outcome.{◌>>=◌}
+use Rattle.sequence_rules.specs.Calls.{use_now, missing, given, global, port_with, port_from, port}
+
+given_is : (o : Option ℕ) (s : State ℕ Now) → (given (direct false) 0 o s >>= λ v. use_now (direct false) v.0 v.1) ≡ Ok (unwrap_or o 0, s)
+unfolding given missing use_now direct
+given_is None s = refl
+given_is (Some n) s = refl
+
+pub global_is : (name : List ℕ) (s : State ℕ Now) → global (direct false) name s ≡ Ok (unwrap_or (value_named s.globals name) 0, s)
+unfolding global direct
+global_is name s = given_is (value_named s.globals name) s
+
+pub global_as : (name : List ℕ) (gs : List (Binding ℕ)) (n : ℕ) → n ≡ unwrap_or (value_named gs name) 0 → (s : State ℕ Now) → s.globals ≡ gs → global (direct false) name s ≡ Ok (n, s)
+global_as name gs n is s same = global_is name s ∙ ap (λ k. Ok (k, s)) (ap (λ g. unwrap_or (value_named g name) 0) same ∙ sym is)
+
+pub port_as : (gs : List (Binding ℕ)) (a e d : ℕ) → a ≡ unwrap_or (value_named gs (codes "__ap")) 0 → e ≡ unwrap_or (value_named gs (codes "__errorcontrol")) 0 → d ≡ unwrap_or (value_named gs (codes "__dp")) 0
+    → (s : State ℕ Now) → s.globals ≡ gs → port (direct false) s ≡ Ok (record { ap = a; forgive = nat_eq (e % 2) 1; dp = d }, s)
+unfolding port port_from port_with direct
+port_as gs a e d ai ei di s same =
+    rw (global_as (codes "__ap") gs a ai s same)
+    (rw (global_as (codes "__errorcontrol") gs e ei s same)
+    (rw (global_as (codes "__dp") gs d di s same) refl))

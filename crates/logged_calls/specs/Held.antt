@@ -1,0 +1,70 @@
+-- What a logged run holds, as a state of the meaning; how what the code answers is that of the meaning; and what it notes.
+use Rattle.std.specs.Prelude.{◌≡◌, ℕ, suc, ◌+◌, List, [], ◌∷◌, ◌++◌, length, None, Result, Ok, Err}
+use Rattle.target_calls.specs.World.{World, left_at}
+use Rattle.target_calls.specs.declared.calls.Ask.{Ask}
+use Rattle.target_machine.specs.State.{TargetState}
+use Rattle.target_machine.specs.declared.unit.Call.TheVariants.{Access}
+use Rattle.sequence_rules.specs.Direct.{Now}
+use Rattle.sequence_rules.specs.Machine as machine
+use Rattle.sequence_rules.specs.Machine.{State, Out}
+use Rattle.sequence_rules.specs.Shared.{bindings_of}
+use Rattle.run_events.specs.Events.{Writes, all_made, units_from}
+use Rattle.log_lines.specs.LogText.{LogText, noted, noted_all}
+use Rattle.logged_calls.specs.declared.held.Held.{Held}
+use Rattle.logged_calls.specs.declared.held.LoggedEnd.{LoggedEnd}
+use Rattle.logged_calls.specs.declared.held.LoggedEnd.TheVariants as end
+use Rattle.logged_calls.specs.declared.held.Stopped.{Stopped}
+
+-- the state of a run, in which all calls are answered, and of which no lines are known
+abbrev pub state_of : Held → TargetState → State ℕ Now
+state_of held target = record {
+  globals = bindings_of held.globals;
+  locals = held.locals.items;
+  units = held.units;
+  lines = held.lines;
+  steps = held.steps;
+  rest = record {
+    world = record { target = target; large = held.large.items; answered = None };
+    calls = held.calls;
+    skipped = held.skipped;
+    written = None;
+  };
+}
+
+-- Why the code ends is why the meaning ends, in this state. Nothing is said where memory was refused.
+abbrev pub EndsAs : {A : Type 0} → LoggedEnd → State ℕ Now → Out ℕ Now A → Type 0
+EndsAs (end.Halted cause) now out = out ≡ Err (machine.Halted cause, now)
+EndsAs (end.Faulted u) now out = out ≡ Err (machine.Faulted (Access u), now)
+EndsAs end.OutOfMemory now out = Unit {0}
+
+-- what the code answers and the state that it leaves are those of the meaning
+abbrev pub Means : {A : Type 0} → LoggedEnd → Result A Stopped → State ℕ Now → Out ℕ Now A → Type 0
+Means e (Ok x) now out = out ≡ Ok (x, now)
+Means e (Err stopped) now out = EndsAs e now out
+
+-- this is so, unless memory was refused
+abbrev pub Unless : {A : Type 0} → LoggedEnd → Result A Stopped → Type 0 → Type 0
+Unless e (Ok x) P = P
+Unless (end.Halted cause) (Err stopped) P = P
+Unless (end.Faulted u) (Err stopped) P = P
+Unless end.OutOfMemory (Err stopped) P = Unit {0}
+
+-- the world that calls leave
+abbrev pub left_by : World → List Ask → World
+left_by w [] = w
+left_by w (ask ∷ asks) = left_by (left_at w ask) asks
+
+-- from s to r these units were made, and they were noted
+pub record Noted (s r : State ℕ Now) (old new : LogText) : Type 0 where
+  pub more : List Ask
+  pub calls : r.rest.calls ≡ s.rest.calls ++ more
+  pub world : r.rest.world ≡ left_by s.rest.world more
+  pub lines : r.lines ≡ s.lines
+  pub log : new ≡ noted_all old (all_made (units_from s.rest.world (suc (length s.rest.calls)) more))
+
+-- the line was noted, where it is one more; else nothing was
+abbrev pub LineNoted : {A : Type 0} → LoggedEnd → Result A Stopped → State ℕ Now → State ℕ Now → LogText → LogText → List ℕ → Type 0
+LineNoted e (Ok x) s r old new line = (r.lines ≡ s.lines + 1) × (new ≡ noted old (Writes line)) × (r.rest.calls ≡ s.rest.calls)
+LineNoted (end.Halted cause) (Err stopped) s r old new line = (r.lines ≡ s.lines) × (new ≡ old) × (r.rest.calls ≡ s.rest.calls)
+LineNoted (end.Faulted u) (Err stopped) s r old new line = ⊥
+LineNoted end.OutOfMemory (Err stopped) s r old new line = Unit {0}

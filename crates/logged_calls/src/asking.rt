@@ -1,0 +1,147 @@
+//! Units, made one at a time and noted, and the predefined variables that they use.
+ghost use Rattle.std.specs.Prelude.{◌≡◌, ℕ, ◌<◌, ◌^◌, IfOk, Ok, codes, unwrap_or, false};
+ghost use Rattle.target_machine.specs.Sound.{IsSound, IsSoundProbe};
+ghost use Rattle.sequence_rules.specs.Calls as c;
+ghost use Rattle.sequence_rules.specs.Direct.{Now, direct};
+ghost use Rattle.sequence_rules.specs.Machine.{State};
+ghost use Rattle.sequence_rules.specs.Shared.{bindings_of};
+ghost use Rattle.sequence_rules.specs.Variables.{value_named};
+ghost use Rattle.logged_calls.specs.Held.{Means, Noted, Unless, state_of};
+
+use crate::held::{Held, LoggedEnd, Stopped};
+use direct_calls::{Made, call_at_once, command_at_once};
+use sequence_rules::{MOST_UNITS, Port};
+use target_calls::Ask;
+use target_machine::{Call, HaltCause, ProbeCall, Target, Unit};
+
+// The value of a predefined variable, 0 where there is none.
+fn value_of(held: &Held, name: &str) -> u64
+    ensures { result ≡ unwrap_or (value_named (bindings_of held.now.globals) name.now) 0 }
+{
+    match held.globals.get(name) {
+        Some(value) => value,
+        None => 0,
+    }
+}
+
+// The variables that a memory or AP call uses.
+pub(crate) fn port_of(held: &Held) -> Port
+    ensures { (s : State ℕ Now) → s.globals ≡ bindings_of held.now.globals
+        → c.port (direct false) s ≡ Ok (record { ap = result.ap; forgive = result.forgive; dp = result.dp }, s) }
+{
+    let ap = value_of(held, "__ap");
+    let control = value_of(held, "__errorcontrol");
+    let dp = value_of(held, "__dp");
+    Port {
+        ap,
+        forgive: control % 2 == 1,
+        dp,
+    }
+}
+
+// `__dp`.
+pub(crate) fn debug_port(held: &Held) -> u64
+    ensures { (s : State ℕ Now) → s.globals ≡ bindings_of held.now.globals → c.global (direct false) (codes "__dp") s ≡ Ok (result, s) }
+{
+    value_of(held, "__dp")
+}
+
+// An access as a unit, made at once and noted, unless it would be number 1,000,001.
+#[tactic(auto, unfolding(sequence_rules::specs::Calls::ask, sequence_rules::specs::Calls::answered, sequence_rules::specs::Direct::direct, sequence_rules::specs::Direct::made), using(crate::proofs::NotedLemmas::noted_none, crate::proofs::NotedLemmas::noted_one))]
+pub(crate) fn ask(
+    unit: Unit,
+    forgive: bool,
+    held: &mut Held,
+    target: &mut Target,
+) -> Result<u64, Stopped>
+    requires { IsSound unit }
+    ensures gives { Means held.new.end result (state_of held.new target.new) (c.ask (direct false) unit forgive (state_of held.old target.old)) }
+    ensures noted { Unless held.new.end result (Noted (state_of held.old target.old) (state_of held.new target.new) held.old.log held.new.log) }
+    ensures word { IfOk result (λ value. value < 2 ^ 32) }
+{
+    if held.units >= MOST_UNITS {
+        held.end = LoggedEnd::Halted(HaltCause::AccessLimit);
+        return Err(Stopped);
+    }
+    let asked = Ask {
+        call: Call::Access(unit),
+        forgive,
+        settled: false,
+    };
+    let Ok(()) = held.calls.push_access(unit, forgive) else {
+        held.end = LoggedEnd::OutOfMemory;
+        return Err(Stopped);
+    };
+    let Ok(made) = call_at_once(target, Call::Access(unit), forgive, &mut held.large) else {
+        held.end = LoggedEnd::OutOfMemory;
+        return Err(Stopped);
+    };
+    held.units += 1;
+    let number = held.calls.len() as u64;
+    let Ok(()) = held.log.make(number, &asked, Some(made)) else {
+        held.end = LoggedEnd::OutOfMemory;
+        return Err(Stopped);
+    };
+    match made {
+        Made::Answered(value) => Ok(u64::from(value)),
+        Made::Skipped => {
+            held.skipped = held.skipped.saturating_add(1);
+            Ok(0)
+        }
+        Made::Faulted => {
+            held.end = LoggedEnd::Faulted(unit);
+            Err(Stopped)
+        }
+        Made::Small => {
+            held.end = LoggedEnd::Halted(HaltCause::AddressTooLarge);
+            Err(Stopped)
+        }
+    }
+}
+
+// A read has its value, and a write 0.
+#[tactic(auto, unfolding(sequence_rules::specs::Calls::if_read, sequence_rules::specs::Calls::zero_of, sequence_rules::specs::Direct::direct), using(crate::proofs::EndLemmas::ends_if_read))]
+pub(crate) fn ask_for_result(
+    read: bool,
+    unit: Unit,
+    forgive: bool,
+    held: &mut Held,
+    target: &mut Target,
+) -> Result<u64, Stopped>
+    requires { IsSound unit }
+    ensures gives { Means held.new.end result (state_of held.new target.new) (c.if_read (direct false) read (c.ask (direct false) unit forgive (state_of held.old target.old))) }
+    ensures noted { Unless held.new.end result (Noted (state_of held.old target.old) (state_of held.new target.new) held.old.log held.new.log) }
+{
+    let value = ask(unit, forgive, held, target)?;
+    Ok(if read { value } else { 0 })
+}
+
+// A command of the probe as a unit, made at once and noted, unless it would be number 1,000,001.
+#[tactic(auto, unfolding(sequence_rules::specs::Calls::command, sequence_rules::specs::Calls::numbered, sequence_rules::specs::Direct::direct, sequence_rules::specs::Direct::made), using(crate::proofs::NotedLemmas::noted_none))]
+pub(crate) fn command(call: ProbeCall, held: &mut Held, target: &mut Target) -> Result<u64, Stopped>
+    requires { IsSoundProbe call }
+    ensures gives { Means held.new.end result (state_of held.new target.new) (c.command (direct false) call (state_of held.old target.old)) }
+    ensures noted { Unless held.new.end result (Noted (state_of held.old target.old) (state_of held.new target.new) held.old.log held.new.log) }
+{
+    if held.units >= MOST_UNITS {
+        held.end = LoggedEnd::Halted(HaltCause::AccessLimit);
+        return Err(Stopped);
+    }
+    let asked = Ask {
+        call: Call::Probe(call),
+        forgive: false,
+        settled: false,
+    };
+    let Ok(()) = held.calls.push(asked) else {
+        held.end = LoggedEnd::OutOfMemory;
+        return Err(Stopped);
+    };
+    held.units += 1;
+    let number = held.calls.len() as u64;
+    let value = command_at_once(target, call);
+    let Ok(()) = held.log.make(number, &asked, Some(Made::Answered(value))) else {
+        held.end = LoggedEnd::OutOfMemory;
+        return Err(Stopped);
+    };
+    Ok(u64::from(value))
+}

@@ -1,0 +1,121 @@
+//! Calls that access memory.
+ghost use Rattle.std.specs.Prelude.{◌≡◌, ◌⊎◌, ℕ, ◌<◌, ◌^◌, ◌%◌, false};
+ghost use Rattle.sequence_rules.specs.Calls as c;
+ghost use Rattle.sequence_rules.specs.Direct.{Now, direct};
+ghost use Rattle.sequence_rules.specs.Machine.{State};
+ghost use Rattle.logged_calls.specs.Held.{Means, Noted, Unless, state_of};
+
+use crate::asking::{ask, ask_for_result, port_of};
+use crate::held::{Held, LoggedEnd, Stopped};
+use sequence_rules::{Port, memory_port, memory_unit};
+use target_machine::Target;
+
+// The value of `Read64`.
+#[tactic(auto, unfolding(sequence_rules::specs::Calls::low_and_high, sequence_rules::specs::Calls::use_now, sequence_rules::specs::Direct::direct))]
+fn join_words(low: u64, high: u64) -> u64
+    requires low { low < 2 ^ 32 }
+    requires high { high < 2 ^ 32 }
+    ensures { (s : State ℕ Now) → c.low_and_high (direct false) low high s ≡ Ok (result, s) }
+{
+    low + high * 0x1_0000_0000
+}
+
+// The second unit of a 64-bit call, at the higher address.
+#[tactic(auto, unfolding(sequence_rules::specs::Calls::second_half, sequence_rules::specs::Direct::direct))]
+fn ask_second_half(
+    read: bool,
+    ap: u8,
+    forgive: bool,
+    address: u64,
+    value: u64,
+    low: u64,
+    held: &mut Held,
+    target: &mut Target,
+) -> Result<u64, Stopped>
+    requires aligned { address % 8 ≡ 0 }
+    requires low { low < 2 ^ 32 }
+    ensures gives { Means held.new.end result (state_of held.new target.new) (c.second_half (direct false) read (record { ap = ap; forgive = forgive; dp = 0 }) address value low (state_of held.old target.old)) }
+    ensures noted { Unless held.new.end result (Noted (state_of held.old target.old) (state_of held.new target.new) held.old.log held.new.log) }
+{
+    let unit = memory_unit(4, read, ap, address + 4, value / 0x1_0000_0000);
+    let high = match ask(unit, forgive, held, target) {
+        Ok(high) => high,
+        Err(stopped) => return Err(stopped),
+    };
+    Ok(if read { join_words(low, high) } else { 0 })
+}
+
+// `Read64` and `Write64` are two units, the one at the lower address first.
+#[tactic(auto, unfolding(sequence_rules::specs::Calls::two_units), using(crate::proofs::NotedLemmas::notes_on))]
+fn ask_two_units(
+    read: bool,
+    ap: u8,
+    forgive: bool,
+    address: u64,
+    value: u64,
+    held: &mut Held,
+    target: &mut Target,
+) -> Result<u64, Stopped>
+    requires aligned { address % 8 ≡ 0 }
+    ensures gives { Means held.new.end result (state_of held.new target.new) (c.two_units (direct false) read (record { ap = ap; forgive = forgive; dp = 0 }) address value (state_of held.old target.old)) }
+    ensures noted { Unless held.new.end result (Noted (state_of held.old target.old) (state_of held.new target.new) held.old.log held.new.log) }
+{
+    let unit = memory_unit(4, read, ap, address, value);
+    let low = match ask(unit, forgive, held, target) {
+        Ok(low) => low,
+        Err(stopped) => return Err(stopped),
+    };
+    ask_second_half(read, ap, forgive, address, value, low, held, target)
+}
+
+// A memory call, once the port is known.
+#[tactic(auto, unfolding(sequence_rules::specs::Calls::memory_at, sequence_rules::specs::Calls::one_unit, sequence_rules::specs::Calls::or_halt), using(crate::proofs::NotedLemmas::noted_none))]
+fn access_memory_at(
+    size: u8,
+    read: bool,
+    address: u64,
+    value: u64,
+    port: Port,
+    held: &mut Held,
+    target: &mut Target,
+) -> Result<u64, Stopped>
+    requires { (size ≡ 1) ⊎ ((size ≡ 2) ⊎ ((size ≡ 4) ⊎ (size ≡ 8))) }
+    ensures gives { Means held.new.end result (state_of held.new target.new) (c.memory_at (direct false) size read address value (record { ap = port.ap; forgive = port.forgive; dp = port.dp }) (state_of held.old target.old)) }
+    ensures noted { Unless held.new.end result (Noted (state_of held.old target.old) (state_of held.new target.new) held.old.log held.new.log) }
+{
+    let ap = match memory_port(size, address, port.ap, port.dp) {
+        Ok(ap) => ap,
+        Err(cause) => {
+            held.end = LoggedEnd::Halted(cause);
+            return Err(Stopped);
+        }
+    };
+    if size == 8 {
+        ask_two_units(read, ap, port.forgive, address, value, held, target)
+    } else {
+        ask_for_result(
+            read,
+            memory_unit(size, read, ap, address, value),
+            port.forgive,
+            held,
+            target,
+        )
+    }
+}
+
+// A memory call of `size` bytes, 1, 2, 4 or 8.
+#[tactic(auto, unfolding(sequence_rules::specs::Calls::memory))]
+pub(crate) fn access_memory(
+    size: u8,
+    read: bool,
+    address: u64,
+    value: u64,
+    held: &mut Held,
+    target: &mut Target,
+) -> Result<u64, Stopped>
+    requires { (size ≡ 1) ⊎ ((size ≡ 2) ⊎ ((size ≡ 4) ⊎ (size ≡ 8))) }
+    ensures gives { Means held.new.end result (state_of held.new target.new) (c.memory (direct false) size read address value (state_of held.old target.old)) }
+    ensures noted { Unless held.new.end result (Noted (state_of held.old target.old) (state_of held.new target.new) held.old.log held.new.log) }
+{
+    access_memory_at(size, read, address, value, port_of(held), held, target)
+}
