@@ -1,5 +1,5 @@
 //! A log of a run.
-ghost use Rattle.std.specs.Prelude.{◌≡◌, ◌++◌, ◌+◌, ◌<◌, ◌^◌, ℕ, [], option_map, take, length, IfOk, OnOk};
+ghost use Rattle.std.specs.Prelude.{◌≡◌, ◌++◌, ℕ, [], option_map, take, length, IfOk, OnOk};
 ghost use Rattle.direct_calls.specs.Made.{call_end_of};
 ghost use Rattle.expr_grammar.specs.Tree.{tree, stmt_tree};
 ghost use Rattle.sequence_trees.specs.declared.spot.Part.TheVariants as part;
@@ -231,15 +231,17 @@ impl Log {
         self.add(written)
     }
 
-    /// The sequence of this name is called.
+    /// The sequence of this name is called. `OutOfMemory` also where 2^32 - 1 sequences are called.
     pub fn call(&mut self, name: &str) -> Result<(), OutOfMemory>
-        requires { self.old.depth + 1 < 2 ^ 32 }
         ensures { OnOk result (self.new ≡ noted self.old (e.Calls name.now)) }
     {
+        let Some(deeper) = self.depth.checked_add(1) else {
+            return Err(OutOfMemory);
+        };
         let line = begin_below(self.alloc, self.depth)?.text("call ")?;
         let line = line.shown(name.as_bytes())?.text("\n")?;
         self.add(&line)?;
-        self.depth += 1;
+        self.depth = deeper;
         Ok(())
     }
 
