@@ -4,11 +4,11 @@
 mod words;
 
 use dap_base::{OutOfMemory, ReadSource, Words, WriteSink};
+use faults_tool::{Status, dapseq_faults};
 use std::alloc::Global;
 use std::io::ErrorKind;
 use std::process::ExitCode;
 use std::{env, io};
-use faults_tool::{Status, dapseq_faults};
 use words::{unreadable, words_of};
 
 // The words after the program's name. One word where they cannot be read as text, so that the call is a wrong one.
