@@ -1,3 +1,3 @@
-mod NotedLemmas
-mod EndLemmas
-mod PortLemmas
+pub mod NotedLemmas
+pub mod EndLemmas
+pub mod PortLemmas

@@ -1,12 +1,16 @@
 -- What a logged run holds, as a state of the meaning; how what the code answers is that of the meaning; and what it notes.
-use Rattle.std.specs.Prelude.{◌≡◌, ℕ, suc, ◌+◌, List, [], ◌∷◌, ◌++◌, length, None, Result, Ok, Err}
+use Rattle.std.specs.Prelude.{◌≡◌, ℕ, suc, ◌+◌, false, codes, nat_eq, if◌then◌else◌, List, [], ◌∷◌, ◌++◌, length, None, Result, Ok, Err}
 use Rattle.target_calls.specs.World.{World, left_at}
 use Rattle.target_calls.specs.declared.calls.Ask.{Ask}
 use Rattle.target_machine.specs.State.{TargetState}
 use Rattle.target_machine.specs.declared.unit.Call.TheVariants.{Access}
-use Rattle.sequence_rules.specs.Direct.{Now}
+use Rattle.dap_base.specs.Outcome.{◌>>=◌}
+use Rattle.target_machine.specs.declared.unit.HaltCause.TheVariants.{Unsupported}
+use Rattle.target_machine.specs.declared.unit.Unit.TheVariants as unit
+use Rattle.sequence_rules.specs.Calls.{global, ask}
+use Rattle.sequence_rules.specs.Direct.{Now, direct}
 use Rattle.sequence_rules.specs.Machine as machine
-use Rattle.sequence_rules.specs.Machine.{State, Out}
+use Rattle.sequence_rules.specs.Machine.{State, Out, halt}
 use Rattle.sequence_rules.specs.Shared.{bindings_of}
 use Rattle.run_events.specs.Events.{Writes, all_made, units_from}
 use Rattle.log_lines.specs.LogText.{LogText, noted, noted_all}
@@ -68,3 +72,8 @@ LineNoted e (Ok x) s r old new line = (r.lines ≡ s.lines + 1) × (new ≡ note
 LineNoted (end.Halted cause) (Err stopped) s r old new line = (r.lines ≡ s.lines) × (new ≡ old) × (r.rest.calls ≡ s.rest.calls)
 LineNoted (end.Faulted u) (Err stopped) s r old new line = ⊥
 LineNoted end.OutOfMemory (Err stopped) s r old new line = Unit {0}
+
+-- a poll of CTRL/STAT, and what it answers: 1 where its value was found, 0 where its turns are used
+abbrev pub poll_value : ℕ × ℕ → ℕ → State ℕ Now → Out ℕ Now ℕ
+poll_value form turns s =
+    global (direct false) (codes "__dp") s >>= λ d. if nat_eq d.0 0 then ask (direct false) (unit.Poll form.0 form.1 turns) false d.1 else halt Unsupported d.1

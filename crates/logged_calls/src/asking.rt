@@ -1,12 +1,12 @@
 //! Units, made one at a time and noted, and the predefined variables that they use.
-ghost use Rattle.std.specs.Prelude.{◌≡◌, ℕ, ◌<◌, ◌^◌, IfOk, Ok, codes, unwrap_or, false};
+ghost use Rattle.std.specs.Prelude.{◌≡◌, ℕ, ◌<◌, ◌≤◌, ◌^◌, IfOk, Ok, codes, unwrap_or, false};
 ghost use Rattle.target_machine.specs.Sound.{IsSound, IsSoundProbe};
 ghost use Rattle.sequence_rules.specs.Calls as c;
 ghost use Rattle.sequence_rules.specs.Direct.{Now, direct};
 ghost use Rattle.sequence_rules.specs.Machine.{State};
 ghost use Rattle.sequence_rules.specs.Shared.{bindings_of};
 ghost use Rattle.sequence_rules.specs.Variables.{value_named};
-ghost use Rattle.logged_calls.specs.Held.{Means, Noted, Unless, state_of};
+ghost use Rattle.logged_calls.specs.Held.{Means, Noted, Unless, poll_value, state_of};
 
 use crate::held::{Held, LoggedEnd, Stopped};
 use direct_calls::{Made, call_at_once, command_at_once};
@@ -114,6 +114,33 @@ pub(crate) fn ask_for_result(
 {
     let value = ask(unit, forgive, held, target)?;
     Ok(if read { value } else { 0 })
+}
+
+/// A poll of CTRL/STAT until `(read & mask) == requested`, at most `turns` reads, made as one unit and noted: 1 where the value was
+/// found, 0 where the turns are used. It halts where `__dp` is not 0.
+#[tactic(auto, using(crate::proofs::NotedLemmas::noted_none))]
+pub fn ask_poll(
+    mask: u32,
+    requested: u32,
+    turns: u32,
+    held: &mut Held,
+    target: &mut Target,
+) -> Result<u64, Stopped>
+    requires least { 1 ≤ turns }
+    requires most { turns ≤ 60000000 }
+    ensures gives { Means held.new.end result (state_of held.new target.new) (poll_value (mask, requested) turns (state_of held.old target.old)) }
+    ensures noted { Unless held.new.end result (Noted (state_of held.old target.old) (state_of held.new target.new) held.old.log held.new.log) }
+{
+    if debug_port(held) != 0 {
+        held.end = LoggedEnd::Halted(HaltCause::Unsupported);
+        return Err(Stopped);
+    }
+    let unit = Unit::Poll {
+        mask,
+        value: requested,
+        turns,
+    };
+    ask(unit, false, held, target)
 }
 
 // A command of the probe as a unit, made at once and noted, unless it would be number 1,000,001.

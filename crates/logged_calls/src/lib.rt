@@ -9,5 +9,6 @@ mod memory;
 mod probe;
 mod registers;
 
+pub use asking::ask_poll;
 pub use functions::make_call;
 pub use held::{Held, LoggedEnd, Stopped};
