@@ -1,0 +1,102 @@
+//! From the words to what they ask for.
+ghost use Rattle.std.specs.Prelude.{◌≡◌, IfOk, IfErr, MatchResult, None, Some, map};
+ghost use Rattle.clap.specs.Words.{first_value, found_of};
+ghost use Rattle.log_words.specs.Asks.{Asks, IsAskedBy, is_set};
+ghost use Rattle.log_words.specs.declared.answer.WordsError.TheVariants as errors;
+
+use crate::answer::{Asked, WordsError};
+use crate::line::{DEVICE, FAIL, PNAME, SEQUENCE, TURNS, VARIANT, matches_in};
+use crate::turns::turns_of;
+use clap::ArgMatches;
+use dap_base::{NameText, OutOfMemory, Words};
+use sequence_resolve::Selection;
+use std::alloc::{AllocError, Global};
+
+fn texts_of<'a>(alloc: Global, words: &'a Words) -> Result<Vec<&'a str>, AllocError>
+    ensures { IfOk result (λ texts. map (λ t. t.now) texts.items ≡ words.now) }
+{
+    let mut texts = Vec::new(alloc);
+    for word in words.as_slice() {
+        texts.push(word.as_str())?;
+    }
+    Ok(texts)
+}
+
+// The value of an option, which then outlives the list of texts that clap lends it from.
+fn value_of(
+    alloc: Global,
+    matches: &ArgMatches<'_>,
+    name: &str,
+) -> Result<Option<NameText>, OutOfMemory>
+    ensures { IfOk result (λ v. v ≡ first_value (found_of matches.now) name.now) }
+{
+    match matches.get_str(name) {
+        Some(text) => {
+            let value = NameText::new(alloc, text)?;
+            Ok(Some(value))
+        }
+        None => Ok(None),
+    }
+}
+
+// The value of an option that must be given.
+fn needed_value(alloc: Global, matches: &ArgMatches<'_>, name: &str) -> Result<NameText, WordsError>
+    ensures value { IfOk result (λ v. first_value (found_of matches.now) name.now ≡ Some v) }
+    ensures usage { IfErr result (λ e. e ≡ errors.Usage → first_value (found_of matches.now) name.now ≡ None) }
+{
+    match matches.get_str(name) {
+        Some(text) => Ok(NameText::new(alloc, text)?),
+        None => Err(WordsError::Usage),
+    }
+}
+
+// Whether a flag is given.
+fn is_set(matches: &ArgMatches<'_>, name: &str) -> bool
+    ensures { result ≡ is_set (first_value (found_of matches.now) name.now) }
+{
+    match matches.get_str(name) {
+        Some(value) => value == "true",
+        None => false,
+    }
+}
+
+// What the values of the options ask for.
+fn asked_by(alloc: Global, matches: &ArgMatches<'_>) -> Result<Asked, WordsError>
+    ensures answer { IfOk result (IsAskedBy (first_value (found_of matches.now))) }
+    ensures usage { IfErr result (λ e. e ≡ errors.Usage → (a : _) → IsAskedBy (first_value (found_of matches.now)) a → ⊥) }
+{
+    let Some(turns) = turns_of(matches.get_str(TURNS)) else {
+        return Err(WordsError::Usage);
+    };
+    let device = needed_value(alloc, matches, DEVICE)?;
+    let sequence = needed_value(alloc, matches, SEQUENCE)?;
+    Ok(Asked {
+        selection: Selection {
+            device,
+            variant: value_of(alloc, matches, VARIANT)?,
+            pname: value_of(alloc, matches, PNAME)?,
+        },
+        sequence,
+        turns,
+        fail: is_set(matches, FAIL),
+    })
+}
+
+/// What the words after the program's name ask for.
+///
+/// `clap` reads them as the options `--device`, `--variant`, `--pname`, `--sequence` and `--turns`, each with one value,
+/// and the flag `--fail`, each at most once. A device and a sequence must be given. The turns are one to seven decimal
+/// digits that write a number from 0 to 1,000,000, and 2 where none are given. The names are copies.
+///
+/// `Usage` exactly where `clap` refuses the words for another cause than memory, which its answers to `--help` and
+/// `-h` are, where the device or the sequence is not given, or where the turns are no such number. `OutOfMemory` where
+/// memory is refused.
+pub fn asked_of(alloc: Global, words: &Words) -> Result<Asked, WordsError>
+    ensures answer { IfOk result (Asks words.now) }
+    ensures only { (a : _) → Asks words.now a → MatchResult result (λ r. r ≡ a) (λ e. e ≡ errors.OutOfMemory) }
+    ensures usage { IfErr result (λ e. e ≡ errors.Usage → (a : _) → Asks words.now a → ⊥) }
+{
+    let texts = texts_of(alloc, words)?;
+    let matches = matches_in(alloc, texts.as_slice())?;
+    asked_by(alloc, &matches)
+}
