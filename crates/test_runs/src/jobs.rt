@@ -1,4 +1,6 @@
 //! Whole jobs by the direct runner, and what each comes to.
+ghost use Rattle.job_text.specs.Ranges.{AreSettings};
+
 use crate::outcomes::{show_end, show_memory, show_text};
 use dap_base::MemorySink;
 use job_text::{Job, job_of};
@@ -49,7 +51,9 @@ fn recorded(
     checked: &Checked,
     target: &mut Target,
     sink: &mut MemorySink,
-) -> Option<Recorded> {
+) -> Option<Recorded>
+    requires settings { AreSettings job.now.settings }
+{
     run_recorded(alloc, checked, "Main", &job.settings, target, sink).ok()
 }
 
@@ -76,7 +80,9 @@ fn run_over(
     checked: &Checked,
     target: &mut Target,
     sink: &mut MemorySink,
-) -> io::Result<()> {
+) -> io::Result<()>
+    requires settings { AreSettings job.now.settings }
+{
     match recorded(rt.alloc(), job, checked, target, sink) {
         Some(run) => show_run(rt, job, &run, sink, target),
         None => Err(out_of_memory()),
@@ -84,12 +90,9 @@ fn run_over(
 }
 
 // Runs `Main` over the target of the job.
-fn run_into(
-    rt: &HostRuntime,
-    job: &Job,
-    checked: &Checked,
-    sink: &mut MemorySink,
-) -> io::Result<()> {
+fn run_into(rt: &HostRuntime, job: &Job, checked: &Checked, sink: &mut MemorySink) -> io::Result<()>
+    requires settings { AreSettings job.now.settings }
+{
     match Target::new(rt.alloc(), &job.bench.target) {
         Ok(mut target) => run_over(rt, job, checked, &mut target, sink),
         Err(_) => Err(out_of_memory()),
@@ -97,14 +100,18 @@ fn run_into(
 }
 
 // Runs `Main` of a checked set into a sink in memory.
-fn run_checked(rt: &HostRuntime, job: &Job, checked: &Checked, put: u32) -> io::Result<()> {
+fn run_checked(rt: &HostRuntime, job: &Job, checked: &Checked, put: u32) -> io::Result<()>
+    requires settings { AreSettings job.now.settings }
+{
     match MemorySink::new(rt.alloc(), &[put]) {
         Ok(mut sink) => run_into(rt, job, checked, &mut sink),
         Err(_) => Err(out_of_memory()),
     }
 }
 
-fn run_job(rt: &HostRuntime, job: &Job, choice: Choice<'_>) -> io::Result<()> {
+fn run_job(rt: &HostRuntime, job: &Job, choice: Choice<'_>) -> io::Result<()>
+    requires settings { AreSettings job.now.settings }
+{
     match set_of(rt.alloc(), job, choice.variant) {
         Some(checked) => run_checked(rt, job, &checked, choice.put),
         None => println!(rt; "refused check"),
