@@ -1,0 +1,8 @@
+use Rattle.std.proofs.Common.{◌≡◌, ◌++◌, map, drop, string_bytes}
+use Rattle.std.specs.List.{flat_map}
+use Rattle.seq_check.specs.Answers.{checked_trees}
+use Rattle.run_coverage.specs.Reach.{sequence_names}
+use Rattle.run_coverage.proofs.reach.called_by.Given as goal
+
+abbrev pub invariant-loop-name : goal.invariant-loop-name
+invariant-loop-name l = l.called ++ flat_map (sequence_names (checked_trees l.checked)) (map string_bytes (drop l.name-index l.names)) ≡ flat_map (sequence_names (checked_trees l.checked)) (map string_bytes l.names)

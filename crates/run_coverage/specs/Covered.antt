@@ -1,0 +1,42 @@
+-- What events cover.
+use Rattle.std.specs.Prelude.{◌≡◌, ℕ, Bool, false, List, Option, Some, None, ◌++◌, is_some, if◌then◌else◌}
+use Rattle.std.specs.List.{list_any}
+use Rattle.std.specs.Str.{bytes_eq}
+use Rattle.run_events.specs.Events.{Event, Begins, Tests, Chooses, Loops, Turns, Finds, Leaves, TimesOut, Matches, Assigns, Makes, Writes, Calls, Returns}
+use Rattle.log_lines.specs.Places.{spot_words}
+use Rattle.run_coverage.specs.declared.coverage.Coverage.{Coverage}
+use Rattle.run_coverage.specs.Items.{ran_words, chosen, left_words, timed_out_words}
+
+-- what happens at an event, in words. The debug variables have no step, and do not count.
+abbrev pub event_words : Event → Option (List ℕ)
+event_words (Begins spot st) = if is_some spot.sequence then Some (ran_words spot) else None
+event_words (Chooses spot n) = Some (chosen n ++ spot_words spot)
+event_words (Leaves spot n) = Some (left_words spot)
+event_words (Matches spot) = Some (left_words spot)
+event_words (TimesOut spot n) = Some (timed_out_words spot)
+event_words (Tests spot e) = None
+event_words (Loops spot e n) = None
+event_words (Turns spot n) = None
+event_words (Finds spot n) = None
+event_words (Assigns name n) = None
+event_words (Makes u) = None
+event_words (Writes line) = None
+event_words (Calls name) = None
+event_words Returns = None
+
+-- these are the words
+abbrev pub is_word : List ℕ → Option (List ℕ) → Bool
+is_word words None = false
+is_word words (Some said) = bytes_eq words said
+
+-- at one of the events this happens
+abbrev pub happens : List Event → List ℕ → Bool
+happens events words = list_any (λ e. is_word words (event_words e)) events
+
+-- a coverage has these words
+abbrev pub has : Coverage → List ℕ → Bool
+has coverage words = list_any (λ k. bytes_eq words k.items) coverage.words.keys
+
+-- the coverage is that of these events
+abbrev pub IsOf : Coverage → List Event → Type 0
+IsOf coverage events = (words : List ℕ) → has coverage words ≡ happens events words

@@ -1,0 +1,123 @@
+//! What a run has covered so far.
+ghost use Rattle.std.specs.Prelude.{◌≡◌, ◌++◌, ◌∷◌, ◌||◌, [], ℕ, List, OnOk};
+ghost use Rattle.std.specs.Str.{bytes_eq};
+ghost use Rattle.expr_grammar.specs.Tree.{stmt_tree};
+ghost use Rattle.sequence_trees.specs.declared.spot.Part.TheVariants as part;
+ghost use Rattle.run_events.specs.Events as e;
+ghost use Rattle.run_events.specs.Events.{Event};
+ghost use Rattle.run_events.specs.OfSteps.{place_of};
+ghost use Rattle.log_lines.specs.Places.{condition_spot, spot_in};
+ghost use Rattle.run_coverage.specs.Items.{chosen};
+
+use crate::items::place_of;
+use crate::words::{if_words, statement_words, while_words};
+use dap_base::OutOfMemory;
+use expr_grammar::Stmt;
+use indexmap::IndexSet;
+use std::alloc::Global;
+use text_lines::Line;
+
+// What happens at an `if` of this value.
+fn chosen(value: u64) -> &'static str
+    ensures { result.now ≡ chosen value }
+{
+    if value == 0 { "skipped " } else { "taken " }
+}
+
+/// What a run has covered so far: what happened at its places. Each call notes one event, in a time that does not grow with the set,
+/// and answers `OutOfMemory` where memory is refused. Contracts see the words of what happened (`has`), and the events that have it (`IsOf`).
+#[derive(Drop)]
+pub struct Coverage {
+    pub(crate) alloc: Global,
+    pub(crate) words: IndexSet<Vec<u8>>,
+}
+
+impl Coverage {
+    ghost use Rattle.run_coverage.specs.Covered.{has, IsOf};
+
+    /// The coverage of no events. Nothing is allocated.
+    pub fn new(alloc: Global) -> Coverage
+        ensures { IsOf result [] }
+    {
+        Coverage {
+            alloc,
+            words: IndexSet::new(alloc),
+        }
+    }
+
+    /// Whether this happened.
+    pub(crate) fn has(&self, words: &[u8]) -> bool
+        ensures { result ≡ has self.now words.now }
+    {
+        self.words.contains(words)
+    }
+
+    // Keeps words that are new.
+    fn keep(&mut self, words: &[u8]) -> Result<(), OutOfMemory>
+        ensures { OnOk result ((other : List ℕ) → has self.new other ≡ (has self.old other || bytes_eq other words.now)) }
+    {
+        let Ok(key) = Vec::from_slice(self.alloc, words) else {
+            return Err(OutOfMemory);
+        };
+        match self.words.insert(key) {
+            Ok(_) => Ok(()),
+            Err(_) => Err(OutOfMemory),
+        }
+    }
+
+    // Notes what happened.
+    fn note(&mut self, words: &Line) -> Result<(), OutOfMemory>
+        ensures { OnOk result ((other : List ℕ) → has self.new other ≡ (has self.old other || bytes_eq other words.now)) }
+    {
+        if self.has(words.as_bytes()) {
+            return Ok(());
+        }
+        self.keep(words.as_bytes())
+    }
+
+    /// A statement of a block begins.
+    pub fn begin(
+        &mut self,
+        sequence: &str,
+        path: &[u64],
+        statement: &Stmt,
+    ) -> Result<(), OutOfMemory>
+        ensures { (events : List Event) → IsOf self.old events
+            → OnOk result (IsOf self.new (events ++ e.Begins (spot_in sequence.now path.now part.Block (place_of (stmt_tree statement.now))) (stmt_tree statement.now) ∷ [])) }
+    {
+        let words = statement_words(self.alloc, sequence, path, place_of(statement))?;
+        self.note(&words)
+    }
+
+    /// The `if` of a control has this value: the control is skipped where it is 0.
+    pub fn choose(&mut self, sequence: &str, path: &[u64], value: u64) -> Result<(), OutOfMemory>
+        ensures { (events : List Event) → IsOf self.old events → OnOk result (IsOf self.new (events ++ e.Chooses (condition_spot sequence.now path.now part.If) value ∷ [])) }
+    {
+        let words = if_words(self.alloc, chosen(value), sequence, path)?;
+        self.note(&words)
+    }
+
+    /// A `while` is left, since its value was 0 in the turn of some number.
+    pub fn leave_loop(&mut self, sequence: &str, path: &[u64]) -> Result<(), OutOfMemory>
+        ensures { (events : List Event) (turns : ℕ) → IsOf self.old events → OnOk result (IsOf self.new (events ++ e.Leaves (condition_spot sequence.now path.now part.While) turns ∷ [])) }
+    {
+        let words = while_words(self.alloc, "left ", sequence, path)?;
+        self.note(&words)
+    }
+
+    /// A `while` that is a poll found its value.
+    pub fn end_poll(&mut self, sequence: &str, path: &[u64]) -> Result<(), OutOfMemory>
+        ensures { (events : List Event) → IsOf self.old events → OnOk result (IsOf self.new (events ++ e.Matches (condition_spot sequence.now path.now part.While) ∷ [])) }
+    {
+        let words = while_words(self.alloc, "left ", sequence, path)?;
+        self.note(&words)
+    }
+
+    /// A `while` has made all turns that its timeout allows.
+    pub fn time_out(&mut self, sequence: &str, path: &[u64]) -> Result<(), OutOfMemory>
+        ensures { (events : List Event) (turns : ℕ) → IsOf self.old events → OnOk result (IsOf self.new (events ++ e.TimesOut (condition_spot sequence.now path.now part.While) turns ∷ [])) }
+    {
+        let words = while_words(self.alloc, "timed out ", sequence, path)?;
+        self.note(&words)
+    }
+}

@@ -1,0 +1,13 @@
+//! The coverage of a run of a debug access sequence.
+#![tactic(auto)]
+
+mod calls;
+mod coverage;
+mod items;
+pub mod laws;
+mod names;
+mod reach;
+mod text;
+mod words;
+
+pub use coverage::Coverage;
