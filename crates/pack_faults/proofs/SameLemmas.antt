@@ -12,7 +12,7 @@ use Rattle.dap_base.specs.declared.text.Place.{Place}
 use Rattle.pack_faults.specs.declared.answer.Found.{Found}
 use Rattle.pack_faults.specs.Merged.{part_number, same_spot, same_found}
 
-both : (a b : Bool) → a && b ≡ true → (a ≡ true) × (b ≡ true)
+pub both : (a b : Bool) → a && b ≡ true → (a ≡ true) × (b ≡ true)
 both true b e = (refl, e)
 both false b e = absurd (true≢false (sym e))
 
@@ -63,7 +63,7 @@ same_part x y e = sym (part_again x) ∙ ap part_at (eqb-true (part_number x) (p
 
 -- ---- texts, places, spots
 
-text_equal : (x y : Option (List ℕ)) → same_text x y ≡ true → x ≡ y
+pub text_equal : (x y : Option (List ℕ)) → same_text x y ≡ true → x ≡ y
 text_equal None None e = refl
 text_equal None (Some y) e = absurd (true≢false (sym e))
 text_equal (Some x) None e = absurd (true≢false (sym e))

@@ -4,7 +4,9 @@
 mod answer;
 mod checking;
 mod devices;
+mod equal;
 mod faults;
+mod known;
 pub mod laws;
 mod lines;
 mod merging;

@@ -23,7 +23,8 @@ fn part_number(part: Part) -> u8
     part as u8
 }
 
-fn same_text(text: Option<&str>, other: Option<&str>) -> bool
+/// Whether both are absent, or both are the same text.
+pub fn same_text(text: Option<&str>, other: Option<&str>) -> bool
     ensures { result ≡ same_text (option_map (λ w. w.now) text.entry) (option_map (λ w. w.now) other.entry) }
 {
     match (text, other) {
