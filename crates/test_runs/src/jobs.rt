@@ -1,5 +1,6 @@
 //! Whole jobs by the direct runner, and what each comes to.
 ghost use Rattle.job_text.specs.Ranges.{AreSettings};
+ghost use Rattle.probe_core.specs.Ranges.{IsBenchJob};
 
 use crate::outcomes::{show_end, show_memory, show_text};
 use dap_base::MemorySink;
@@ -92,6 +93,7 @@ fn run_over(
 // Runs `Main` over the target of the job.
 fn run_into(rt: &HostRuntime, job: &Job, checked: &Checked, sink: &mut MemorySink) -> io::Result<()>
     requires settings { AreSettings job.now.settings }
+    requires bench { IsBenchJob job.now.bench }
 {
     match Target::new(rt.alloc(), &job.bench.target) {
         Ok(mut target) => run_over(rt, job, checked, &mut target, sink),
@@ -102,6 +104,7 @@ fn run_into(rt: &HostRuntime, job: &Job, checked: &Checked, sink: &mut MemorySin
 // Runs `Main` of a checked set into a sink in memory.
 fn run_checked(rt: &HostRuntime, job: &Job, checked: &Checked, put: u32) -> io::Result<()>
     requires settings { AreSettings job.now.settings }
+    requires bench { IsBenchJob job.now.bench }
 {
     match MemorySink::new(rt.alloc(), &[put]) {
         Ok(mut sink) => run_into(rt, job, checked, &mut sink),
@@ -111,6 +114,7 @@ fn run_checked(rt: &HostRuntime, job: &Job, checked: &Checked, put: u32) -> io::
 
 fn run_job(rt: &HostRuntime, job: &Job, choice: Choice<'_>) -> io::Result<()>
     requires settings { AreSettings job.now.settings }
+    requires bench { IsBenchJob job.now.bench }
 {
     match set_of(rt.alloc(), job, choice.variant) {
         Some(checked) => run_checked(rt, job, &checked, choice.put),
