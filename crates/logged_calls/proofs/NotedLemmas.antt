@@ -92,7 +92,7 @@ noted_one s r old new ask e u large number all calls world lines d is log = reco
 
 -- ---- functions
 
-between_is : (s r : State ℕ Now) (old new : LogText) (h : Noted s r old new) → units_between s r ≡ units_from s.rest.world (suc (length s.rest.calls)) h.more
+pub between_is : (s r : State ℕ Now) (old new : LogText) (h : Noted s r old new) → units_between s r ≡ units_from s.rest.world (suc (length s.rest.calls)) h.more
 between_is s r old new h = ap (λ c. units_from s.rest.world (suc (length s.rest.calls)) (drop (length s.rest.calls) c)) h.calls
     ∙ ap (units_from s.rest.world (suc (length s.rest.calls))) (drop-append_seam s.rest.calls h.more)
 
@@ -120,7 +120,7 @@ units_seen (end.Halted cause) (Err stopped) function text n s r old new none h k
 units_seen (end.Faulted u) (Err stopped) function text n s r old new none h k = seen_at function text n s r old new none k ∙ ap (λ q. noted_all old (all_made (units_between s q) ++ new_line function text n s q)) (sym (over_is r (function_result (direct false) function text n s) _ h))
 units_seen end.OutOfMemory (Err stopped) function text n s r old new none h k = tt
 
-no_units : (s r : State ℕ Now) → r.rest.calls ≡ s.rest.calls → units_between s r ≡ []
+pub no_units : (s r : State ℕ Now) → r.rest.calls ≡ s.rest.calls → units_between s r ≡ []
 no_units s r h = ap (λ c. units_from s.rest.world (suc (length s.rest.calls)) (drop (length s.rest.calls) c)) (h ∙ sym (append-nil s.rest.calls)) ∙ ap (units_from s.rest.world (suc (length s.rest.calls))) (drop-append_seam s.rest.calls [])
 
 new_at : (function : Function) (text n line : List ℕ) (s r : State ℕ Now) (old new : LogText) → line_of function text n ≡ Some line → r.lines ≡ s.lines + 1 → r.rest.calls ≡ s.rest.calls → new ≡ noted old (Writes line)

@@ -1,7 +1,9 @@
 -- What a logged run holds, as a state of the meaning; how what the code answers is that of the meaning; and what it notes.
-use Rattle.std.specs.Prelude.{◌≡◌, ℕ, suc, ◌+◌, false, codes, nat_eq, if◌then◌else◌, List, [], ◌∷◌, ◌++◌, length, None, Result, Ok, Err}
+use Rattle.std.specs.Prelude.{◌≡◌, ℕ, suc, ◌+◌, false, codes, nat_eq, if◌then◌else◌, List, [], ◌∷◌, ◌++◌, length, Some, None, Result, Ok, Err}
 use Rattle.target_calls.specs.World.{World, left_at}
 use Rattle.target_calls.specs.declared.calls.Ask.{Ask}
+use Rattle.sequence_trees.specs.declared.spot.Spot.{Spot}
+use Rattle.target_machine.specs.Plain.{Answered}
 use Rattle.target_machine.specs.State.{TargetState}
 use Rattle.target_machine.specs.declared.unit.Call.TheVariants.{Access}
 use Rattle.dap_base.specs.Outcome.{◌>>=◌}
@@ -12,7 +14,8 @@ use Rattle.sequence_rules.specs.Direct.{Now, direct}
 use Rattle.sequence_rules.specs.Machine as machine
 use Rattle.sequence_rules.specs.Machine.{State, Out, halt}
 use Rattle.sequence_rules.specs.Shared.{bindings_of}
-use Rattle.run_events.specs.Events.{Writes, all_made, units_from}
+use Rattle.run_events.specs.Events.{Event, Writes, all_made, units_from, units_between}
+use Rattle.run_events.specs.OfSteps.{poll_end, polled_events}
 use Rattle.log_lines.specs.LogText.{LogText, noted, noted_all}
 use Rattle.logged_calls.specs.declared.held.Held.{Held}
 use Rattle.logged_calls.specs.declared.held.LoggedEnd.{LoggedEnd}
@@ -77,3 +80,12 @@ LineNoted end.OutOfMemory (Err stopped) s r old new line = Unit {0}
 abbrev pub poll_value : ℕ × ℕ → ℕ → State ℕ Now → Out ℕ Now ℕ
 poll_value form turns s =
     global (direct false) (codes "__dp") s >>= λ d. if nat_eq d.0 0 then ask (direct false) (unit.Poll form.0 form.1 turns) false d.1 else halt Unsupported d.1
+
+-- how a poll ended, by what its unit answered
+abbrev pub poll_seen : Spot → ℕ → Result ℕ Stopped → List Event
+poll_seen spot turns (Ok n) = poll_end spot turns (Some (Answered n))
+poll_seen spot turns (Err stopped) = []
+
+-- what is seen of a poll whose unit was made from s to r: its unit, and how it ended by what the unit answered
+pub record SeenAsPoll (s r : State ℕ Now) (result : Result ℕ Stopped) : Type 0 where
+  pub seen : (spot : Spot) (turns : ℕ) → polled_events spot turns (units_between s r) ≡ all_made (units_between s r) ++ poll_seen spot turns result

@@ -1,15 +1,22 @@
 //! Units, made one at a time and noted, and the predefined variables that they use.
-ghost use Rattle.std.specs.Prelude.{◌≡◌, ℕ, ◌<◌, ◌≤◌, ◌^◌, IfOk, Ok, codes, unwrap_or, false};
+ghost use Rattle.std.specs.Prelude.{◌≡◌, ℕ, ◌<◌, ◌≤◌, ◌^◌, IfOk, OnOk, Ok, codes, unwrap_or, false, Some};
+ghost use Rattle.sequence_trees.specs.declared.spot.Spot.{Spot};
+ghost use Rattle.target_machine.specs.Plain.{Answered};
 ghost use Rattle.target_machine.specs.Sound.{IsSound, IsSoundProbe};
 ghost use Rattle.sequence_rules.specs.Calls as c;
 ghost use Rattle.sequence_rules.specs.Direct.{Now, direct};
 ghost use Rattle.sequence_rules.specs.Machine.{State};
 ghost use Rattle.sequence_rules.specs.Shared.{bindings_of};
+ghost use Rattle.run_events.specs.Events.{units_between};
+ghost use Rattle.run_events.specs.OfSteps.{poll_end, polled_events};
+ghost use Rattle.log_lines.specs.LogText.{noted_all};
 ghost use Rattle.sequence_rules.specs.Variables.{value_named};
-ghost use Rattle.logged_calls.specs.Held.{Means, Noted, Unless, poll_value, state_of};
+ghost use Rattle.logged_calls.specs.Held.{Means, Noted, SeenAsPoll, Unless, poll_value, state_of};
 
 use crate::held::{Held, LoggedEnd, Stopped};
+use dap_base::OutOfMemory;
 use direct_calls::{Made, call_at_once, command_at_once};
+use log_lines::Log;
 use sequence_rules::{MOST_UNITS, Port};
 use target_calls::Ask;
 use target_machine::{Call, HaltCause, ProbeCall, Target, Unit};
@@ -47,7 +54,7 @@ pub(crate) fn debug_port(held: &Held) -> u64
 }
 
 // An access as a unit, made at once and noted, unless it would be number 1,000,001.
-#[tactic(auto, unfolding(sequence_rules::specs::Calls::ask, sequence_rules::specs::Calls::answered, sequence_rules::specs::Direct::direct, sequence_rules::specs::Direct::made), using(crate::proofs::NotedLemmas::noted_none, crate::proofs::NotedLemmas::noted_one))]
+#[tactic(auto, unfolding(sequence_rules::specs::Calls::ask, sequence_rules::specs::Calls::answered, sequence_rules::specs::Direct::direct, sequence_rules::specs::Direct::made), using(crate::proofs::NotedLemmas::noted_none, crate::proofs::NotedLemmas::noted_one, crate::proofs::PollLemmas::polled_none, crate::proofs::PollLemmas::polled_answered, crate::proofs::PollLemmas::polled_faulted, crate::proofs::PollLemmas::polled_small))]
 pub(crate) fn ask(
     unit: Unit,
     forgive: bool,
@@ -57,6 +64,7 @@ pub(crate) fn ask(
     requires { IsSound unit }
     ensures gives { Means held.new.end result (state_of held.new target.new) (c.ask (direct false) unit forgive (state_of held.old target.old)) }
     ensures noted { Unless held.new.end result (Noted (state_of held.old target.old) (state_of held.new target.new) held.old.log held.new.log) }
+    ensures polled { forgive ≡ false → Unless held.new.end result (SeenAsPoll (state_of held.old target.old) (state_of held.new target.new) result) }
     ensures word { IfOk result (λ value. value < 2 ^ 32) }
 {
     if held.units >= MOST_UNITS {
@@ -116,9 +124,20 @@ pub(crate) fn ask_for_result(
     Ok(if read { value } else { 0 })
 }
 
-/// A poll of CTRL/STAT until `(read & mask) == requested`, at most `turns` reads, made as one unit and noted: 1 where the value was
-/// found, 0 where the turns are used. It halts where `__dp` is not 0.
-#[tactic(auto, using(crate::proofs::NotedLemmas::noted_none))]
+// How a poll ended, by what its unit answered.
+fn note_end(value: u64, turns: u32, log: &mut Log) -> Result<(), OutOfMemory>
+    ensures { (spot : Spot) → OnOk result (log.new ≡ noted_all log.old (poll_end spot turns (Some (Answered value)))) }
+{
+    if value == 0 {
+        log.time_out(turns)
+    } else {
+        log.end_poll()
+    }
+}
+
+/// A poll of CTRL/STAT until `(read & mask) == requested`, at most `turns` reads, made as one unit: 1 where the value was found, 0
+/// where the turns are used. It halts where `__dp` is not 0. The unit is noted, and how the poll ended.
+#[tactic(auto, using(crate::proofs::NotedLemmas::noted_none, crate::proofs::PollLemmas::polled_none, crate::proofs::PollLemmas::poll_noted, crate::proofs::PollLemmas::poll_stopped))]
 pub fn ask_poll(
     mask: u32,
     requested: u32,
@@ -129,7 +148,7 @@ pub fn ask_poll(
     requires least { 1 ≤ turns }
     requires most { turns ≤ 60000000 }
     ensures gives { Means held.new.end result (state_of held.new target.new) (poll_value (mask, requested) turns (state_of held.old target.old)) }
-    ensures noted { Unless held.new.end result (Noted (state_of held.old target.old) (state_of held.new target.new) held.old.log held.new.log) }
+    ensures noted { (spot : Spot) → Unless held.new.end result (held.new.log ≡ noted_all held.old.log (polled_events spot turns (units_between (state_of held.old target.old) (state_of held.new target.new)))) }
 {
     if debug_port(held) != 0 {
         held.end = LoggedEnd::Halted(HaltCause::Unsupported);
@@ -140,7 +159,12 @@ pub fn ask_poll(
         value: requested,
         turns,
     };
-    ask(unit, false, held, target)
+    let value = ask(unit, false, held, target)?;
+    let Ok(()) = note_end(value, turns, &mut held.log) else {
+        held.end = LoggedEnd::OutOfMemory;
+        return Err(Stopped);
+    };
+    Ok(value)
 }
 
 // A command of the probe as a unit, made at once and noted, unless it would be number 1,000,001.
