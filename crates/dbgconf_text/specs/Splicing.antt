@@ -1,5 +1,6 @@
 -- From statement to statement of a text in which values are replaced. No public clause names these.
-use Rattle.std.specs.Prelude.{◌≡◌, ℕ, Bool, true, false, ◌&&◌, suc, ◌+◌, ◌-◌, ◌≤◌, ◌++◌, IsUtf8, length, take, drop, List, [], ◌∷◌, codes, option_map, is_some, Option, Some, None, if◌then◌else◌}
+use Rattle.std.specs.Prelude.{◌≡◌, ℕ, Bool, true, false, ◌&&◌, suc, ◌+◌, ◌-◌, ◌≤◌, ◌++◌, IsUtf8, length, take, drop}
+use Rattle.std.specs.Prelude.{List, [], ◌∷◌, codes, option_map, is_some, Option, Some, None, if◌then◌else◌}
 use Rattle.std.specs.Str.{bytes_eq, IsCharBoundary}
 use Rattle.dap_base.specs.declared.text.Place.{Place}
 use Rattle.text_lines.specs.Hex.{hex}

@@ -1,5 +1,6 @@
 -- What is at the front of a text, as the search for tokens finds it: what private contracts cite.
-use Rattle.std.specs.Prelude.{◌≡◌, ℕ, suc, ◌+◌, ◌-◌, ◌<◌, ◌≤◌, Bool, true, false, not, ◌&&◌, ◌==◌, List, [], ◌∷◌, length, Option, Some, None, ◌⊎◌, slice_index, if◌then◌else◌}
+use Rattle.std.specs.Prelude.{◌≡◌, ℕ, suc, ◌+◌, ◌-◌, ◌<◌, ◌≤◌, Bool, true, false, not, ◌&&◌, ◌==◌, List}
+use Rattle.std.specs.Prelude.{[], ◌∷◌, length, Option, Some, None, ◌⊎◌, slice_index, if◌then◌else◌}
 use Rattle.expr_grammar.specs.declared.front.Piece.{Piece}
 use Rattle.expr_grammar.specs.declared.front.Piece.TheVariants.{Gap, Token}
 use Rattle.expr_grammar.specs.Spelling.{is_pair, is_single}

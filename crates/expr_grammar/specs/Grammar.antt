@@ -10,7 +10,8 @@ use Rattle.expr_grammar.specs.declared.code.BinaryOp.{BinaryOp}
 use Rattle.expr_grammar.specs.declared.code.BinaryOp.TheVariants as b
 use Rattle.expr_grammar.specs.declared.token.TokenKind.TheVariants as kinds
 use Rattle.expr_grammar.specs.Lexeme.{Lexeme}
-use Rattle.expr_grammar.specs.Tree.{Tree, Number, Named, Group, Unary, Binary, Cond, Assign, Call, ArgTree, ExprArg, TextArg, ArgTrees, NoArgs, MoreArgs, StmtTree, Empty, Declare, Plain}
+use Rattle.expr_grammar.specs.Tree.{Tree, Number, Named, Group, Unary, Binary, Cond, Assign, Call, ArgTree, ExprArg}
+use Rattle.expr_grammar.specs.Tree.{TextArg, ArgTrees, NoArgs, MoreArgs, StmtTree, Empty, Declare, Plain}
 
 -- how an operator before an operand is written
 abbrev pub unary_text : UnaryOp → List ℕ

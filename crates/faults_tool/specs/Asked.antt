@@ -45,7 +45,8 @@ of_refusal packs.OutOfMemory = None
 -- what is asked for of a pack: why there is no set, or all faults of the sets, in the format that is named
 pub data AsksOfPack (pack : Pack) (a : Asked) (answer : Answer) : Type 0 where
   no_set : (r : PackRefusal) → refusal pack (request_of a) ≡ Some r → of_refusal r ≡ Some answer → AsksOfPack pack a answer
-  sets : (faults : PackFaults) → refusal pack (request_of a) ≡ None → ArePackFaults pack (request_of a) faults → answer ≡ answers.Faults a.format faults → AsksOfPack pack a answer
+  sets : (faults : PackFaults) → refusal pack (request_of a) ≡ None → ArePackFaults pack (request_of a) faults
+    → answer ≡ answers.Faults a.format faults → AsksOfPack pack a answer
 
 -- the same of bytes: why they describe no pack, or what is asked for of the pack
 pub data AsksOfBytes (bytes : List ℕ) (a : Asked) (answer : Answer) : Type 0 where

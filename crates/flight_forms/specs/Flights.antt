@@ -1,5 +1,6 @@
 -- What a flight does, in terms of its accesses made one at a time; and what its replies show of that.
-use Rattle.std.specs.Prelude.{◌≡◌, ℕ, ◌+◌, ◌-◌, ◌*◌, ◌^◌, ◌≤◌, ◌<◌, min, nat_lt, not, ◌&&◌, ◌||◌, slice_index, Bool, true, false, if◌then◌else◌, List, [], ◌∷◌, length, map, take, drop, Option, Some, None}
+use Rattle.std.specs.Prelude.{◌≡◌, ℕ, ◌+◌, ◌-◌, ◌*◌, ◌^◌, ◌≤◌, ◌<◌, min, nat_lt, not, ◌&&◌, ◌||◌, slice_index, Bool, true}
+use Rattle.std.specs.Prelude.{false, if◌then◌else◌, List, [], ◌∷◌, length, map, take, drop, Option, Some, None}
 use Rattle.target_machine.specs.State.{TargetState}
 use Rattle.target_machine.specs.Attempt.{attempt}
 use Rattle.target_machine.specs.declared.access.RegAccess.{RegAccess}

@@ -65,7 +65,8 @@ poll_events spot form turns s = polled_events spot turns (units_between s (end_s
 -- Which turns of a loop are seen besides its last one, by their numbers.
 module _ (shows : ℕ → Bool) where
   -- What is seen of a turn and of what is done in it.
-  module _ (spot : Spot) (test : State ℕ Now → Out ℕ Now ℕ) (test_seen : State ℕ Now → List Event) (body : State ℕ Now → Out ℕ Now (Unit {0})) (body_seen : State ℕ Now → List Event) where
+  module _ (spot : Spot) (test : State ℕ Now → Out ℕ Now ℕ) (test_seen : State ℕ Now → List Event)
+    (body : State ℕ Now → Out ℕ Now (Unit {0})) (body_seen : State ℕ Now → List Event) where
     -- the condition of a turn, and where it is not 0 what is done
     unfoldable pub tested_events : State ℕ Now → List Event
     tested_events s = test_seen s ++ after (test s) (λ n r. Finds spot n ∷ (if nat_eq n 0 then [] else body_seen r))
@@ -113,14 +114,16 @@ module _ (shows : ℕ → Bool) where
         turns_events spot (λ r. value (direct false) sequence e r) (λ r. value_events sequence seen e r) body body_seen 0 turns s
 
     -- the steps of a control once, or as its `while` and its timeout say
-    unfoldable pub repeat_events : SetStep → Option Tree → Option ℕ → CodeSteps → (State ℕ Now → Out ℕ Now (Unit {0})) → (State ℕ Now → List Event) → State ℕ Now → List Event
+    unfoldable pub repeat_events : SetStep → Option Tree → Option ℕ → CodeSteps
+      → (State ℕ Now → Out ℕ Now (Unit {0})) → (State ℕ Now → List Event) → State ℕ Now → List Event
     repeat_events at None timeout steps body body_seen s = body_seen s
     repeat_events at (Some e) timeout steps body body_seen s =
         Loops (spot_at at part.While text_start) e (turn_count turn_us (unwrap_or (timeout_of timeout) 0))
         ∷ loop_events (spot_at at part.While text_start) (poll_of e steps) e (turn_count turn_us (unwrap_or (timeout_of timeout) 0)) body body_seen s
 
     -- a control is skipped where its `if` is 0
-    unfoldable pub controlled_events : SetStep → Option Tree → Option Tree → Option ℕ → CodeSteps → (State ℕ Now → Out ℕ Now (Unit {0})) → (State ℕ Now → List Event) → State ℕ Now → List Event
+    unfoldable pub controlled_events : SetStep → Option Tree → Option Tree → Option ℕ → CodeSteps
+      → (State ℕ Now → Out ℕ Now (Unit {0})) → (State ℕ Now → List Event) → State ℕ Now → List Event
     controlled_events at cond repeat timeout steps body body_seen s =
         condition_events at cond s
         ++ after (condition (direct false) turn_us sequence cond s) (λ chosen r. if chosen then repeat_events at repeat timeout steps body body_seen r else [])

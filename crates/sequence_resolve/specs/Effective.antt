@@ -30,7 +30,8 @@ rank_of depth s = 2 * depth + (if is_some s.pname then 1 else 0)
 abbrev pub candidates_at : Option (List ℕ) → LevelKind → ℕ → List SeqText → List Candidate
 candidates_at requested kind depth [] = []
 candidates_at requested kind depth (s ∷ ss) =
-    if counts_for requested s.pname then record { rank = rank_of depth s; kind = kind; sequence = s } ∷ candidates_at requested kind depth ss else candidates_at requested kind depth ss
+    if counts_for requested s.pname then record { rank = rank_of depth s; kind = kind; sequence = s } ∷ candidates_at requested kind depth ss
+    else candidates_at requested kind depth ss
 
 -- the candidates of the levels from this depth on
 abbrev pub candidates : Option (List ℕ) → ℕ → List LevelAt → List Candidate
