@@ -13,7 +13,7 @@ unchecked what n how = if n == 0 then [] else what ++ counted n (codes " set") (
 abbrev pub checked_words : ℕ → ℕ → ℕ → List ℕ
 checked_words faults devices sets =
     counted faults (codes " fault; ") (codes " faults; ")
-      ++ counted devices (codes " device, ") (codes " devices, ") ++ counted sets (codes " set checked") (codes " sets checked")
+    ++ counted devices (codes " device, ") (codes " devices, ") ++ counted sets (codes " set checked") (codes " sets checked")
 
 -- the sets whose names were not checked, and those whose calls were not all checked
 abbrev pub unchecked_words : ℕ → ℕ → List ℕ

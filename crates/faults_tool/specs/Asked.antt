@@ -46,7 +46,7 @@ of_refusal packs.OutOfMemory = None
 pub data AsksOfPack (pack : Pack) (a : Asked) (answer : Answer) : Type 0 where
   no_set : (r : PackRefusal) → refusal pack (request_of a) ≡ Some r → of_refusal r ≡ Some answer → AsksOfPack pack a answer
   sets : (faults : PackFaults) → refusal pack (request_of a) ≡ None → ArePackFaults pack (request_of a) faults
-    → answer ≡ answers.Faults a.format faults → AsksOfPack pack a answer
+      → answer ≡ answers.Faults a.format faults → AsksOfPack pack a answer
 
 -- the same of bytes: why they describe no pack, or what is asked for of the pack
 pub data AsksOfBytes (bytes : List ℕ) (a : Asked) (answer : Answer) : Type 0 where

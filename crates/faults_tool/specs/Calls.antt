@@ -64,7 +64,7 @@ pub data Does (call : Call) : Type 0 where
   does : (bytes : List ℕ) (answer : Answer) → AreBytesOf call.old.left bytes → Asks call.words bytes answer
       → IsPut call.old.written call.new.written (answer_text answer) (answer_status answer) call.end → Does call
   unread : IsLine call.words → Rose call.old.source_faults call.new.source_faults
-    → IsPut call.old.written call.new.written fault_text status.ReadFault call.end → Does call
+      → IsPut call.old.written call.new.written fault_text status.ReadFault call.end → Does call
   no_memory : call.end ≡ status.OutOfMemory → call.new.written ≡ call.old.written → Does call
 
 -- ---- what follows

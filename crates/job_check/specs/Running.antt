@@ -62,7 +62,7 @@ pub data IsRefusedRunOf (job : Job) (s : Selection) (name : List ℕ) (end : Run
   no_conf : (r : Refusal) → NoConf job.dbgconf r → end ≡ ends.Refused r → IsRefusedRunOf job s name end
   not_resolved : (items : List ConfItem) (r : Refusal) → HasConf job.dbgconf items → NoSet job.pack s r → end ≡ ends.Refused r → IsRefusedRunOf job s name end
   not_named : (items : List ConfItem) (plain : SeqSet) → HasPlain job s items plain → has_sequence plain name ≡ false
-    → end ≡ ends.NoSequence → IsRefusedRunOf job s name end
+      → end ≡ ends.NoSequence → IsRefusedRunOf job s name end
   no_values : (items : List ConfItem) (plain : SeqSet) (r : Refusal) → HasPlain job s items plain → has_sequence plain name ≡ true → NoValues job.dbgconf items plain r
       → end ≡ ends.Refused r → IsRefusedRunOf job s name end
   not_valid : (set : SeqSet) (r : Refusal) → IsSetOfJob job s set → has_sequence set name ≡ true → NoValid set r → end ≡ ends.Refused r → IsRefusedRunOf job s name end

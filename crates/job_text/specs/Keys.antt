@@ -16,7 +16,7 @@ bench_keys = codes "packet_size" ∷ codes "packet_count" ∷ codes "stalls" ∷
 abbrev pub target_keys : List (List ℕ)
 target_keys =
     codes "dpidr" ∷ codes "powered" ∷ codes "power_reads" ∷ codes "pins" ∷ codes "edge"
-      ∷ codes "aps" ∷ codes "memory" ∷ codes "words" ∷ codes "scripts" ∷ codes "reset" ∷ []
+    ∷ codes "aps" ∷ codes "memory" ∷ codes "words" ∷ codes "scripts" ∷ codes "reset" ∷ []
 
 abbrev pub ap_keys : List (List ℕ)
 ap_keys = codes "ap" ∷ codes "idr" ∷ codes "base" ∷ codes "csw" ∷ codes "la" ∷ []

@@ -47,7 +47,7 @@ pub record IsScriptJob (regions : List RegionJob) (d : Data) (x : ScriptJob) : T
 
 pub record IsTarget (d : Data) (x : TargetJob) : Type 0 where
   pub known : HasOnly (codes "dpidr" ∷ codes "powered" ∷ codes "power_reads" ∷ codes "pins" ∷ codes "edge"
-    ∷ codes "aps" ∷ codes "memory" ∷ codes "words" ∷ codes "scripts" ∷ codes "reset" ∷ []) d
+      ∷ codes "aps" ∷ codes "memory" ∷ codes "words" ∷ codes "scripts" ∷ codes "reset" ∷ []) d
   pub dpidr : HasOr (codes "dpidr") (Such has_bit_0 IsWord) 0x2BA01477 d x.dpidr
   pub powered : HasOr (codes "powered") IsFlag false d x.powered
   pub power_reads : HasOr (codes "power_reads") (IsNumber 0 1000000) 0 d x.power_reads

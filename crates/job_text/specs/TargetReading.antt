@@ -101,8 +101,18 @@ target_in d = do
   words ← listed_in memory d
   scripts ← scripts_in memory words d
   reset ← reset_in memory d
-  Ok (record { dpidr = port.dpidr; powered = port.powered; power_reads = port.power_reads; pins = port.pins; carry = port.carry;
-    aps = aps; memory = memory; words = words; scripts = scripts; reset = reset })
+  Ok (record {
+    dpidr = port.dpidr;
+    powered = port.powered;
+    power_reads = port.power_reads;
+    pins = port.pins;
+    carry = port.carry;
+    aps = aps;
+    memory = memory;
+    words = words;
+    scripts = scripts;
+    reset = reset;
+  })
 
 unfoldable pub packet_size_in : Data → Result ℕ JobFault
 packet_size_in d = required (codes "packet_size") (number 64 1024) d

@@ -48,7 +48,7 @@ such passes reads d = do
 -- An object with no other keys than these. The fault is the first other key in byte order.
 unfoldable pub only_keys : List (List ℕ) → Data → Result (Unit {0}) JobFault
 only_keys known d =
-  option_map_or (λ members. option_map_or (λ name. Err (UnknownKey (Key name ∷ []))) (least_unknown known (names members)) (Ok tt)) (as_object d) (Err (WrongKind []))
+    option_map_or (λ members. option_map_or (λ name. Err (UnknownKey (Key name ∷ []))) (least_unknown known (names members)) (Ok tt)) (as_object d) (Err (WrongKind []))
 
 unfoldable pub required : {A : Type 0} → List ℕ → (Data → Result A JobFault) → Data → Result A JobFault
 required key reads d = option_map_or (λ v. at (Key key) (reads v)) (get key d) (Err (Missing (Key key ∷ [])))
@@ -89,7 +89,7 @@ has_room (Some limit) n = nat_le n limit
 
 unfoldable pub list_of : {A : Type 0} → Option ℕ → (List A → Data → Result A JobFault) → (List A → A → Bool) → Data → Result (List A) JobFault
 list_of limit reads repeats d =
-  option_map_or (λ items. if has_room limit (items_len items) then items_after reads repeats [] items else Err (TooMany [])) (as_array d) (Err (WrongKind []))
+    option_map_or (λ items. if has_room limit (items_len items) then items_after reads repeats [] items else Err (TooMany [])) (as_array d) (Err (WrongKind []))
 
 -- ---- how an item is read and compared
 

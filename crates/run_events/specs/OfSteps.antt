@@ -66,7 +66,7 @@ poll_events spot form turns s = polled_events spot turns (units_between s (end_s
 module _ (shows : ℕ → Bool) where
   -- What is seen of a turn and of what is done in it.
   module _ (spot : Spot) (test : State ℕ Now → Out ℕ Now ℕ) (test_seen : State ℕ Now → List Event)
-    (body : State ℕ Now → Out ℕ Now (Unit {0})) (body_seen : State ℕ Now → List Event) where
+      (body : State ℕ Now → Out ℕ Now (Unit {0})) (body_seen : State ℕ Now → List Event) where
     -- the condition of a turn, and where it is not 0 what is done
     unfoldable pub tested_events : State ℕ Now → List Event
     tested_events s = test_seen s ++ after (test s) (λ n r. Finds spot n ∷ (if nat_eq n 0 then [] else body_seen r))
@@ -115,7 +115,7 @@ module _ (shows : ℕ → Bool) where
 
     -- the steps of a control once, or as its `while` and its timeout say
     unfoldable pub repeat_events : SetStep → Option Tree → Option ℕ → CodeSteps
-      → (State ℕ Now → Out ℕ Now (Unit {0})) → (State ℕ Now → List Event) → State ℕ Now → List Event
+        → (State ℕ Now → Out ℕ Now (Unit {0})) → (State ℕ Now → List Event) → State ℕ Now → List Event
     repeat_events at None timeout steps body body_seen s = body_seen s
     repeat_events at (Some e) timeout steps body body_seen s =
         Loops (spot_at at part.While text_start) e (turn_count turn_us (unwrap_or (timeout_of timeout) 0))
@@ -123,7 +123,7 @@ module _ (shows : ℕ → Bool) where
 
     -- a control is skipped where its `if` is 0
     unfoldable pub controlled_events : SetStep → Option Tree → Option Tree → Option ℕ → CodeSteps
-      → (State ℕ Now → Out ℕ Now (Unit {0})) → (State ℕ Now → List Event) → State ℕ Now → List Event
+        → (State ℕ Now → Out ℕ Now (Unit {0})) → (State ℕ Now → List Event) → State ℕ Now → List Event
     controlled_events at cond repeat timeout steps body body_seen s =
         condition_events at cond s
         ++ after (condition (direct false) turn_us sequence cond s) (λ chosen r. if chosen then repeat_events at repeat timeout steps body body_seen r else [])

@@ -37,7 +37,7 @@ pub record IsCallAt (set : SetTrees) (c : CallSpot) (spot : Spot) : Type 0 where
 pub data IsFirstCallFault (set : SetTrees) (kind : FaultKind) (spot : Spot) : Type 0 where
   cycle : (c : CallSpot) → graph.IsFirst (graph.IsInCycle (call_graph set)) c → IsCallAt set c spot → kind ≡ k.CallCycle → IsFirstCallFault set kind spot
   deep : ((c : CallSpot) → graph.IsInCycle (call_graph set) c → ⊥)
-    → (c : CallSpot) → graph.IsFirst (graph.IsDeep (call_graph set)) c → IsCallAt set c spot → kind ≡ k.CallsTooDeep
+      → (c : CallSpot) → graph.IsFirst (graph.IsDeep (call_graph set)) c → IsCallAt set c spot → kind ≡ k.CallsTooDeep
       → IsFirstCallFault set kind spot
 
 -- ---- sets that were read

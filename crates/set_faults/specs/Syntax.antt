@@ -21,7 +21,7 @@ syntax_fault step part (Some at) = record { kind = k.Syntax; spot = record { seq
 abbrev pub AreFaultsOf : List (TextAt SetStep) → List Fault → Type 0
 AreFaultsOf [] faults = faults ≡ []
 AreFaultsOf (t ∷ texts) faults =
-  (at : Option Place) × (more : List Fault) × IsFaultOf t.part t.text at × (faults ≡ syntax_fault t.step t.part at ++ more) × AreFaultsOf texts more
+    (at : Option Place) × (more : List Fault) × IsFaultOf t.part t.text at × (faults ≡ syntax_fault t.step t.part at ++ more) × AreFaultsOf texts more
 
 -- the first fault of each text of the set that can not be read
 abbrev pub AreSyntaxFaults : SeqSet → List Fault → Type 0
