@@ -11,11 +11,11 @@ use Rattle.sequence_resolve.specs.declared.selection.Selection.{Selection}
 use Rattle.job_check.specs.Running.{IsRefusedRun, OnEnd}
 use Rattle.job_check.specs.declared.running.RunRefusal.{RunRefusal}
 use Rattle.job_check.specs.declared.running.RunRefusal.TheVariants as refusals
-use Rattle.dapseq_tool.specs.Asked.{IsSoundAnswer, of_refused, OnRun, Asks, AsksOfBytes, AsksOfCommand, AsksOfRun, IsReadLine, IsRunCommand, IsRunLine, IsUsage, ReadsSource, command, generated, limit, own_of, usage}
+use Rattle.dapseq_tool.specs.Asked.{IsSoundAnswer, of_refused, OnRun, Asks, AsksOfBytes, AsksOfCommand, AsksOfRun, IsReadLine, IsRunCommand, IsRunLine, IsUsage, ReadsSource, command, generated, own_of, usage}
+use Rattle.job_source.specs.Source.{AreBytesOf, limit}
 use Rattle.dapseq_tool.specs.Frame.{IsAsked, IsFit}
 use Rattle.dapseq_tool.proofs.FrameLemmas.{fit_answer, on_run_so, plain}
 use Rattle.dapseq_tool.specs.Generated.{its_device, its_sequence, job_text}
-use Rattle.dapseq_tool.specs.Headline.{AreBytesOf}
 use Rattle.dapseq_tool.specs.declared.asking.Answer.{Answer}
 use Rattle.dapseq_tool.specs.declared.asking.Purpose.{Purpose}
 use Rattle.dapseq_tool.specs.declared.asking.Purpose.TheVariants as purposes

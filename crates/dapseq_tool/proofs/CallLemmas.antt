@@ -9,7 +9,8 @@ use Rattle.text_lines.specs.declared.putting.TextError.{TextError}
 use Rattle.text_lines.specs.declared.putting.TextError.TheVariants as errors
 use Rattle.dapseq_tool.specs.Answers.{answer_status, answer_text, head_text}
 use Rattle.dapseq_tool.specs.Asked.{Asks}
-use Rattle.dapseq_tool.specs.Headline.{AreBytesOf, Call, Does, DoesWhat, FailsPutting, IsPut, Runs, after_of, does, not_headed, not_loaded, ran}
+use Rattle.dapseq_tool.specs.Headline.{Call, Does, DoesWhat, FailsPutting, IsPut, Runs, after_of, does, not_headed, not_loaded, ran}
+use Rattle.job_source.specs.Source.{AreBytesOf}
 use Rattle.dapseq_tool.specs.RunEnds as after
 use Rattle.dapseq_tool.specs.RunEnds.{AskedRun, DoesAfter}
 use Rattle.dapseq_tool.specs.declared.asking.Answer.{Answer}

@@ -14,7 +14,8 @@ use Rattle.dapseq_tool.specs.Asked.{IsReadLine, IsRunLine, IsSound, IsSoundAnswe
 use Rattle.dapseq_tool.specs.Frame as frame
 use Rattle.dapseq_tool.specs.Frame.{CountsBench, CountsSink, IsAsked, IsFit, IsFinished, IsFramed, IsFulfilled, IsStatusFor, IsUnasked, known, memory, performed, source, unknown}
 use Rattle.dapseq_tool.proofs.CallLemmas.{is_done, what_is_begun, what_is_done}
-use Rattle.dapseq_tool.specs.Headline.{After, AreTaken, Call, Does, FailsPutting, FailsWriting, IsPut, after_of, no_memory, unread}
+use Rattle.dapseq_tool.specs.Headline.{After, Call, Does, FailsPutting, FailsWriting, IsPut, after_of, no_memory, unread}
+use Rattle.job_source.specs.Source.{AreTaken}
 use Rattle.dapseq_tool.specs.RunEnds.{DoesAfter}
 use Rattle.dapseq_tool.specs.declared.asking.Answer.{Answer}
 use Rattle.dapseq_tool.specs.declared.asking.Answer.TheVariants as answers

@@ -1,4 +1,3 @@
-pub mod ReadingLemmas
 pub mod RunLemmas
 pub mod TextLemmas
 pub mod AskedLemmas

@@ -2,7 +2,8 @@
 use Rattle.std.proofs.Common.{◌≡◌, ◌≢◌, ◌⊎◌, inl, inr, ◌∙◌, ℕ, ◌+◌, ◌-◌, ◌^◌, ◌<◌, ◌≤◌, List, Option, Some, ap, subst, refl, sym, arith}
 use Rattle.dap_base.specs.Causes.{IsQuiet, Rose}
 use Rattle.dapseq_tool.specs.Asked.{Asks}
-use Rattle.dapseq_tool.specs.Headline.{AreBytesOf, Call}
+use Rattle.dapseq_tool.specs.Headline.{Call}
+use Rattle.job_source.specs.Source.{AreBytesOf}
 use Rattle.dapseq_tool.specs.InMemory.{IsCallInMemory}
 use Rattle.dapseq_tool.specs.Success.{IsDone, IsQuietCall, Success}
 use Rattle.dapseq_tool.specs.declared.asking.Requested.{Requested}

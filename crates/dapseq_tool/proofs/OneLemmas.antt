@@ -13,7 +13,8 @@ use Rattle.job_check.specs.declared.running.ValidRun.{ValidRun}
 use Rattle.job_check.proofs.OneAnswer as check
 use Rattle.job_check.proofs.OneRun as one
 use Rattle.dapseq_tool.proofs.AuditLemmas.{one_audit}
-use Rattle.dapseq_tool.specs.Asked.{Asks, AsksOfBytes, AsksOfCheck, AsksOfCommand, AsksOfRun, IsNoRunOf, IsRunOf, IsSameAsked, IsSameWhat, own_of, IsUsage, ReadsSource, command, generated, limit, of_check, of_refused, usage}
+use Rattle.dapseq_tool.specs.Asked.{Asks, AsksOfBytes, AsksOfCheck, AsksOfCommand, AsksOfRun, IsNoRunOf, IsRunOf, IsSameAsked, IsSameWhat, own_of, IsUsage, ReadsSource, command, generated, of_check, of_refused, usage}
+use Rattle.job_source.specs.Source.{limit}
 use Rattle.dapseq_tool.specs.Generated.{its_device, its_sequence, job_text}
 use Rattle.dapseq_tool.specs.declared.asking.Answer.{Answer}
 use Rattle.dapseq_tool.specs.declared.asking.Answer.TheVariants as answers

@@ -18,7 +18,8 @@ use Rattle.dapseq_tool.specs.declared.asking.Purpose.TheVariants as purposes
 use Rattle.dapseq_tool.specs.declared.asking.Requested.{Requested}
 use Rattle.dapseq_tool.specs.declared.asking.What.{What}
 use Rattle.dapseq_tool.specs.declared.asking.What.TheVariants as whats
-use Rattle.dapseq_tool.specs.Asked.{limit, own_of, ReadsSource, of_check, AsksOfRun, AsksOfBytes, AsksOfCommand, Asks, usage, command, generated}
+use Rattle.dapseq_tool.specs.Asked.{own_of, ReadsSource, of_check, AsksOfRun, AsksOfBytes, AsksOfCommand, Asks, usage, command, generated}
+use Rattle.job_source.specs.Source.{limit}
 use Rattle.dapseq_tool.proofs.AuditLemmas.{some_audit}
 use Rattle.dapseq_tool.proofs.JobLength.{job_few}
 use Rattle.command_words.proofs.SomeCommand.{command_or_none}

@@ -14,6 +14,7 @@ use Rattle.job_check.specs.declared.running.RunRefusal.{RunRefusal}
 use Rattle.job_check.specs.declared.running.RunRefusal.TheVariants as refusals
 use Rattle.job_check.specs.Answers.{IsAnswer}
 use Rattle.job_check.specs.Running.{IsRefusedRun, IsSameRun, IsValidRun}
+use Rattle.job_source.specs.Source.{limit}
 use Rattle.dapseq_tool.specs.Audit.{AsksOfAudit}
 use Rattle.dapseq_tool.specs.Generated.{its_device, its_sequence, job_text}
 use Rattle.dapseq_tool.specs.declared.asking.Answer.{Answer}
@@ -103,10 +104,6 @@ AsksOfRun s sequence purpose bytes (whats.Run run) = IsRunOf s sequence purpose 
 AsksOfRun s sequence purpose bytes (whats.Answer answer) = IsNoRunOf s sequence purpose bytes answer
 
 -- ---- together
-
--- the most bytes of a job
-abbrev pub limit : ℕ
-limit = 16777216
 
 -- what a command asks for of the bytes of a source
 abbrev pub AsksOfBytes : Command → List ℕ → What → Type 0

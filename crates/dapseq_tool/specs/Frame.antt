@@ -7,7 +7,8 @@ use Rattle.dapseq_tool.specs.RunEnds.{DoesAfter}
 use Rattle.dap_base.specs.Causes.{IsQuiet, Rose}
 use Rattle.dapseq_tool.specs.Answers.{IsRunStatus, fault_text, head_text}
 use Rattle.dapseq_tool.specs.Asked.{Asks, IsReadLine, IsRunLine, IsSound, IsUsage, OnRun}
-use Rattle.dapseq_tool.specs.Headline.{After, AreBytesOf, AreTaken, Call, Does, FailsPutting, FailsWriting, IsPut}
+use Rattle.dapseq_tool.specs.Headline.{After, Call, Does, FailsPutting, FailsWriting, IsPut}
+use Rattle.job_source.specs.Source.{AreBytesOf, AreTaken}
 use Rattle.job_runs.specs.Runs.{AccessKind}
 use Rattle.dapseq_tool.specs.declared.asking.Answer.TheVariants as answers
 use Rattle.dapseq_tool.specs.declared.asking.Requested.{Requested}

@@ -1,5 +1,5 @@
 -- What a whole call does, by what is known of its objects before and after it.
-use Rattle.std.specs.Prelude.{◌≡◌, ◌⊎◌, ℕ, Bool, false, List, drop, ◌++◌, Option, Some, None, IfSome, IsSome}
+use Rattle.std.specs.Prelude.{◌≡◌, ◌⊎◌, ℕ, Bool, false, List, ◌++◌, Option, Some, None, IsSome}
 use Rattle.std.specs.Io.KnownBytes.{Appends}
 use Rattle.dap_base.specs.Causes.{IsQuiet, Rose}
 use Rattle.dap_base.specs.Streams.{AppendsPrefix}
@@ -18,6 +18,7 @@ use Rattle.job_runs.specs.Runs.{AccessKind, ComesTo, config_of, job_close, known
 use Rattle.job_runs.specs.Texts.{first_lines, whole_text}
 use Rattle.sequels.specs.declared.close.Close.{Close}
 use Rattle.sequels.specs.declared.close.Close.TheVariants as closes
+use Rattle.job_source.specs.Source.{AreBytesOf, AreTaken}
 use Rattle.dapseq_tool.specs.Purpose.{sequel_by, shows_packets, task_by}
 use Rattle.dapseq_tool.specs.Answers.{answer_status, answer_text, fault_text, head_text, run_status}
 use Rattle.dapseq_tool.specs.Asked.{Asks}
@@ -58,14 +59,6 @@ pub record Call : Type 0 where
   pub old : Moment
   pub new : Moment
   pub end : Status
-
--- the bytes of a source: where it is observable, those that are left
-abbrev pub AreBytesOf : Option (List ℕ) → List ℕ → Type 0
-AreBytesOf left bytes = IfSome left (λ xs. bytes ≡ xs)
-
--- all bytes of a source were taken, or the first 16,777,217 of them where it has more
-abbrev pub AreTaken : Option (List ℕ) → Option (List ℕ) → Type 0
-AreTaken old new = IfSome old (λ bytes. new ≡ Some (drop 16777217 bytes))
 
 -- ---- what is written
 

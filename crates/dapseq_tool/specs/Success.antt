@@ -13,7 +13,8 @@ use Rattle.access_calls.specs.declared.ended.Ending.TheVariants as e
 use Rattle.dapseq_tool.specs.Purpose.{shows_packets, task_by}
 use Rattle.dapseq_tool.specs.Answers.{answer_status, answer_text, head_text, run_status}
 use Rattle.dapseq_tool.specs.Asked.{Asks}
-use Rattle.dapseq_tool.specs.Headline.{AreBytesOf, Call, RunEnd}
+use Rattle.dapseq_tool.specs.Headline.{Call, RunEnd}
+use Rattle.job_source.specs.Source.{AreBytesOf}
 use Rattle.dapseq_tool.specs.declared.asking.Answer.{Answer}
 use Rattle.dapseq_tool.specs.declared.asking.Requested.{Requested}
 use Rattle.dapseq_tool.specs.declared.asking.Run.{Run}

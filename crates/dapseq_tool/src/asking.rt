@@ -5,14 +5,14 @@ ghost use Rattle.command_words.specs.declared.answer.Command.TheVariants as comm
 ghost use Rattle.dapseq_tool.specs.Asked.{AsksOfBytes, AsksOfCheck, AsksOfCommand, AsksOfRun, IsReadLine, IsRunCommand, ReadsSource, of_refused, own_of};
 ghost use Rattle.dapseq_tool.specs.Frame.{IsAsked, IsFit};
 ghost use Rattle.dapseq_tool.specs.Generated.{its_device, its_sequence, job_text};
-ghost use Rattle.dapseq_tool.specs.Headline.{AreBytesOf, AreTaken};
+ghost use Rattle.job_source.specs.Source.{AreBytesOf, AreTaken};
 
 use crate::auditing::{Audit, ask_for_audit};
 use crate::generating::job_of_number;
-use crate::reading::{Unread, read_all};
 use command_words::{Command, WordsError, command_of};
 use dap_base::{NameText, OutOfMemory, Source, Words};
 use job_check::{CheckRefusal, Own, Refusal, RunRefusal, ValidRun, ValidSet, valid_run, valid_set};
+use job_source::{Unread, read_job};
 use sequence_resolve::{Selection, SeqSet};
 use std::alloc::Global;
 use trace_audit::AuditFault;
@@ -188,7 +188,7 @@ fn ask_by_source<S: Source>(
     ensures fit { IfOk result (IsFit (IsRunCommand command.now)) }
     ensures source { NamesFault Unasked.ReadFault (S.faults source.old) (S.faults source.new) result }
 {
-    let bytes = match read_all(alloc, source) {
+    let bytes = match read_job(alloc, source) {
         Ok(bytes) => bytes,
         Err(Unread::TooLong) => return Ok(What::Answer(Answer::TooLong)),
         Err(Unread::Failed) => return Err(Unasked::ReadFault),

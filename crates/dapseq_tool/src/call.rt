@@ -5,7 +5,8 @@ ghost use Rattle.probe_core.specs.Bench.{seen};
 ghost use Rattle.dapseq_tool.specs.Answers.{answer_status, answer_text, failed_status, fault_text};
 ghost use Rattle.dapseq_tool.specs.Asked.{IsReadLine, IsRunLine, IsSound, IsSoundAnswer, IsUsage};
 ghost use Rattle.dapseq_tool.specs.Frame.{CountsBench, CountsSink, IsFinished, IsFramed, IsFulfilled, IsStatusFor, IsUnasked};
-ghost use Rattle.dapseq_tool.specs.Headline.{moment, AreTaken, Does, FailsWriting, IsPut};
+ghost use Rattle.dapseq_tool.specs.Headline.{moment, Does, FailsWriting, IsPut};
+ghost use Rattle.job_source.specs.Source.{AreTaken};
 ghost use Rattle.dapseq_tool.specs.RunEnds.{DoesAfter};
 ghost use Rattle.job_runs.specs.Runs.{access_kind};
 

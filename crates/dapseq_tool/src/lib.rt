@@ -9,7 +9,6 @@ mod generating;
 pub mod laws;
 mod memory;
 mod packed;
-mod reading;
 mod runs;
 mod status;
 

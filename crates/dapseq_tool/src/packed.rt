@@ -3,7 +3,8 @@ ghost use Rattle.std.specs.Prelude.{◌≡◌, ◌≢◌, ◌⊎◌};
 ghost use Rattle.dap_base.specs.Causes.{IsQuiet, Rose};
 ghost use Rattle.dapseq_tool.specs.Asked.{IsReadLine, IsRunLine, IsUsage};
 ghost use Rattle.dapseq_tool.specs.Frame.{IsCall};
-ghost use Rattle.dapseq_tool.specs.Headline.{moment, AreTaken, Does, FailsWriting};
+ghost use Rattle.dapseq_tool.specs.Headline.{moment, Does, FailsWriting};
+ghost use Rattle.job_source.specs.Source.{AreTaken};
 ghost use Rattle.dapseq_tool.specs.Success.{HasGotBadReply, Success};
 ghost use Rattle.dapseq_tool.specs.Packed.{packed};
 

@@ -8,8 +8,8 @@ use Rattle.pack_faults.specs.declared.request.PackRefusal.TheVariants as packs
 use Rattle.pack_faults.specs.Sets.{refusal}
 use Rattle.faults_words.specs.declared.answer.Asked.{Asked}
 use Rattle.faults_words.specs.Asks as words
-use Rattle.faults_tool.specs.Asked.{Asks, AsksOfBytes, AsksOfPack, IsUsage, job, limit, no_set, of_refusal, request_of, too_long, usage}
-use Rattle.faults_tool.specs.Calls.{AreBytesOf}
+use Rattle.faults_tool.specs.Asked.{Asks, AsksOfBytes, AsksOfPack, IsUsage, job, no_set, of_refusal, request_of, too_long, usage}
+use Rattle.job_source.specs.Source.{AreBytesOf, limit}
 use Rattle.faults_tool.specs.declared.asking.Answer.{Answer}
 use Rattle.faults_tool.specs.declared.asking.Answer.TheVariants as answers
 

@@ -7,7 +7,8 @@ use Rattle.faults_tool.specs.Answers.{answer_status}
 use Rattle.pack_faults.specs.declared.request.PackRefusal.{PackRefusal}
 use Rattle.pack_faults.specs.declared.request.PackRefusal.TheVariants as packs
 use Rattle.faults_tool.specs.Asked.{AreAllValid, Asks, IsLine, IsUsage, job, no_pack, no_set, of_refusal, pack, sets, too_long, usage}
-use Rattle.faults_tool.specs.Calls.{AreBytesOf, Blames, Call, Does, FailsPutting, IsCallOfValid, IsDisturbed, IsDone, IsFinished, does, no_memory, unread}
+use Rattle.faults_tool.specs.Calls.{Blames, Call, Does, FailsPutting, IsCallOfValid, IsDisturbed, IsDone, IsFinished, does, no_memory, unread}
+use Rattle.job_source.specs.Source.{AreBytesOf}
 use Rattle.faults_tool.specs.declared.asking.Answer.{Answer}
 use Rattle.faults_tool.specs.declared.asking.Answer.TheVariants as answers
 use Rattle.faults_tool.specs.declared.asking.Unasked.{Unasked}

@@ -1,5 +1,4 @@
 pub mod PackLaws
-mod ReadingLemmas
 mod AskLemmas
 mod AnswerLemmas
 pub mod OneAnswer

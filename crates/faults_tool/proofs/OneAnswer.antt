@@ -13,7 +13,8 @@ use Rattle.faults_words.specs.declared.answer.Asked.{Asked}
 use Rattle.faults_words.specs.Asks as words
 use Rattle.faults_words.proofs.AskLemmas.{one_asked}
 use Rattle.faults_tool.specs.Answers.{answer_status, list_status}
-use Rattle.faults_tool.specs.Asked.{AreAllValid, Asks, AsksOfBytes, AsksOfPack, job, limit, no_pack, no_set, of_refusal, pack, request_of, sets, too_long, usage}
+use Rattle.faults_tool.specs.Asked.{AreAllValid, Asks, AsksOfBytes, AsksOfPack, job, no_pack, no_set, of_refusal, pack, request_of, sets, too_long, usage}
+use Rattle.job_source.specs.Source.{limit}
 use Rattle.faults_tool.specs.declared.asking.Answer.{Answer}
 use Rattle.faults_tool.specs.declared.asking.Answer.TheVariants as answers
 use Rattle.faults_tool.specs.declared.status.Status.TheVariants as status

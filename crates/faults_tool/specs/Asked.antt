@@ -11,6 +11,7 @@ use Rattle.pack_faults.specs.Sets.{refusal, sets_of}
 use Rattle.pack_faults.specs.Answers.{ArePackFaults, AreValid}
 use Rattle.faults_words.specs.declared.answer.Asked.{Asked}
 use Rattle.faults_words.specs.Asks as words
+use Rattle.job_source.specs.Source.{limit}
 use Rattle.faults_tool.specs.declared.asking.Answer.{Answer}
 use Rattle.faults_tool.specs.declared.asking.Answer.TheVariants as answers
 use Rattle.faults_tool.specs.Packs.{Describes, NoPack}
@@ -30,10 +31,6 @@ abbrev pub request_of : Asked → Request
 request_of a = record { device = a.device; variant = a.variant; pname = a.pname }
 
 -- ---- the bytes
-
--- the most bytes of a job
-abbrev pub limit : ℕ
-limit = 16777216
 
 -- the answer where there is no set, unless memory ran out
 abbrev pub of_refusal : PackRefusal → Option Answer

@@ -1,8 +1,9 @@
 -- What a whole call does, by what is known of its objects before and after it.
-use Rattle.std.specs.Prelude.{◌≡◌, ◌⊎◌, ℕ, List, drop, Option, Some, Result, Ok, Err, IfSome}
+use Rattle.std.specs.Prelude.{◌≡◌, ◌⊎◌, ℕ, List, Option, Some, Result, Ok, Err}
 use Rattle.std.specs.Io.KnownBytes.{Appends}
 use Rattle.dap_base.specs.Causes.{Rose}
 use Rattle.dap_base.specs.Streams.{AppendsPrefix}
+use Rattle.job_source.specs.Source.{AreBytesOf, AreTaken}
 use Rattle.faults_tool.specs.Answers.{answer_status, answer_text, fault_text}
 use Rattle.faults_tool.specs.Asked.{AreAllValid, Asks, IsLine}
 use Rattle.faults_tool.specs.declared.asking.Answer.{Answer}
@@ -36,14 +37,6 @@ pub record Call : Type 0 where
   pub old : Moment
   pub new : Moment
   pub end : Status
-
--- the bytes of a source: where it is observable, those that are left
-abbrev pub AreBytesOf : Option (List ℕ) → List ℕ → Type 0
-AreBytesOf left bytes = IfSome left (λ xs. bytes ≡ xs)
-
--- all bytes of a source were taken, or the first 16,777,217 of them where it has more
-abbrev pub AreTaken : Option (List ℕ) → Option (List ℕ) → Type 0
-AreTaken old new = IfSome old (λ bytes. new ≡ Some (drop 16777217 bytes))
 
 -- ---- what is written
 

@@ -3,14 +3,14 @@ ghost use Rattle.std.specs.Prelude.{◌≡◌, ℕ, List, Some, IfOk, OnOk, IsEr
 ghost use Rattle.text_lines.specs.Causes.{NamesFault};
 ghost use Rattle.faults_words.specs.Asks as words_asked;
 ghost use Rattle.faults_tool.specs.Asked.{Asks, AsksOfBytes, AsksOfPack, IsLine, of_refusal};
-ghost use Rattle.faults_tool.specs.Calls.{AreBytesOf, AreTaken};
+ghost use Rattle.job_source.specs.Source.{AreBytesOf, AreTaken};
 
 use crate::packs::read_pack;
-use crate::reading::{Unread, read_all};
 use dap_base::{OutOfMemory, Source, Words};
 use device_tree::Pack;
 use faults_words::{Asked, Format, WordsError, asked_of};
 use job_check::{CheckRefusal, Refusal};
+use job_source::{Unread, read_job};
 use pack_faults::{PackFaults, PackRefusal, Request, pack_faults};
 use std::alloc::Global;
 
@@ -82,7 +82,7 @@ fn ask_of_source<S: Source>(alloc: Global, asked: Asked, source: &mut S) -> Resu
     ensures taken { OnOk result (AreTaken (S.left source.old) (S.left source.new)) }
     ensures source { NamesFault Unasked.ReadFault (S.faults source.old) (S.faults source.new) result }
 {
-    let bytes = match read_all(alloc, source) {
+    let bytes = match read_job(alloc, source) {
         Ok(bytes) => bytes,
         Err(Unread::TooLong) => return Ok(Answer::TooLong),
         Err(Unread::Failed) => return Err(Unasked::ReadFault),

@@ -3,7 +3,8 @@ ghost use Rattle.std.specs.Prelude.{◌≡◌, ◌≢◌, ◌⊎◌, ℕ, List, 
 ghost use Rattle.dap_base.specs.Causes.{IsQuiet, Rose};
 ghost use Rattle.faults_tool.specs.Answers.{answer_status, answer_text, failed_status, fault_text};
 ghost use Rattle.faults_tool.specs.Asked.{AreAllValid, IsLine, IsUsage};
-ghost use Rattle.faults_tool.specs.Calls.{moment, AreTaken, Blames, Does, IsCallOfValid, IsDisturbed, IsDone, IsFinished, IsPut};
+ghost use Rattle.faults_tool.specs.Calls.{moment, Blames, Does, IsCallOfValid, IsDisturbed, IsDone, IsFinished, IsPut};
+ghost use Rattle.job_source.specs.Source.{AreTaken};
 
 use crate::answering::{status_of, write_answer};
 use crate::asking::{Answer, Unasked, ask};

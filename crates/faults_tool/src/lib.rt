@@ -6,7 +6,6 @@ mod asking;
 mod call;
 pub mod laws;
 mod packs;
-mod reading;
 mod status;
 
 pub use call::dapseq_faults;

@@ -1,5 +1,5 @@
 use Rattle.std.proofs.Common.{Err, Ok, ap, refl, inr}
-use Rattle.dapseq_tool.specs.Headline.{AreTaken}
+use Rattle.job_source.specs.Source.{AreTaken}
 use Rattle.dapseq_tool.proofs.AskedLemmas.{memory_only, never_read, none_taken, taken_by_line, with_number, with_source, with_usage}
 use Rattle.dapseq_tool.proofs.asking.ask.Goals as goal
 

@@ -1,7 +1,7 @@
 use Rattle.std.proofs.Common.{◌<◌, ◌≤◌, ℕ, length, take, ap, arith, rules}
 use Rattle.std.specs.Io.KnownBytes.{IsAtEnd}
-use Rattle.faults_tool.proofs.ReadingLemmas.{taken_at_end, taken_too_far, too_long}
-use Rattle.faults_tool.proofs.reading.read_all.Goals as goal
+use Rattle.job_source.proofs.ReadingLemmas.{taken_at_end, taken_too_far, too_long}
+use Rattle.job_source.proofs.read_job.Goals as goal
 
 pub returns-then-count-eq0-clause-taken : goal.returns-then-count-eq0-clause-taken
 returns-then-count-eq0-clause-taken g c =

@@ -1,7 +1,7 @@
 use Rattle.std.proofs.Common.{◌≡◌, ◌≤◌, ◌+◌, ◌-◌, vec_len}
 use Rattle.std.specs.Io.KnownBytes.{Consumes}
-use Rattle.faults_tool.specs.Asked.{limit}
-use Rattle.faults_tool.proofs.reading.read_all.Given as goal
+use Rattle.job_source.specs.Source.{limit}
+use Rattle.job_source.proofs.read_job.Given as goal
 
 abbrev pub invariant-loop-chunk : goal.invariant-loop-chunk
 invariant-loop-chunk g l = record {

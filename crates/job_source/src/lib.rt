@@ -1,9 +1,10 @@
-//! Reading a source to its end.
+//! A job's text, read from a source to its end.
+#![tactic(auto)]
+
 ghost use Rattle.std.specs.Prelude.{◌≡◌, ◌⊎◌, ◌≤◌, ◌<◌, ℕ, List, length, IfOk, OnOk, IfErr, IfSome, IsErrOf};
 ghost use Rattle.std.specs.Io.KnownBytes.{IsAtEnd};
 ghost use Rattle.dap_base.specs.Causes.{Rose};
-ghost use Rattle.dapseq_tool.specs.Asked.{limit};
-ghost use Rattle.dapseq_tool.specs.Headline.{AreBytesOf, AreTaken};
+ghost use Rattle.job_source.specs.Source.{AreBytesOf, AreTaken, limit};
 
 use dap_base::Source;
 use std::alloc::Global;
@@ -25,9 +26,14 @@ pub enum Unread {
     OutOfMemory,
 }
 
-/// All that a source has left. `TooLong` exactly where it is more than 16,777,216 bytes, of which
-/// 16,777,217 are taken then.
-pub fn read_all<S: Source>(alloc: Global, source: &mut S) -> Result<Vec<u8>, Unread>
+/// Reads all bytes that a source has left, at most 16,777,216.
+///
+/// # Errors
+///
+/// - [`Unread::TooLong`] exactly where the source has more bytes. Then 16,777,217 of them are taken.
+/// - [`Unread::Failed`] where the source failed. Bytes that were taken before are lost.
+/// - [`Unread::OutOfMemory`] where memory was refused. Bytes that were taken before are lost.
+pub fn read_job<S: Source>(alloc: Global, source: &mut S) -> Result<Vec<u8>, Unread>
     ensures whole { IfOk result (λ v. AreBytesOf (S.left source.old) v.items) }
     ensures short { IfOk result (λ v. length v.items ≤ limit) }
     ensures end { OnOk result (IsAtEnd (S.left source.new)) }
