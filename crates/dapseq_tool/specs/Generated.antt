@@ -21,11 +21,15 @@ blocks_text (suc n) = blocks_text n ++ block_text n
 
 -- what stands before the blocks: one family with one device, whose debug variable is the sum
 abbrev pub front_text : List ℕ
-front_text = codes "{\"pack\":{\"families\":[{\"Dfamily\":\"F\",\"devices\":[{\"Dname\":\"G\",\"debugvars\":\"__var s = 0;\",\"sequences\":[{\"name\":\"Main\",\"steps\":["
+front_text =
+    codes "{\"pack\":{\"families\":[{\"Dfamily\":\"F\",\"devices\":[{\"Dname\":\"G\",\"debugvars\":\"__var s = 0;\","
+    ++ codes "\"sequences\":[{\"name\":\"Main\",\"steps\":["
 
 -- what stands after the blocks: the line with the sum, and the bench
 abbrev pub back_text : List ℕ
-back_text = codes "{\"block\":\"Message(0, \\\"sum %u\\\", s);\"}]}]}]}]},\"bench\":{\"packet_size\":64,\"packet_count\":4,\"target\":{\"powered\":true,\"aps\":[{\"ap\":0}],\"memory\":[{\"address\":536870912,\"length\":1024}]}}}"
+back_text =
+    codes "{\"block\":\"Message(0, \\\"sum %u\\\", s);\"}]}]}]}]},\"bench\":{\"packet_size\":64,\"packet_count\":4,"
+    ++ codes "\"target\":{\"powered\":true,\"aps\":[{\"ap\":0}],\"memory\":[{\"address\":536870912,\"length\":1024}]}}}"
 
 -- The job of a number: the blocks from 0 to it, and the line.
 abbrev pub job_text : ℕ → List ℕ
