@@ -2,11 +2,12 @@
 
     python3 pdsc_faults.py [--program PATH | --crate FOLDER] [--no-defaults] FILE.pdsc
 
-It converts the pack as from_pdsc.py does, and runs `dapseq check` for each device, variant and processor. Those that have the
-same sequences and debug variables are checked once. A check finds the first fault of a set, so mend it and run this again.
-Each fault is shown at its line and column of the .pdsc, once, with those that it concerns.
+It converts the pack as from_pdsc.py does, and runs `dapseq_faults` for each device, variant and processor. Those that have the
+same sequences and debug variables are checked once. All faults of a set are shown that the first phase of its check with a fault
+has: see docs/FAULTS.md. Each is shown at its line and column of the .pdsc, once, with those that it concerns.
 
-The program is PATH. Else it is out/dapseq in the crate's folder, which `rt run` leaves, or `rt try` builds it without a proof.
+The program is PATH. Else it is out/dapseq_faults in the crate's folder, which `rt run` leaves, or `rt try` builds it without
+a proof.
 The exit status is 0 where nothing is wrong and 1 where something is. It is 2 where the command line is wrong or the program
 gives no answer. This is a helper beside the program: nothing of it is proved.
 """
@@ -19,17 +20,17 @@ from pathlib import Path
 
 from pdsc import conversion
 from pdsc.document import Refused
-from pdsc.faults import Check, Command, FirstFaults, Kit, NoAnswer, sets_of
+from pdsc.faults import AllFaults, Check, Command, Kit, NoAnswer, sets_of
 from pdsc.spots import stretch_of
 
-CRATE = Path(__file__).resolve().parent.parent / "crates" / "dapseq"
+CRATE = Path(__file__).resolve().parent.parent / "crates" / "dapseq_faults"
 SHOWN = 3  # how many of those that a fault concerns are named
 
 
 def parser_of_options():
     parser = argparse.ArgumentParser(prog="pdsc_faults.py", allow_abbrev=False, description="Shows the faults of the sequences of a .pdsc.")
     parser.add_argument("file", metavar="FILE.pdsc")
-    parser.add_argument("--program", metavar="PATH", help="the program dapseq; else that of the repository, built where it has to be")
+    parser.add_argument("--program", metavar="PATH", help="the program dapseq_faults; else that of the repository, built where it has to be")
     parser.add_argument("--crate", metavar="FOLDER", type=Path, default=CRATE, help="the folder from which the program is built")
     parser.add_argument("--no-defaults", action="store_true", help="check without the twelve default sequences of a debugger")
     return parser
@@ -37,7 +38,7 @@ def parser_of_options():
 
 def program_of(path, crate):
     """The program that a path names, or that of a crate. Raises NoAnswer where there is none."""
-    built = crate / "out" / "dapseq"
+    built = crate / "out" / "dapseq_faults"
     if path:
         return Command(path)
     if os.access(built, os.X_OK):
@@ -135,7 +136,7 @@ def main(arguments=None):
         return say(error, 1)
     try:
         defaults = None if options.no_defaults else conversion.default_sequences()
-        lines, status = answer(pack, defaults, FirstFaults(program_of(options.program, options.crate)))
+        lines, status = answer(pack, defaults, AllFaults(program_of(options.program, options.crate)))
         sys.stdout.buffer.write("".join(line + "\n" for line in lines).encode())
         return status
     except NoAnswer as error:

@@ -2,6 +2,7 @@
 
 from __future__ import annotations
 
+import copy
 import json
 import re
 import subprocess
@@ -13,12 +14,12 @@ from typing import Iterator, Optional, Protocol
 from .devices import Choice, Pack, name_of, processors, sequences_of
 from .document import Element
 
-SPOT = re.compile(r"(?:debugvars|(?P<sequence>.*) (?P<path>[\d.]+) (?P<part>block|if|while|control)) (?P<line>\d+):(?P<column>\d+)")
+REFUSED = re.compile(r"refused (\w+)(?: (.*))?")
 CASE = re.compile(r"^== (\d+)\.json\n(.*?)(?=^== \d+\.json$|\Z)", re.M | re.S)
 
 
 class NoAnswer(Exception):
-    """The program could not be run, or wrote something else than the answer of a check."""
+    """The program could not be run, or wrote something else than the faults of a pack."""
 
 
 @dataclass(frozen=True)
@@ -37,9 +38,9 @@ class Set:
     def variant(self) -> Optional[str]:
         return name_of(self.levels[-1]) if self.levels[-1].tag == "variant" else None
 
-    def words(self) -> list[str]:
-        """The words of the program that select this set."""
-        options = (("--device", self.device()), ("--variant", self.variant()), ("--pname", self.pname))
+    def words(self, has_pname: bool) -> list[str]:
+        """The words of the program that select this set. A processor is named where a sequence of the job is for it alone."""
+        options = (("--device", self.device()), ("--variant", self.variant()), ("--pname", self.pname if has_pname else None))
         return [word for name, value in options if value for word in (name, value)]
 
     def key(self) -> tuple:
@@ -64,8 +65,8 @@ def sets_of(pack: Pack) -> Iterator[Set]:
 class Fault:
     """A fault of a set.
 
-    It has the sequence, the numbers of the steps, the part, and the line and column in its text. A fault of the job has a kind and
-    a path alone. `dapseq check` reports neither the name that a fault is about nor the line of the text: they are empty then.
+    It has the sequence, the numbers of the steps, the part, the line and column in its text, and the name that it is about, where
+    there is one. A fault of the job has a kind and a path alone.
     """
 
     kind: str
@@ -75,7 +76,6 @@ class Fault:
     part: str = ""
     line: int = 0
     column: int = 0
-    text: str = ""
     sets: list[Set] = field(default_factory=list)
 
     def __str__(self) -> str:
@@ -98,37 +98,65 @@ class Source(Protocol):
         """Raises NoAnswer."""
 
 
-class FirstFaults:
-    """The first fault of each set, by `dapseq check`."""
+class AllFaults:
+    """All faults of each set that the first phase of its check with a fault has, by `dapseq_faults`."""
 
     def __init__(self, program: Program):
         self.program = program
 
     def faults(self, checks: list[Check]) -> list[list[Fault]]:
-        texts = self.program.answers([(["check", *check.chosen.words()], check.job) for check in checks])
-        return [faults_of(text) for text in texts]
+        return [faults_of(text) for text in self.program.answers([run_of(check) for check in checks])]
+
+
+def run_of(check: Check) -> tuple[list[str], dict]:
+    """The words and the job of a run. Sequences for another processor are left out, so that the job has just one set."""
+    job, pname = copy.deepcopy(check.job), check.chosen.pname
+    kept = [only_for(pname, level) for level in levels_in(job["pack"])]
+    return ["--format", "json", *check.chosen.words(any(kept))], job
+
+
+def levels_in(level: dict) -> Iterator[dict]:
+    """A level, or a pack, with all levels below it."""
+    yield level
+    below = [level["defaults"]] if "defaults" in level else []
+    for key in ("families", "subFamilies", "devices", "variants"):
+        below += level.get(key, [])
+    for it in below:
+        yield from levels_in(it)
+
+
+def only_for(pname: Optional[str], level: dict) -> bool:
+    """Leaves a level the sequences for each processor and for this one, and returns whether it has one for this one alone."""
+    if "sequences" in level:
+        level["sequences"] = [it for it in level["sequences"] if it.get("Pname") in (None, pname)]
+    return any("Pname" in it for it in level.get("sequences", []))
+
+
+def shown(name: str) -> str:
+    """A name as the program writes it in a line: each byte outside 0x20 to 0x7E by its number, and a backslash twice."""
+    return "".join("\\\\" if byte == 0x5C else chr(byte) if 0x20 <= byte <= 0x7E else f"\\x{byte:02x}" for byte in name.encode())
 
 
 def faults_of(text: str) -> list[Fault]:
-    """The fault that the answer of a check names, if it names one."""
+    """The faults that an answer has, in order."""
     line = text.partition("\n")[0]
-    if line.startswith("check ok "):
-        return []
-    refused = re.fullmatch(r"refused (check )?(\w+)(?: (.*))?", line)
-    if not refused:
-        raise NoAnswer(f"the program wrote: {line or 'nothing'}")
-    kind, rest = refused[2], refused[3] or ""
-    if not refused[1]:
-        return [Fault(kind, path=rest)]
-    spot = SPOT.fullmatch(rest)
-    if not spot:
-        raise NoAnswer(f"the program wrote: {line}")
-    line_of, column = int(spot["line"]), int(spot["column"])
-    return [Fault(kind, "", spot["sequence"] or "", spot["path"] or "", spot["part"] or "debugvars", line_of, column)]
+    refused = REFUSED.fullmatch(line)
+    if refused:
+        return [Fault(refused[1], path=refused[2] or "")]
+    try:
+        return [fault_of(it) for it in json.loads(line)["faults"]]
+    except (ValueError, LookupError, TypeError, AttributeError):
+        raise NoAnswer(f"the program wrote: {line or 'nothing'}") from None
+
+
+def fault_of(item: dict) -> Fault:
+    """A fault in the form of JSON."""
+    path = ".".join(str(number) for number in item["path"])
+    return Fault(item["kind"], shown(item["name"] or ""), shown(item["sequence"] or ""), path, item["part"], item["line"], item["column"])
 
 
 class Program(Protocol):
-    """The program dapseq."""
+    """The program dapseq_faults."""
 
     def answers(self, runs: list[tuple[list[str], dict]]) -> list[str]:
         """What it writes for each run of words and a job. Raises NoAnswer."""

@@ -4,7 +4,7 @@ from __future__ import annotations
 
 from typing import Iterator, Optional
 
-from .faults import Fault, Set
+from .faults import Fault, Set, shown
 from .places import Stretch, Places
 
 
@@ -44,11 +44,6 @@ def path_of(pack: dict, chosen: Set, fault: Fault) -> str:
     steps = "/control/".join(fault.path.split("."))
     path = f"{shown_paths[fault.sequence]}/steps/{steps}"
     return path if fault.part == "control" else f"{path}/{fault.part}"
-
-
-def shown(name: str) -> str:
-    """A name as the program writes it: each byte outside 0x20 to 0x7E by its number, and a backslash twice."""
-    return "".join("\\\\" if byte == 0x5C else chr(byte) if 0x20 <= byte <= 0x7E else f"\\x{byte:02x}" for byte in name.encode())
 
 
 def stretch_of(pack: dict, places: Places, chosen: Set, fault: Fault) -> Optional[Stretch]:

@@ -1,5 +1,5 @@
 #!/usr/bin/env python3
-"""A stand-in for dapseq in the tests: a check finds a fault at the first `??` of a text of the set, in the form of the program's report.
+"""A stand-in for dapseq_faults in the tests: of the one set of a job it finds the first `??` of each text, or else each loop without end.
 
 Of the set it knows less than the program: the sequences of each level in order, those for another processor left out.
 """
@@ -11,12 +11,12 @@ import sys
 def texts_of(steps, path=()):
     """The texts of steps: the numbers that lead to each step, its part, and the text."""
     for number, step in enumerate(steps):
-        here = (*path, str(number))
+        here = [*path, number]
         for part in ("if", "while", "block"):
             if part in step:
-                yield ".".join(here), part, step[part]
+                yield here, part, step[part]
         if step.get("while") == "for ever":
-            yield ".".join(here), "control", None
+            yield here, "control", None
         yield from texts_of(step.get("control", []), here)
 
 
@@ -32,26 +32,31 @@ def levels_of(pack, variant):
 
 
 def place(text):
-    """The place of the first fault of a text, counting bytes."""
+    """The line and column of the first fault of a text, counting bytes."""
     before = text[:text.index("??")].encode()
-    return f"{before.count(10) + 1}:{len(before) - before.rfind(10)}"
+    return {"line": before.count(10) + 1, "column": len(before) - before.rfind(10)}
 
 
-def answer(job, words):
-    names = dict(zip(words[1::2], words[2::2]))
+def fault(kind, sequence, path, part, text):
+    at = place(text) if text else {"line": 0, "column": 0}
+    return {"kind": kind, "name": None, "sequence": sequence, "path": path, "part": part, **at}
+
+
+def faults(job, words):
+    names = dict(zip(words[::2], words[1::2]))
     levels = list(levels_of(job["pack"], names.get("--variant")))
     debugvars = [level["debugvars"] for level in levels if "debugvars" in level][-1:]
-    if debugvars and "??" in debugvars[0]:
-        return f"refused check Syntax debugvars {place(debugvars[0])}"
+    texts = [(None, [], "debugvars", text) for text in debugvars]
     for level in levels:
         for sequence in level.get("sequences", []):
             if sequence.get("Pname") in (None, names.get("--pname")):
-                for path, part, text in texts_of(sequence["steps"]):
-                    if text is None:
-                        return f"refused check UnboundedLoop {sequence['name']} {path} control 0:0"
-                    if "??" in text:
-                        return f"refused check Syntax {sequence['name']} {path} {part} {place(text)}"
-    return "check ok sequences 1\nsequence S from device blocks 1 controls 0 atomic 0"
+                texts += [(sequence["name"], *found) for found in texts_of(sequence["steps"])]
+    bad = [fault("Syntax", *it) for it in texts if it[3] and "??" in it[3]]
+    return bad or [fault("UnboundedLoop", *it) for it in texts if it[3] is None]
+
+
+def answer(job, words):
+    return json.dumps({"faults": faults(job, words)})
 
 
 if __name__ == "__main__":

@@ -13,8 +13,8 @@ from unittest import mock
 from support import EXAMPLES, PACKS, family, pack_of, script
 
 from pdsc import conversion
-from pdsc.faults import Command, Fault, FirstFaults, Kit, NoAnswer, Set, faults_of
-from pdsc.spots import sequence_paths, shown
+from pdsc.faults import AllFaults, Check, Command, Fault, Kit, NoAnswer, Set, faults_of, run_of, sets_of, shown
+from pdsc.spots import sequence_paths
 import from_pdsc
 import pdsc_faults
 import stub_dapseq
@@ -122,7 +122,7 @@ class Faults(unittest.TestCase):
     """What is written of a pack, and the exit status."""
 
     def faults(self, content):
-        lines, status = pdsc_faults.answer(pack_of(content), None, FirstFaults(Stub()))
+        lines, status = pdsc_faults.answer(pack_of(content), None, AllFaults(Stub()))
         return status, "".join(line + "\n" for line in lines)
 
     def test_no_fault(self):
@@ -130,7 +130,7 @@ class Faults(unittest.TestCase):
                            ("MIMXRT1052", "0 faults; 1 device, 1 set checked"), ("STM32F4", "0 faults; 1 device, 2 sets checked")]:
             with self.subTest(name):
                 pack = conversion.read(str(PACKS / f"{name}.pdsc"))
-                self.assertEqual(pdsc_faults.answer(pack, conversion.default_sequences(), FirstFaults(Stub())), ([line], 0))
+                self.assertEqual(pdsc_faults.answer(pack, conversion.default_sequences(), AllFaults(Stub())), ([line], 0))
 
     def test_fault_of_a_processor(self):
         inside = """<processor Pname='P'/><processor Pname='Q'/><sequences>
@@ -178,8 +178,8 @@ class PdscFaults(Folder):
 
     def test_no_answer(self):
         path = self.file("P.pdsc", family(""))
-        program, missing = self.program("program", "#!/bin/sh\necho no check\n"), self.folder / "missing"
-        self.assertEqual(called(pdsc_faults, "--program", program, path), (2, "the program wrote: no check\n"))
+        program, missing = self.program("program", "#!/bin/sh\necho no faults\n"), self.folder / "missing"
+        self.assertEqual(called(pdsc_faults, "--program", program, path), (2, "the program wrote: no faults\n"))
         self.assertEqual(called(pdsc_faults, "--program", missing, path), (2, f"{missing}: No such file or directory\n"))
 
     def test_the_kit_builds_once(self):
@@ -189,21 +189,21 @@ class PdscFaults(Folder):
         pack = pack_of(family("", "<device Dname='D'/><device Dname='E'><sequences/></device>"))
         with mock.patch.dict(os.environ, PATH=path), contextlib.redirect_stderr(io.StringIO()) as said:
             program = pdsc_faults.program_of(None, self.folder)
-            lines, status = pdsc_faults.answer(pack, None, FirstFaults(program))
+            lines, status = pdsc_faults.answer(pack, None, AllFaults(program))
         self.assertEqual(said.getvalue(), "building the program without a proof: this takes some minutes\n")
         self.assertEqual((status, lines[0], lines[-1]), (1, "P.pdsc:3:20: NoDevice", "1 fault; 2 devices, 2 sets checked"))
-        self.assertEqual((self.folder / "words").read_text(encoding="utf-8"), "try --cases\ncheck\n--device\nD\ncheck\n--device\nE\n")
+        self.assertEqual((self.folder / "words").read_text(encoding="utf-8"), "try --cases\n--format\njson\n--device\nD\n--format\njson\n--device\nE\n")
 
     def test_the_kit_gives_no_answer(self):
         self.program("rt", "#!/bin/sh\necho no library >&2\nexit 1\n")
         path = f"{self.folder}{os.pathsep}{os.environ['PATH']}"
         with mock.patch.dict(os.environ, PATH=path), self.assertRaises(NoAnswer) as raised:
-            Kit(self.folder).answers([(["check", "--device", "D"], {})])
-        self.assertEqual(str(raised.exception), "rt try gave no answer to check --device D; it ended with:\nno library")
+            Kit(self.folder).answers([(["--device", "D"], {})])
+        self.assertEqual(str(raised.exception), "rt try gave no answer to --device D; it ended with:\nno library")
 
     def test_the_program_that_was_built(self):
         (self.folder / "out").mkdir()
-        built = self.program("out/dapseq", "")
+        built = self.program("out/dapseq_faults", "")
         self.assertEqual(pdsc_faults.program_of(None, self.folder), Command(str(built)))
 
     def test_usage(self):
@@ -214,7 +214,7 @@ class PdscFaults(Folder):
 # A stand-in for the kit's command: it keeps its words and those of the cases, and the second case is refused.
 RT = """#!/bin/sh
 { echo "$1 $2"; cat "$3"/*.args; } > words
-echo "== 0.json"; echo "check ok sequences 0"; echo "case=0.json run=ended status=0 runners=1 proved=no" >&2
+echo "== 0.json"; echo '{"faults":[]}'; echo "case=0.json run=ended status=0 runners=1 proved=no" >&2
 echo "== 1.json"; echo "refused NoDevice"; echo "case=1.json run=ended status=1 runners=1 proved=no" >&2
 echo "cases=2 ended=2 fault=0 differs=0 no-answer=0 proved=no" >&2
 """
@@ -224,23 +224,41 @@ class Answers(unittest.TestCase):
     """What the program writes, and the faults that it becomes."""
 
     ANSWERS = [
-        ("check ok sequences 2\nsequence S from device blocks 1 controls 0 atomic 0\n", []),
-        ("refused check Syntax Reset System 1.0 block 2:8\n", [Fault("Syntax", "", "Reset System", "1.0", "block", 2, 8)]),
-        ("refused check UnboundedLoop S 1 control 0:0\n", [Fault("UnboundedLoop", "", "S", "1", "control", 0, 0)]),
-        ("refused check BadDebugvars debugvars 1:12\n", [Fault("BadDebugvars", "", "", "", "debugvars", 1, 12)]),
+        ({"faults": [], "devices": 1, "sets": 1}, []),
+        ({"faults": [{"kind": "UndefinedName", "name": "a\\b", "sequence": "Reset System", "path": [1, 0], "part": "block", "line": 2, "column": 8}]},
+         [Fault("UndefinedName", "a\\\\b", "Reset System", "1.0", "block", 2, 8)]),
+        ({"faults": [{"kind": "UnboundedLoop", "name": None, "sequence": "\u00e9", "path": [1], "part": "control", "line": 0, "column": 0},
+                     {"kind": "BadDebugvars", "name": None, "sequence": None, "path": [], "part": "debugvars", "line": 1, "column": 12}]},
+         [Fault("UnboundedLoop", "", "\\xc3\\xa9", "1", "control", 0, 0), Fault("BadDebugvars", "", "", "", "debugvars", 1, 12)]),
+    ]
+    REFUSALS = [
         ("refused Repeated #/pack/families/0/sequences/1\n", [Fault("Repeated", path="#/pack/families/0/sequences/1")]),
         ("refused NoDevice\n", [Fault("NoDevice")]),
     ]
 
     def test_answers(self):
-        for text, faults in self.ANSWERS:
+        for value, faults in self.ANSWERS:
+            with self.subTest(value):
+                self.assertEqual(faults_of(json.dumps(value) + "\n"), faults)
+        for text, faults in self.REFUSALS:
             with self.subTest(text):
                 self.assertEqual(faults_of(text), faults)
 
     def test_no_answers(self):
-        for text in ("", "usage dapseq MODE\n", "end done\n", "refused check Syntax S\n"):
+        for text in ("", "usage dapseq_faults ..\n", "end readfault\n", "[]\n", '{"faults":[{"kind":"Syntax"}]}\n', "refused\n"):
             with self.subTest(text), self.assertRaises(NoAnswer):
                 faults_of(text)
+
+    def test_words(self):
+        """A processor is named where a sequence is for it alone; sequences for another are left out of the job."""
+        device = "<device Dname='D'><variant Dvariant='V'/></device>"
+        pack = pack_of(family("""<processor Pname='P'/><processor Pname='Q'/><sequences>
+            <sequence name='A'/><sequence name='A' Pname='Q'/></sequences>""", device))
+        found = [run_of(Check({"pack": conversion.convert(pack, None, it.choice()).pack}, it)) for it in sets_of(pack)]
+        self.assertEqual([words for words, _ in found], [
+            ["--format", "json", "--device", "D", "--variant", "V"],
+            ["--format", "json", "--device", "D", "--variant", "V", "--pname", "Q"]])
+        self.assertEqual([len(job["pack"]["families"][0]["sequences"]) for _, job in found], [1, 2])
 
     def test_names(self):
         self.assertEqual((shown("a b~"), shown("a\\b"), shown("\u00e9\t")), ("a b~", "a\\\\b", "\\xc3\\xa9\\x09"))
