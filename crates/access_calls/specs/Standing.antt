@@ -1,5 +1,5 @@
 -- How far the target has come with the journal, and what a report says of it.
-use Rattle.std.specs.Prelude.{◌≡◌, ◌⊎◌, ⊤, ℕ, ◌+◌, ◌-◌, ◌*◌, ◌<◌, ◌≤◌, Bool, true, List, length, take, drop, slice_get, slice_index, Option, Some, None, IfSome}
+use Rattle.std.specs.Prelude.{◌≡◌, ◌⊎◌, ⊤, ℕ, ◌+◌, ◌-◌, ◌*◌, ◌/◌, ◌<◌, ◌≤◌, min, Bool, true, List, length, take, drop, slice_get, slice_index, Option, Some, None, IfSome}
 use Rattle.std.specs.List.{AllByRecursion}
 use Rattle.target_machine.specs.Plain.{Action, Makes, Polls, Commands, commanded, polled}
 use Rattle.target_machine.specs.State.{TargetState, Agree}
@@ -8,6 +8,7 @@ use Rattle.dap_transfer.specs.State.{Setting}
 use Rattle.dap_transfer.specs.WireTransfer.{next_number}
 use Rattle.probe_core.specs.Bench.{BenchState}
 use Rattle.probe_core.specs.Probe.{ended_retries_of, target_of, work_of}
+use Rattle.probe_core.specs.declared.job.Limits.{Limits}
 use Rattle.target_calls.specs.Asks.{is_settled}
 use Rattle.target_machine.specs.Counts.{one_if}
 use Rattle.target_calls.specs.Journal.{Entry, Passes, first_fault, target_after}
@@ -71,12 +72,13 @@ IsPartOf (Some e) t u = IsPart e.action t u
 pub record StayWithin (t : TargetState) (asks : List Ask) (entries : List Entry) : Type 0 where
   pub so : (calls : ℕ) → stop (start_world t None) asks ≡ Some calls → AllByRecursion (IsWithin calls) entries
 
--- Without an end: all entries were issued. Those that are confirmed were performed, and no others; none of them gives a fault
--- that its unit does not forgive, or is of a call after the first that ends at a fault. No retry ended. The skipped calls are
--- counted. Once a `finish` was made after the last call, the target agrees with the one after the calls.
+-- Without an end: all entries were issued. Those that are confirmed were performed, and no others, and the probe's work is exactly what they
+-- weigh. None of them gives a fault that its unit does not forgive, or is of a call after the first that ends at a fault. No retry ended. The
+-- skipped calls are counted. Once a `finish` was made after the last call, the target agrees with the one after the calls.
 pub record IsOpen (entries : List Entry) (a : AccessView) (b : Beginning) (m : BenchState) : Type 0 where
   pub issued : a.issued ≡ length entries
   pub performed : HasPerformed entries a.confirmed b m
+  pub work : grown_since b m ≡ weight_in (start_of b) (take a.confirmed entries)
   pub good : first_fault (start_of b) (take a.confirmed entries) ≡ None
   pub own : StayWithin (start_of b) a.asks.calls (take a.confirmed entries)
   pub retries : ended_retries_of m.probe ≡ ended_retries_of b.state.probe
@@ -119,13 +121,23 @@ IsMade (Makes a) = ⊤
 IsMade (Polls mask requested turns) = ⊥
 IsMade (Commands c) = ⊥
 
--- the entries are of a kind that is handed over together: register accesses, of any number, or one poll or command of the probe
-abbrev pub AreTogether : List Entry → Type 0
-AreTogether entries = AllByRecursion (λ e. IsMade e.action) entries ⊎ (length entries ≡ 1)
+-- How many register accesses one packet holds at most. One Transfer has at most 255. Each takes 5 bytes of the packet and its reply together: a
+-- read 1 and 4, a write 5 and none. Either has 3 bytes besides. A block of writes, and a part of a chain, hold no more.
+abbrev pub packet_accesses : Limits → ℕ
+packet_accesses limits = min 255 ((2 * (limits.packet_size - 3)) / 5)
 
--- Where the bench failed: at least the confirmed entries were performed, and at most those that were issued were begun. Those between
--- were handed over together. None of those that were begun gives a fault that its unit does not forgive, except perhaps the last.
-pub record HasBroken (entries : List Entry) (issued confirmed : ℕ) (b : Beginning) (m : BenchState) : Type 0 where
+-- how many a flight holds at most: it has as many packets as the probe takes before a reply is read
+abbrev pub flight_accesses : Limits → ℕ
+flight_accesses limits = limits.packet_count * packet_accesses limits
+
+-- the entries are handed over together: register accesses, at most as many as one flight holds, or one poll or command of the probe
+abbrev pub AreTogether : Limits → List Entry → Type 0
+AreTogether limits entries = (AllByRecursion (λ e. IsMade e.action) entries × (length entries ≤ flight_accesses limits)) ⊎ (length entries ≡ 1)
+
+-- Where the bench failed, which has these limits: at least the confirmed entries were performed, and at most those that were issued were
+-- begun. Those between were handed over together. None of those that were begun gives a fault that its unit does not forgive, except
+-- perhaps the last.
+pub record HasBroken (limits : Limits) (entries : List Entry) (issued confirmed : ℕ) (b : Beginning) (m : BenchState) : Type 0 where
   pub count : ℕ
   pub begun : ℕ
   pub count_is : count ≡ performed (start_of b) entries (grown_since b m)
@@ -133,14 +145,14 @@ pub record HasBroken (entries : List Entry) (issued confirmed : ℕ) (b : Beginn
   pub low : confirmed ≤ count
   pub high : begun ≤ issued
   pub within : issued ≤ length entries
-  pub together : AreTogether (drop confirmed (take issued entries))
+  pub together : AreTogether limits (drop confirmed (take issued entries))
   pub good : Passes (start_of b) (take (begun - 1) entries)
   pub target : IsAfterPart entries count begun b m
 
 -- So it is with the entries of these calls, the first of which have come. All entries of those that came are confirmed: the first one that is
 -- not was issued once so many calls were asked. None that was begun is of a call after the first that ends at a fault.
-pub record IsBenchFault (asks : List Ask) (came : ℕ) (entries : List Entry) (issued confirmed : ℕ) (b : Beginning) (m : BenchState) : Type 0 where
-  pub broken : HasBroken entries issued confirmed b m
+pub record IsBenchFault (limits : Limits) (asks : List Ask) (came : ℕ) (entries : List Entry) (issued confirmed : ℕ) (b : Beginning) (m : BenchState) : Type 0 where
+  pub broken : HasBroken limits entries issued confirmed b m
   pub later : IfSome (slice_get entries confirmed) (IsAfter came)
   pub own : StayWithin (start_of b) asks (take broken.begun entries)
 
@@ -160,7 +172,7 @@ pub record IsCut (entries : List Entry) (r : Report) (a : AccessView) (b : Begin
 abbrev pub StandsAt : Option Stop → List Entry → AccessView → Beginning → BenchState → Type 0
 StandsAt None entries a b m = IsOpen entries a b m
 StandsAt (Some (Cut r)) entries a b m = IsCut entries r a b m
-StandsAt (Some (BenchFault issued confirmed)) entries a b m = IsBenchFault a.asks.calls a.came entries issued confirmed b m
+StandsAt (Some (BenchFault issued confirmed)) entries a b m = IsBenchFault a.bench.limits a.asks.calls a.came entries issued confirmed b m
 StandsAt (Some ReplyBad) entries a b m = ⊥
 StandsAt (Some OutOfMemory) entries a b m = ⊥
 

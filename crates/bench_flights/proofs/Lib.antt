@@ -7,6 +7,7 @@ pub mod PollCause
 pub mod SendLemmas
 pub mod FormLemmas
 pub mod RoomLemmas
+pub mod HeldLemmas
 pub mod DelayLemmas
 pub mod LookLemmas
 pub mod OnceLemmas

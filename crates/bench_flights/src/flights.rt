@@ -13,6 +13,7 @@ ghost use Rattle.flight_forms.specs.Packing.{IsTaken};
 ghost use Rattle.probe_core.specs.Bench.{BenchState, Reported, StepsTo};
 ghost use Rattle.probe_core.specs.Probe.{target_of, work_of};
 ghost use Rattle.probe_core.specs.declared.job.Limits.{Limits};
+ghost use Rattle.access_calls.specs.Standing.{flight_accesses};
 ghost use Rattle.batch_packer.specs.FlightEnds.{IsShort};
 ghost use Rattle.batch_packer.specs.Flying.{CanFly};
 ghost use Rattle.batch_packer.specs.SlotList.{slot_at};
@@ -100,10 +101,12 @@ pub trait Flights {
         ensures limits { limits self.new ≡ limits self.old }
         ensures identity { identity self.new ≡ identity self.old };
 
-    /// Sends the accesses that were pushed, and reads every reply. At an error it has ended. One access, and up to four of
-    /// which the first is no write of DRW, are sent as one Transfer, whose cut by a fault can be gone on after.
+    /// Sends the accesses that were pushed, and reads every reply. They are at most as many as a flight holds by the limits
+    /// of the bench. At an error it has ended. One access, and up to four of which the first is no write of DRW, are sent as
+    /// one Transfer, whose cut by a fault can be gone on after.
     fn send(&mut self) -> Result<(), FlightEnd>
         requires usable { ended self.old ≡ None }
+        ensures held { length (accesses self.old) ≤ flight_accesses (reported self.new).limits }
         ensures came { OnOk result (StepsTo (λ m o. CanFly m → HasCome (accesses self.old) (values self.new) m o) (state self.old) (state self.new)) }
         ensures broke { IfErr result (λ end. StepsTo (λ m o. CanFly m → BrokeOff end (accesses self.old) m o) (state self.old) (state self.new)) }
         ensures short { IfErr result (λ end. IsShort (length (accesses self.old)) (Some end)) }

@@ -26,6 +26,7 @@ use Rattle.target_machine.specs.Counts.{one_if}
 use Rattle.dap_transfer.specs.State.{Setting, is_wait}
 use Rattle.probe_core.specs.Bench.{BenchState}
 use Rattle.probe_core.specs.Probe.{ended_retries_of, target_of, work_of}
+use Rattle.probe_core.specs.declared.job.Limits.{Limits}
 use Rattle.target_machine.specs.Lists.{after}
 use Rattle.target_machine.specs.Plain.{Action, Commands, Makes, acted, forgives, is_fault}
 use Rattle.target_machine.specs.State.{Agree, TargetState}
@@ -106,11 +107,11 @@ module _ (entries made : List Entry) (e : Entry) (rest : List Entry) (n : Option
       (let a = on.work in let w : work < weight (target_after t0 made) e.action = subst (λ (s : TargetState). work < weight s e.action) on.target less in
       let x = ap (weight_in t0) (ap (take (length made + 1)) on.are ∙ take-append-add made (e ∷ rest) 1) in let y = weight_one t0 made e in omega (arith, a, grown, w, x, y))
 
-  alone : AreTogether (drop (length made) (take (length made + 1) entries))
-  alone = inr (ap length (between entries made (e ∷ []) rest on.are))
+  alone : (limits : Limits) → AreTogether limits (drop (length made) (take (length made + 1) entries))
+  alone limits = inr (ap length (between entries made (e ∷ []) rest on.are))
 
-  pub action_bench : Agree (target_of o.probe) (target_of m.probe) ⊎ IsPart e.action (target_of m.probe) (target_of o.probe) → HasBroken entries (length made + 1) (length made) (began m0 n) o
-  action_bench (inl same) = record {
+  pub action_bench : (limits : Limits) → Agree (target_of o.probe) (target_of m.probe) ⊎ IsPart e.action (target_of m.probe) (target_of o.probe) → HasBroken limits entries (length made + 1) (length made) (began m0 n) o
+  action_bench limits (inl same) = record {
     count = length made;
     begun = length made;
     count_is = count_at;
@@ -118,11 +119,11 @@ module _ (entries made : List Entry) (e : Entry) (rest : List Entry) (n : Option
     low = omega arith;
     high = omega arith;
     within = (let l = long in omega (arith, l));
-    together = alone;
+    together = alone limits;
     good = passes_but_last t0 (length made) entries made (e ∷ rest) on.are on.passes (omega arith);
     target = inl (refl, subst (Agree (target_of o.probe)) at_front same);
   }
-  action_bench (inr part) = record {
+  action_bench limits (inr part) = record {
     count = length made;
     begun = length made + 1;
     count_is = count_at;
@@ -130,7 +131,7 @@ module _ (entries made : List Entry) (e : Entry) (rest : List Entry) (n : Option
     low = omega arith;
     high = omega arith;
     within = (let l = long in omega (arith, l));
-    together = alone;
+    together = alone limits;
     good = passes_but_last t0 (length made + 1) entries made (e ∷ rest) on.are on.passes (omega arith);
     target = inr (
       refl,
@@ -158,7 +159,7 @@ module _ (entries made : List Entry) (e : Entry) (rest : List Entry) (n : Option
   }
 
 pub action_bench_law : ActionBench
-action_bench_law entries made e rest n m0 m o work on grown less left = action_bench entries made e rest n m0 m o work on grown less left
+action_bench_law limits entries made e rest n m0 m o work on grown less left = action_bench entries made e rest n m0 m o work on grown less limits left
 
 pub action_wait_law : ActionWait
 action_wait_law entries made e rest n m0 m o work r b on grown less same retries over number pending accesses confirmed numbers = action_wait entries made e rest n m0 m o work on grown less r b same retries over number pending accesses confirmed numbers

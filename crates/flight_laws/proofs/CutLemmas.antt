@@ -6,7 +6,7 @@ use Rattle.std.specs.List.{AllByRecursion}
 use Rattle.target_calls.proofs.EntryLemmas.{fault_first, pass_front}
 use Rattle.target_machine.proofs.FreshLemmas.{attempt_sets}
 use Rattle.access_calls.specs.Reported.{began}
-use Rattle.access_calls.specs.Standing.{AreTogether, HasPerformed, IsMade, IsOver, number_of, pending_of, setting_of}
+use Rattle.access_calls.specs.Standing.{AreTogether, HasPerformed, IsMade, IsOver, flight_accesses, number_of, pending_of, setting_of}
 use Rattle.access_regs.proofs.Seams.{after_split, passes_both}
 use Rattle.access_regs.specs.Journal.{making}
 use Rattle.target_calls.specs.Journal.{Entry, Passes, actions_in, first_fault}
@@ -21,6 +21,7 @@ use Rattle.dap_transfer.specs.State.{Setting, TransferState, is_wait}
 use Rattle.flight_forms.specs.Flights.{DoesPart, Part}
 use Rattle.probe_core.specs.Bench.{BenchState}
 use Rattle.probe_core.specs.Probe.{ended_retries_of, target_of, work_of}
+use Rattle.probe_core.specs.declared.job.Limits.{Limits}
 use Rattle.target_machine.specs.Lists.{after}
 use Rattle.target_machine.specs.Plain.{Action, Makes, acted, is_fault}
 use Rattle.target_machine.specs.State.{TargetState}
@@ -274,17 +275,18 @@ all_made (x ∷ es) (a ∷ accesses) e =
     let p = head_makes x.action (Makes a) (actions_in es) (making accesses) e in
     (subst IsMade (sym p.0) tt, all_made es accesses p.1)
 
-one_flight : (entries made flying rest : List Entry) (accesses : List RegAccess) → entries ≡ made ++ (flying ++ rest) → actions_in flying ≡ making accesses → AreTogether (drop (length made) (take (length made + length flying) entries))
-one_flight entries made flying rest accesses are flight =
-    subst AreTogether
+one_flight : (limits : Limits) (entries made flying rest : List Entry) (accesses : List RegAccess) → entries ≡ made ++ (flying ++ rest) → actions_in flying ≡ making accesses → length accesses ≤ flight_accesses limits
+    → AreTogether limits (drop (length made) (take (length made + length flying) entries))
+one_flight limits entries made flying rest accesses are flight held =
+    subst (AreTogether limits)
     (sym (ap (λ (l : List Entry). drop (length made) (take (length made + length flying) l)) are
     ∙ ap (drop (length made)) (take-append-add made (flying ++ rest) (length flying))
     ∙ drop-append_seam made (take (length flying) (flying ++ rest))
     ∙ take-append_seam flying rest))
-    (inl (all_made flying accesses flight))
+    (inl (all_made flying accesses flight, (let l = flight_length flying accesses flight in omega (arith, l, held))))
 
 pub bench_flies : BenchFlies
-bench_flies entries made flying rest accesses n m0 m o part on (inl same) never =
+bench_flies limits entries made flying rest accesses n m0 m o part on (inl same) never held =
     let is : entries ≡ made ++ (flying ++ rest) = on.are in
     record {
       count = length made;
@@ -294,7 +296,7 @@ bench_flies entries made flying rest accesses n m0 m o part on (inl same) never 
       low = omega arith;
       high = omega arith;
       within = entries_within;
-      together = one_flight entries made flying rest accesses on.are on.flight;
+      together = one_flight limits entries made flying rest accesses on.are on.flight held;
       good = passes_but_last (target_of m0.probe) (length made) entries made (flying ++ rest) is on.passes (omega arith);
       target = inl (refl, has_none.target);
     }
@@ -304,7 +306,7 @@ bench_flies entries made flying rest accesses n m0 m o part on (inl same) never 
 
     entries_within : length made + length flying ≤ length entries
     entries_within = (let l = ap length on.are ∙ length-append made (flying ++ rest) in let k = length-append flying rest in omega (arith, l, k))
-bench_flies entries made flying rest accesses n m0 m o part on (inr does) never =
+bench_flies limits entries made flying rest accesses n m0 m o part on (inr does) never held =
     record {
       count = length made + part.performed;
       begun = length made + part.performed;
@@ -313,7 +315,7 @@ bench_flies entries made flying rest accesses n m0 m o part on (inr does) never 
       low = omega arith;
       high = (let h = most entries made flying rest accesses n m0 m o part on does in omega (arith, h));
       within = entries_within;
-      together = one_flight entries made flying rest accesses on.are on.flight;
+      together = one_flight limits entries made flying rest accesses on.are on.flight held;
       good = begun_pass entries made flying rest accesses n m0 m o part on does;
       target = inl (refl, has.target);
     }

@@ -4,6 +4,7 @@ use Rattle.target_machine.specs.State.{TargetState}
 use Rattle.target_machine.specs.declared.access.RegAccess.{RegAccess}
 use Rattle.probe_core.specs.Bench.{BenchState}
 use Rattle.probe_core.specs.Probe.{target_of}
+use Rattle.probe_core.specs.declared.job.Limits.{Limits}
 use Rattle.target_calls.specs.Asks.{AreAskable}
 use Rattle.target_calls.specs.Journal.{Entry, Passes, lines_before}
 use Rattle.target_calls.specs.declared.calls.Ask.{Ask}
@@ -189,10 +190,10 @@ later_there p calls confirmed count flying rest accesses came m0 m s =
     later_at (issued p (target_of m0.probe) calls) s.made (flying ++ rest) (target_of m0.probe) confirmed count s.on.are s.confirmed_is s.on.passes s.lines
 
 -- what was begun is of the calls up to the first that ends at a fault
-pub bench_fault : (p : Planner) (asks : List Ask) (came issued_count confirmed : ℕ) (n : Option ℕ) (m0 o : BenchState) → IsFresh (target_of m0.probe) → AreAskable asks
+pub bench_fault : (p : Planner) (limits : Limits) (asks : List Ask) (came issued_count confirmed : ℕ) (n : Option ℕ) (m0 o : BenchState) → IsFresh (target_of m0.probe) → AreAskable asks
     → IfSome (slice_get (issued p (target_of m0.probe) asks) confirmed) (IsAfter came)
-    → HasBroken (issued p (target_of m0.probe) asks) issued_count confirmed (began m0 n) o → IsBenchFault asks came (issued p (target_of m0.probe) asks) issued_count confirmed (began m0 n) o
-bench_fault p asks came issued_count confirmed n m0 o fresh ok later h = record { broken = h; later = later; own = begun_stay p (target_of m0.probe) asks h.begun fresh ok h.good }
+    → HasBroken limits (issued p (target_of m0.probe) asks) issued_count confirmed (began m0 n) o → IsBenchFault limits asks came (issued p (target_of m0.probe) asks) issued_count confirmed (began m0 n) o
+bench_fault p limits asks came issued_count confirmed n m0 o fresh ok later h = record { broken = h; later = later; own = begun_stay p (target_of m0.probe) asks h.begun fresh ok h.good }
 
 -- the calls that came stay answered
 came_left : (issued confirmed : ℕ) (b : AccessView) (n : Option ℕ) → b.end ≡ Some (BenchFault issued confirmed) → IsLeft b n → AtLeast b.came n
@@ -205,11 +206,11 @@ later_here p confirmed count flying rest accesses came m0 m b same s =
     subst (λ (k : ℕ). IfSome (slice_get (issued p (target_of m0.probe) b.asks.calls) confirmed) (IsAfter k)) (sym same) (later_there p b.asks.calls confirmed count flying rest accesses came m0 m s)
 
 pub flight_fails : FlightFails
-flight_fails p confirmed count flying rest accesses came m0 m o part b s either never ended = record {
-  stands = λ n left. bench_fault p b.asks.calls b.came (confirmed + length flying) confirmed n m0 o s.fresh s.askable
+flight_fails p confirmed count flying rest accesses came m0 m o part b s either never held ended = record {
+  stands = λ n left. bench_fault p b.bench.limits b.asks.calls b.came (confirmed + length flying) confirmed n m0 o s.fresh s.askable
       (later_here p confirmed count flying rest accesses came m0 m b ended.came s)
-      (subst (λ (k : ℕ). HasBroken (issued p (target_of m0.probe) b.asks.calls) (k + length flying) k (began m0 n) o) s.confirmed_is
-      (bench_flies (issued p (target_of m0.probe) b.asks.calls) s.made flying rest accesses n m0 m o part s.on either never));
+      (subst (λ (k : ℕ). HasBroken b.bench.limits (issued p (target_of m0.probe) b.asks.calls) (k + length flying) k (began m0 n) o) s.confirmed_is
+      (bench_flies b.bench.limits (issued p (target_of m0.probe) b.asks.calls) s.made flying rest accesses n m0 m o part s.on either never held));
   results_are = λ n left.
       ap (λ (k : ℕ). take k (results (world_from m0 n) b.asks.calls)) s.length_is
       ∙ s.results_are n (subst (λ (k : ℕ). AtLeast k n) ended.came (came_left (confirmed + length flying) confirmed b n ended.end left));
@@ -217,10 +218,10 @@ flight_fails p confirmed count flying rest accesses came m0 m o part b s either 
 
 pub action_fails : ActionFails
 action_fails p confirmed count e rest came m0 m o work b s grown less either ended = record {
-  stands = λ n left. bench_fault p b.asks.calls b.came (confirmed + 1) confirmed n m0 o s.fresh s.askable
+  stands = λ n left. bench_fault p b.bench.limits b.asks.calls b.came (confirmed + 1) confirmed n m0 o s.fresh s.askable
       (later_here p confirmed count [] (e ∷ rest) [] came m0 m b ended.came s)
-      (subst (λ (k : ℕ). HasBroken (issued p (target_of m0.probe) b.asks.calls) (k + 1) k (began m0 n) o) s.confirmed_is
-      (action_bench_law (issued p (target_of m0.probe) b.asks.calls) s.made e rest n m0 m o work s.on grown less either));
+      (subst (λ (k : ℕ). HasBroken b.bench.limits (issued p (target_of m0.probe) b.asks.calls) (k + 1) k (began m0 n) o) s.confirmed_is
+      (action_bench_law b.bench.limits (issued p (target_of m0.probe) b.asks.calls) s.made e rest n m0 m o work s.on grown less either));
   results_are = λ n left.
       ap (λ (k : ℕ). take k (results (world_from m0 n) b.asks.calls)) s.length_is
       ∙ s.results_are n (subst (λ (k : ℕ). AtLeast k n) ended.came (came_left (confirmed + 1) confirmed b n ended.end left));

@@ -8,6 +8,7 @@ use Rattle.probe_core.specs.Bench.{BenchState}
 use Rattle.probe_core.specs.Probe.{target_of}
 use Rattle.target_calls.specs.Asks.{AreAskable, is_settled}
 use Rattle.target_calls.specs.Journal.{Entry, Passes, first_fault, target_after}
+use Rattle.target_calls.specs.Weights.{weight_in}
 use Rattle.target_calls.specs.World.{AtLeast, World, is_faulted, one_fewer, results, results_within, skips, start_world, stop, unlimited, world_after}
 use Rattle.target_calls.specs.declared.calls.Ask.{Ask}
 use Rattle.target_calls.proofs.CallLists.{append_results, append_skips, count_of}
@@ -21,7 +22,7 @@ use Rattle.access_regs.specs.Stops.{NoneStops, world_at}
 use Rattle.access_regs.proofs.AllCalls.{journal_agrees}
 use Rattle.access_regs.proofs.StopLists.{good_end, live_more, passing_stops}
 use Rattle.access_calls.specs.Reported.{AccessView, began}
-use Rattle.access_calls.specs.Standing.{HasPerformed, IsOpen, StayWithin}
+use Rattle.access_calls.specs.Standing.{HasPerformed, IsOpen, StayWithin, grown_since}
 use Rattle.flight_laws.specs.Flying.{IsFlying}
 use Rattle.flight_laws.proofs.CutLemmas.{has_at}
 use Rattle.flight_laws.proofs.OwnLemmas.{stay_passing}
@@ -86,10 +87,15 @@ module _ (p : Planner) (a : AccessView) (kept : Kept) (accesses : List RegAccess
       ∙ ap (first_fault t0) (take-append_seam f.made (f.flying ++ []))
       ∙ pass_none t0 f.made f.on.passes
 
+  made_first : take a.confirmed (issued p t0 a.asks.calls) ≡ f.made
+  made_first = (λ j. take (sym f.confirmed j) (f.on.are j)) ∙ take-append_seam f.made (f.flying ++ [])
+
+  is_work : grown_since (began m0 n) m ≡ weight_in t0 (take a.confirmed (issued p t0 a.asks.calls))
+  is_work = (let w = f.on.work in let s = ap (weight_in t0) made_first in omega (arith, w, s))
+
   is_own : StayWithin t0 a.asks.calls (take a.confirmed (issued p t0 a.asks.calls))
   is_own =
-      let made : take a.confirmed (issued p t0 a.asks.calls) ≡ f.made = (λ j. take (sym f.confirmed j) (f.on.are j)) ∙ take-append_seam f.made (f.flying ++ []) in
-      subst (StayWithin t0 a.asks.calls) (sym made) (stay_passing p t0 a.asks.calls f.made (f.flying ++ []) f.fresh f.askable f.on.are f.on.passes)
+      subst (StayWithin t0 a.asks.calls) (sym made_first) (stay_passing p t0 a.asks.calls f.made (f.flying ++ []) f.fresh f.askable f.on.are f.on.passes)
 
   is_issued : a.issued ≡ length (issued p t0 a.asks.calls)
   is_issued =
@@ -120,7 +126,7 @@ module _ (p : Planner) (a : AccessView) (kept : Kept) (accesses : List RegAccess
       agree_sym _ _ (subst (λ (t : TargetState). Agree t (target_of m.probe)) (sym alone_is) (subst (Agree (alone_after t0 [] a.asks.calls)) target here))
 
   pub open_stands : IsOpen (issued p t0 a.asks.calls) a (began m0 n) m
-  open_stands = record { issued = is_issued; performed = is_performed; good = is_good; own = is_own; retries = f.on.retries; skipped = is_skipped; settled = is_calm }
+  open_stands = record { issued = is_issued; performed = is_performed; work = is_work; good = is_good; own = is_own; retries = f.on.retries; skipped = is_skipped; settled = is_calm }
 
   came_length : length came ≡ a.came
   came_length = ap length f.came_are ∙ count_of (start_world t0 None) f.front (front_none.stops None tt) ∙ sym f.came_is

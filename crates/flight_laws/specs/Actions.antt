@@ -8,6 +8,7 @@ use Rattle.dap_messages.specs.declared.request.Response.TheVariants.{Fault}
 use Rattle.flight_forms.specs.Flights.{Part}
 use Rattle.probe_core.specs.Bench.{BenchState}
 use Rattle.probe_core.specs.Probe.{ended_retries_of, target_of, work_of}
+use Rattle.probe_core.specs.declared.job.Limits.{Limits}
 use Rattle.target_calls.specs.Journal.{Entry, is_unforgiven}
 use Rattle.target_calls.specs.Weights.{weight}
 use Rattle.access_regs.specs.Entries.{NoneFault}
@@ -27,11 +28,11 @@ ActionDone = (entries made : List Entry) (e : Entry) (rest : List Entry) (m0 m o
 
 -- Where the bench failed and less than the whole action was done, the entry counts as issued and not as performed.
 abbrev pub ActionBench : Type 0
-ActionBench = (entries made : List Entry) (e : Entry) (rest : List Entry) (n : Option ℕ) (m0 m o : BenchState) (work : ℕ) →
+ActionBench = (limits : Limits) (entries made : List Entry) (e : Entry) (rest : List Entry) (n : Option ℕ) (m0 m o : BenchState) (work : ℕ) →
     IsUnderWay entries made [] (e ∷ rest) [] m0 m →
     work_of o.probe ≡ work_of m.probe + work → work < weight (target_of m.probe) e.action →
     Agree (target_of o.probe) (target_of m.probe) ⊎ IsPart e.action (target_of m.probe) (target_of o.probe) →
-    HasBroken entries (length made + 1) (length made) (began m0 n) o
+    HasBroken limits entries (length made + 1) (length made) (began m0 n) o
 
 -- Where a retry ended in a poll that is made read by read, and the reads changed nothing, the entry is the one that stops.
 abbrev pub ActionWait : Type 0

@@ -18,7 +18,7 @@ use Rattle.access_regs.specs.declared.planner.Planner.{Planner}
 use Rattle.access_calls.specs.Left.{IsLeft}
 use Rattle.access_calls.specs.Numbers.{HasNumbers}
 use Rattle.access_calls.specs.Reported.{AccessView, began, world_from}
-use Rattle.access_calls.specs.Standing.{IsOver, IsPart, Stands, StandsAt, WhereObservable, number_of, pending_of, setting_of}
+use Rattle.access_calls.specs.Standing.{IsOver, IsPart, Stands, StandsAt, WhereObservable, flight_accesses, number_of, pending_of, setting_of}
 use Rattle.access_calls.specs.declared.stop.Report.{Report}
 use Rattle.access_calls.specs.declared.stop.Stop.{Stop}
 use Rattle.access_calls.specs.declared.stop.Stop.TheVariants.{BenchFault, Cut}
@@ -106,13 +106,14 @@ pub record IsBenchEnd (issued confirmed count : ℕ) (b : AccessView) : Type 0 w
   pub end : b.end ≡ Some (BenchFault issued confirmed)
   pub came : b.came ≡ count
 
--- The bench failed in a flight.
+-- The bench failed in a flight, which its limits hold.
 abbrev pub FlightFails : Type 0
 FlightFails = (p : Planner) (confirmed count : ℕ) (flying rest : List Entry) (accesses : List RegAccess) (came : List ℕ) (m0 m o : BenchState) (part : Part)
     (b : AccessView) →
     IsSending p b.asks.calls confirmed count flying rest accesses came m0 m →
     (transfers_of o ≡ transfers_of m) ⊎ DoesPart (transfers_of m) (transfers_of o) accesses part → (part.response ≡ Mismatch → ⊥) →
-    IsBenchEnd (confirmed + length flying) confirmed count b → IsEnded p (BenchFault (confirmed + length flying) confirmed) b came m0 o
+    length accesses ≤ flight_accesses b.bench.limits → IsBenchEnd (confirmed + length flying) confirmed count b →
+    IsEnded p (BenchFault (confirmed + length flying) confirmed) b came m0 o
 
 -- The bench failed in a poll or a command of the probe, of which a part was done, or nothing.
 abbrev pub ActionFails : Type 0

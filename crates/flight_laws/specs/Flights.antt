@@ -1,5 +1,5 @@
 -- What a flight leaves of the entries that lie in it.
-use Rattle.std.specs.Prelude.{◌≡◌, ◌⊎◌, ℕ, ◌+◌, true, false, List, [], ◌∷◌, ◌++◌, length, Option}
+use Rattle.std.specs.Prelude.{◌≡◌, ◌⊎◌, ℕ, ◌+◌, ◌≤◌, true, false, List, [], ◌∷◌, ◌++◌, length, Option}
 use Rattle.std.specs.List.{AllByRecursion}
 use Rattle.target_machine.specs.Plain.{acted, is_fault}
 use Rattle.target_machine.specs.State.{TargetState}
@@ -8,10 +8,11 @@ use Rattle.dap_messages.specs.declared.request.Response.TheVariants.{Good, Wait,
 use Rattle.flight_forms.specs.Flights.{DoesPart, Part, slot_values}
 use Rattle.probe_core.specs.Bench.{BenchState}
 use Rattle.probe_core.specs.Probe.{target_of}
+use Rattle.probe_core.specs.declared.job.Limits.{Limits}
 use Rattle.target_calls.specs.Journal.{Entry, Passes, target_after}
 use Rattle.access_calls.specs.Numbers.{HasNumbers}
 use Rattle.access_calls.specs.Reported.{AccessView, began}
-use Rattle.access_calls.specs.Standing.{HasBroken, IsFaulted, IsUnanswered}
+use Rattle.access_calls.specs.Standing.{HasBroken, IsFaulted, IsUnanswered, flight_accesses}
 use Rattle.access_calls.specs.declared.stop.Report.{Report}
 use Rattle.batch_packer.specs.Flying.{Flies, transfers_of}
 use Rattle.flight_laws.specs.UnderWay.{IsUnderWay}
@@ -61,9 +62,9 @@ WaitFlies = (entries made flying rest : List Entry) (accesses : List RegAccess) 
     r.accesses ≡ length made + part.performed → r.confirmed ≡ length made + part.confirmed → HasNumbers entries b.asks.calls b.skipped b.lines r →
     IsUnanswered entries r b (began m0 n) o × IsCutAt entries r.confirmed (target_of m0.probe)
 
--- Where the bench failed, before the flight or after it, all its entries count as issued.
+-- Where the bench failed, before the flight or after it, all its entries count as issued, where these limits hold its accesses.
 abbrev pub BenchFlies : Type 0
-BenchFlies = (entries made flying rest : List Entry) (accesses : List RegAccess) (n : Option ℕ) (m0 m o : BenchState) (part : Part) →
+BenchFlies = (limits : Limits) (entries made flying rest : List Entry) (accesses : List RegAccess) (n : Option ℕ) (m0 m o : BenchState) (part : Part) →
     IsUnderWay entries made flying rest accesses m0 m →
     (transfers_of o ≡ transfers_of m) ⊎ DoesPart (transfers_of m) (transfers_of o) accesses part → (part.response ≡ Mismatch → ⊥) →
-    HasBroken entries (length made + length flying) (length made) (began m0 n) o
+    length accesses ≤ flight_accesses limits → HasBroken limits entries (length made + length flying) (length made) (began m0 n) o

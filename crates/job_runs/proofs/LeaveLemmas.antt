@@ -202,7 +202,7 @@ module _ (access : AccessKind) (grows : JournalGrows access.journal) (settles : 
   came_left issued confirmed a end = record { so = subst (λ (x : Option Stop). IsLeftAt x a.lines a.came (Some a.came)) (sym end) (let le : a.came ≤ a.came = omega arith in le) }
 
   is_broken : (issued confirmed : ℕ) (a : AccessView) (l : Left) → IsPart whole (ran l.ended a.asks l.written) → IsPart (outcome_with run a.came) (ran l.ended a.asks l.written)
-      → s.IsBenchFault a.asks.calls a.came (entries a) issued confirmed (began first None) l.bench → IsBroken run issued confirmed l
+      → s.IsBenchFault limits a.asks.calls a.came (entries a) issued confirmed (began first None) l.bench → IsBroken run issued confirmed l
   is_broken issued confirmed a l part short fault =
       let broken = fault.broken in
       let share = shared_by a broken.begun part.calls fault.own (let high = broken.high in let within = broken.within in omega (arith, high, within)) in
@@ -378,7 +378,8 @@ module _ (access : AccessKind) (grows : JournalGrows access.journal) (settles : 
   leaves (e.BenchFault issued confirmed) a l end skipped seen few ends parts stands =
       is_broken issued confirmed a l (ends_at (e.BenchFault issued confirmed) k a first before (ran l.ended a.asks l.written) (Some (stop.BenchFault issued confirmed)) end ends)
       (parts (Some a.came) (came_left issued confirmed a end) (λ never. never))
-      (stands_at access.journal a first l.bench (Some (stop.BenchFault issued confirmed)) end seen stands)
+      (subst (λ (x : Limits). s.IsBenchFault x a.asks.calls a.came (entries a) issued confirmed (began first None) l.bench) few.limits_are
+      (stands_at access.journal a first l.bench (Some (stop.BenchFault issued confirmed)) end seen stands))
   leaves e.ReplyBad a l end skipped seen few ends parts stands = stands_at access.journal a first l.bench (Some stop.ReplyBad) end seen stands
   leaves e.WriteFault a l end skipped seen few ends parts stands =
       is_left_off a l (ends_at e.WriteFault k a first before (ran l.ended a.asks l.written) None end ends) (stands_at access.journal a first l.bench None end seen stands)

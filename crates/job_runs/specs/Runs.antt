@@ -223,7 +223,7 @@ pub record IsFront (run : Run) (asked : List Ask) (begun : ℕ) (l : Left) : Typ
 pub record IsBroken (run : Run) (issued confirmed : ℕ) (l : Left) : Type 0 where
   pub asked : List Ask
   pub came : ℕ
-  pub stands : IsBenchFault asked came (entries_in run asked) issued confirmed (began run.first None) l.bench
+  pub stands : IsBenchFault run.limits asked came (entries_in run asked) issued confirmed (began run.first None) l.bench
   pub front : IsFront run asked stands.broken.begun l
   pub lines : Grows l.written (outcome_with run came).written
   pub target : IsAfterPart (entries_in run (calls_in run)) stands.broken.count stands.broken.begun (began run.first None) l.bench

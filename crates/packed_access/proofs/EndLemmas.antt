@@ -13,7 +13,7 @@ use Rattle.access_calls.specs.Issued.{AreKeptOf}
 use Rattle.access_calls.specs.Left.{IsLeft}
 use Rattle.access_calls.specs.Numbers.{HasNumbers, attempted_by, lines_at, unit_at}
 use Rattle.access_calls.specs.Reported.{AccessView}
-use Rattle.access_calls.specs.Standing.{WhereObservable}
+use Rattle.access_calls.specs.Standing.{WhereObservable, flight_accesses}
 use Rattle.access_calls.specs.declared.stop.Report.{Report}
 use Rattle.access_calls.specs.declared.stop.Stop.{Stop}
 use Rattle.access_calls.specs.declared.stop.Stop.TheVariants as stop
@@ -98,12 +98,12 @@ module _ (p : Planner) (bench : BenchReported) (state : Option BenchState) (sent
   abbrev failed : LogState
   failed = record log { end = Some (stop.BenchFault (length log.entries) log.confirmed) }
 
-  pub bench_ends : MayHaveFlown accesses m o → IsEnded p (stop.BenchFault (length log.entries) log.confirmed) (reported_by bench state (record log { end = Some (stop.BenchFault (length log.entries) log.confirmed) }) sent got) (take log.known log.results) m0 o
-  bench_ends broke =
+  pub bench_ends : length accesses ≤ flight_accesses bench.limits → MayHaveFlown accesses m o → IsEnded p (stop.BenchFault (length log.entries) log.confirmed) (reported_by bench state (record log { end = Some (stop.BenchFault (length log.entries) log.confirmed) }) sent got) (take log.known log.results) m0 o
+  bench_ends held broke =
       subst (λ (n : ℕ). IsEnded p (stop.BenchFault n log.confirmed) (reported_by bench state (record log { end = Some (stop.BenchFault n log.confirmed) }) sent got) (take log.known log.results) m0 o) h.count
       (flight_fails p log.confirmed log.came h.flying rest accesses (take log.known log.results) m0 m o broke.part
       (reported_by bench state (record log { end = Some (stop.BenchFault (log.confirmed + length h.flying) log.confirmed) }) sent got)
-      h.sending broke.either broke.never (record { end = refl; came = refl }))
+      h.sending broke.either broke.never held (record { end = refl; came = refl }))
 
 -- ---- any end
 
@@ -113,28 +113,28 @@ pub record IsBrokenOff (p : Planner) (s : Stop) (a : AccessView) (log : LogState
   pub stops : (n : Option ℕ) → IsLeft a n → StopsThere m0 n calls log.lines s
 
 module _ (p : Planner) (bench : BenchReported) (state : Option BenchState) (sent got : List ℕ) (log : LogState) (accesses : List RegAccess) (rest : List Entry) (m0 m o : BenchState) (h : IsIssuing p log accesses rest m0 m) where
-  pub broken_off : (end : FlightEnd) (s : Stop) (new : LogState) → BrokeOff end accesses m o → IsStopped end log new s → IsBrokenOff p s (reported_by bench state new sent got) new log.calls m0 o
-  broken_off (ends.Cut cut) (stop.Cut r) new broke is =
+  pub broken_off : length accesses ≤ flight_accesses bench.limits → (end : FlightEnd) (s : Stop) (new : LogState) → BrokeOff end accesses m o → IsStopped end log new s → IsBrokenOff p s (reported_by bench state new sent got) new log.calls m0 o
+  broken_off held (ends.Cut cut) (stop.Cut r) new broke is =
       let e = cut_ends p bench state sent got log accesses rest m0 m o h cut r new.lines new.skipped broke is.cause is.accesses is.confirmed_is is.numbers in
       subst (λ (x : LogState). IsBrokenOff p (stop.Cut r) (reported_by bench state x sent got) x log.calls m0 o) (sym is.next)
       (record { ended = e.ended; stops = λ n left. record { so = e.stops n left } })
-  broken_off (ends.Cut cut) (stop.BenchFault issued confirmed) new broke is = absurd is
-  broken_off (ends.Cut cut) stop.ReplyBad new broke is = absurd is
-  broken_off (ends.Cut cut) stop.OutOfMemory new broke is = absurd is
-  broken_off ends.BenchFault s new broke is =
+  broken_off held (ends.Cut cut) (stop.BenchFault issued confirmed) new broke is = absurd is
+  broken_off held (ends.Cut cut) stop.ReplyBad new broke is = absurd is
+  broken_off held (ends.Cut cut) stop.OutOfMemory new broke is = absurd is
+  broken_off held ends.BenchFault s new broke is =
       let here : IsBrokenOff p (stop.BenchFault (length log.entries) log.confirmed) (reported_by bench state (record log { end = Some (stop.BenchFault (length log.entries) log.confirmed) }) sent got) (record log { end = Some (stop.BenchFault (length log.entries) log.confirmed) }) log.calls m0 o =
-      record { ended = bench_ends p bench state sent got log accesses rest m0 m o h broke; stops = λ n left. record { so = tt } } in
+      record { ended = bench_ends p bench state sent got log accesses rest m0 m o h held broke; stops = λ n left. record { so = tt } } in
       let at_s : IsBrokenOff p s (reported_by bench state (record log { end = Some s }) sent got) (record log { end = Some s }) log.calls m0 o =
       subst (λ (x : Stop). IsBrokenOff p x (reported_by bench state (record log { end = Some x }) sent got) (record log { end = Some x }) log.calls m0 o) (sym is.0) here in
       subst (λ (x : LogState). IsBrokenOff p s (reported_by bench state x sent got) x log.calls m0 o) (sym is.1) at_s
-  broken_off ends.ReplyBad s new broke is = absurd broke
+  broken_off held ends.ReplyBad s new broke is = absurd broke
 
 broken_where : (p : Planner) (x y : Option BenchState) (bench : BenchReported) (sent got : List ℕ) (log : LogState) (accesses : List RegAccess) (rest : List Entry) (m0 : BenchState) (end : FlightEnd) (s : Stop) (new : LogState) →
-    WhereObservable x (λ m. IsIssuing p log accesses rest m0 m) → StepsTo (λ m o. CanFly m → BrokeOff end accesses m o) x y → IsStopped end log new s →
+    length accesses ≤ flight_accesses bench.limits → WhereObservable x (λ m. IsIssuing p log accesses rest m0 m) → StepsTo (λ m o. CanFly m → BrokeOff end accesses m o) x y → IsStopped end log new s →
     WhereObservable y (λ o. IsBrokenOff p s (reported_by bench y new sent got) new log.calls m0 o)
-broken_where p None y bench sent got log accesses rest m0 end s new h broke is = absurd h
-broken_where p (Some m) None bench sent got log accesses rest m0 end s new h broke is = absurd broke
-broken_where p (Some m) (Some o) bench sent got log accesses rest m0 end s new h broke is = broken_off p bench (Some o) sent got log accesses rest m0 m o h end s new (broke h.flies) is
+broken_where p None y bench sent got log accesses rest m0 end s new held h broke is = absurd h
+broken_where p (Some m) None bench sent got log accesses rest m0 end s new held h broke is = absurd broke
+broken_where p (Some m) (Some o) bench sent got log accesses rest m0 end s new held h broke is = broken_off p bench (Some o) sent got log accesses rest m0 m o h held end s new (broke h.flies) is
 
 pub ended_in : (p : Planner) (y : Option BenchState) (s : Stop) (a : AccessView) (log : LogState) (calls : List Ask) (m0 : BenchState) → WhereObservable y (λ o. IsBrokenOff p s a log calls m0 o) → WhereObservable y (λ o. IsEnded p s a (take log.known log.results) m0 o)
 ended_in p None s a log calls m0 h = h
@@ -146,13 +146,13 @@ stops_in p (Some o) s a log calls m0 n h left = h.stops n left
 
 -- where the bench is observable, the access has ended so
 pub has_ended : (p : Planner) (x y : Option BenchState) (bench : BenchReported) (sent got : List ℕ) (log : LogState) (accesses : List RegAccess) (rest : List Entry) (m0 : BenchState) (end : FlightEnd) (s : Stop) (new : LogState) →
-    HasIssued p x log accesses rest m0 → StepsTo (λ m o. CanFly m → BrokeOff end accesses m o) x y → IsStopped end log new s →
+    length accesses ≤ flight_accesses bench.limits → HasIssued p x log accesses rest m0 → StepsTo (λ m o. CanFly m → BrokeOff end accesses m o) x y → IsStopped end log new s →
     HasEnded p s (reported_by bench y new sent got) new m0
-has_ended p x y bench sent got log accesses rest m0 end s new h broke is = record { so = ended_in p y s (reported_by bench y new sent got) new log.calls m0 (broken_where p x y bench sent got log accesses rest m0 end s new h.so broke is) }
+has_ended p x y bench sent got log accesses rest m0 end s new held h broke is = record { so = ended_in p y s (reported_by bench y new sent got) new log.calls m0 (broken_where p x y bench sent got log accesses rest m0 end s new held h.so broke is) }
 
 -- and there the calls stop
 pub stops_there : (p : Planner) (x y : Option BenchState) (bench : BenchReported) (sent got : List ℕ) (log : LogState) (accesses : List RegAccess) (rest : List Entry) (m0 : BenchState) (end : FlightEnd) (s : Stop) (new : LogState) (n : Option ℕ) →
-    HasIssued p x log accesses rest m0 → StepsTo (λ m o. CanFly m → BrokeOff end accesses m o) x y → IsStopped end log new s →
+    length accesses ≤ flight_accesses bench.limits → HasIssued p x log accesses rest m0 → StepsTo (λ m o. CanFly m → BrokeOff end accesses m o) x y → IsStopped end log new s →
     IsLeft (reported_by bench y new sent got) n → StopsThere m0 n log.calls new.lines s
-stops_there p x y bench sent got log accesses rest m0 end s new n h broke is left =
-    stops_in p y s (reported_by bench y new sent got) new log.calls m0 n (broken_where p x y bench sent got log accesses rest m0 end s new h.so broke is) left
+stops_there p x y bench sent got log accesses rest m0 end s new n held h broke is left =
+    stops_in p y s (reported_by bench y new sent got) new log.calls m0 n (broken_where p x y bench sent got log accesses rest m0 end s new held h.so broke is) left

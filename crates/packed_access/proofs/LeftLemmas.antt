@@ -5,6 +5,7 @@ use Rattle.target_machine.specs.Plain.{Action, acted, given, is_fault}
 use Rattle.probe_core.specs.Bench.{BenchState, StepsTo}
 use Rattle.probe_core.specs.Bench.{Reported as BenchReported}
 use Rattle.probe_core.specs.Probe.{target_of, work_of}
+use Rattle.probe_core.specs.declared.job.Limits.{Limits}
 use Rattle.target_calls.specs.Journal.{Entry, is_unforgiven}
 use Rattle.target_calls.specs.Weights.{weight}
 use Rattle.target_calls.specs.declared.calls.Ask.{Ask}
@@ -41,8 +42,8 @@ use Rattle.packed_access.proofs.PushLemmas.{take_more}
 use Rattle.access_regs.specs.declared.planner.Planner.{Planner}
 
 -- fewer may be confirmed at a fault of the bench
-fewer_broken : (entries : List Entry) (many confirmed fewer : ℕ) (b : Beginning) (m : BenchState) → fewer ≤ confirmed → AreTogether (drop fewer (take many entries)) → HasBroken entries many confirmed b m → HasBroken entries many fewer b m
-fewer_broken entries many confirmed fewer b m le both h = record {
+fewer_broken : (limits : Limits) (entries : List Entry) (many confirmed fewer : ℕ) (b : Beginning) (m : BenchState) → fewer ≤ confirmed → AreTogether limits (drop fewer (take many entries)) → HasBroken limits entries many confirmed b m → HasBroken limits entries many fewer b m
+fewer_broken limits entries many confirmed fewer b m le both h = record {
   count = h.count;
   begun = h.begun;
   count_is = h.count_is;
@@ -55,17 +56,17 @@ fewer_broken entries many confirmed fewer b m le both h = record {
   target = h.target;
 }
 
-fewer_stand : (asks : List Ask) (came : ℕ) (entries : List Entry) (many confirmed fewer : ℕ) (b : Beginning) (m : BenchState) → fewer ≤ confirmed → AreTogether (drop fewer (take many entries)) → IfSome (slice_get entries fewer) (IsAfter came)
-    → IsBenchFault asks came entries many confirmed b m → IsBenchFault asks came entries many fewer b m
+fewer_stand : (limits : Limits) (asks : List Ask) (came : ℕ) (entries : List Entry) (many confirmed fewer : ℕ) (b : Beginning) (m : BenchState) → fewer ≤ confirmed → AreTogether limits (drop fewer (take many entries)) → IfSome (slice_get entries fewer) (IsAfter came)
+    → IsBenchFault limits asks came entries many confirmed b m → IsBenchFault limits asks came entries many fewer b m
 unfolding fewer_broken
-fewer_stand asks came entries many confirmed fewer b m le both later h = record { broken = fewer_broken entries many confirmed fewer b m le both h.broken; later = later; own = h.own }
+fewer_stand limits asks came entries many confirmed fewer b m le both later h = record { broken = fewer_broken limits entries many confirmed fewer b m le both h.broken; later = later; own = h.own }
 
-fewer_confirmed : (p : Planner) (bench : BenchReported) (state : Option BenchState) (sent got : List ℕ) (log : LogState) (many confirmed fewer : ℕ) (came : List ℕ) (m0 o : BenchState) → fewer ≤ confirmed → AreTogether (drop fewer (take many (issued p (target_of m0.probe) log.calls))) →
+fewer_confirmed : (p : Planner) (bench : BenchReported) (state : Option BenchState) (sent got : List ℕ) (log : LogState) (many confirmed fewer : ℕ) (came : List ℕ) (m0 o : BenchState) → fewer ≤ confirmed → AreTogether bench.limits (drop fewer (take many (issued p (target_of m0.probe) log.calls))) →
     IfSome (slice_get (issued p (target_of m0.probe) log.calls) fewer) (IsAfter log.came) →
     IsEnded p (stop.BenchFault many confirmed) (reported_by bench state (record log { end = Some (stop.BenchFault many confirmed) }) sent got) came m0 o →
     IsEnded p (stop.BenchFault many fewer) (reported_by bench state (record log { end = Some (stop.BenchFault many fewer) }) sent got) came m0 o
 fewer_confirmed p bench state sent got log many confirmed fewer came m0 o le both later h = record {
-  stands = λ n left. fewer_stand log.calls log.came (issued p (target_of m0.probe) log.calls) many confirmed fewer (began m0 n) o le both later (h.stands n (record { so = left.so }));
+  stands = λ n left. fewer_stand bench.limits log.calls log.came (issued p (target_of m0.probe) log.calls) many confirmed fewer (began m0 n) o le both later (h.stands n (record { so = left.so }));
   results_are = λ n left. h.results_are n (record { so = left.so });
 }
 
@@ -129,7 +130,7 @@ module _ (p : Planner) (bench : BenchReported) (state : Option BenchState) (sent
   never_good : Good ≡ Mismatch → ⊥
   never_good k = cc
 
-  alone : AreTogether (drop log.confirmed (take (log.confirmed + 1) (issued p (target_of m0.probe) log.calls)))
+  alone : AreTogether bench.limits (drop log.confirmed (take (log.confirmed + 1) (issued p (target_of m0.probe) log.calls)))
   alone = inr (ap (λ (n : ℕ). length (drop n (take (n + 1) (issued p (target_of m0.probe) log.calls)))) (sym rest_is.confirmed_is) ∙ ap length (between (issued p (target_of m0.probe) log.calls) rest_is.made (e ∷ []) rest seam))
 
   pub all_done : (word : ℕ) → HasDone e.action word m o → weight (target_of m.probe) e.action ≤ most_weight → length log.entries < 2 ^ 32 →
@@ -143,7 +144,7 @@ module _ (p : Planner) (bench : BenchReported) (state : Option BenchState) (sent
       (subst (λ (n : ℕ). IsEnded p (stop.BenchFault n (log.confirmed + 1)) (reported_by bench state (record (with_entry log (kept_of e)) { end = Some (stop.BenchFault n (log.confirmed + 1)) }) sent got) (take log.known log.results) m0 o) more
       (flight_fails p (log.confirmed + 1) log.came [] rest [] (take log.known log.results) m0 o o nothing
       (reported_by bench state (record (with_entry log (kept_of e)) { end = Some (stop.BenchFault ((log.confirmed + 1) + 0) (log.confirmed + 1)) }) sent got)
-      sent_is (inl refl) never_good (record { end = refl; came = refl })))
+      sent_is (inl refl) never_good (omega arith) (record { end = refl; came = refl })))
 
 -- ---- any end
 

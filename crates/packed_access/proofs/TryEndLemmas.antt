@@ -19,7 +19,7 @@ use Rattle.access_calls.specs.Growing.{IsAfter}
 use Rattle.access_calls.specs.Issued.{AreKeptOf}
 use Rattle.access_calls.specs.Numbers.{HasNumbers}
 use Rattle.access_calls.specs.Reported.{AccessView, began, world_from}
-use Rattle.access_calls.specs.Standing.{AreTogether, HasPerformed, IsPart}
+use Rattle.access_calls.specs.Standing.{AreTogether, HasPerformed, IsPart, flight_accesses}
 use Rattle.access_calls.specs.declared.issued.Issued.{Issued}
 use Rattle.access_calls.specs.declared.stop.Report.{Report}
 use Rattle.access_calls.specs.declared.stop.Stop.{Stop}
@@ -85,28 +85,28 @@ module _ (p : Planner) (forgive : Bool) (bench : BenchReported) (state : Option 
     wait_ends = flight_ends p log.confirmed log.came flying more accesses (take log.known log.results) m0 m o broke.part r b s broke.flies (response_by cut accesses m o broke r.cause cause) strict
         (let part_is = broke.performed in omega (arith, accesses_are, part_is)) (let part_is = broke.confirmed in omega (arith, confirmed_are, part_is)) cut_off
 
-  pub bench_ends : MayHaveFlown accesses m o → IsEnded p (stop.BenchFault (length entries) log.confirmed) (reported_by bench state (record log1 { end = Some (stop.BenchFault (length entries) log.confirmed) }) sent got) (take log.known log.results) m0 o
-  bench_ends broke =
+  pub bench_ends : length accesses ≤ flight_accesses bench.limits → MayHaveFlown accesses m o → IsEnded p (stop.BenchFault (length entries) log.confirmed) (reported_by bench state (record log1 { end = Some (stop.BenchFault (length entries) log.confirmed) }) sent got) (take log.known log.results) m0 o
+  bench_ends held broke =
       subst (λ (n : ℕ). IsEnded p (stop.BenchFault n log.confirmed) (reported_by bench state (record log1 { end = Some (stop.BenchFault n log.confirmed) }) sent got) (take log.known log.results) m0 o) count
       (flight_fails p log.confirmed log.came flying more accesses (take log.known log.results) m0 m o broke.part
       (reported_by bench state (record log1 { end = Some (stop.BenchFault (log.confirmed + length flying) log.confirmed) }) sent got)
-      s broke.either broke.never (record { end = refl; came = refl }))
+      s broke.either broke.never held (record { end = refl; came = refl }))
 
-  pub not_forgiven : (end : FlightEnd) (z : Stop) (new : LogState) → BrokeOff end accesses m o → (is_fault_end end ≡ false) ⊎ AreStrict flying → IsCutResponse end → IsStopped end log1 new z → IsBrokenOff p z (reported_by bench state new sent got) new log.calls m0 o
-  not_forgiven (ends.Cut cut) (stop.Cut r) new broke not either is =
+  pub not_forgiven : length accesses ≤ flight_accesses bench.limits → (end : FlightEnd) (z : Stop) (new : LogState) → BrokeOff end accesses m o → (is_fault_end end ≡ false) ⊎ AreStrict flying → IsCutResponse end → IsStopped end log1 new z → IsBrokenOff p z (reported_by bench state new sent got) new log.calls m0 o
+  not_forgiven held (ends.Cut cut) (stop.Cut r) new broke not either is =
       let e = wait_ends cut r new.lines new.skipped broke is.cause (strict_at cut.response r.cause flying is.cause either not) is.accesses is.confirmed_is is.numbers in
       subst (λ (x : LogState). IsBrokenOff p (stop.Cut r) (reported_by bench state x sent got) x log.calls m0 o) (sym is.next)
       (record { ended = e.ended; stops = λ n left. record { so = e.stops n left } })
-  not_forgiven (ends.Cut cut) (stop.BenchFault issued confirmed) new broke not either is = absurd is
-  not_forgiven (ends.Cut cut) stop.ReplyBad new broke not either is = absurd is
-  not_forgiven (ends.Cut cut) stop.OutOfMemory new broke not either is = absurd is
-  not_forgiven ends.BenchFault z new broke not either is =
+  not_forgiven held (ends.Cut cut) (stop.BenchFault issued confirmed) new broke not either is = absurd is
+  not_forgiven held (ends.Cut cut) stop.ReplyBad new broke not either is = absurd is
+  not_forgiven held (ends.Cut cut) stop.OutOfMemory new broke not either is = absurd is
+  not_forgiven held ends.BenchFault z new broke not either is =
       let here : IsBrokenOff p (stop.BenchFault (length entries) log.confirmed) (reported_by bench state (record log1 { end = Some (stop.BenchFault (length entries) log.confirmed) }) sent got) (record log1 { end = Some (stop.BenchFault (length entries) log.confirmed) }) log.calls m0 o =
-      record { ended = bench_ends broke; stops = λ n left. record { so = tt } } in
+      record { ended = bench_ends held broke; stops = λ n left. record { so = tt } } in
       let at_z : IsBrokenOff p z (reported_by bench state (record log1 { end = Some z }) sent got) (record log1 { end = Some z }) log.calls m0 o =
       subst (λ (x : Stop). IsBrokenOff p x (reported_by bench state (record log1 { end = Some x }) sent got) (record log1 { end = Some x }) log.calls m0 o) (sym is.0) here in
       subst (λ (x : LogState). IsBrokenOff p z (reported_by bench state x sent got) x log.calls m0 o) (sym is.1) at_z
-  not_forgiven ends.ReplyBad z new broke not either is = absurd broke
+  not_forgiven held ends.ReplyBad z new broke not either is = absurd broke
 
 -- ---- the bench failed in the write of ABORT
 
@@ -141,7 +141,7 @@ module _ (p : Planner) (forgive : Bool) (bench : BenchReported) (state : Option 
       (let l = length-append s.made fly in let c = s.confirmed_is in omega (arith, l, c, high))
 
   -- ABORT alone was handed over after those that are confirmed
-  alone : (many sure : ℕ) → many ≡ log.confirmed + length fly + 1 → sure ≡ log.confirmed + length fly → AreTogether (drop sure (take many journal))
+  alone : (many sure : ℕ) → many ≡ log.confirmed + length fly + 1 → sure ≡ log.confirmed + length fly → AreTogether bench.limits (drop sure (take many journal))
   alone many sure many_is sure_is =
       let made_are : length (s.made ++ fly) ≡ sure = (let l = length-append s.made fly in let c = s.confirmed_is in omega (arith, l, c, sure_is)) in
       let all : length (s.made ++ fly) + 1 ≡ many = omega (arith, made_are, many_is, sure_is) in
@@ -160,7 +160,7 @@ module _ (p : Planner) (forgive : Bool) (bench : BenchReported) (state : Option 
   performed_ends : (many sure : ℕ) → many ≡ log.confirmed + length fly + 1 → sure ≡ log.confirmed + length fly → (count : ℕ) → log.confirmed + length fly ≤ count → count ≤ log.confirmed + length fly + 1 → ((w : Option ℕ) → HasPerformed journal count (began m0 w) q) → (entries : List Issued) →
       IsEnded p (stop.BenchFault many sure) (reported_by bench state (record log { entries = entries; confirmed = sure; end = Some (stop.BenchFault many sure) }) sent got) (take log.known log.results) m0 q
   performed_ends many sure is sure_is count low high part_is entries = record {
-    stands = λ w left. bench_fault p log.calls log.came many sure w m0 q s.fresh s.askable (later_still sure sure_is) (record {
+    stands = λ w left. bench_fault p bench.limits log.calls log.came many sure w m0 q s.fresh s.askable (later_still sure sure_is) (record {
       count = count;
       begun = count;
       count_is = (part_is w).count_is;

@@ -16,7 +16,7 @@ use Rattle.target_calls.specs.declared.journal.Part.TheVariants.{Leads, Skips}
 use Rattle.access_regs.specs.Journal.{is_early, making, numbered, steps_of}
 use Rattle.access_regs.specs.Kept.{Kept}
 use Rattle.access_calls.specs.Issued.{kept_of}
-use Rattle.access_calls.specs.Standing.{WhereObservable}
+use Rattle.access_calls.specs.Standing.{WhereObservable, flight_accesses}
 use Rattle.access_calls.specs.declared.issued.Issued.{Issued}
 use Rattle.access_calls.specs.declared.stop.Stop.{Stop}
 use Rattle.batch_packer.specs.Flying.{CanFly}
@@ -116,16 +116,16 @@ module _ (p : Planner) (forgive : Bool) (log : LogState) (asked : AccessUnit) (k
 
   -- ---- it ended the access
 
-  broken_where : (x y : Option BenchState) (bench : BenchReported) (sent got : List ℕ) (end : FlightEnd) (z : Stop) (new : LogState) → WhereObservable x (λ m. IsTrying p forgive log asked k t made rest m0 m) → StepsTo (λ m o. CanFly m → BrokeOff end xs m o) x y → (forgive ≡ false) ⊎ (is_fault_end end ≡ false) → IsCutResponse end →
+  broken_where : (x y : Option BenchState) (bench : BenchReported) (sent got : List ℕ) (end : FlightEnd) (z : Stop) (new : LogState) → length xs ≤ flight_accesses bench.limits → WhereObservable x (λ m. IsTrying p forgive log asked k t made rest m0 m) → StepsTo (λ m o. CanFly m → BrokeOff end xs m o) x y → (forgive ≡ false) ⊎ (is_fault_end end ≡ false) → IsCutResponse end →
       IsStopped end (with_flight log (flight_entries forgive log asked xs)) new z → WhereObservable y (λ o. IsBrokenOff p z (reported_by bench y new sent got) new log.calls m0 o)
-  broken_where None y bench sent got end z new h broke fault either is = absurd h
-  broken_where (Some m) None bench sent got end z new h broke fault either is = absurd broke
-  broken_where (Some m) (Some o) bench sent got end z new h broke fault either is =
+  broken_where None y bench sent got end z new held h broke fault either is = absurd h
+  broken_where (Some m) None bench sent got end z new held h broke fault either is = absurd broke
+  broken_where (Some m) (Some o) bench sent got end z new held h broke fault either is =
       let i = issuing p forgive log asked k t made leads last b rest more m0 m h n few bounded in
       let count : log.confirmed + length (flight_entries forgive log asked xs) ≡ length (log.entries ++ map kept_of (flight_entries forgive log asked xs)) =
       (let a = length-append log.entries (map kept_of (flight_entries forgive log asked xs)) in let b : length (map kept_of (flight_entries forgive log asked xs)) ≡ length (flight_entries forgive log asked xs) = length-map (flight_entries forgive log asked xs) kept_of in let r = at_rest_count p log _ m0 m i in omega (arith, a, b, r)) in
       not_forgiven p forgive bench (Some o) sent got log (log.entries ++ map kept_of (flight_entries forgive log asked xs)) xs (flight_entries forgive log asked xs) _ m0 m o (sending p forgive log asked k t made leads last b rest more m0 m h n few bounded)
-      (entries_more p log (flight_entries forgive log asked xs) _ m0 m i) count end z new (broke h.issuing.flies) (free_or (forgive ≡ false) (is_fault_end end ≡ false) _ fault (λ none. subst (λ (c : Bool). AreStrict (numbered (length log.calls - 1) c (steps_of_unit asked xs))) (sym none) (unit_strict (length log.calls - 1) asked xs))) either is
+      (entries_more p log (flight_entries forgive log asked xs) _ m0 m i) count held end z new (broke h.issuing.flies) (free_or (forgive ≡ false) (is_fault_end end ≡ false) _ fault (λ none. subst (λ (c : Bool). AreStrict (numbered (length log.calls - 1) c (steps_of_unit asked xs))) (sym none) (unit_strict (length log.calls - 1) asked xs))) either is
 
   uncleared_where : (x y u : Option BenchState) (bench : BenchReported) (sent got : List ℕ) (end end' : FlightEnd) (z : Stop) (new : LogState) → forgive ≡ true → WhereObservable x (λ m. IsTrying p forgive log asked k t made rest m0 m) → StepsTo (λ m o. CanFly m → BrokeOff end xs m o) x y → is_fault_end end ≡ true →
       StepsTo (λ m o. CanFly m → CanClear o) x y → StepsTo (λ m o. CanClear m → work_of m.probe + 1 < 2 ^ 64 → ClearedOff end' m o) y u → IsStopped end' (with_abort log (flight_entries forgive log asked xs) (abort_entry log asked (made ++ xs))) new z →
@@ -176,9 +176,9 @@ module _ (p : Planner) (forgive : Bool) (x x' y : Option BenchState) (log log1 :
             (subst (λ (w : Option BenchState). StepsTo (λ m o. CanFly m → CanClear o) w y) same clear) (subst (λ (w : Option BenchState). StepsTo (λ m o. CanClear m → work_of m.probe + 1 < 2 ^ 64 → HasDone (Commands forgives) word m o) w z) same' d) came;
       })
 
-  pub flight_broke : (bench : BenchReported) (sent got : List ℕ) (end : FlightEnd) (z : Stop) (new : LogState) → StepsTo (λ m o. CanFly m → BrokeOff end accesses m o) x' y → (forgive ≡ false) ⊎ (is_fault_end end ≡ false) → IsCutResponse end → IsStopped end log1 new z → HasBroken p z (reported_by bench y new sent got) new log.calls m0
-  flight_broke bench sent got end z new broke fault either is =
-      let w = broken_where p forgive log asked k t made leads last b rest more m0 n few bounded x y bench sent got end z new h.so (steps_same (λ l m o. CanFly m → BrokeOff end l m o) x x' y (leads ++ last ∷ []) accesses same are broke) fault either
+  pub flight_broke : (bench : BenchReported) (sent got : List ℕ) (end : FlightEnd) (z : Stop) (new : LogState) → length accesses ≤ flight_accesses bench.limits → StepsTo (λ m o. CanFly m → BrokeOff end accesses m o) x' y → (forgive ≡ false) ⊎ (is_fault_end end ≡ false) → IsCutResponse end → IsStopped end log1 new z → HasBroken p z (reported_by bench y new sent got) new log.calls m0
+  flight_broke bench sent got end z new held broke fault either is =
+      let w = broken_where p forgive log asked k t made leads last b rest more m0 n few bounded x y bench sent got end z new (subst (λ (l : List RegAccess). length l ≤ flight_accesses bench.limits) are held) h.so (steps_same (λ l m o. CanFly m → BrokeOff end l m o) x x' y (leads ++ last ∷ []) accesses same are broke) fault either
       (subst (λ (l : LogState). IsStopped end l new z) log_is is) in
       record { ended = ended_in p y z (reported_by bench y new sent got) new log.calls m0 w; stops = λ n left. stops_in p y z (reported_by bench y new sent got) new log.calls m0 n w left }
 

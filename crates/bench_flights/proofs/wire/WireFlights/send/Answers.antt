@@ -2,6 +2,7 @@ use Rattle.bench_flights.proofs.FlightCause.{send_cause}
 use Rattle.bench_flights.proofs.FormLemmas.{clears_after, resumes}
 use Rattle.bench_flights.proofs.SendLemmas.{room_after, send_broke, send_came, small_words}
 use Rattle.bench_flights.proofs.RoomLemmas.{cuts_few}
+use Rattle.bench_flights.proofs.HeldLemmas.{accesses_held}
 use Rattle.bench_flights.proofs.wire.WireFlights.send.Goals as goal
 
 pub returns-clause-came : goal.returns-clause-came
@@ -42,3 +43,7 @@ returns-clause-clear g c =
 
 pub returns-clause-packets : goal.returns-clause-packets
 returns-clause-packets g c = cuts_few _ _ c.args.self.now.flight.limits c.args.self.now.flight.accesses c.send.new.slots.values c.send.new.self.end c.send.result c.send.ensures.answer (c.send.ensures.flown c.requires.usable)
+
+pub returns-clause-held : goal.returns-clause-held
+returns-clause-held g c =
+    accesses_held c.args.self.now.flight.limits _ _ c.args.self.now.flight.accesses c.args.self.now.limits c.args.self.now.held c.args.self.now.within c.send.ensures.keeps.limits

@@ -16,10 +16,10 @@ returns-in-Ok-clause-on g c =
     (has_come g.F.Flights.planner _ _ old.log _ rest _ m0 h c.in-Ok.ensures.came old.sound.results_long few)
 
 pub returns-in-Err-clause-broke : goal.returns-in-Err-clause-broke
-returns-in-Err-clause-broke g c = λ m0 rest h. has_ended g.F.Flights.planner _ _ _ _ _ c.args.self.now.log _ rest m0 c.in-Err.end c.stop.result c.stop.new.self h c.in-Err.ensures.broke c.stop.ensures.answer
+returns-in-Err-clause-broke g c = λ m0 rest h. has_ended g.F.Flights.planner _ _ _ _ _ c.args.self.now.log _ rest m0 c.in-Err.end c.stop.result c.stop.new.self c.send.ensures.held h c.in-Err.ensures.broke c.stop.ensures.answer
 
 pub returns-in-Err-clause-stops : goal.returns-in-Err-clause-stops
-returns-in-Err-clause-stops g c = λ m0 rest answered h left. stops_there g.F.Flights.planner _ _ _ _ _ c.args.self.now.log _ rest m0 c.in-Err.end c.stop.result c.stop.new.self answered h c.in-Err.ensures.broke c.stop.ensures.answer left
+returns-in-Err-clause-stops g c = λ m0 rest answered h left. stops_there g.F.Flights.planner _ _ _ _ _ c.args.self.now.log _ rest m0 c.in-Err.end c.stop.result c.stop.new.self answered c.send.ensures.held h c.in-Err.ensures.broke c.stop.ensures.answer left
 
 pub returns-in-Ok-clause-last : goal.returns-in-Ok-clause-last
 returns-in-Ok-clause-last g c = λ m0 rest front e more h is at some. last_value g.F.Flights.planner _ _ c.args.self.now.log _ rest _ m0 front e more h c.in-Ok.ensures.came is at some

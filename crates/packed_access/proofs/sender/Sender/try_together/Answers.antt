@@ -30,7 +30,7 @@ returns-then-not-can_resume-clause-broke g c = λ m0 asked k t made rest more h 
       | else-forgive w ↦ inl w.if-forgive.false
     ] in
     flight_broke g.F.Flights.planner c.args.forgive _ _ _ old.log c.issue.new.self asked k t made c.args.leads.now c.args.last c.args.ends rest more _ m0 h n (c.push.ensures.state ∙ c.push_all.ensures.state) are (one_few _ c.requires.one) few log
-    _ _ _ c.in-Err.end c.stop.result c.stop.new.self c.in-Err.ensures.broke free c.in-Err.ensures.response c.stop.ensures.answer
+    _ _ _ c.in-Err.end c.stop.result c.stop.new.self c.send.ensures.held c.in-Err.ensures.broke free c.in-Err.ensures.response c.stop.ensures.answer
 
 pub returns-in-Ok-command-clause-on : goal.returns-in-Ok-command-clause-on
 returns-in-Ok-command-clause-on g c = λ m0 asked k t made rest more h n.
