@@ -10,6 +10,7 @@ use Rattle.target_calls.specs.declared.calls.Value.{Value}
 use Rattle.target_calls.specs.NeedPoints.{Costs}
 use Rattle.target_calls.specs.World.{World}
 use Rattle.sequence_trees.specs.Trees.{CodeSteps, SetTrees, NoSteps, steps_named}
+use Rattle.access_calls.specs.Reported.{AccessView}
 use Rattle.sequence_rules.specs.Calls.{given, guarded, missing}
 use Rattle.sequence_rules.specs.Late.{Late, late}
 use Rattle.sequence_rules.specs.Machine.{State, Out}
@@ -46,10 +47,10 @@ module _ (cost : Costs) (w : World) (turn_us : ℕ) (set : SetTrees) where
       → debugged_one cost w turn_us set (stmt_tree (get_or xs i d)) s ≡ Ok (tt, r) → total ≡ debugged (late cost w) turn_us set (code_trees (drop (i + 1) xs)) r
   debug_on total xs i d s r same h is = same ∙ debug_more xs i d s h ∙ ap (λ o. o >>= λ y. debugged (late cost w) turn_us set (code_trees (drop (i + 1) xs)) y.1) is
 
-  pub debug_fail : (lines : ℕ) (total : O (Unit {0})) (xs : List statement.Stmt) (i : ℕ) (d : statement.Stmt) (s r : S) (e : End) → total ≡ debugged (late cost w) turn_us set (code_trees (drop i xs)) s → i < length xs
-      → EndsLate w lines e r (debugged_one cost w turn_us set (stmt_tree (get_or xs i d)) s) → EndsLate w lines e r total
-  debug_fail lines total xs i d s r e same h is =
-      rw (same ∙ debug_more xs i d s h) (ends_on w lines e r (debugged_one cost w turn_us set (stmt_tree (get_or xs i d)) s) _ is (λ y. later_debugged cost w turn_us set (code_trees (drop (i + 1) xs)) y.1))
+  pub debug_fail : (reached : AccessView) (total : O (Unit {0})) (xs : List statement.Stmt) (i : ℕ) (d : statement.Stmt) (s r : S) (e : End) → total ≡ debugged (late cost w) turn_us set (code_trees (drop i xs)) s → i < length xs
+      → EndsLate w reached e r (debugged_one cost w turn_us set (stmt_tree (get_or xs i d)) s) → EndsLate w reached e r total
+  debug_fail reached total xs i d s r e same h is =
+      rw (same ∙ debug_more xs i d s h) (ends_on w reached e r (debugged_one cost w turn_us set (stmt_tree (get_or xs i d)) s) _ is (λ y. later_debugged cost w turn_us set (code_trees (drop (i + 1) xs)) y.1))
 
   pub debug_over : (total : O (Unit {0})) (xs : List statement.Stmt) (i : ℕ) (s : S) → total ≡ debugged (late cost w) turn_us set (code_trees (drop i xs)) s → length xs ≤ i → total ≡ Ok (tt, s)
   unfolding debugged
@@ -59,9 +60,9 @@ module _ (cost : Costs) (w : World) (turn_us : ℕ) (set : SetTrees) where
       → debugged_one cost w turn_us set (stmt_tree a) s ≡ Ok (tt, r) → total ≡ debugged (late cost w) turn_us set (code_trees (drop (i + 1) xs)) r
   debug_next total xs i d a s r same h item is = debug_on total xs i d s r same h (subst (λ x. debugged_one cost w turn_us set (stmt_tree x) s ≡ Ok (tt, r)) item is)
 
-  pub debug_end : (lines : ℕ) (total : O (Unit {0})) (xs : List statement.Stmt) (i : ℕ) (d a : statement.Stmt) (s r : S) (e : End) → total ≡ debugged (late cost w) turn_us set (code_trees (drop i xs)) s → i < length xs → a ≡ get_or xs i d
-      → EndsLate w lines e r (debugged_one cost w turn_us set (stmt_tree a) s) → EndsLate w lines e r total
-  debug_end lines total xs i d a s r e same h item is = debug_fail lines total xs i d s r e same h (subst (λ x. EndsLate w lines e r (debugged_one cost w turn_us set (stmt_tree x) s)) item is)
+  pub debug_end : (reached : AccessView) (total : O (Unit {0})) (xs : List statement.Stmt) (i : ℕ) (d a : statement.Stmt) (s r : S) (e : End) → total ≡ debugged (late cost w) turn_us set (code_trees (drop i xs)) s → i < length xs → a ≡ get_or xs i d
+      → EndsLate w reached e r (debugged_one cost w turn_us set (stmt_tree a) s) → EndsLate w reached e r total
+  debug_end reached total xs i d a s r e same h item is = debug_fail reached total xs i d s r e same h (subst (λ x. EndsLate w reached e r (debugged_one cost w turn_us set (stmt_tree x) s)) item is)
 
   -- ---- one debug variable
 
@@ -69,9 +70,9 @@ module _ (cost : Costs) (w : World) (turn_us : ℕ) (set : SetTrees) where
   unfolding stored guarded late
   defined_on name tree s r now v is at = rw is (rw at refl)
 
-  pub defined_first : (lines : ℕ) (e : End) (name : Name) (tree : Tree) (s now : S) → EndsLate w lines e now (value (late cost w) (λ n q. sequence_at (late cost w) turn_us set 0 n q) tree s) → EndsLate w lines e now (defined cost w turn_us set name tree s)
-  defined_first lines e name tree s now h =
-      ends_on w lines e now (value (late cost w) (λ n q. sequence_at (late cost w) turn_us set 0 n q) tree s) _ h (λ x. later_bind w x.1 (stored (late cost w) name x.0 x.1) _ (later_stored cost w name x.0 x.1) (λ y. later_ok w y.1 _))
+  pub defined_first : (reached : AccessView) (e : End) (name : Name) (tree : Tree) (s now : S) → EndsLate w reached e now (value (late cost w) (λ n q. sequence_at (late cost w) turn_us set 0 n q) tree s) → EndsLate w reached e now (defined cost w turn_us set name tree s)
+  defined_first reached e name tree s now h =
+      ends_on w reached e now (value (late cost w) (λ n q. sequence_at (late cost w) turn_us set 0 n q) tree s) _ h (λ x. later_bind w x.1 (stored (late cost w) name x.0 x.1) _ (later_stored cost w name x.0 x.1) (λ y. later_ok w y.1 _))
 
   -- ---- the run
 
@@ -84,18 +85,18 @@ module _ (cost : Costs) (w : World) (turn_us : ℕ) (set : SetTrees) where
   unfolding steps_at
   steps_found name s = given_steps (steps_named name set.sequences) s
 
-  pub run_on : (lines : ℕ) (start : List ℕ) (s r now : S) (result : Result (Unit {0}) End) (steps : CodeSteps) → debugged (late cost w) turn_us set set.debugvars s ≡ Ok (tt, r) → steps ≡ unwrap_or (steps_named start set.sequences) NoSteps
-      → MeansLate w lines result now (steps_result (late cost w) turn_us (λ n q. sequence_at (late cost w) turn_us set 31 n q) steps r) → MeansLate w lines result now (run_of (late cost w) turn_us set start s)
+  pub run_on : (reached : AccessView) (start : List ℕ) (s r now : S) (result : Result (Unit {0}) End) (steps : CodeSteps) → debugged (late cost w) turn_us set set.debugvars s ≡ Ok (tt, r) → steps ≡ unwrap_or (steps_named start set.sequences) NoSteps
+      → MeansLate w reached result now (steps_result (late cost w) turn_us (λ n q. sequence_at (late cost w) turn_us set 31 n q) steps r) → MeansLate w reached result now (run_of (late cost w) turn_us set start s)
   unfolding run_of
-  run_on lines start s r now result steps debug is h =
+  run_on reached start s r now result steps debug is h =
       let f : CodeSteps × S → O (Unit {0}) = λ y. steps_result (late cost w) turn_us (λ n q. sequence_at (late cost w) turn_us set 31 n q) y.0 y.1 in
       let found : (steps_at (late cost w) turn_us set start r >>= f) ≡ steps_result (late cost w) turn_us (λ n q. sequence_at (late cost w) turn_us set 31 n q) steps r =
       ap (λ o. o >>= f) (steps_found start r) ∙ ap (λ k. steps_result (late cost w) turn_us (λ n q. sequence_at (late cost w) turn_us set 31 n q) k r) (sym is) in
-      subst (λ o. MeansLate w lines result now o) (sym (ap (λ o. o >>= λ x. steps_at (late cost w) turn_us set start x.1 >>= f) debug ∙ found)) h
+      subst (λ o. MeansLate w reached result now o) (sym (ap (λ o. o >>= λ x. steps_at (late cost w) turn_us set start x.1 >>= f) debug ∙ found)) h
 
   -- the debug variables ended
-  pub run_first : (lines : ℕ) (start : List ℕ) (s now : S) (e : End) → EndsLate w lines e now (debugged (late cost w) turn_us set set.debugvars s) → EndsLate w lines e now (run_of (late cost w) turn_us set start s)
+  pub run_first : (reached : AccessView) (start : List ℕ) (s now : S) (e : End) → EndsLate w reached e now (debugged (late cost w) turn_us set set.debugvars s) → EndsLate w reached e now (run_of (late cost w) turn_us set start s)
   unfolding run_of
-  run_first lines start s now e h =
-      ends_on w lines e now (debugged (late cost w) turn_us set set.debugvars s) _ h
+  run_first reached start s now e h =
+      ends_on w reached e now (debugged (late cost w) turn_us set set.debugvars s) _ h
       (λ x. later_bind w x.1 (steps_at (late cost w) turn_us set start x.1) _ (later_steps_at cost w turn_us set start x.1) (λ y. later_done cost w turn_us (λ n q. sequence_at (late cost w) turn_us set 31 n q) y.0 y.1 (later_sequence cost w turn_us set 31)))

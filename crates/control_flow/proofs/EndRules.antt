@@ -1,19 +1,26 @@
 -- What an end is, for the exits of the code that closes a run.
 use Rattle.std.proofs.Common.{◌≡◌, ℕ, List, Some, Option, ap, subst}
 use Rattle.access_calls.proofs.KeepLemmas.{goes_same, goes_trans}
+use Rattle.access_calls.specs.Answers.{IsEnd, NoMemory}
 use Rattle.access_calls.specs.Left.{answered_at, answered_by}
 use Rattle.access_calls.specs.Reported.{AccessView}
 use Rattle.access_calls.specs.declared.stop.Stop.{Stop}
 use Rattle.access_calls.specs.declared.stop.Stop.TheVariants.{Cut, BenchFault, ReplyBad, OutOfMemory}
 use Rattle.control_flow.specs.Answers.{EndBy, HasLines, HasSinkCause}
 use Rattle.access_calls.specs.Endings.{ending_of}
-use Rattle.control_flow.specs.Closing.{ComesToEnd, NoWriteFault}
+use Rattle.control_flow.specs.Closing.{ComesToEnd, EndsBy, NoWriteFault}
 use Rattle.access_calls.specs.declared.ended.Ending.{Ending}
 use Rattle.access_calls.specs.declared.ended.Ending.TheVariants as e
-use Rattle.function_calls.proofs.Leaves.{left_on, stopped_end, stopped_ended}
-use Rattle.function_calls.specs.Ends.{EndsBy}
+use Rattle.function_calls.proofs.Leaves.{left_on}
 use Rattle.function_calls.specs.Lines.{AppendsLines}
 use Rattle.function_calls.proofs.WholeLines.{lines_none}
+
+-- the end that an access answers, where it takes no memory
+pub stopped_ended : (st : Stop) (end : Option Stop) → IsEnd end st → NoMemory st → EndsBy st end
+stopped_ended (Cut r) end is memory = is
+stopped_ended (BenchFault issued confirmed) end is memory = is
+stopped_ended ReplyBad end is memory = is
+stopped_ended OutOfMemory end is memory = absurd memory
 
 end_of : (st : Stop) (end : Option Stop) → EndsBy st end → EndBy (ending_of st) end
 end_of (Cut r) end h = h

@@ -11,11 +11,11 @@ use Rattle.target_calls.specs.declared.calls.Value.TheVariants.{Number}
 use Rattle.target_calls.specs.NeedPoints.{Costs}
 use Rattle.target_calls.specs.World.{World}
 use Rattle.access_calls.proofs.KeepLemmas.{goes_same, goes_trans}
-use Rattle.access_calls.specs.declared.stop.Stop.TheVariants.{OutOfMemory}
+use Rattle.access_calls.specs.Reported.{AccessView}
 use Rattle.sequence_rules.specs.declared.bindings.Binding.{Binding}
 use Rattle.sequence_rules.specs.Calls.{global}
 use Rattle.sequence_rules.specs.Late.{Late, late, Later}
-use Rattle.sequence_rules.specs.Machine.{State, Out, with_locals, with_variables}
+use Rattle.sequence_rules.specs.Machine.{State, Out, end_state, with_locals, with_variables}
 use Rattle.sequence_rules.specs.Steps.{turn, turns, counted, inside, poll_result, poll_result_at, repeat_result, block, steps_result, debugged, steps_at, sequence_at}
 use Rattle.sequence_rules.specs.Values.{value, stored, used_now, operands, result_of, truth_of, arguments, numbers_of, all_used, call_result, call_of, text_of}
 use Rattle.sequence_rules.proofs.Goes as g
@@ -23,7 +23,7 @@ use Rattle.sequence_rules.proofs.LateLemmas.{steady_late, later_same}
 use Rattle.sequence_rules.proofs.Made.{no_cost}
 use Rattle.sequence_rules.specs.Steady.{Goes}
 use Rattle.function_calls.specs.declared.end.End.{End}
-use Rattle.function_calls.specs.Ends.{EndsLate, Left}
+use Rattle.function_calls.specs.Ends.{EndsLate}
 use Rattle.function_calls.proofs.Leaves.{After, ends_on, later_bind, later_cond, later_ok, later_halt, later_use, later_all_used, later_both, later_global, later_ask, left_on}
 
 abbrev S : Type 0
@@ -105,34 +105,34 @@ later_steps_at cost w turn_us set name s = back w s _ (g.goes_steps_at (late cos
 
 -- ---- exits with more than one part after them
 
-pub operands_first : (cost : Costs) (w : World) (lines : ℕ) (e : End) (now : S) (out : O Value) (f : S → O Value) → EndsLate w lines e now out → ((s : S) → After w s (f s)) → EndsLate w lines e now (operands (late cost w) out f)
+pub operands_first : (cost : Costs) (w : World) (reached : AccessView) (e : End) (now : S) (out : O Value) (f : S → O Value) → EndsLate w reached e now out → ((s : S) → After w s (f s)) → EndsLate w reached e now (operands (late cost w) out f)
 unfolding operands
-operands_first cost w lines e now out f h k = ends_on w lines e now out _ h (λ x. later_bind w x.1 (f x.1) _ (k x.1) (λ y. later_both cost w x.0 y.0 y.1))
+operands_first cost w reached e now out f h k = ends_on w reached e now out _ h (λ x. later_bind w x.1 (f x.1) _ (k x.1) (λ y. later_both cost w x.0 y.0 y.1))
 
 -- the arguments of a call ended
-pub call_first : (cost : Costs) (w : World) (lines : ℕ) (e : End) (now : S) (seq : List ℕ → S → O (Unit {0})) (name : Name) (args : ArgTrees) (out : O (List Value)) → CallsLater w seq → EndsLate w lines e now out → EndsLate w lines e now (call_of (late cost w) seq name args out)
+pub call_first : (cost : Costs) (w : World) (reached : AccessView) (e : End) (now : S) (seq : List ℕ → S → O (Unit {0})) (name : Name) (args : ArgTrees) (out : O (List Value)) → CallsLater w seq → EndsLate w reached e now out → EndsLate w reached e now (call_of (late cost w) seq name args out)
 unfolding call_of numbers_of
-call_first cost w lines e now seq name args out q h =
-    ends_on w lines e now (out >>= λ x. all_used (late cost w) x.0 x.1) _
-    (ends_on w lines e now out _ h (λ x. later_all_used cost w x.0 x.1))
+call_first cost w reached e now seq name args out q h =
+    ends_on w reached e now (out >>= λ x. all_used (late cost w) x.0 x.1) _
+    (ends_on w reached e now out _ h (λ x. later_all_used cost w x.0 x.1))
     (λ x. back w x.1 _ (g.goes_guarded (late cost w) (Later w) (steady_late cost w) _ _ x.1 (go w x.1 _ (later_called cost w seq (function_named name.text) (text_of args) x.0 x.1 q))))
 
 later_turn_rest : (w : World) (n : ℕ) (body : S → O (Unit {0})) (s : S) → ((r : S) → After w r (body r)) → After w s (cond (nat_eq n 0) (Ok (false, s)) (body s >>= λ y. Ok (true, y.1)))
 later_turn_rest w n body s k = later_cond w s (nat_eq n 0) _ _ (later_ok w s false) (later_bind w s (body s) _ (k s) (λ y. later_ok w y.1 true))
 
-pub turn_test : (cost : Costs) (w : World) (lines : ℕ) (e : End) (now s r : S) (test : S → O Value) (body : S → O (Unit {0})) → counted (late cost w) s ≡ Ok (tt, r) → EndsLate w lines e now (used_now (late cost w) (test r)) → ((r : S) → After w r (body r))
-    → EndsLate w lines e now (turn (late cost w) test body s)
+pub turn_test : (cost : Costs) (w : World) (reached : AccessView) (e : End) (now s r : S) (test : S → O Value) (body : S → O (Unit {0})) → counted (late cost w) s ≡ Ok (tt, r) → EndsLate w reached e now (used_now (late cost w) (test r)) → ((r : S) → After w r (body r))
+    → EndsLate w reached e now (turn (late cost w) test body s)
 unfolding turn
-turn_test cost w lines e now s r test body is h l = rw is (ends_on w lines e now (used_now (late cost w) (test r)) _ h (λ x. later_turn_rest w x.0 body x.1 l))
+turn_test cost w reached e now s r test body is h l = rw is (ends_on w reached e now (used_now (late cost w) (test r)) _ h (λ x. later_turn_rest w x.0 body x.1 l))
 
 -- memory was refused after a part
-pub refused_after : {A B : Type 0} (w : World) (lines : ℕ) (now : S) (out : O A) (f : A × S → O B) (x : A) → out ≡ Ok (x, now) → ((y : A × S) → After w y.1 (f y)) → Left w lines OutOfMemory now (out >>= f)
-refused_after w lines now out f x is k = record { later = rw is ((k (x, now)).so); first = tt }
+pub refused_after : {A B : Type 0} (w : World) (now : S) (out : O A) (f : A × S → O B) (x : A) → out ≡ Ok (x, now) → ((y : A × S) → After w y.1 (f y)) → Later w now.rest (end_state (out >>= f)).rest
+refused_after w now out f x is k = rw is ((k (x, now)).so)
 
 -- a poll was counted, and the look-up of `__dp` ended
-pub polled_first : (cost : Costs) (w : World) (lines : ℕ) (e : End) (form : ℕ × ℕ) (n : ℕ) (s k now : S) → counted (late cost w) s ≡ Ok (tt, k) → EndsLate w lines e now (global (late cost w) (codes "__dp") k) → EndsLate w lines e now (poll_result (late cost w) form n s)
+pub polled_first : (cost : Costs) (w : World) (reached : AccessView) (e : End) (form : ℕ × ℕ) (n : ℕ) (s k now : S) → counted (late cost w) s ≡ Ok (tt, k) → EndsLate w reached e now (global (late cost w) (codes "__dp") k) → EndsLate w reached e now (poll_result (late cost w) form n s)
 unfolding poll_result
-polled_first cost w lines e form n s k now is h = rw is (ends_on w lines e now (global (late cost w) (codes "__dp") k) _ h (λ d. later_polled_at cost w form n d.0 d.1))
+polled_first cost w reached e form n s k now is h = rw is (ends_on w reached e now (global (late cost w) (codes "__dp") k) _ h (λ d. later_polled_at cost w form n d.0 d.1))
 
 -- a number is itself, and nothing is lost
 pub late_number : (cost : Costs) (w : World) (n : ℕ) → (late cost w).number n ≡ Number n

@@ -10,17 +10,17 @@ use Rattle.target_calls.specs.declared.calls.Value.{Value}
 use Rattle.target_calls.specs.declared.calls.Value.TheVariants.{Number}
 use Rattle.target_calls.specs.NeedPoints.{Costs}
 use Rattle.target_calls.specs.World.{World}
-use Rattle.access_calls.specs.declared.stop.Stop.TheVariants.{OutOfMemory}
+use Rattle.access_calls.specs.Reported.{AccessView}
 use Rattle.sequence_rules.specs.declared.bindings.Binding.{Binding}
-use Rattle.sequence_rules.specs.Late.{Late, late}
-use Rattle.sequence_rules.specs.Machine.{State, Out, with_locals, with_variables}
+use Rattle.sequence_rules.specs.Late.{Late, late, Later}
+use Rattle.sequence_rules.specs.Machine.{State, Out, end_state, with_locals, with_variables}
 use Rattle.sequence_rules.specs.Variables.{bound, value_named, set_in}
 use Rattle.sequence_rules.specs.Values.{argument, arguments, chained}
 use Rattle.sequence_rules.specs.Steps.{in_order, counted, after_counted, declared, inside, block, step, steps_result, turn, turns, sequence_result, sequence_at}
 use Rattle.sequence_rules.specs.Steps as steps
 use Rattle.sequence_rules.proofs.LoopLemmas as loop
 use Rattle.function_calls.specs.declared.end.End.{End}
-use Rattle.function_calls.specs.Ends.{EndsLate, Left, MeansLate}
+use Rattle.function_calls.specs.Ends.{EndsLate, MeansLate}
 use Rattle.function_calls.proofs.Leaves.{After, ends_on, later_cond, later_ok}
 use Rattle.control_flow.proofs.Exits.{CallsLater, later_arguments, later_block, later_done, later_turns, later_variables}
 
@@ -47,42 +47,42 @@ module _ (cost : Costs) (w : World) where
 
   -- ---- an item ended
 
-  pub args_fail : (seq : List ℕ → S → O (Unit {0})) (lines : ℕ) (e : End) (total : O (List Value)) (xs : List Arg) (i : ℕ) (d a : Arg) (got : List Value) (s r : S) → CallsLater w seq → total ≡ arguments (late cost w) seq (arg_trees (drop i xs)) got s → i < length xs → a ≡ get_or xs i d
-      → EndsLate w lines e r (argument (late cost w) seq (arg_tree a) got s) → EndsLate w lines e r total
+  pub args_fail : (seq : List ℕ → S → O (Unit {0})) (reached : AccessView) (e : End) (total : O (List Value)) (xs : List Arg) (i : ℕ) (d a : Arg) (got : List Value) (s r : S) → CallsLater w seq → total ≡ arguments (late cost w) seq (arg_trees (drop i xs)) got s → i < length xs → a ≡ get_or xs i d
+      → EndsLate w reached e r (argument (late cost w) seq (arg_tree a) got s) → EndsLate w reached e r total
   unfolding chained
-  args_fail seq lines e total xs i d a got s r q same h item is =
-      rw (same ∙ loop.args_more (late cost w) seq xs i d got s h) (ends_on w lines e r (argument (late cost w) seq (arg_tree (get_or xs i d)) got s) _ (subst (λ x. EndsLate w lines e r (argument (late cost w) seq (arg_tree x) got s)) item is) (λ x. later_arguments cost w seq (arg_trees (drop (i + 1) xs)) x.0 x.1 q))
+  args_fail seq reached e total xs i d a got s r q same h item is =
+      rw (same ∙ loop.args_more (late cost w) seq xs i d got s h) (ends_on w reached e r (argument (late cost w) seq (arg_tree (get_or xs i d)) got s) _ (subst (λ x. EndsLate w reached e r (argument (late cost w) seq (arg_tree x) got s)) item is) (λ x. later_arguments cost w seq (arg_trees (drop (i + 1) xs)) x.0 x.1 q))
 
-  pub block_fail : (seq : List ℕ → S → O (Unit {0})) (turn_us lines : ℕ) (e : End) (total : O (Unit {0})) (xs : List statement.Stmt) (i : ℕ) (d a : statement.Stmt) (s r : S) → CallsLater w seq → total ≡ block (late cost w) turn_us seq (code_trees (drop i xs)) s → i < length xs → a ≡ get_or xs i d
-      → EndsLate w lines e r (steps.statement (late cost w) turn_us seq (stmt_tree a) s) → EndsLate w lines e r total
+  pub block_fail : (seq : List ℕ → S → O (Unit {0})) (turn_us : ℕ) (reached : AccessView) (e : End) (total : O (Unit {0})) (xs : List statement.Stmt) (i : ℕ) (d a : statement.Stmt) (s r : S) → CallsLater w seq → total ≡ block (late cost w) turn_us seq (code_trees (drop i xs)) s → i < length xs → a ≡ get_or xs i d
+      → EndsLate w reached e r (steps.statement (late cost w) turn_us seq (stmt_tree a) s) → EndsLate w reached e r total
   unfolding in_order
-  block_fail seq turn_us lines e total xs i d a s r q same h item is =
-      rw (same ∙ loop.block_more (late cost w) seq turn_us xs i d s h) (ends_on w lines e r (steps.statement (late cost w) turn_us seq (stmt_tree (get_or xs i d)) s) _ (subst (λ x. EndsLate w lines e r (steps.statement (late cost w) turn_us seq (stmt_tree x) s)) item is) (λ x. later_block cost w turn_us seq (code_trees (drop (i + 1) xs)) x.1 q))
+  block_fail seq turn_us reached e total xs i d a s r q same h item is =
+      rw (same ∙ loop.block_more (late cost w) seq turn_us xs i d s h) (ends_on w reached e r (steps.statement (late cost w) turn_us seq (stmt_tree (get_or xs i d)) s) _ (subst (λ x. EndsLate w reached e r (steps.statement (late cost w) turn_us seq (stmt_tree x) s)) item is) (λ x. later_block cost w turn_us seq (code_trees (drop (i + 1) xs)) x.1 q))
 
-  pub done_fail : (seq : List ℕ → S → O (Unit {0})) (turn_us lines : ℕ) (e : End) (total : O (Unit {0})) (xs : List CheckedStep) (i : ℕ) (d a : CheckedStep) (s r : S) → CallsLater w seq → total ≡ steps_result (late cost w) turn_us seq (steps_tree (drop i xs)) s → i < length xs → a ≡ get_or xs i d
-      → EndsLate w lines e r (step (late cost w) turn_us seq (step_tree a) s) → EndsLate w lines e r total
+  pub done_fail : (seq : List ℕ → S → O (Unit {0})) (turn_us : ℕ) (reached : AccessView) (e : End) (total : O (Unit {0})) (xs : List CheckedStep) (i : ℕ) (d a : CheckedStep) (s r : S) → CallsLater w seq → total ≡ steps_result (late cost w) turn_us seq (steps_tree (drop i xs)) s → i < length xs → a ≡ get_or xs i d
+      → EndsLate w reached e r (step (late cost w) turn_us seq (step_tree a) s) → EndsLate w reached e r total
   unfolding in_order
-  done_fail seq turn_us lines e total xs i d a s r q same h item is =
-      rw (same ∙ loop.done_more (late cost w) seq turn_us xs i d s h) (ends_on w lines e r (step (late cost w) turn_us seq (step_tree (get_or xs i d)) s) _ (subst (λ x. EndsLate w lines e r (step (late cost w) turn_us seq (step_tree x) s)) item is) (λ x. later_done cost w turn_us seq (steps_tree (drop (i + 1) xs)) x.1 q))
+  done_fail seq turn_us reached e total xs i d a s r q same h item is =
+      rw (same ∙ loop.done_more (late cost w) seq turn_us xs i d s h) (ends_on w reached e r (step (late cost w) turn_us seq (step_tree (get_or xs i d)) s) _ (subst (λ x. EndsLate w reached e r (step (late cost w) turn_us seq (step_tree x) s)) item is) (λ x. later_done cost w turn_us seq (steps_tree (drop (i + 1) xs)) x.1 q))
 
-  pub turns_fail : (test : S → O Value) (body : S → O (Unit {0})) (lines : ℕ) (e : End) (total : O (Unit {0})) (left : ℕ) (s now : S) → ((r : S) → After w r (test r)) → ((r : S) → After w r (body r)) → total ≡ turns (late cost w) test body left s → 0 < left
-      → EndsLate w lines e now (turn (late cost w) test body s) → EndsLate w lines e now total
-  turns_fail test body lines e total left s now k l same pos h =
-      rw (same ∙ loop.turns_more (late cost w) test body left s pos) (ends_on w lines e now (turn (late cost w) test body s) _ h (λ x. later_cond w x.1 x.0 _ _ (later_turns cost w test body (left - 1) x.1 k l) (later_ok w x.1 tt)))
+  pub turns_fail : (test : S → O Value) (body : S → O (Unit {0})) (reached : AccessView) (e : End) (total : O (Unit {0})) (left : ℕ) (s now : S) → ((r : S) → After w r (test r)) → ((r : S) → After w r (body r)) → total ≡ turns (late cost w) test body left s → 0 < left
+      → EndsLate w reached e now (turn (late cost w) test body s) → EndsLate w reached e now total
+  turns_fail test body reached e total left s now k l same pos h =
+      rw (same ∙ loop.turns_more (late cost w) test body left s pos) (ends_on w reached e now (turn (late cost w) test body s) _ h (λ x. later_cond w x.1 x.0 _ _ (later_turns cost w test body (left - 1) x.1 k l) (later_ok w x.1 tt)))
 
-  pub entered_fail : (body : S → O (Unit {0})) (lines : ℕ) (e : End) (s r q : S) → r ≡ with_locals s [] → EndsLate w lines e q (body r) → EndsLate w lines e q (sequence_result (late cost w) body s)
+  pub entered_fail : (body : S → O (Unit {0})) (reached : AccessView) (e : End) (s r q : S) → r ≡ with_locals s [] → EndsLate w reached e q (body r) → EndsLate w reached e q (sequence_result (late cost w) body s)
   unfolding sequence_result
-  entered_fail body lines e s r q none h = ends_on w lines e q (body (with_locals s [])) _ (subst (λ x. EndsLate w lines e q (body x)) none h) (λ x. later_variables w x.1 _ s.locals)
+  entered_fail body reached e s r q none h = ends_on w reached e q (body (with_locals s [])) _ (subst (λ x. EndsLate w reached e q (body x)) none h) (λ x. later_variables w x.1 _ s.locals)
 
   -- memory was refused for a declaration
-  pub declare_refused : (name : Name) (f : S → O Value) (lines : ℕ) (s k r o : S) (v : Value) → counted (late cost w) s ≡ Ok (tt, k) → f k ≡ Ok (v, r) → o ≡ r → Left w lines OutOfMemory o (after_counted (late cost w) (λ q. declared (late cost w) name (f q)) s)
+  pub declare_refused : (name : Name) (f : S → O Value) (s k r o : S) (v : Value) → counted (late cost w) s ≡ Ok (tt, k) → f k ≡ Ok (v, r) → o ≡ r → Later w o.rest (end_state (after_counted (late cost w) (λ q. declared (late cost w) name (f q)) s)).rest
   unfolding after_counted declared
-  declare_refused name f lines s k r o v h i j = record { later = rw h (rw i (rw j ((later_variables w r r.globals (r.locals ++ bound name.text v ∷ [])).so))); first = tt }
+  declare_refused name f s k r o v h i j = rw h (rw i (rw j ((later_variables w r r.globals (r.locals ++ bound name.text v ∷ [])).so)))
 
   -- the value of a declaration ended
-  pub declare_first : (name : Name) (f : S → O Value) (lines : ℕ) (e : End) (s k now : S) → counted (late cost w) s ≡ Ok (tt, k) → EndsLate w lines e now (f k) → EndsLate w lines e now (after_counted (late cost w) (λ q. declared (late cost w) name (f q)) s)
+  pub declare_first : (name : Name) (f : S → O Value) (reached : AccessView) (e : End) (s k now : S) → counted (late cost w) s ≡ Ok (tt, k) → EndsLate w reached e now (f k) → EndsLate w reached e now (after_counted (late cost w) (λ q. declared (late cost w) name (f q)) s)
   unfolding after_counted declared
-  declare_first name f lines e s k now h i = rw h (ends_on w lines e now (f k) _ i (λ x. later_variables w x.1 x.1.globals (x.1.locals ++ bound name.text x.0 ∷ [])))
+  declare_first name f reached e s k now h i = rw h (ends_on w reached e now (f k) _ i (λ x. later_variables w x.1 x.1.globals (x.1.locals ++ bound name.text x.0 ∷ [])))
 
   -- a called sequence gives back; no value is used
   pub entered_as : (body : S → O (Unit {0})) (s r q p : S) (dp ap control : Value) (outer : List (Binding Value)) → r ≡ with_locals s [] → body r ≡ Ok (tt, q)
@@ -96,9 +96,9 @@ module _ (cost : Costs) (w : World) where
   unfolding late
   careless = refl
 
-  pub sequence_on : (turn_us : ℕ) (set : SetTrees) (lines d : ℕ) (name : List ℕ) (s now : S) (result : Result (Unit {0}) End) (steps : CodeSteps) → ¬ (d ≡ 0) → steps ≡ unwrap_or (steps_named name set.sequences) NoSteps
-      → MeansLate w lines result now (sequence_result (late cost w) (λ r. steps_result (late cost w) turn_us (λ n q. sequence_at (late cost w) turn_us set (d - 1) n q) steps r) s)
-      → MeansLate w lines result now (sequence_at (late cost w) turn_us set d name s)
-  sequence_on turn_us set lines d name s now result steps some is h =
-      subst (λ o. MeansLate w lines result now o) (ap (λ k. sequence_result (late cost w) (λ r. steps_result (late cost w) turn_us (λ n q. sequence_at (late cost w) turn_us set (d - 1) n q) k r) s) is
+  pub sequence_on : (turn_us : ℕ) (set : SetTrees) (reached : AccessView) (d : ℕ) (name : List ℕ) (s now : S) (result : Result (Unit {0}) End) (steps : CodeSteps) → ¬ (d ≡ 0) → steps ≡ unwrap_or (steps_named name set.sequences) NoSteps
+      → MeansLate w reached result now (sequence_result (late cost w) (λ r. steps_result (late cost w) turn_us (λ n q. sequence_at (late cost w) turn_us set (d - 1) n q) steps r) s)
+      → MeansLate w reached result now (sequence_at (late cost w) turn_us set d name s)
+  sequence_on turn_us set reached d name s now result steps some is h =
+      subst (λ o. MeansLate w reached result now o) (ap (λ k. sequence_result (late cost w) (λ r. steps_result (late cost w) turn_us (λ n q. sequence_at (late cost w) turn_us set (d - 1) n q) k r) s) is
       ∙ sym (loop.sequence_is (late cost w) turn_us set careless d name s (omega (arith, some)))) h

@@ -13,7 +13,8 @@ use Rattle.target_calls.specs.declared.calls.Value.{Value}
 use Rattle.target_calls.proofs.CallLists.{stop_stays, count_within}
 use Rattle.target_calls.proofs.MarkLemmas.{stop_marked, skips_marked, value_marked, length_marked}
 use Rattle.target_calls.proofs.WorldLemmas.{whole_after}
-use Rattle.access_calls.specs.Answers.{StopsCalls, StopsOrSettles, StopsSettling, calls_finished}
+use Rattle.access_calls.specs.Answers.{AtCut, StopsCalls, StopsOrSettles, StopsSettling, calls_finished}
+use Rattle.access_calls.specs.GoesOn.{IsSameButAsks}
 use Rattle.access_calls.specs.Left.{answered_at, answered_cut}
 use Rattle.access_calls.specs.Reported.{AccessView, Beginning, start_of, world_of}
 use Rattle.access_calls.specs.Standing.{Stands, StandsAt, WhereObservable}
@@ -38,7 +39,7 @@ use Rattle.sequence_rules.proofs.Goes as g
 use Rattle.sequence_rules.proofs.LateLemmas.{append_none, stop_here, steady_late}
 use Rattle.sequence_rules.proofs.Made.{no_cost, late_pair}
 use Rattle.sequels.proofs.LimitLemmas.{from_on, from_same}
-use Rattle.function_calls.specs.Ends.{Left}
+use Rattle.function_calls.specs.Ends.{AtEnd, Left}
 use Rattle.function_calls.specs.Held.{state_of}
 use Rattle.function_calls.specs.declared.held.Held.{Held}
 use Rattle.access_calls.specs.declared.ended.Ending.{Ending}
@@ -94,6 +95,11 @@ over_after w calls n whole some count = ap is_over (after_answered w calls whole
   where
     nothing : n - length calls ≡ 0
     nothing = omega (arith, count)
+
+-- the code left the meaning in its middle, where the access stopped so
+record LeftBy (w : World) (lines : ℕ) (st : Stop) (now : State Value Late) (out : Out Value Late (Unit {0})) : Type 0 where
+  later : Later w now.rest (end_state out).rest
+  first : AtCut st (λ r. stop w now.rest.asks.calls ≡ Some (lines + 1))
 
 module _ (w : World) where
   -- ---- the last states of both
@@ -280,7 +286,7 @@ module _ (w : World) where
       }
 
   -- the code left the meaning in its middle
-  is_cut_off : (lines : ℕ) (report : Report) (r : Ran) (now : State Value Late) (out : L) (q : Q) → Pair w out q → w.answered ≡ answered_cut report.cause lines → Left w lines (Cut report) now out → r.asks.calls ≡ now.rest.asks.calls → r.written ≡ now.rest.written
+  is_cut_off : (lines : ℕ) (report : Report) (r : Ran) (now : State Value Late) (out : L) (q : Q) → Pair w out q → w.answered ≡ answered_cut report.cause lines → LeftBy w lines (Cut report) now out → r.asks.calls ≡ now.rest.asks.calls → r.written ≡ now.rest.written
       → EndsAtCut report.cause lines (outcome_of q) r
   is_cut_off lines report r now out q p answered left calls written = record {
     stops = stops_after report.cause lines out q p answered (ap (stop w) left.later.calls ∙ stop_stays w now.rest.asks.calls left.later.more (lines + 1) left.first);
@@ -412,13 +418,20 @@ module _ (w : World) where
   closes ending.WriteFault s out q lines r b is p whole k = absurd is
   closes ending.OutOfMemory s out q lines r b is p whole k = absurd is
 
--- the evaluator stopped
-pub stopped_ends : (w : World) (st : Stop) (lines : ℕ) (r : Ran) (now : State Value Late) (out : L) (q : Q) → Pair w out q → w.answered ≡ answered_at (Some st) lines → Left w lines st now out → r.asks.calls ≡ now.rest.asks.calls → r.written ≡ now.rest.written
+stopped_by : (w : World) (st : Stop) (lines : ℕ) (r : Ran) (now : State Value Late) (out : L) (q : Q) → Pair w out q → w.answered ≡ answered_at (Some st) lines → LeftBy w lines st now out → r.asks.calls ≡ now.rest.asks.calls → r.written ≡ now.rest.written
     → EndsAs (ending_of st) lines (outcome_of q) r
-stopped_ends w (Cut report) lines r now out q p answered left calls written = is_cut_off w lines report r now out q p answered left calls written
-stopped_ends w (BenchFault issued confirmed) lines r now out q p answered left calls written = is_broken w r now out q p left.later calls written
-stopped_ends w ReplyBad lines r now out q p answered left calls written = is_broken w r now out q p left.later calls written
-stopped_ends w OutOfMemory lines r now out q p answered left calls written = is_broken w r now out q p left.later calls written
+stopped_by w (Cut report) lines r now out q p answered left calls written = is_cut_off w lines report r now out q p answered left calls written
+stopped_by w (BenchFault issued confirmed) lines r now out q p answered left calls written = is_broken w r now out q p left.later calls written
+stopped_by w ReplyBad lines r now out q p answered left calls written = is_broken w r now out q p left.later calls written
+stopped_by w OutOfMemory lines r now out q p answered left calls written = is_broken w r now out q p left.later calls written
+
+-- the evaluator stopped, and the access was asked for its stop
+pub stopped_ends : (w : World) (st : Stop) (a last : AccessView) (r : Ran) (now : State Value Late) (out : L) (q : Q) → Pair w out q → w.answered ≡ answered_at (Some st) last.lines → Left w a now out → a.end ≡ Some st → IsSameButAsks a last
+    → r.asks.calls ≡ now.rest.asks.calls → r.written ≡ now.rest.written → EndsAs (ending_of st) last.lines (outcome_of q) r
+stopped_ends w st a last r now out q p answered left end same calls written =
+    let lines : last.lines ≡ a.lines = ap (λ (t : AccessView). t.lines) same.same in
+    let first : AtCut st (λ r. stop w now.rest.asks.calls ≡ Some (a.lines + 1)) = subst (λ (e : Option Stop). AtEnd e (λ r. stop w now.rest.asks.calls ≡ Some (a.lines + 1))) end left.first.so in
+    stopped_by w st last.lines r now out q p answered (subst (λ n. LeftBy w n st now out) (sym lines) (record { later = left.later; first = first })) calls written
 
 -- no need points are told of a stop
 pub no_needs : (st : Stop) (asks : Asks) (out : L) → HasNeeds (ending_of st) asks out
@@ -457,8 +470,8 @@ at_start cost w p held asks before fresh is = ap (λ a. run_of (late cost w) p.t
 pub at_end : (end : Ending) (s : State Value Late) (one two : L) → one ≡ two → OutIs end s one → OutIs end s two
 at_end end s one two same h = subst (λ o. OutIs end s o) same h
 
-pub left_end : (w : World) (lines : ℕ) (st : Stop) (now : State Value Late) (one two : L) → one ≡ two → Left w lines st now one → Left w lines st now two
-left_end w lines st now one two same h = subst (λ o. Left w lines st now o) same h
+pub left_end : (w : World) (a : AccessView) (now : State Value Late) (one two : L) → one ≡ two → Left w a now one → Left w a now two
+left_end w a now one two same h = subst (λ o. Left w a now o) same h
 
 pub later_end : (w : World) (now : State Value Late) (one two : L) → one ≡ two → Later w now.rest (end_state one).rest → Later w now.rest (end_state two).rest
 later_end w now one two same h = subst (λ (o : L). Later w now.rest (end_state o).rest) same h

@@ -12,7 +12,7 @@ ghost use Rattle.sequence_rules.specs.Late.{late};
 ghost use Rattle.control_flow.specs.Calls.{calls_of};
 
 use crate::runner::Runner;
-use access_calls::{Access, Stop};
+use access_calls::Access;
 use dap_base::Sink;
 use expr_grammar::{Arg, CalledName, Expr};
 use function_calls::{End, Held, make_call, use_values};
@@ -67,7 +67,7 @@ impl Runner<'_> {
         let value = self.evaluate(expr, depth, held, access, sink)?;
         match values.push(value) {
             Ok(()) => Ok(()),
-            Err(_) => Err(End::Stopped(Stop::OutOfMemory)),
+            Err(_) => Err(End::OutOfMemory),
         }
     }
 
@@ -226,9 +226,9 @@ impl Runner<'_> {
         ensures keeps { Keeps A.begun A.reported A.identity access.old access.new }
         ensures ends { EndsWriting K.written K.faults result held.new.units (A.reported access.new) sink.old sink.new }
     {
-        let dp = held.get_global("__dp");
-        let ap = held.get_global("__ap");
-        let control = held.get_global("__errorcontrol");
+        let dp = held.globals.debug_port();
+        let ap = held.globals.access_port();
+        let control = held.globals.error_control();
         let locals = held.take_locals(self.alloc);
         self.run_steps(steps, depth, held, access, sink)?;
         held.give_back(dp, ap, control, locals);

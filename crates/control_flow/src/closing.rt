@@ -1,9 +1,10 @@
 //! How a run is closed.
-ghost use Rattle.std.specs.Prelude.{◌≡◌, [], ℕ, List, Option, None, length, OnOk, IfOk, IfErr};
+ghost use Rattle.std.specs.Prelude.{◌≡◌, [], ℕ, List, Option, None, Some, length, OnOk, IfOk, IfErr};
 ghost use Rattle.probe_core.specs.Bench.{BenchState};
 ghost use Rattle.target_calls.specs.Values.{IsAsked, number_of};
 ghost use Rattle.target_calls.specs.World.{stop};
 ghost use Rattle.access_calls.specs.Answers.{StopsCalls};
+ghost use Rattle.access_calls.specs.GoesOn.{IsSameButAsks};
 ghost use Rattle.access_calls.specs.Left.{IsLeft, answered_by};
 ghost use Rattle.access_calls.specs.Reported.{world_from};
 ghost use Rattle.sequence_rules.specs.Direct.{Now};
@@ -12,11 +13,11 @@ ghost use Rattle.sequence_rules.specs.Laws.{Pair};
 ghost use Rattle.sequence_rules.specs.Machine.{Out};
 ghost use Rattle.sequence_rules.specs.Runs.{outcome_of, variables_of};
 ghost use Rattle.sequence_rules.specs.Shared.{bindings_of};
-ghost use Rattle.function_calls.specs.Ends.{EndsBy};
+ghost use Rattle.function_calls.specs.Ends.{HasEnded};
 ghost use Rattle.function_calls.specs.Frame.{Keeps};
 ghost use Rattle.function_calls.specs.Held.{state_of};
 ghost use Rattle.control_flow.specs.Answers.{EndBy, EndsAs, HasNeeds, IsPart, ran};
-ghost use Rattle.control_flow.specs.Closing.{AreAsked, ComesToEnd, NoWriteFault, OutIs, numbers_in};
+ghost use Rattle.control_flow.specs.Closing.{AreAsked, ComesToEnd, EndsBy, NoWriteFault, OutIs, numbers_in};
 
 use access_calls::{Access, Ended, Ending, Stop};
 use dap_base::NameText;
@@ -25,6 +26,22 @@ use sequence_rules::Globals;
 use std::alloc::Global;
 use target_calls::Value;
 use target_machine::{Variable, Variables};
+
+// The stop of an access that has ended: it answers it again, and sends nothing.
+#[tactic(auto, using(crate::proofs::EndRules::ending))]
+pub(crate) fn stop_of<A: Access>(access: &mut A) -> Stop
+    requires ended { HasEnded (A.reported access.old).end }
+    ensures stop { (A.reported access.old).end ≡ Some result }
+    ensures by { EndsBy result (A.reported access.new).end }
+    ensures same { IsSameButAsks (A.reported access.old) (A.reported access.new) }
+    ensures calls { (A.reported access.new).asks.calls ≡ (A.reported access.old).asks.calls }
+    ensures keeps { Keeps A.begun A.reported A.identity access.old access.new }
+{
+    match access.flush() {
+        Ok(()) => unreachable!(),
+        Err(stop) => stop,
+    }
+}
 
 // The number of a value.
 #[tactic(auto, using(crate::proofs::EndRules::ending))]
@@ -128,7 +145,7 @@ pub(crate) fn ended_whole<A: Access>(
         Ok(()) => {}
         Err(stop) => return ended_early(alloc, Ending::from(stop), held.units, access.skipped()),
     }
-    match look_up_variables(alloc, &held.globals, access) {
+    match look_up_variables(alloc, held.globals.all(), access) {
         Ok(variables) => Ended {
             ending,
             units: held.units,

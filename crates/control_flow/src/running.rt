@@ -14,7 +14,7 @@ ghost use Rattle.function_calls.specs.Frame.{Keeps};
 ghost use Rattle.control_flow.specs.Answers.{EndBy, EndsAs, HasLines, HasNeeds, HasSinkCause, IsPart, ran};
 ghost use Rattle.control_flow.specs.Closing.{ComesToEnd};
 
-use crate::closing::{ended_early, ended_whole};
+use crate::closing::{ended_early, ended_whole, stop_of};
 use crate::runner::Runner;
 use crate::start::held_at_start;
 use access_calls::{Access, Ended, Ending};
@@ -86,9 +86,13 @@ pub fn run<A: Access, K: Sink>(
     match runner.run_all(start, &mut held, access, sink) {
         Ok(()) => ended_whole(alloc, Ending::Done, &held, access),
         Err(End::Halted(cause)) => ended_whole(alloc, Ending::Halted(cause), &held, access),
-        Err(End::Stopped(stop)) => ended_early(
+        Err(End::Stopped) => {
+            let stop = stop_of(access);
+            ended_early(alloc, Ending::from(stop), held.units, access.skipped())
+        }
+        Err(End::OutOfMemory) => ended_early(
             alloc,
-            Ending::from(stop),
+            Ending::OutOfMemory,
             held.units,
             access.skipped(),
         ),

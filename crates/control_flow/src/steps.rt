@@ -9,7 +9,7 @@ ghost use Rattle.sequence_rules.specs.Late.{late};
 ghost use Rattle.control_flow.specs.Calls.{calls_of};
 
 use crate::runner::Runner;
-use access_calls::{Access, Stop};
+use access_calls::Access;
 use dap_base::Sink;
 use expr_grammar::{Expr, Name, Stmt};
 use function_calls::{End, Held};
@@ -152,7 +152,7 @@ impl Runner<'_> {
         let value = self.evaluate(expr, depth, held, access, sink)?;
         match held.declare(self.alloc, &name.text, value) {
             Ok(()) => Ok(()),
-            Err(_) => Err(End::Stopped(Stop::OutOfMemory)),
+            Err(_) => Err(End::OutOfMemory),
         }
     }
 

@@ -6,6 +6,7 @@ use Rattle.target_calls.specs.declared.calls.Value.{Value}
 use Rattle.target_calls.specs.declared.calls.Value.TheVariants.{Number}
 use Rattle.target_calls.specs.NeedPoints.{Costs}
 use Rattle.target_calls.specs.World.{World}
+use Rattle.access_calls.specs.Reported.{AccessView}
 use Rattle.sequence_rules.specs.Calls.{function_result}
 use Rattle.sequence_rules.specs.Late.{Late, late}
 use Rattle.sequence_rules.specs.Machine.{State}
@@ -46,6 +47,6 @@ pub nothing_done : (cost : Costs) (w : World) (text n : List ℕ) (s : State Val
 unfolding late
 nothing_done cost w text n s = refl
 
-pub by_kind : (cost : Costs) (w : World) (lines : ℕ) (function : Function) (its : Kind) (text n : List ℕ) (s now : State Value Late) (result : Result Value End) → its ≡ call_kind_of function
-    → MeansLate w lines result now (kind_done (late cost w) its text n s) → MeansLate w lines result now (function_result (late cost w) function text n s)
-by_kind cost w lines function its text n s now result is h = subst (λ o. MeansLate w lines result now o) (ap (λ k. kind_done (late cost w) k text n s) is ∙ same_done cost w function text n s) h
+pub by_kind : (cost : Costs) (w : World) (reached : AccessView) (function : Function) (its : Kind) (text n : List ℕ) (s now : State Value Late) (result : Result Value End) → its ≡ call_kind_of function
+    → MeansLate w reached result now (kind_done (late cost w) its text n s) → MeansLate w reached result now (function_result (late cost w) function text n s)
+by_kind cost w reached function its text n s now result is h = subst (λ o. MeansLate w reached result now o) (ap (λ k. kind_done (late cost w) k text n s) is ∙ same_done cost w function text n s) h

@@ -18,6 +18,7 @@ use Rattle.access_calls.specs.Answers.{AtCut, IsEnd, NoMemory, StopsCalls, Uncha
 use Rattle.access_calls.specs.GoesOn.{GoesOn}
 use Rattle.access_calls.specs.Left.{IsLeft}
 use Rattle.access_calls.specs.Reported.{AccessView}
+use Rattle.access_calls.specs.declared.stop.Report.{Report}
 use Rattle.access_calls.specs.declared.stop.Stop.{Stop}
 use Rattle.access_calls.specs.declared.stop.Stop.TheVariants.{Cut, BenchFault, ReplyBad, OutOfMemory}
 use Rattle.access_calls.proofs.KeepLemmas.{goes_same, goes_trans}
@@ -32,7 +33,9 @@ use Rattle.sequence_rules.proofs.Made.{no_cost}
 use Rattle.sequence_rules.proofs.LateLemmas.{later_on, later_same, later_still, steady_late, grows_same}
 use Rattle.function_calls.specs.declared.end.End.{End}
 use Rattle.function_calls.specs.declared.end.End.TheVariants as end
-use Rattle.function_calls.specs.Ends.{Left, EndsLate, EndsBy, MeansLate, MeansLateAs, MeansLateBy, HasSinkCause, IsStopAt, NoWriteFault}
+use Rattle.function_calls.specs.Ends.{AtEnd, EndsLate, HasEnded, HasSinkCause, IsStopAt, MeansLate, MeansLateAs, MeansLateBy, NoWriteFault, StopsHere}
+use Rattle.function_calls.specs.Frame.{EndsCall, EndsUse}
+use Rattle.function_calls.specs.Stops.{end_by}
 
 abbrev S : Type 0
 S = State Value Late
@@ -46,23 +49,67 @@ pub record After {B : Type 0} (w : World) (s : S) (out : Out Value Late B) : Typ
 pub left_on : (a b : AccessView) → GoesOn a b → (answered : Option ℕ) → IsLeft b answered → IsLeft a answered
 left_on a b h answered l = h.left answered l
 
-pub stopped_end : (s : Stop) (a b : AccessView) → a.end ≡ None → IsEnd b.end s → UnchangedByMemory a b s → EndsBy s b.end
-stopped_end (Cut r) a b none is same = is
-stopped_end (BenchFault issued confirmed) a b none is same = is
-stopped_end ReplyBad a b none is same = is
-stopped_end OutOfMemory a b none is same = ap (λ (t : AccessView). t.end) same ∙ none
+-- where the access answers its end, it has ended
+has_ended : (st : Stop) (end : Option Stop) → IsEnd end st → NoMemory st → HasEnded end
+has_ended (Cut r) end is memory = subst (λ (e : Option Stop). HasEnded e) (sym is) tt
+has_ended (BenchFault issued confirmed) end is memory = subst (λ (e : Option Stop). HasEnded e) (sym is) tt
+has_ended ReplyBad end is memory = subst (λ (e : Option Stop). HasEnded e) (sym is) tt
+has_ended OutOfMemory end is memory = absurd memory
 
-pub stopped_ended : (s : Stop) (e : Option Stop) → IsEnd e s → NoMemory s → EndsBy s e
-stopped_ended (Cut r) e is memory = is
-stopped_ended (BenchFault issued confirmed) e is memory = is
-stopped_ended ReplyBad e is memory = is
-stopped_ended OutOfMemory e is memory = absurd memory
+at_end : (st : Stop) (end : Option Stop) (P : Report → Type 0) → IsEnd end st → NoMemory st → AtCut st P → AtEnd end P
+at_end (Cut r) end P is memory h = subst (λ (e : Option Stop). AtEnd e P) (sym is) h
+at_end (BenchFault issued confirmed) end P is memory h = subst (λ (e : Option Stop). AtEnd e P) (sym is) tt
+at_end ReplyBad end P is memory h = subst (λ (e : Option Stop). AtEnd e P) (sym is) tt
+at_end OutOfMemory end P is memory h = absurd memory
+
+-- a use at which the access stopped
+use_by : (T : Type 0) (st : Stop) (a b : AccessView) → IsEnd b.end st → NoMemory st → b.asks.calls ≡ a.asks.calls → EndsUse {T = T} (Err (end_by st)) a b
+use_by T (Cut r) a b is memory calls = record { end = has_ended (Cut r) b.end is memory; calls = calls; cause = tt }
+use_by T (BenchFault issued confirmed) a b is memory calls = record { end = has_ended (BenchFault issued confirmed) b.end is memory; calls = calls; cause = tt }
+use_by T ReplyBad a b is memory calls = record { end = has_ended ReplyBad b.end is memory; calls = calls; cause = tt }
+use_by T OutOfMemory a b is memory calls = absurd memory
+
+pub use_stopped : {T : Type 0} (st : Stop) (e : End) (a b : AccessView) → e ≡ end_by st → IsEnd b.end st → NoMemory st → b.asks.calls ≡ a.asks.calls → EndsUse {T = T} (Err e) a b
+use_stopped {T = T} st e a b by is memory calls = subst (λ (x : End). EndsUse {T = T} (Err x) a b) (sym by) (use_by T st a b is memory calls)
+
+-- a call at which the access stopped, or memory was refused
+call_by : (T : Type 0) (st : Stop) (units : ℕ) (a b : AccessView) → a.end ≡ None → IsEnd b.end st → UnchangedByMemory a b st → EndsCall {T = T} (Err (end_by st)) units b
+call_by T (Cut r) units a b none is same = record { end = has_ended (Cut r) b.end is tt; counted = tt; cause = tt }
+call_by T (BenchFault issued confirmed) units a b none is same = record { end = has_ended (BenchFault issued confirmed) b.end is tt; counted = tt; cause = tt }
+call_by T ReplyBad units a b none is same = record { end = has_ended ReplyBad b.end is tt; counted = tt; cause = tt }
+call_by T OutOfMemory units a b none is same = record { end = ap (λ (t : AccessView). t.end) same ∙ none; counted = tt; cause = tt }
+
+pub call_stopped : {T : Type 0} (st : Stop) (e : End) (units : ℕ) (a b : AccessView) → e ≡ end_by st → a.end ≡ None → IsEnd b.end st → UnchangedByMemory a b st → EndsCall {T = T} (Err e) units b
+call_stopped {T = T} st e units a b by none is same = subst (λ (x : End). EndsCall {T = T} (Err x) units b) (sym by) (call_by T st units a b none is same)
+
+-- where the access stops in the middle of this
+stop_by : {A : Type 0} (w : World) (b : AccessView) (now : S) (out : Out Value Late A) (st : Stop) → IsEnd b.end st → Later w now.rest (end_state out).rest → AtCut st (λ r. stop w now.rest.asks.calls ≡ Some (b.lines + 1))
+    → EndsLate w b (end_by st) now out
+stop_by w b now out (Cut r) is later first = record { later = later; first = record { so = at_end (Cut r) b.end (λ q. stop w now.rest.asks.calls ≡ Some (b.lines + 1)) is tt first } }
+stop_by w b now out (BenchFault issued confirmed) is later first = record { later = later; first = record { so = at_end (BenchFault issued confirmed) b.end (λ q. stop w now.rest.asks.calls ≡ Some (b.lines + 1)) is tt tt } }
+stop_by w b now out ReplyBad is later first = record { later = later; first = record { so = at_end ReplyBad b.end (λ q. stop w now.rest.asks.calls ≡ Some (b.lines + 1)) is tt tt } }
+stop_by w b now out OutOfMemory is later first = later
+
+stops_by : {A : Type 0} (w : World) (b : AccessView) (now : S) (out : Out Value Late A) (st : Stop) (e : End) → e ≡ end_by st → IsEnd b.end st → Later w now.rest (end_state out).rest
+    → AtCut st (λ r. stop w now.rest.asks.calls ≡ Some (b.lines + 1)) → EndsLate w b e now out
+stops_by w b now out st e by is later first = subst (λ (x : End). EndsLate w b x now out) (sym by) (stop_by w b now out st is later first)
+
+-- where the access stops before it has made all
+flush_by : (w : World) (calls : List Ask) (b : AccessView) (st : Stop) → IsEnd b.end st → NoMemory st → StopsCalls w calls b.lines st → IsStopAt w calls b (end_by st)
+flush_by w calls b (Cut r) is memory stops = record { so = at_end (Cut r) b.end (λ q. stop w calls ≡ Some (b.lines + 1)) is tt stops.so }
+flush_by w calls b (BenchFault issued confirmed) is memory stops = record { so = at_end (BenchFault issued confirmed) b.end (λ q. stop w calls ≡ Some (b.lines + 1)) is tt tt }
+flush_by w calls b ReplyBad is memory stops = record { so = at_end ReplyBad b.end (λ q. stop w calls ≡ Some (b.lines + 1)) is tt tt }
+flush_by w calls b OutOfMemory is memory stops = absurd memory
+
+pub flush_stopped : (w : World) (calls : List Ask) (b : AccessView) (st : Stop) (e : End) → e ≡ end_by st → IsEnd b.end st → NoMemory st → StopsCalls w calls b.lines st → IsStopAt w calls b e
+flush_stopped w calls b st e by is memory stops = subst (λ (x : End). IsStopAt w calls b x) (sym by) (flush_by w calls b st is memory stops)
 
 -- a call without a sink
 pub quiet_cause : {A : Type 0} (result : Result A End) (n : ℕ) → NoWriteFault result → HasSinkCause result n n
 quiet_cause (Ok x) n h = refl
 quiet_cause (Err (end.Halted cause)) n h = refl
-quiet_cause (Err (end.Stopped s)) n h = refl
+quiet_cause (Err end.Stopped) n h = refl
+quiet_cause (Err end.OutOfMemory) n h = refl
 quiet_cause (Err end.WriteFault) n h = absurd h
 
 -- ---- values
@@ -72,12 +119,12 @@ unfolding use_now late
 used_rest cost w v s = refl
 
 -- a value whose look-up stops
-pub ends_use : (cost : Costs) (w : World) (slot : Slot) (s : S) (b : Asks) (lines : ℕ) (st : Stop) → b.calls ≡ s.rest.asks.calls → StopsCalls w s.rest.asks.calls lines st
-    → Left w lines st (with_rest s (late_of b s.rest.written)) (use_now (late cost w) (Pending slot) s)
-ends_use cost w slot s b lines st calls stops = record {
-  later = rw (used_rest cost w (Pending slot) s) (later_still cost w _ _ (used_calls slot s.rest.asks ∙ sym calls) refl);
-  first = subst (λ c. AtCut st (λ r. stop w c ≡ Some (lines + 1))) (sym calls) stops.so;
-}
+pub ends_use : (cost : Costs) (w : World) (slot : Slot) (s : S) (b : AccessView) (st : Stop) (e : End) → e ≡ end_by st → IsEnd b.end st → b.asks.calls ≡ s.rest.asks.calls → StopsCalls w s.rest.asks.calls b.lines st
+    → EndsLate w b e (with_rest s (late_of b.asks s.rest.written)) (use_now (late cost w) (Pending slot) s)
+ends_use cost w slot s b st e by is calls stops =
+    stops_by w b (with_rest s (late_of b.asks s.rest.written)) (use_now (late cost w) (Pending slot) s) st e by is
+    (rw (used_rest cost w (Pending slot) s) (later_still cost w _ _ (used_calls slot s.rest.asks ∙ sym calls) refl))
+    (subst (λ (c : List Ask). AtCut st (λ r. stop w c ≡ Some (b.lines + 1))) (sym calls) stops.so)
 
 -- ---- units
 
@@ -117,20 +164,22 @@ stops_at T w a b ask ReplyBad none calls stops = (inr (all_asked a b ask none ca
 stops_at T w a b ask OutOfMemory none calls stops = (inl calls, tt)
 
 -- what was asked then comes first in what the meaning asks
-left_asked : {A : Type 0} (cost : Costs) (w : World) (ask : Ask) (s : S) (b : Asks) (lines : ℕ) (st : Stop) (out : Out Value Late A) → (end_state out).rest ≡ late_of (asks_with cost w ask s.rest.asks) s.rest.written
-    → StopsAt w s.rest.asks.calls ask lines b.calls st → Left w lines st (with_rest s (late_of b s.rest.written)) out
+left_asked : {A : Type 0} (cost : Costs) (w : World) (ask : Ask) (s : S) (b : AccessView) (st : Stop) (e : End) (out : Out Value Late A) → e ≡ end_by st → IsEnd b.end st
+    → (end_state out).rest ≡ late_of (asks_with cost w ask s.rest.asks) s.rest.written → StopsAt w s.rest.asks.calls ask b.lines b.asks.calls st → EndsLate w b e (with_rest s (late_of b.asks s.rest.written)) out
 unfolding StopsAt
-left_asked cost w ask s b lines st out is (inl same, first) = record { later = rw is (record { more = ask ∷ []; calls = all ∙ ap (λ c. c ++ ask ∷ []) (sym same); kept = λ n e. refl; grows = grows_same s.rest.written }); first = first }
+left_asked cost w ask s b st e out by end is (inl same, first) =
+    stops_by w b (with_rest s (late_of b.asks s.rest.written)) out st e by end (rw is (record { more = ask ∷ []; calls = all ∙ ap (λ c. c ++ ask ∷ []) (sym same); kept = λ n e. refl; grows = grows_same s.rest.written })) first
   where
     all : (asks_with cost w ask s.rest.asks).calls ≡ s.rest.asks.calls ++ ask ∷ []
     all = asked_calls (cost w.target s.rest.asks.calls ask) ask s.rest.asks
-left_asked cost w ask s b lines st out is (inr more, first) = record { later = rw is (later_still cost w _ _ (asked_calls (cost w.target s.rest.asks.calls ask) ask s.rest.asks ∙ sym more) refl); first = first }
+left_asked cost w ask s b st e out by end is (inr more, first) =
+    stops_by w b (with_rest s (late_of b.asks s.rest.written)) out st e by end (rw is (later_still cost w _ _ (asked_calls (cost w.target s.rest.asks.calls ask) ask s.rest.asks ∙ sym more) refl)) first
 
-pub ends_ask : (cost : Costs) (w : World) (u : AccessUnit) (forgive : Bool) (s : S) (a b : AccessView) (st : Stop) → s.rest.asks ≡ a.asks → nat_lt s.units 1000000 ≡ true → a.end ≡ None
+pub ends_ask : (cost : Costs) (w : World) (u : AccessUnit) (forgive : Bool) (s : S) (a b : AccessView) (st : Stop) (e : End) → e ≡ end_by st → IsEnd b.end st → s.rest.asks ≡ a.asks → nat_lt s.units 1000000 ≡ true → a.end ≡ None
     → b.asks.calls ≡ calls_after {T = Asked} a (unit_ask u forgive) (Err st) → StopsCalls w (a.asks.calls ++ unit_ask u forgive ∷ []) b.lines st
-    → Left w b.lines st (with_rest s (late_of b.asks s.rest.written)) (ask (late cost w) u forgive s)
-ends_ask cost w u forgive s a b st same some none calls stops =
-    left_asked cost w (unit_ask u forgive) s b.asks b.lines st _ (ask_rest cost w u forgive s some)
+    → EndsLate w b e (with_rest s (late_of b.asks s.rest.written)) (ask (late cost w) u forgive s)
+ends_ask cost w u forgive s a b st e by is same some none calls stops =
+    left_asked cost w (unit_ask u forgive) s b st e _ by is (ask_rest cost w u forgive s some)
     (subst (λ (x : Asks). StopsAt w x.calls (unit_ask u forgive) b.lines b.asks.calls st) (sym same) (stops_at Asked w a b (unit_ask u forgive) st none calls stops))
 
 -- ---- commands
@@ -144,11 +193,11 @@ command_rest : (cost : Costs) (w : World) (c : ProbeCall) (s : S) → nat_lt s.u
 unfolding command numbered late
 command_rest cost w c s some = rw some refl
 
-pub ends_command : (cost : Costs) (w : World) (c : ProbeCall) (s : S) (a b : AccessView) (st : Stop) → s.rest.asks ≡ a.asks → nat_lt s.units 1000000 ≡ true → a.end ≡ None
+pub ends_command : (cost : Costs) (w : World) (c : ProbeCall) (s : S) (a b : AccessView) (st : Stop) (e : End) → e ≡ end_by st → IsEnd b.end st → s.rest.asks ≡ a.asks → nat_lt s.units 1000000 ≡ true → a.end ≡ None
     → b.asks.calls ≡ calls_after {T = ℕ} a (probe_ask c) (Err st) → StopsCalls w (a.asks.calls ++ probe_ask c ∷ []) b.lines st
-    → Left w b.lines st (with_rest s (late_of b.asks s.rest.written)) (command (late cost w) c s)
-ends_command cost w c s a b st same some none calls stops =
-    left_asked cost w (probe_ask c) s b.asks b.lines st _ (command_rest cost w c s some)
+    → EndsLate w b e (with_rest s (late_of b.asks s.rest.written)) (command (late cost w) c s)
+ends_command cost w c s a b st e by is same some none calls stops =
+    left_asked cost w (probe_ask c) s b st e _ by is (command_rest cost w c s some)
     (subst (λ (x : Asks). StopsAt w x.calls (probe_ask c) b.lines b.asks.calls st) (sym same) (stops_at ℕ w a b (probe_ask c) st none calls stops))
 
 -- ---- what comes later
@@ -170,36 +219,39 @@ pub later_halt : {A : Type 0} (w : World) (s : S) (e : Over) → After {B = A} w
 later_halt w s e = record { so = later_same no_cost w s.rest }
 
 -- an end goes on outwards
-pub ends_on : {A B : Type 0} (w : World) (lines : ℕ) (e : End) (now : S) (out : Out Value Late A) (f : A × S → Out Value Late B) → EndsLate w lines e now out → ((x : A × S) → After w x.1 (f x)) → EndsLate w lines e now (out >>= f)
-ends_on w lines (end.Halted cause) now out f h k = ap (λ o. o >>= f) h
-ends_on w lines (end.Stopped s) now (Ok x) f h k = record { later = later_on no_cost w _ _ _ h.later (k x).so; first = h.first }
-ends_on w lines (end.Stopped s) now (Err e) f h k = record { later = h.later; first = h.first }
-ends_on w lines end.WriteFault now (Ok x) f h k = later_on no_cost w _ _ _ h (k x).so
-ends_on w lines end.WriteFault now (Err e) f h k = h
+pub ends_on : {A B : Type 0} (w : World) (reached : AccessView) (e : End) (now : S) (out : Out Value Late A) (f : A × S → Out Value Late B) → EndsLate w reached e now out → ((x : A × S) → After w x.1 (f x)) → EndsLate w reached e now (out >>= f)
+ends_on w reached (end.Halted cause) now out f h k = ap (λ o. o >>= f) h
+ends_on w reached end.Stopped now (Ok x) f h k = record { later = later_on no_cost w _ _ _ h.later (k x).so; first = h.first }
+ends_on w reached end.Stopped now (Err e) f h k = record { later = h.later; first = h.first }
+ends_on w reached end.OutOfMemory now (Ok x) f h k = later_on no_cost w _ _ _ h (k x).so
+ends_on w reached end.OutOfMemory now (Err e) f h k = h
+ends_on w reached end.WriteFault now (Ok x) f h k = later_on no_cost w _ _ _ h (k x).so
+ends_on w reached end.WriteFault now (Err e) f h k = h
 
 -- An error that `?` hands on is the end that is answered.
-pub passed : {A : Type 0} (w : World) (lines : ℕ) (e : End) (now : S) (out : Out Value Late A) (result : Result A End) → IsErrAnd result (λ x. x ≡ e) → EndsLate w lines e now out → MeansLate w lines result now out
-passed w lines e now out (Ok x) is h = absurd is
-passed w lines e now out (Err x) is h = subst (λ y. EndsLate w lines y now out) (sym is) h
+pub passed : {A : Type 0} (w : World) (reached : AccessView) (e : End) (now : S) (out : Out Value Late A) (result : Result A End) → IsErrAnd result (λ x. x ≡ e) → EndsLate w reached e now out → MeansLate w reached result now out
+passed w reached e now out (Ok x) is h = absurd is
+passed w reached e now out (Err x) is h = subst (λ y. EndsLate w reached y now out) (sym is) h
 
-pub passed_by : {A B : Type 0} (w : World) (lines : ℕ) (view : A → B) (e : End) (now : S) (out : Out Value Late B) (result : Result A End) → IsErrAnd result (λ x. x ≡ e) → EndsLate w lines e now out
-    → MeansLateBy w lines view result now out
-passed_by w lines view e now out (Ok x) is h = absurd is
-passed_by w lines view e now out (Err x) is h = subst (λ y. EndsLate w lines y now out) (sym is) h
+pub passed_by : {A B : Type 0} (w : World) (reached : AccessView) (view : A → B) (e : End) (now : S) (out : Out Value Late B) (result : Result A End) → IsErrAnd result (λ x. x ≡ e) → EndsLate w reached e now out
+    → MeansLateBy w reached view result now out
+passed_by w reached view e now out (Ok x) is h = absurd is
+passed_by w reached view e now out (Err x) is h = subst (λ y. EndsLate w reached y now out) (sym is) h
 
-pub passed_as : {A B : Type 0} (w : World) (lines : ℕ) (x : B) (e : End) (now : S) (out : Out Value Late B) (result : Result A End) → IsErrAnd result (λ y. y ≡ e) → EndsLate w lines e now out
-    → MeansLateAs w lines x result now out
-passed_as w lines x e now out (Ok y) is h = absurd is
-passed_as w lines x e now out (Err y) is h = subst (λ z. EndsLate w lines z now out) (sym is) h
+pub passed_as : {A B : Type 0} (w : World) (reached : AccessView) (x : B) (e : End) (now : S) (out : Out Value Late B) (result : Result A End) → IsErrAnd result (λ y. y ≡ e) → EndsLate w reached e now out
+    → MeansLateAs w reached x result now out
+passed_as w reached x e now out (Ok y) is h = absurd is
+passed_as w reached x e now out (Err y) is h = subst (λ z. EndsLate w reached z now out) (sym is) h
 
 -- the access stopped before this
-pub stops_before : {B : Type 0} (w : World) (lines : ℕ) (e : End) (s : S) (b : Asks) (out : Out Value Late B) → After w s out → b.calls ≡ s.rest.asks.calls → IsStopAt w s.rest.asks.calls lines e → EndsLate w lines e (with_rest s (late_of b s.rest.written)) out
-stops_before w lines (end.Halted cause) s b out h calls stops = absurd stops
-stops_before w lines (end.Stopped st) s b out h calls stops = record {
+pub stops_before : {B : Type 0} (w : World) (reached : AccessView) (e : End) (s : S) (b : Asks) (out : Out Value Late B) → After w s out → b.calls ≡ s.rest.asks.calls → IsStopAt w s.rest.asks.calls reached e → EndsLate w reached e (with_rest s (late_of b s.rest.written)) out
+stops_before w reached (end.Halted cause) s b out h calls stops = absurd stops
+stops_before w reached end.Stopped s b out h calls stops = record {
   later = later_on no_cost w (late_of b s.rest.written) s.rest _ (later_still no_cost w (late_of b s.rest.written) s.rest (sym calls) refl) h.so;
-  first = subst (λ c. AtCut st (λ r. stop w c ≡ Some (lines + 1))) (sym calls) stops.so;
+  first = subst (λ (c : List Ask). StopsHere w c reached) (sym calls) stops;
 }
-stops_before w lines end.WriteFault s b out h calls stops = absurd stops
+stops_before w reached end.OutOfMemory s b out h calls stops = absurd stops
+stops_before w reached end.WriteFault s b out h calls stops = absurd stops
 
 -- one line for each definition
 pub later_use : (cost : Costs) (w : World) (v : Value) (s : S) → After w s (use_now (late cost w) v s)
@@ -254,28 +306,28 @@ global_is cost w name s = one (value_named s.globals name)
     one None = refl
     one (Some v) = refl
 
-pub global_gives : (cost : Costs) (w : World) (lines : ℕ) (name : List ℕ) (v : Value) (s now : S) (result : Result ℕ End) → v ≡ unwrap_or (value_named s.globals name) (Number 0) → MeansLate w lines result now (use_now (late cost w) v s) → MeansLate w lines result now (global (late cost w) name s)
-global_gives cost w lines name v s now result is h = subst (λ o. MeansLate w lines result now o) (ap (λ x. use_now (late cost w) x s) is ∙ sym (global_is cost w name s)) h
+pub global_gives : (cost : Costs) (w : World) (reached : AccessView) (name : List ℕ) (v : Value) (s now : S) (result : Result ℕ End) → v ≡ unwrap_or (value_named s.globals name) (Number 0) → MeansLate w reached result now (use_now (late cost w) v s) → MeansLate w reached result now (global (late cost w) name s)
+global_gives cost w reached name v s now result is h = subst (λ o. MeansLate w reached result now o) (ap (λ x. use_now (late cost w) x s) is ∙ sym (global_is cost w name s)) h
 
-pub ruleset leaves = (goes_same, left_on, stopped_end, stopped_ended)
+pub ruleset leaves = (goes_same, left_on, use_stopped, call_stopped)
 
-pub both_first : (cost : Costs) (w : World) (lines : ℕ) (left right : Value) (s now : S) (e : End) → EndsLate w lines e now (use_now (late cost w) left s) → EndsLate w lines e now (both (late cost w) left right s)
+pub both_first : (cost : Costs) (w : World) (reached : AccessView) (left right : Value) (s now : S) (e : End) → EndsLate w reached e now (use_now (late cost w) left s) → EndsLate w reached e now (both (late cost w) left right s)
 unfolding both
-both_first cost w lines left right s now e h = ends_on w lines e now (use_now (late cost w) left s) _ h (λ p. later_bind w p.1 (use_now (late cost w) right p.1) _ (later_use cost w right p.1) (λ q. later_ok w q.1 _))
+both_first cost w reached left right s now e h = ends_on w reached e now (use_now (late cost w) left s) _ h (λ p. later_bind w p.1 (use_now (late cost w) right p.1) _ (later_use cost w right p.1) (λ q. later_ok w q.1 _))
 
 -- the first unit of a 64-bit call, and the second
-pub two_first : (cost : Costs) (w : World) (lines : ℕ) (e : End) (read : Bool) (p : Port) (address n : ℕ) (u : AccessUnit) (s now : S) → u ≡ memory_unit 4 read p.ap address n → EndsLate w lines e now (ask (late cost w) u p.forgive s)
-    → EndsLate w lines e now (two_units (late cost w) read p address n s)
+pub two_first : (cost : Costs) (w : World) (reached : AccessView) (e : End) (read : Bool) (p : Port) (address n : ℕ) (u : AccessUnit) (s now : S) → u ≡ memory_unit 4 read p.ap address n → EndsLate w reached e now (ask (late cost w) u p.forgive s)
+    → EndsLate w reached e now (two_units (late cost w) read p address n s)
 unfolding two_units
-two_first cost w lines e read p address n u s now is h =
-    ends_on w lines e now (ask (late cost w) (memory_unit 4 read p.ap address n) p.forgive s) _ (subst (λ x. EndsLate w lines e now (ask (late cost w) x p.forgive s)) is h)
+two_first cost w reached e read p address n u s now is h =
+    ends_on w reached e now (ask (late cost w) (memory_unit 4 read p.ap address n) p.forgive s) _ (subst (λ x. EndsLate w reached e now (ask (late cost w) x p.forgive s)) is h)
     (λ low. later_second_half cost w read p address n low.0 low.1)
 
-pub second_first : (cost : Costs) (w : World) (lines : ℕ) (e : End) (read : Bool) (p : Port) (address n : ℕ) (low : Value) (u : AccessUnit) (s now : S) → u ≡ memory_unit 4 read p.ap (address + 4) (n / 2 ^ 32) → EndsLate w lines e now (ask (late cost w) u p.forgive s)
-    → EndsLate w lines e now (second_half (late cost w) read p address n low s)
+pub second_first : (cost : Costs) (w : World) (reached : AccessView) (e : End) (read : Bool) (p : Port) (address n : ℕ) (low : Value) (u : AccessUnit) (s now : S) → u ≡ memory_unit 4 read p.ap (address + 4) (n / 2 ^ 32) → EndsLate w reached e now (ask (late cost w) u p.forgive s)
+    → EndsLate w reached e now (second_half (late cost w) read p address n low s)
 unfolding second_half
-second_first cost w lines e read p address n low u s now is h =
-    ends_on w lines e now (ask (late cost w) (memory_unit 4 read p.ap (address + 4) (n / 2 ^ 32)) p.forgive s) _ (subst (λ x. EndsLate w lines e now (ask (late cost w) x p.forgive s)) is h)
+second_first cost w reached e read p address n low u s now is h =
+    ends_on w reached e now (ask (late cost w) (memory_unit 4 read p.ap (address + 4) (n / 2 ^ 32)) p.forgive s) _ (subst (λ x. EndsLate w reached e now (ask (late cost w) x p.forgive s)) is h)
     (λ high. later_cond w high.1 read _ _ (later_low_and_high cost w low high.0 high.1) (later_ok w high.1 _))
 
 pub second_write : (cost : Costs) (w : World) (read : Bool) (p : Port) (address n : ℕ) (low v : Value) (u : AccessUnit) (s now : S) → read ≡ false → u ≡ memory_unit 4 read p.ap (address + 4) (n / 2 ^ 32) → ask (late cost w) u p.forgive s ≡ Ok (v, now)
@@ -286,11 +338,11 @@ second_write cost w read p address n low v u s now written is h =
     ∙ ap (λ o. o >>= λ high. cond read (low_and_high (late cost w) low high.0 high.1) (Ok (Number 0, high.1))) h
     ∙ ap (λ b. cond b (low_and_high (late cost w) low v now) (Ok (Number 0, now))) written
 
-pub abort_first : (cost : Costs) (w : World) (lines : ℕ) (e : End) (n : ℕ) (s now : S) → EndsLate w lines e now (global (late cost w) (codes "__dp") s) → EndsLate w lines e now (zero_of (late cost w) (abort (late cost w) n s))
+pub abort_first : (cost : Costs) (w : World) (reached : AccessView) (e : End) (n : ℕ) (s now : S) → EndsLate w reached e now (global (late cost w) (codes "__dp") s) → EndsLate w reached e now (zero_of (late cost w) (abort (late cost w) n s))
 unfolding abort zero_of
-abort_first cost w lines e n s now h =
-    ends_on w lines e now (global (late cost w) (codes "__dp") s >>= λ d. abort_at (late cost w) n d.0 d.1) _
-    (ends_on w lines e now (global (late cost w) (codes "__dp") s) _ h (λ d. later_abort_at cost w n d.0 d.1))
+abort_first cost w reached e n s now h =
+    ends_on w reached e now (global (late cost w) (codes "__dp") s >>= λ d. abort_at (late cost w) n d.0 d.1) _
+    (ends_on w reached e now (global (late cost w) (codes "__dp") s) _ h (λ d. later_abort_at cost w n d.0 d.1))
     (λ x. later_ok w x.1 _)
 
 -- a write has 0, and so has a command whose result is dropped

@@ -4,3 +4,4 @@ pub mod Leaves
 pub mod LineLemmas
 pub mod UseLemmas
 pub mod KindLemmas
+pub mod SharedLemmas

@@ -5,7 +5,7 @@ use Rattle.target_calls.specs.declared.calls.Value.{Value}
 use Rattle.target_calls.specs.declared.calls.Value.TheVariants.{Number}
 use Rattle.target_calls.specs.NeedPoints.{Asks, Costs, needed}
 use Rattle.target_calls.specs.World.{World, stop}
-use Rattle.access_calls.specs.declared.stop.Stop.TheVariants.{OutOfMemory}
+use Rattle.access_calls.specs.Reported.{AccessView}
 use Rattle.sequence_rules.specs.Calls.{line_result}
 use Rattle.sequence_rules.specs.Direct.{line_after}
 use Rattle.sequence_rules.specs.Machine.{State, end_state, with_rest, line_more}
@@ -14,7 +14,7 @@ use Rattle.sequence_rules.proofs.Goes as g
 use Rattle.sequence_rules.proofs.KnownLemmas.{known_more, knows_more, knows_part}
 use Rattle.sequence_rules.proofs.LateLemmas.{steady_late}
 use Rattle.function_calls.specs.declared.end.End.{End}
-use Rattle.function_calls.specs.Ends.{Left, EndsLate, IsStopAt}
+use Rattle.function_calls.specs.Ends.{EndsLate, IsStopAt}
 use Rattle.function_calls.proofs.Leaves.{After, left_on, stops_before}
 use Rattle.access_calls.proofs.KeepLemmas.{goes_same, goes_trans}
 
@@ -59,12 +59,12 @@ later_lined : (cost : Costs) (w : World) (line : List ℕ) (n : ℕ) (s : S) →
 later_lined cost w line n s = (g.goes_lined (late cost w) (Later w) (steady_late cost w) line n s).so
 
 -- the access stopped before the line
-pub line_stops : (cost : Costs) (w : World) (line : List ℕ) (n : ℕ) (s : S) (b : Asks) (lines : ℕ) (e : End) → b.calls ≡ s.rest.asks.calls → IsStopAt w s.rest.asks.calls lines e
-    → EndsLate w lines e (with_rest s (late_of b s.rest.written)) (line_result (late cost w) line n s)
-line_stops cost w line n s b lines e calls stops = stops_before w lines e s b _ (record { so = later_lined cost w line n s }) calls stops
+pub line_stops : (cost : Costs) (w : World) (line : List ℕ) (n : ℕ) (s : S) (b : Asks) (reached : AccessView) (e : End) → b.calls ≡ s.rest.asks.calls → IsStopAt w s.rest.asks.calls reached e
+    → EndsLate w reached e (with_rest s (late_of b s.rest.written)) (line_result (late cost w) line n s)
+line_stops cost w line n s b reached e calls stops = stops_before w reached e s b _ (record { so = later_lined cost w line n s }) calls stops
 
 -- memory was refused for the line
-pub line_refused : (cost : Costs) (w : World) (line : List ℕ) (n : ℕ) (s : S) (lines : ℕ) → Left w lines OutOfMemory s (line_result (late cost w) line n s)
-line_refused cost w line n s lines = record { later = later_lined cost w line n s; first = tt }
+pub line_refused : (cost : Costs) (w : World) (line : List ℕ) (n : ℕ) (s : S) → Later w s.rest (end_state (line_result (late cost w) line n s)).rest
+line_refused cost w line n s = later_lined cost w line n s
 
 pub ruleset lines = (known_more, knows_more, knows_part, line_refused, goes_trans, goes_same, left_on)

@@ -7,14 +7,14 @@ use Rattle.target_calls.specs.declared.calls.Value.{Value}
 use Rattle.target_calls.specs.declared.calls.Value.TheVariants.{Number}
 use Rattle.target_calls.specs.NeedPoints.{Asks, Costs, needed}
 use Rattle.target_calls.specs.World.{World}
-use Rattle.access_calls.specs.declared.stop.Stop.TheVariants.{OutOfMemory}
+use Rattle.access_calls.specs.Reported.{AccessView}
 use Rattle.sequence_rules.specs.Calls.{use_now, low_and_high}
-use Rattle.sequence_rules.specs.Machine.{State, Out, with_rest}
-use Rattle.sequence_rules.specs.Late.{Late, late, late_of}
+use Rattle.sequence_rules.specs.Machine.{State, Out, with_rest, end_state}
+use Rattle.sequence_rules.specs.Late.{Late, late, late_of, Later}
 use Rattle.sequence_rules.specs.Values.{all_used, both}
 use Rattle.access_calls.proofs.KeepLemmas.{goes_same, goes_trans}
 use Rattle.function_calls.specs.declared.end.End.{End}
-use Rattle.function_calls.specs.Ends.{EndsLate, Left}
+use Rattle.function_calls.specs.Ends.{EndsLate}
 use Rattle.function_calls.proofs.Leaves.{ends_on, later_bind, later_ok, later_all_used, left_on}
 
 abbrev S : Type 0
@@ -46,12 +46,12 @@ module _ (cost : Costs) (w : World) where
       ∙ joined got n (all_used (late cost w) (drop (i + 1) vs) r)
       ∙ ap (λ l. with_rest_of l (all_used (late cost w) (drop (i + 1) vs) r)) (sym more)
 
-  pub all_fail : (lines : ℕ) (e : End) (total : O (List ℕ)) (vs : List Value) (i : ℕ) (d v : Value) (got : List ℕ) (s r : S) → total ≡ with_rest_of got (all_used (late cost w) (drop i vs) s) → i < length vs → v ≡ get_or vs i d
-      → EndsLate w lines e r (use_now (late cost w) v s) → EndsLate w lines e r total
-  all_fail lines e total vs i d v got s r same h item ends =
+  pub all_fail : (reached : AccessView) (e : End) (total : O (List ℕ)) (vs : List Value) (i : ℕ) (d v : Value) (got : List ℕ) (s r : S) → total ≡ with_rest_of got (all_used (late cost w) (drop i vs) s) → i < length vs → v ≡ get_or vs i d
+      → EndsLate w reached e r (use_now (late cost w) v s) → EndsLate w reached e r total
+  all_fail reached e total vs i d v got s r same h item ends =
       rw (same ∙ ap (with_rest_of got) (one_more vs i d s h))
-      (ends_on w lines e r _ _
-      (ends_on w lines e r (use_now (late cost w) (get_or vs i d) s) _ (subst (λ x. EndsLate w lines e r (use_now (late cost w) x s)) item ends)
+      (ends_on w reached e r _ _
+      (ends_on w reached e r (use_now (late cost w) (get_or vs i d) s) _ (subst (λ x. EndsLate w reached e r (use_now (late cost w) x s)) item ends)
       (λ x. later_bind w x.1 _ _ (later_all_used cost w (drop (i + 1) vs) x.1) (λ y. later_ok w y.1 _)))
       (λ y. later_ok w y.1 _))
 
@@ -66,8 +66,8 @@ module _ (cost : Costs) (w : World) where
       nothing (x ∷ xs) (suc k) q = nothing xs k (omega arith)
 
   -- memory was refused for a number
-  pub all_refused : (lines : ℕ) (total : O (List ℕ)) (vs : List Value) (i : ℕ) (got : List ℕ) (s : S) → total ≡ with_rest_of got (all_used (late cost w) (drop i vs) s) → Left w lines OutOfMemory s total
-  all_refused lines total vs i got s same = record { later = rw same (later_bind w s _ _ (later_all_used cost w (drop i vs) s) (λ y. later_ok w y.1 _)).so; first = tt }
+  pub all_refused : (total : O (List ℕ)) (vs : List Value) (i : ℕ) (got : List ℕ) (s : S) → total ≡ with_rest_of got (all_used (late cost w) (drop i vs) s) → Later w s.rest (end_state total).rest
+  all_refused total vs i got s same = rw same (later_bind w s _ _ (later_all_used cost w (drop i vs) s) (λ y. later_ok w y.1 _)).so
 
 -- ---- the value of `Read64`
 
@@ -90,7 +90,7 @@ module _ (cost : Costs) (w : World) (low high : Value) (s : S) (b : Asks) (is : 
   unfolding late
   read64_on x y n now h value = by_both ∙ rw h (rw value refl)
 
-  pub read64_ends : (lines : ℕ) (e : End) (now : S) → EndsLate w lines e now (both (late cost w) low high (with_rest s (late_of b s.rest.written))) → EndsLate w lines e now (low_and_high (late cost w) low high s)
-  read64_ends lines e now h = rw by_both (ends_on w lines e now _ _ h (λ x. later_ok w x.1 _))
+  pub read64_ends : (reached : AccessView) (e : End) (now : S) → EndsLate w reached e now (both (late cost w) low high (with_rest s (late_of b s.rest.written))) → EndsLate w reached e now (low_and_high (late cost w) low high s)
+  read64_ends reached e now h = rw by_both (ends_on w reached e now _ _ h (λ x. later_ok w x.1 _))
 
 pub ruleset using_all = (goes_trans, goes_same, left_on)

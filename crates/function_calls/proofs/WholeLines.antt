@@ -25,7 +25,8 @@ lines_more base old new text since whole more = record { text = since.text ++ te
 pub lines_kept : {A : Type 0} (result : Result A End) (base old : Option (List ℕ)) → AppendsLines base old → WritesLines result base old
 lines_kept (Ok x) base old h = h
 lines_kept (Err (end.Halted cause)) base old h = h
-lines_kept (Err (end.Stopped s)) base old h = h
+lines_kept (Err end.Stopped) base old h = h
+lines_kept (Err end.OutOfMemory) base old h = h
 lines_kept (Err end.WriteFault) base old h = tt
 
 -- the bytes of a whole line

@@ -20,15 +20,15 @@ pub record IsReady (units : ℕ) (a : AccessView) : Type 0 where
   pub no_end : a.end ≡ None
   pub counted : units ≡ length a.asks.calls
 
--- How a call ends that only uses values: the access has the end that is answered, and else none; nothing was asked; and no answer
--- says that a sink failed.
+-- How a call ends that only uses values: the access has ended where the answer says so, and else it goes on; nothing was asked; and
+-- no answer says that a sink failed.
 pub record EndsUse {T : Type 0} (result : Result T End) (old new : AccessView) : Type 0 where
   pub end : EndIs result new.end
   pub calls : new.asks.calls ≡ old.asks.calls
   pub cause : NoWriteFault result
 
--- How a call ends that has no sink: the access has the end that is answered, and else none; one call was asked for each unit that is
--- counted, except after a stop; and no answer says that a sink failed.
+-- How a call ends that has no sink: the access has ended where the answer says so, and else it goes on; one call was asked for each
+-- unit that is counted, except after a stop or where memory was refused; and no answer says that a sink failed.
 pub record EndsCall {T : Type 0} (result : Result T End) (units : ℕ) (a : AccessView) : Type 0 where
   pub end : EndIs result a.end
   pub counted : Counted result units a.asks.calls

@@ -19,5 +19,6 @@ pub record AppendsLines (old new : Option (List ℕ)) : Type 0 where
 abbrev pub WritesLines : {A : Type 0} → Result A End → Option (List ℕ) → Option (List ℕ) → Type 0
 WritesLines (Ok x) old new = AppendsLines old new
 WritesLines (Err (end.Halted cause)) old new = AppendsLines old new
-WritesLines (Err (end.Stopped s)) old new = AppendsLines old new
+WritesLines (Err end.Stopped) old new = AppendsLines old new
+WritesLines (Err end.OutOfMemory) old new = AppendsLines old new
 WritesLines (Err end.WriteFault) old new = Unit {0}

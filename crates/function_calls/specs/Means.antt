@@ -19,7 +19,7 @@ abbrev pub MeansCall : {S A : Type 0} → (S → BenchState → Type 0) → (S �
     (World → State Value Late → Out Value Late A) → Type 0
 MeansCall begun reported old new before now result meaning =
     (m : BenchState) (answered : Option ℕ) (written : Option (List ℕ)) → begun old m → IsLeft (reported new) answered
-    → MeansLate (world_from m answered) (reported new).lines result (state_of now (reported new).asks written)
+    → MeansLate (world_from m answered) (reported new) result (state_of now (reported new).asks written)
     (meaning (world_from m answered) (state_of before (reported old).asks written))
 
 -- the same, where an answer stands for what this makes of it
@@ -27,7 +27,7 @@ abbrev pub MeansCallBy : {S A B : Type 0} → (A → B) → (S → BenchState �
     (World → State Value Late → Out Value Late B) → Type 0
 MeansCallBy view begun reported old new before now result meaning =
     (m : BenchState) (answered : Option ℕ) (written : Option (List ℕ)) → begun old m → IsLeft (reported new) answered
-    → MeansLateBy (world_from m answered) (reported new).lines view result (state_of now (reported new).asks written)
+    → MeansLateBy (world_from m answered) (reported new) view result (state_of now (reported new).asks written)
     (meaning (world_from m answered) (state_of before (reported old).asks written))
 
 -- A call that may write lines: the same, with what the sink holds, where that is known.
@@ -35,7 +35,7 @@ abbrev pub MeansWriting : {S K A : Type 0} → (S → BenchState → Type 0) →
     → (World → State Value Late → Out Value Late A) → Type 0
 MeansWriting begun reported written old new sink_old sink_new before now result meaning =
     (m : BenchState) (answered : Option ℕ) (known : Bool) → begun old m → IsLeft (reported new) answered → Knows known (written sink_old)
-    → MeansLate (world_from m answered) (reported new).lines result (seen known now (reported new).asks (written sink_new))
+    → MeansLate (world_from m answered) (reported new) result (seen known now (reported new).asks (written sink_new))
     (meaning (world_from m answered) (seen known before (reported old).asks (written sink_old)))
 
 -- the same, where an answer stands for x
@@ -43,5 +43,5 @@ abbrev pub MeansWritingAs : {S K A B : Type 0} → B → (S → BenchState → T
     → (World → State Value Late → Out Value Late B) → Type 0
 MeansWritingAs x begun reported written old new sink_old sink_new before now result meaning =
     (m : BenchState) (answered : Option ℕ) (known : Bool) → begun old m → IsLeft (reported new) answered → Knows known (written sink_old)
-    → MeansLateAs (world_from m answered) (reported new).lines x result (seen known now (reported new).asks (written sink_new))
+    → MeansLateAs (world_from m answered) (reported new) x result (seen known now (reported new).asks (written sink_new))
     (meaning (world_from m answered) (seen known before (reported old).asks (written sink_old)))

@@ -39,7 +39,7 @@ pub fn ask<A: Access>(
             held.units += 1;
             Err(End::Halted(HaltCause::AddressTooLarge))
         }
-        Err(stop) => Err(End::Stopped(stop)),
+        Err(stop) => Err(End::from(stop)),
     }
 }
 
@@ -84,7 +84,7 @@ pub(crate) fn command<A: Access>(
             held.units += 1;
             Ok(Value::Number(number))
         }
-        Err(stop) => Err(End::Stopped(stop)),
+        Err(stop) => Err(End::from(stop)),
     }
 }
 

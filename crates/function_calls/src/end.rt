@@ -1,4 +1,6 @@
 //! Why a run goes no further.
+ghost use Rattle.std.specs.Prelude.{◌≡◌};
+
 use access_calls::Stop;
 use target_machine::HaltCause;
 
@@ -7,8 +9,24 @@ use target_machine::HaltCause;
 pub enum End {
     /// It halts, with this cause.
     Halted(HaltCause),
-    /// The access stopped, or memory was refused.
-    Stopped(Stop),
+    /// The access has ended. It keeps its end, and answers it from then on.
+    Stopped,
+    /// Memory was refused, to the run or to its access. The access goes on.
+    OutOfMemory,
     /// The sink failed.
     WriteFault,
+}
+
+/// How a run ends at this answer of its access.
+impl From<Stop> for End {
+    ghost use Rattle.function_calls.specs.Stops.{end_by};
+
+    ghost from_gives = { λ stop end. end ≡ end_by stop };
+
+    fn from(stop: Stop) -> End {
+        match stop {
+            Stop::Cut(_) | Stop::BenchFault { .. } | Stop::ReplyBad => End::Stopped,
+            Stop::OutOfMemory => End::OutOfMemory,
+        }
+    }
 }

@@ -9,10 +9,11 @@ ghost use Rattle.sequence_rules.specs.Locals.{locals_of};
 ghost use Rattle.sequence_rules.specs.Machine.{State, with_locals, with_variables};
 ghost use Rattle.sequence_rules.specs.Shared.{bindings_of};
 ghost use Rattle.sequence_rules.specs.Steps as m;
-ghost use Rattle.sequence_rules.specs.Variables.{bound, set_in, set_visible, value_named, visible};
+ghost use Rattle.sequence_rules.specs.Variables.{bound, set_in, set_visible, visible};
 ghost use Rattle.function_calls.specs.Ends.{CountsStep};
 ghost use Rattle.function_calls.specs.Held.{state_of};
 
+use crate::shared::SharedVariables;
 use dap_base::{NameText, OutOfMemory};
 use sequence_rules::{Globals, Locals, MOST_STEPS};
 use std::alloc::Global;
@@ -24,7 +25,7 @@ use target_machine::HaltCause;
 #[derive(Drop)]
 pub struct Held {
     /// The variables that all sequences share.
-    pub globals: Globals<Value>,
+    pub globals: SharedVariables,
     /// Those that the running sequence declared, the newest last.
     pub locals: Locals<Value>,
     /// How many units were asked, at most 1,000,000.
@@ -43,7 +44,7 @@ impl Held {
         ensures units { result.units ≡ 0 }
     {
         Held {
-            globals,
+            globals: SharedVariables::new(globals),
             locals: Locals::new(alloc),
             units: 0,
             lines: 0,
@@ -51,34 +52,14 @@ impl Held {
         }
     }
 
-    /// The value of a variable that all sequences share, 0 where there is none.
-    pub fn get_global(&self, name: &str) -> Value
-        ensures { result ≡ unwrap_or (value_named (bindings_of self.now.globals) name.now) (Number 0) }
-    {
-        match self.globals.get(name) {
-            Some(value) => value,
-            None => Value::Number(0),
-        }
-    }
-
-    /// The same of a variable that is at `index` among those that all sequences share, where it is there.
-    pub fn get_predefined(&self, index: usize, name: &str) -> Value
-        ensures { result ≡ unwrap_or (value_named (bindings_of self.now.globals) name.now) (Number 0) }
-    {
-        match self.globals.get_near(index, name) {
-            Some(value) => value,
-            None => Value::Number(0),
-        }
-    }
-
     /// The value of a visible variable, 0 where there is none.
     pub fn get_visible(&self, name: &str) -> Value
-        ensures { (s : State Value Late) → s.globals ≡ bindings_of self.now.globals → s.locals ≡ locals_of self.now.locals
+        ensures { (s : State Value Late) → s.globals ≡ bindings_of self.now.globals.all → s.locals ≡ locals_of self.now.locals
             → result ≡ unwrap_or (visible name.now s) (Number 0) }
     {
         match self.locals.get(name) {
             Some(value) => value,
-            None => self.get_global(name),
+            None => self.globals.get(name),
         }
     }
 
@@ -134,13 +115,31 @@ impl Held {
         self.locals.truncate(len);
     }
 
-    // Gives a variable that all sequences share a value.
-    fn set_global(&mut self, name: &str, value: Value)
+    // Gives the caller its `__dp` again.
+    fn set_debug_port(&mut self, value: Value)
         ensures state { (asks : Asks) (written : Option (List ℕ)) → state_of self.new asks written
-            ≡ with_variables (state_of self.old asks written) (set_in (bindings_of self.old.globals) name.now value) (locals_of self.old.locals) }
+            ≡ with_variables (state_of self.old asks written) (set_in (bindings_of self.old.globals.all) (codes "__dp") value) (locals_of self.old.locals) }
         ensures units { self.new.units ≡ self.old.units }
     {
-        self.globals.set(name, value);
+        self.globals.set_debug_port(value);
+    }
+
+    // Gives the caller its `__ap` again.
+    fn set_access_port(&mut self, value: Value)
+        ensures state { (asks : Asks) (written : Option (List ℕ)) → state_of self.new asks written
+            ≡ with_variables (state_of self.old asks written) (set_in (bindings_of self.old.globals.all) (codes "__ap") value) (locals_of self.old.locals) }
+        ensures units { self.new.units ≡ self.old.units }
+    {
+        self.globals.set_access_port(value);
+    }
+
+    // Gives the caller its `__errorcontrol` again.
+    fn set_error_control(&mut self, value: Value)
+        ensures state { (asks : Asks) (written : Option (List ℕ)) → state_of self.new asks written
+            ≡ with_variables (state_of self.old asks written) (set_in (bindings_of self.old.globals.all) (codes "__errorcontrol") value) (locals_of self.old.locals) }
+        ensures units { self.new.units ≡ self.old.units }
+    {
+        self.globals.set_error_control(value);
     }
 
     fn set_locals(&mut self, locals: Locals<Value>)
@@ -155,12 +154,12 @@ impl Held {
     pub fn give_back(&mut self, dp: Value, ap: Value, control: Value, locals: Locals<Value>)
         ensures state { (asks : Asks) (written : Option (List ℕ)) → state_of self.new asks written
             ≡ with_variables (state_of self.old asks written)
-            (set_in (set_in (set_in (bindings_of self.old.globals) (codes "__dp") dp) (codes "__ap") ap) (codes "__errorcontrol") control) (locals_of locals) }
+            (set_in (set_in (set_in (bindings_of self.old.globals.all) (codes "__dp") dp) (codes "__ap") ap) (codes "__errorcontrol") control) (locals_of locals) }
         ensures units { self.new.units ≡ self.old.units }
     {
-        self.set_global("__dp", dp);
-        self.set_global("__ap", ap);
-        self.set_global("__errorcontrol", control);
+        self.set_debug_port(dp);
+        self.set_access_port(ap);
+        self.set_error_control(control);
         self.set_locals(locals);
     }
 

@@ -19,7 +19,7 @@ use crate::held::Held;
 use crate::kinds::LineKind;
 use crate::performing::number_at;
 use crate::uses::confirm;
-use access_calls::{Access, Stop};
+use access_calls::Access;
 use dap_base::{Failed, OutOfMemory, Sink};
 use sequence_rules::{MOST_LINES, load_line, message_line, query_line, value_line};
 use std::alloc::Global;
@@ -40,7 +40,7 @@ fn write_line<A: Access, K: Sink>(
     requires whole { IfOk line AreLines }
     ensures gives { (m : BenchState) (answered : Option ℕ) (known : Bool) (text : List ℕ) → IfOk line (λ l. l ≡ text) → A.begun access.old m
         → IsLeft (A.reported access.new) answered → Knows known (K.written sink.old)
-        → MeansLate (world_from m answered) (A.reported access.new).lines result (seen known held.new (A.reported access.new).asks (K.written sink.new))
+        → MeansLate (world_from m answered) (A.reported access.new) result (seen known held.new (A.reported access.new).asks (K.written sink.new))
         (c.line_result (late A.cost (world_from m answered)) text value (seen known held.old (A.reported access.old).asks (K.written sink.old))) }
     ensures keeps { Keeps A.begun A.reported A.identity access.old access.new }
     ensures ends { EndsWriting K.written K.faults result held.new.units (A.reported access.new) sink.old sink.new }
@@ -49,7 +49,7 @@ fn write_line<A: Access, K: Sink>(
         return Err(End::Halted(HaltCause::MessageLimit));
     }
     let Ok(line) = line else {
-        return Err(End::Stopped(Stop::OutOfMemory));
+        return Err(End::OutOfMemory);
     };
     confirm(access)?;
     match sink.put(line.as_bytes()) {

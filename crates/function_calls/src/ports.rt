@@ -10,27 +10,39 @@ use crate::end::End;
 use crate::held::Held;
 use crate::uses::use_value;
 use access_calls::Access;
-use sequence_rules::{AP_PLACE, CONTROL_PLACE, DP_PLACE, Port};
-
-// The number of a variable that all sequences share, which is found at once where it is at `index` among them.
-#[tactic(auto, using(crate::proofs::Leaves::global_gives))]
-fn use_global<A: Access>(index: usize, name: &str, held: &Held, access: &mut A) -> Result<u64, End>
-    requires open { (A.reported access.old).end ≡ None }
-    ensures gives { MeansCall A.begun A.reported access.old access.new held.now held.now result (λ w. c.global (late A.cost w) name.now) }
-    ensures keeps { Keeps A.begun A.reported A.identity access.old access.new }
-    ensures ends { EndsUse result (A.reported access.old) (A.reported access.new) }
-{
-    use_value(held.get_predefined(index, name), access)
-}
+use sequence_rules::Port;
 
 /// The number of `__dp`, which is used.
+#[tactic(auto, using(crate::proofs::Leaves::global_gives))]
 pub fn use_debug_port<A: Access>(held: &Held, access: &mut A) -> Result<u64, End>
     requires open { (A.reported access.old).end ≡ None }
     ensures gives { MeansCall A.begun A.reported access.old access.new held.now held.now result (λ w. c.global (late A.cost w) (codes "__dp")) }
     ensures keeps { Keeps A.begun A.reported A.identity access.old access.new }
     ensures ends { EndsUse result (A.reported access.old) (A.reported access.new) }
 {
-    use_global(DP_PLACE, "__dp", held, access)
+    use_value(held.globals.debug_port(), access)
+}
+
+// The number of `__ap`, which is used.
+#[tactic(auto, using(crate::proofs::Leaves::global_gives))]
+fn use_access_port<A: Access>(held: &Held, access: &mut A) -> Result<u64, End>
+    requires open { (A.reported access.old).end ≡ None }
+    ensures gives { MeansCall A.begun A.reported access.old access.new held.now held.now result (λ w. c.global (late A.cost w) (codes "__ap")) }
+    ensures keeps { Keeps A.begun A.reported A.identity access.old access.new }
+    ensures ends { EndsUse result (A.reported access.old) (A.reported access.new) }
+{
+    use_value(held.globals.access_port(), access)
+}
+
+// The number of `__errorcontrol`, which is used.
+#[tactic(auto, using(crate::proofs::Leaves::global_gives))]
+fn use_error_control<A: Access>(held: &Held, access: &mut A) -> Result<u64, End>
+    requires open { (A.reported access.old).end ≡ None }
+    ensures gives { MeansCall A.begun A.reported access.old access.new held.now held.now result (λ w. c.global (late A.cost w) (codes "__errorcontrol")) }
+    ensures keeps { Keeps A.begun A.reported A.identity access.old access.new }
+    ensures ends { EndsUse result (A.reported access.old) (A.reported access.new) }
+{
+    use_value(held.globals.error_control(), access)
 }
 
 // `__dp` is used last.
@@ -58,7 +70,7 @@ fn use_port_from<A: Access>(ap: u64, held: &Held, access: &mut A) -> Result<Port
     ensures keeps { Keeps A.begun A.reported A.identity access.old access.new }
     ensures ends { EndsUse result (A.reported access.old) (A.reported access.new) }
 {
-    let control = use_global(CONTROL_PLACE, "__errorcontrol", held, access)?;
+    let control = use_error_control(held, access)?;
     use_port_with(ap, control, held, access)
 }
 
@@ -70,6 +82,6 @@ pub(crate) fn use_port<A: Access>(held: &Held, access: &mut A) -> Result<Port, E
     ensures keeps { Keeps A.begun A.reported A.identity access.old access.new }
     ensures ends { EndsUse result (A.reported access.old) (A.reported access.new) }
 {
-    let ap = use_global(AP_PLACE, "__ap", held, access)?;
+    let ap = use_access_port(held, access)?;
     use_port_from(ap, held, access)
 }

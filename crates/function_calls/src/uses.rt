@@ -14,7 +14,7 @@ ghost use Rattle.function_calls.specs.Frame.{EndsUse, Keeps};
 ghost use Rattle.function_calls.specs.Held.{state_with};
 
 use crate::end::End;
-use access_calls::{Access, Stop};
+use access_calls::Access;
 use std::alloc::Global;
 use target_calls::Value;
 
@@ -24,7 +24,7 @@ pub fn use_value<A: Access>(value: Value, access: &mut A) -> Result<u64, End>
     requires open { (A.reported access.old).end ≡ None }
     ensures gives { (m : BenchState) (answered : Option ℕ) (globals locals : List (Binding Value)) (units lines steps : ℕ) (written : Option (List ℕ))
         → A.begun access.old m → IsLeft (A.reported access.new) answered
-        → MeansLate (world_from m answered) (A.reported access.new).lines result (state_with globals locals units lines steps (A.reported access.new).asks written)
+        → MeansLate (world_from m answered) (A.reported access.new) result (state_with globals locals units lines steps (A.reported access.new).asks written)
         (c.use_now (late A.cost (world_from m answered)) value (state_with globals locals units lines steps (A.reported access.old).asks written)) }
     ensures keeps { Keeps A.begun A.reported A.identity access.old access.new }
     ensures ends { EndsUse result (A.reported access.old) (A.reported access.new) }
@@ -33,7 +33,7 @@ pub fn use_value<A: Access>(value: Value, access: &mut A) -> Result<u64, End>
         Value::Number(number) => Ok(number),
         Value::Pending(slot) => match access.value(slot) {
             Ok(number) => Ok(number),
-            Err(stop) => Err(End::Stopped(stop)),
+            Err(stop) => Err(End::from(stop)),
         },
     }
 }
@@ -44,7 +44,7 @@ pub fn use_both<A: Access>(left: Value, right: Value, access: &mut A) -> Result<
     requires open { (A.reported access.old).end ≡ None }
     ensures gives { (m : BenchState) (answered : Option ℕ) (globals locals : List (Binding Value)) (units lines steps : ℕ) (written : Option (List ℕ))
         → A.begun access.old m → IsLeft (A.reported access.new) answered
-        → MeansLate (world_from m answered) (A.reported access.new).lines result (state_with globals locals units lines steps (A.reported access.new).asks written)
+        → MeansLate (world_from m answered) (A.reported access.new) result (state_with globals locals units lines steps (A.reported access.new).asks written)
         (v.both (late A.cost (world_from m answered)) left right (state_with globals locals units lines steps (A.reported access.old).asks written)) }
     ensures keeps { Keeps A.begun A.reported A.identity access.old access.new }
     ensures ends { EndsUse result (A.reported access.old) (A.reported access.new) }
@@ -64,7 +64,7 @@ pub fn use_values<A: Access>(
     requires open { (A.reported access.old).end ≡ None }
     ensures gives { (m : BenchState) (answered : Option ℕ) (globals locals : List (Binding Value)) (units lines steps : ℕ) (written : Option (List ℕ))
         → A.begun access.old m → IsLeft (A.reported access.new) answered
-        → MeansLateBy (world_from m answered) (A.reported access.new).lines (λ numbers. numbers.items) result
+        → MeansLateBy (world_from m answered) (A.reported access.new) (λ numbers. numbers.items) result
         (state_with globals locals units lines steps (A.reported access.new).asks written)
         (v.all_used (late A.cost (world_from m answered)) values.now (state_with globals locals units lines steps (A.reported access.old).asks written)) }
     ensures keeps { Keeps A.begun A.reported A.identity access.old access.new }
@@ -75,7 +75,7 @@ pub fn use_values<A: Access>(
         let number = use_value(*value, access)?;
         match numbers.push(number) {
             Ok(()) => {}
-            Err(_) => return Err(End::Stopped(Stop::OutOfMemory)),
+            Err(_) => return Err(End::OutOfMemory),
         }
     }
     Ok(numbers)
@@ -89,12 +89,12 @@ pub(crate) fn confirm<A: Access>(access: &mut A) -> Result<(), End>
     ensures whole { (m : BenchState) (answered : Option ℕ) → A.begun access.old m → IsLeft (A.reported access.new) answered
         → OnOk result (stop (world_from m answered) (A.reported access.old).asks.calls ≡ None) }
     ensures stops { (m : BenchState) (answered : Option ℕ) → A.begun access.old m → IsLeft (A.reported access.new) answered
-        → IfErr result (IsStopAt (world_from m answered) (A.reported access.old).asks.calls (A.reported access.new).lines) }
+        → IfErr result (IsStopAt (world_from m answered) (A.reported access.old).asks.calls (A.reported access.new)) }
     ensures keeps { Keeps A.begun A.reported A.identity access.old access.new }
     ensures ends { EndsUse result (A.reported access.old) (A.reported access.new) }
 {
     match access.flush() {
         Ok(()) => Ok(()),
-        Err(stop) => Err(End::Stopped(stop)),
+        Err(stop) => Err(End::from(stop)),
     }
 }

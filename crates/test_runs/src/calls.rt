@@ -86,7 +86,7 @@ fn called(alloc: Global, row: CallRow, text: &str) -> Result<String, AllocError>
         &mut access,
         &mut sink,
     );
-    let text = answer_text(alloc, answer)?;
+    let text = answer_text(alloc, answer, &mut access)?;
     with_calls_and_lines(alloc, text, access.calls.as_slice(), sink.bytes())
 }
 
@@ -128,7 +128,7 @@ pub(crate) fn number_of_text(alloc: Global, text: &str) -> Result<String, AllocE
     let mut access = Scripted::new(alloc, given.results, given.fails_at);
     match use_value(*value, &mut access) {
         Ok(number) => format!(in alloc; "{number}"),
-        Err(end) => end_text(alloc, end),
+        Err(end) => end_text(alloc, end, &mut access),
     }
 }
 
@@ -141,7 +141,7 @@ pub(crate) fn both_text(alloc: Global, text: &str) -> Result<String, AllocError>
     let mut access = Scripted::new(alloc, given.results, given.fails_at);
     match use_both(*left, *right, &mut access) {
         Ok((left, right)) => format!(in alloc; "{left} {right}"),
-        Err(end) => end_text(alloc, end),
+        Err(end) => end_text(alloc, end, &mut access),
     }
 }
 
@@ -151,6 +151,6 @@ pub(crate) fn numbers_of_text(alloc: Global, text: &str) -> Result<String, Alloc
     let mut access = Scripted::new(alloc, given.results, given.fails_at);
     match use_values(alloc, values.as_slice(), &mut access) {
         Ok(numbers) => format!(in alloc; "{numbers:?}"),
-        Err(end) => end_text(alloc, end),
+        Err(end) => end_text(alloc, end, &mut access),
     }
 }

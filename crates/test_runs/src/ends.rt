@@ -1,5 +1,5 @@
 //! How calls and runs end, as text.
-use access_calls::{Ending, Stop};
+use access_calls::{Access, Ending, Stop};
 use function_calls::End;
 use std::alloc::{AllocError, Global};
 use target_calls::{Slot, Value};
@@ -15,21 +15,38 @@ fn stop_text(alloc: Global, stop: Stop) -> Result<String, AllocError> {
     }
 }
 
-/// Why a call goes no further.
-pub(crate) fn end_text(alloc: Global, end: End) -> Result<String, AllocError> {
+// Why the access has ended: it answers its end again.
+fn stopped_text<A: Access>(alloc: Global, access: &mut A) -> Result<String, AllocError> {
+    match access.flush() {
+        Ok(()) => String::from_str(alloc, "stopped, and the access goes on"),
+        Err(stop) => stop_text(alloc, stop),
+    }
+}
+
+/// Why a call over this access goes no further.
+pub(crate) fn end_text<A: Access>(
+    alloc: Global,
+    end: End,
+    access: &mut A,
+) -> Result<String, AllocError> {
     match end {
         End::Halted(cause) => format!(in alloc; "halts {cause:?}"),
-        End::Stopped(stop) => stop_text(alloc, stop),
+        End::Stopped => stopped_text(alloc, access),
+        End::OutOfMemory => stop_text(alloc, Stop::OutOfMemory),
         End::WriteFault => String::from_str(alloc, "write fault"),
     }
 }
 
-/// What a call answers: a number, or the place of its result.
-pub(crate) fn answer_text(alloc: Global, answer: Result<Value, End>) -> Result<String, AllocError> {
+/// What a call over this access answers: a number, or the place of its result.
+pub(crate) fn answer_text<A: Access>(
+    alloc: Global,
+    answer: Result<Value, End>,
+    access: &mut A,
+) -> Result<String, AllocError> {
     match answer {
         Ok(Value::Number(number)) => format!(in alloc; "0x{number:x}"),
         Ok(Value::Pending(Slot { index })) => format!(in alloc; "result {index}"),
-        Err(end) => end_text(alloc, end),
+        Err(end) => end_text(alloc, end, access),
     }
 }
 

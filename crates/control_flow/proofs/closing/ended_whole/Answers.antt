@@ -7,9 +7,8 @@ use Rattle.access_calls.specs.Reported.{began, world_from}
 use Rattle.access_calls.proofs.KeepLemmas.{left_by}
 use Rattle.sequence_rules.specs.Runs.{outcome_of}
 use Rattle.function_calls.specs.Held.{state_of}
-use Rattle.function_calls.proofs.Leaves.{stopped_ended}
 use Rattle.control_flow.specs.Answers.{EndsAs, HasNeeds, ran}
-use Rattle.control_flow.proofs.EndRules.{answered_as, stopped_short}
+use Rattle.control_flow.proofs.EndRules.{answered_as, stopped_ended, stopped_short}
 use Rattle.control_flow.proofs.RunLemmas.{left_closing, stops_closing, settles, closes, no_needs, finished_calls, skipped_is}
 use Rattle.control_flow.proofs.closing.ended_whole.Goals as goal
 
@@ -31,12 +30,12 @@ returns-in-Ok-look_up_variables-clause-answer g c = λ m written out q b is p.
     let s = state_of c.args.held.now (g.A.Access.reported c.args.access.now).asks written in
     let on = c.in-Ok.ensures.on m b in
     closes (world_from m n) c.args.ending s out q a.lines _ (g.A.Access.reported c.finish.new.self).asks is p (c.in-Ok.ensures.whole m n b (c.in-Ok-look_up_variables.ensures.keeps.goes.left n (left_by a))) (record {
-      variables = c.in-Ok-look_up_variables.ensures.values m n on (left_by a);
+      variables = rw c.all.ensures at (c.in-Ok-look_up_variables.ensures.values m n on (left_by a));
       units = refl;
       skipped = c.skipped-in-Ok-look_up_variables.ensures.skipped ∙ skipped_is g.A.Access.journal a (began m n) c.in-Ok-look_up_variables.ensures.open (g.met.A.Access.stands c.look_up_variables.new.access m n (c.in-Ok-look_up_variables.ensures.keeps.on m on) (left_by a));
       few = c.skipped-in-Ok-look_up_variables.type_inv;
       finish = c.in-Ok.ensures.asks;
-      asks = c.in-Ok-look_up_variables.ensures.asks;
+      asks = rw c.all.ensures at c.in-Ok-look_up_variables.ensures.asks;
       written = refl;
     })
 

@@ -9,5 +9,5 @@ returns-in_err-dp-clause-gives g c = λ m answered written b l.
     let w = world_from m answered in
     let asks = (g.A.Access.reported c.args.access.now).asks in
     passed _ _ _ _ _ c.from_residual.result c.from_residual.ensures.1
-    (polled_first g.A.Access.cost w (g.A.Access.reported c.use_debug_port.new.access).lines c.in_err-dp.field-0.0 (c.args.mask, c.args.requested) c.args.count (state_of c.args.held.now asks written) (state_of c.count_step.new.self asks written)
+    (polled_first g.A.Access.cost w (g.A.Access.reported c.use_debug_port.new.access) c.in_err-dp.field-0.0 (c.args.mask, c.args.requested) c.args.count (state_of c.args.held.now asks written) (state_of c.count_step.new.self asks written)
     (state_of c.count_step.new.self (g.A.Access.reported c.use_debug_port.new.access).asks written) (c.in-Ok.ensures.gives g.A.Access.cost w asks written) (c.in_err-dp.ensures.gives m answered written b l))

@@ -90,18 +90,38 @@ returns-in-Err-Stopped-clause-lines g c = lines_ending _ _ _ (rw c.in-Err-Stoppe
 pub returns-in-Err-Stopped-clause-answer : goal.returns-in-Err-Stopped-clause-answer
 returns-in-Err-Stopped-clause-answer g c = λ m known b knows.
     let a = g.A.Access.reported c.run_all.new.access in
-    let n = answered_by a in
+    let last = g.A.Access.reported c.stop_of-stop.new.access in
+    let n = answered_by last in
     let w = world_from m n in
-    let st = c.in-Err-Stopped.stop in
+    let st = c.stop_of-stop.result in
     let p = program_of (checked_trees c.args.checked.now) c.args.start.now c.args.settings.now in
     let before = known_part known (g.K.Sink.written c.args.sink.now) in
     let after = known_part known (g.K.Sink.written c.run_all.new.sink) in
     let now = state_of c.run_all.new.held a.asks after in
-    let r = ran c.ended_early-in-Err-Stopped.result a.asks after in
+    let r = ran c.ended_early-in-Err-Stopped.result last.asks after in
     let same = at_start g.A.Access.cost w p c.in-Ok.held (g.A.Access.reported c.args.access.now).asks before c.requires.fresh (c.in-Ok.ensures.state g.A.Access.cost w before) in
-    subst (λ x. EndsAs x a.lines (outcome_of (meaning w p before)) r) (sym (c.ended_early-in-Err-Stopped.ensures.ending ∙ c.from.ensures))
-    (stopped_ends w st a.lines r now (late_meaning g.A.Access.cost w p before) (meaning w p before) (late_pair g.A.Access.cost w p before) (answered_as st a (rw c.in-Err-Stopped.field-0-is at c.in-Err-Stopped.ensures.ends.end))
-    (left_end w a.lines st now _ _ same (rw c.in-Err-Stopped.field-0-is at (c.in-Err-Stopped.ensures.gives m n known b (left_by a) knows))) refl refl)
+    subst (λ x. EndsAs x last.lines (outcome_of (meaning w p before)) r) (sym (c.ended_early-in-Err-Stopped.ensures.ending ∙ c.from.ensures))
+    (stopped_ends w st a last r now (late_meaning g.A.Access.cost w p before) (meaning w p before) (late_pair g.A.Access.cost w p before) (answered_as st last c.stop_of-stop.ensures.by)
+    (left_end w a now _ _ same (rw c.in-Err-Stopped.field-0-is at (c.in-Err-Stopped.ensures.gives m n known b (c.stop_of-stop.ensures.keeps.goes.left n (left_by last)) knows)))
+    c.stop_of-stop.ensures.stop c.stop_of-stop.ensures.same c.stop_of-stop.ensures.calls refl)
+
+pub returns-in-Err-OutOfMemory-clause-answer : goal.returns-in-Err-OutOfMemory-clause-answer
+returns-in-Err-OutOfMemory-clause-answer g c = λ m known b knows.
+    let a = g.A.Access.reported c.run_all.new.access in
+    let n = answered_by a in
+    let w = world_from m n in
+    let p = program_of (checked_trees c.args.checked.now) c.args.start.now c.args.settings.now in
+    let before = known_part known (g.K.Sink.written c.args.sink.now) in
+    let after = known_part known (g.K.Sink.written c.run_all.new.sink) in
+    let now = state_of c.run_all.new.held a.asks after in
+    let r = ran c.ended_early-in-Err-OutOfMemory.result a.asks after in
+    let same = at_start g.A.Access.cost w p c.in-Ok.held (g.A.Access.reported c.args.access.now).asks before c.requires.fresh (c.in-Ok.ensures.state g.A.Access.cost w before) in
+    subst (λ x. EndsAs x a.lines (outcome_of (meaning w p before)) r) (sym c.ended_early-in-Err-OutOfMemory.ensures.ending)
+    (is_broken w r now (late_meaning g.A.Access.cost w p before) (meaning w p before) (late_pair g.A.Access.cost w p before)
+    (later_end w now _ _ same (rw c.in-Err-OutOfMemory.field-0-is at (c.in-Err-OutOfMemory.ensures.gives m n known b (left_by a) knows))) refl refl)
+
+pub returns-in-Err-OutOfMemory-clause-lines : goal.returns-in-Err-OutOfMemory-clause-lines
+returns-in-Err-OutOfMemory-clause-lines g c = lines_ending _ _ _ (rw c.in-Err-OutOfMemory.field-0-is at (c.in-Err-OutOfMemory.ensures.ends.lines _ (lines_none _)))
 
 pub returns-clause-answer : goal.returns-clause-answer
 returns-clause-answer g c = λ m known b knows.
@@ -131,7 +151,7 @@ returns-in-Err-Halted-clause-whole g c = λ m answered b left is.
 
 pub returns-in-Err-Stopped-clause-whole : goal.returns-in-Err-Stopped-clause-whole
 returns-in-Err-Stopped-clause-whole g c = λ m answered b left is.
-    absurd (stopped_short c.in-Err-Stopped.stop c.ended_early-in-Err-Stopped.result.ending (c.ended_early-in-Err-Stopped.ensures.ending ∙ c.from.ensures) (subst ComesToEnd (sym is) tt))
+    absurd (stopped_short c.stop_of-stop.result c.ended_early-in-Err-Stopped.result.ending (c.ended_early-in-Err-Stopped.ensures.ending ∙ c.from.ensures) (subst ComesToEnd (sym is) tt))
 
 pub returns-in-Ok-run_all-clause-counted : goal.returns-in-Ok-run_all-clause-counted
 returns-in-Ok-run_all-clause-counted g c = λ is. c.ended_whole.ensures.counted (subst ComesToEnd (sym is) tt)
@@ -141,7 +161,7 @@ returns-in-Err-Halted-clause-counted g c = λ is. c.ended_whole-in-Err-Halted.en
 
 pub returns-in-Err-Stopped-clause-counted : goal.returns-in-Err-Stopped-clause-counted
 returns-in-Err-Stopped-clause-counted g c = λ is.
-    absurd (stopped_short c.in-Err-Stopped.stop c.ended_early-in-Err-Stopped.result.ending (c.ended_early-in-Err-Stopped.ensures.ending ∙ c.from.ensures) (subst ComesToEnd (sym is) tt))
+    absurd (stopped_short c.stop_of-stop.result c.ended_early-in-Err-Stopped.result.ending (c.ended_early-in-Err-Stopped.ensures.ending ∙ c.from.ensures) (subst ComesToEnd (sym is) tt))
 
 pub returns-in_default-clause-part : goal.returns-in_default-clause-part
 returns-in_default-clause-part g c = λ m n known b left knows never.
@@ -179,8 +199,20 @@ returns-in-Err-Stopped-clause-part g c = λ m n known b left knows never.
     let after = known_part known (g.K.Sink.written c.run_all.new.sink) in
     let now = state_of c.run_all.new.held a.asks after in
     let same = at_start g.A.Access.cost w p c.in-Ok.held (g.A.Access.reported c.args.access.now).asks before c.requires.fresh (c.in-Ok.ensures.state g.A.Access.cost w before) in
-    is_broken w (ran c.ended_early-in-Err-Stopped.result a.asks after) now (late_meaning g.A.Access.cost w p before) (meaning w p before) (late_pair g.A.Access.cost w p before)
-    (left_end w a.lines c.in-Err-Stopped.stop now _ _ same (rw c.in-Err-Stopped.field-0-is at (c.in-Err-Stopped.ensures.gives m n known b left knows))).later refl refl
+    is_broken w (ran c.ended_early-in-Err-Stopped.result (g.A.Access.reported c.stop_of-stop.new.access).asks after) now (late_meaning g.A.Access.cost w p before) (meaning w p before) (late_pair g.A.Access.cost w p before)
+    (left_end w a now _ _ same (rw c.in-Err-Stopped.field-0-is at (c.in-Err-Stopped.ensures.gives m n known b (c.stop_of-stop.ensures.keeps.goes.left n left) knows))).later c.stop_of-stop.ensures.calls refl
+
+pub returns-in-Err-OutOfMemory-clause-part : goal.returns-in-Err-OutOfMemory-clause-part
+returns-in-Err-OutOfMemory-clause-part g c = λ m n known b left knows never.
+    let a = g.A.Access.reported c.run_all.new.access in
+    let w = world_from m n in
+    let p = program_of (checked_trees c.args.checked.now) c.args.start.now c.args.settings.now in
+    let before = known_part known (g.K.Sink.written c.args.sink.now) in
+    let after = known_part known (g.K.Sink.written c.run_all.new.sink) in
+    let now = state_of c.run_all.new.held a.asks after in
+    let same = at_start g.A.Access.cost w p c.in-Ok.held (g.A.Access.reported c.args.access.now).asks before c.requires.fresh (c.in-Ok.ensures.state g.A.Access.cost w before) in
+    is_broken w (ran c.ended_early-in-Err-OutOfMemory.result a.asks after) now (late_meaning g.A.Access.cost w p before) (meaning w p before) (late_pair g.A.Access.cost w p before)
+    (later_end w now _ _ same (rw c.in-Err-OutOfMemory.field-0-is at (c.in-Err-OutOfMemory.ensures.gives m n known b left knows))) refl refl
 
 pub returns-clause-part : goal.returns-clause-part
 returns-clause-part g c = λ m n known b left knows never.

@@ -17,7 +17,7 @@ returns-in_err-confirm-clause-gives g c = λ m answered known text is b l knows.
 
 pub returns-in_default-clause-gives : goal.returns-in_default-clause-gives
 returns-in_default-clause-gives g c = λ m answered known text is b l knows.
-    line_refused g.A.Access.cost (world_from m answered) text c.args.value (seen known c.args.held.now (g.A.Access.reported c.args.access.now).asks (g.K.Sink.written c.args.sink.now)) _
+    line_refused g.A.Access.cost (world_from m answered) text c.args.value (seen known c.args.held.now (g.A.Access.reported c.args.access.now).asks (g.K.Sink.written c.args.sink.now))
 
 pub returns-in-Ok-put-clause-gives : goal.returns-in-Ok-put-clause-gives
 returns-in-Ok-put-clause-gives g c = λ m answered known text is b l knows.

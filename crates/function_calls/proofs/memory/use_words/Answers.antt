@@ -13,7 +13,7 @@ returns-in_err-confirm-clause-gives g c = λ m answered written b l.
     let w = world_from m answered in
     let s = state_of c.args.held.now (g.A.Access.reported c.args.access.now).asks written in
     passed _ _ _ _ _ c.from_residual.result c.from_residual.ensures.1
-    (stops_before w (g.A.Access.reported c.confirm.new.access).lines c.in_err-confirm.field-0.0 s (g.A.Access.reported c.confirm.new.access).asks (low_and_high (late g.A.Access.cost w) c.args.low c.args.high s)
+    (stops_before w (g.A.Access.reported c.confirm.new.access) c.in_err-confirm.field-0.0 s (g.A.Access.reported c.confirm.new.access).asks (low_and_high (late g.A.Access.cost w) c.args.low c.args.high s)
     (later_low_and_high g.A.Access.cost w c.args.low c.args.high s) c.in_err-confirm.ensures.ends.calls (c.in_err-confirm.ensures.stops m answered b l))
 
 pub returns-clause-gives : goal.returns-clause-gives
@@ -21,12 +21,12 @@ returns-clause-gives g c = λ m answered written b l.
     let h = c.args.held.now in
     read64_on g.A.Access.cost (world_from m answered) c.args.low c.args.high (state_of h (g.A.Access.reported c.args.access.now).asks written) (g.A.Access.reported c.confirm.new.access).asks c.in_ok-confirm.ensures.asks
     c.in_ok-low.low c.in_ok-low.high c.join_words.result (state_of h (g.A.Access.reported c.use_both.new.access).asks written)
-    (c.in_ok-low.ensures.gives m answered (bindings_of h.globals) (locals_of h.locals) h.units h.lines h.steps written (c.in_ok-confirm.ensures.keeps.on m b) l) c.join_words.ensures
+    (c.in_ok-low.ensures.gives m answered (bindings_of h.globals.all) (locals_of h.locals) h.units h.lines h.steps written (c.in_ok-confirm.ensures.keeps.on m b) l) c.join_words.ensures
 
 pub returns-in_err-low-clause-gives : goal.returns-in_err-low-clause-gives
 returns-in_err-low-clause-gives g c = λ m answered written b l.
     let h = c.args.held.now in
     passed _ _ _ _ _ c.from_residual-in_err-low.result c.from_residual-in_err-low.ensures.1
     (read64_ends g.A.Access.cost (world_from m answered) c.args.low c.args.high (state_of h (g.A.Access.reported c.args.access.now).asks written) (g.A.Access.reported c.confirm.new.access).asks c.in_ok-confirm.ensures.asks
-    (g.A.Access.reported c.use_both.new.access).lines c.in_err-low.field-0.0 (state_of h (g.A.Access.reported c.use_both.new.access).asks written)
-    (c.in_err-low.ensures.gives m answered (bindings_of h.globals) (locals_of h.locals) h.units h.lines h.steps written (c.in_ok-confirm.ensures.keeps.on m b) l))
+    (g.A.Access.reported c.use_both.new.access) c.in_err-low.field-0.0 (state_of h (g.A.Access.reported c.use_both.new.access).asks written)
+    (c.in_err-low.ensures.gives m answered (bindings_of h.globals.all) (locals_of h.locals) h.units h.lines h.steps written (c.in_ok-confirm.ensures.keeps.on m b) l))

@@ -12,5 +12,5 @@ returns-in_err-ap-clause-gives g c = λ m answered written b l.
     let w = world_from m answered in
     let s = state_of c.args.held.now (g.A.Access.reported c.args.access.now).asks written in
     passed_by _ _ _ _ _ _ c.from_residual.result c.from_residual.ensures.1
-    (ends_on w (g.A.Access.reported c.use_global.new.access).lines c.in_err-ap.field-0.0 (state_of c.args.held.now (g.A.Access.reported c.use_global.new.access).asks written) (global (late g.A.Access.cost w) (codes "__ap") s) _
+    (ends_on w (g.A.Access.reported c.use_access_port.new.access) c.in_err-ap.field-0.0 (state_of c.args.held.now (g.A.Access.reported c.use_access_port.new.access).asks written) (global (late g.A.Access.cost w) (codes "__ap") s) _
     (c.in_err-ap.ensures.gives m answered written b l) (λ x. later_port_from g.A.Access.cost w x.0 x.1))

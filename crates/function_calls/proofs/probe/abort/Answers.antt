@@ -6,5 +6,5 @@ use Rattle.function_calls.proofs.probe.abort.Goals as goal
 pub returns-in_err-dp-clause-gives : goal.returns-in_err-dp-clause-gives
 returns-in_err-dp-clause-gives g c = λ m answered written b l.
     passed _ _ _ _ _ c.from_residual.result c.from_residual.ensures.1
-    (abort_first g.A.Access.cost (world_from m answered) (g.A.Access.reported c.use_debug_port.new.access).lines c.in_err-dp.field-0.0 c.args.value
+    (abort_first g.A.Access.cost (world_from m answered) (g.A.Access.reported c.use_debug_port.new.access) c.in_err-dp.field-0.0 c.args.value
     (state_of c.args.held.now (g.A.Access.reported c.args.access.now).asks written) (state_of c.args.held.now (g.A.Access.reported c.use_debug_port.new.access).asks written) (c.in_err-dp.ensures.gives m answered written b l))

@@ -8,14 +8,14 @@ use Rattle.function_calls.proofs.uses.use_values.Goals as goal
 pub returns-in_err-number-clause-gives : goal.returns-in_err-number-clause-gives
 returns-in_err-number-clause-gives g c = λ m answered globals locals units lines steps written b l.
     passed_by _ _ _ _ _ _ c.from_residual.result c.from_residual.ensures.1
-    (all_fail g.A.Access.cost (world_from m answered) (g.A.Access.reported c.use_value.new.access).lines c.in_err-number.field-0.0 _ c.args.values.now c.loop-value.value-index _ _ c.loop-value.numbers.items _ _
+    (all_fail g.A.Access.cost (world_from m answered) (g.A.Access.reported c.use_value.new.access) c.in_err-number.field-0.0 _ c.args.values.now c.loop-value.value-index _ _ c.loop-value.numbers.items _ _
     (c.loop-value.invariant.same m answered globals locals units lines steps written b (c.use_value.ensures.keeps.goes.left answered l)) c.loop-value-test.true refl
     (c.in_err-number.ensures.gives m answered globals locals units lines steps written (c.loop-value.invariant.keeps.on m b) l))
 
 pub returns-in-Err-clause-gives : goal.returns-in-Err-clause-gives
 returns-in-Err-clause-gives g c = λ m answered globals locals units lines steps written b l.
     let i = c.loop-value.invariant in
-    all_refused g.A.Access.cost (world_from m answered) (g.A.Access.reported c.use_value.new.access).lines _ c.args.values.now (c.loop-value.value-index + 1) (c.loop-value.numbers.items ++ c.in_ok-number.number ∷ []) _
+    all_refused g.A.Access.cost (world_from m answered) _ c.args.values.now (c.loop-value.value-index + 1) (c.loop-value.numbers.items ++ c.in_ok-number.number ∷ []) _
     (all_on g.A.Access.cost (world_from m answered) _ c.args.values.now c.loop-value.value-index _ _ c.loop-value.numbers.items _ c.in_ok-number.number _ _
     (i.same m answered globals locals units lines steps written b (c.use_value.ensures.keeps.goes.left answered l)) c.loop-value-test.true refl
     (c.in_ok-number.ensures.gives m answered globals locals units lines steps written (i.keeps.on m b) l) refl)

@@ -108,11 +108,11 @@ run_sequence-returns-in_err-run_steps-clause-gives g t c = λ m answered known b
 
 pub run_sequence-returns-clause-gives : goal.run_sequence-returns-clause-gives
 run_sequence-returns-clause-gives g t c = λ m answered known b l knows.
-    entered_as g.A.Access.cost (world_from m answered) _ _ _ _ _ _ _ _ _ (c.take_locals-locals.ensures.none _ _) (c.in_ok-run_steps.ensures.gives m answered known b l knows) c.get_global-dp.ensures c.get_global-ap.ensures c.get_global-control.ensures c.take_locals-locals.ensures.taken (c.give_back.ensures.state _ _)
+    entered_as g.A.Access.cost (world_from m answered) _ _ _ _ _ _ _ _ _ (c.take_locals-locals.ensures.none _ _) (c.in_ok-run_steps.ensures.gives m answered known b l knows) c.debug_port-dp.ensures c.access_port-ap.ensures c.error_control-control.ensures c.take_locals-locals.ensures.taken (c.give_back.ensures.state _ _)
 
 pub run_named-returns-clause-gives : goal.run_named-returns-clause-gives
 run_named-returns-clause-gives g t c = λ m answered known b l knows.
-    sequence_on g.A.Access.cost (world_from m answered) c.args.self.now.turn_us (checked_trees c.args.self.now.set.now) (g.A.Access.reported c.run_sequence.new.access).lines c.args.depth c.args.name.now _ _ c.run_sequence.result (steps_tree c.steps_of.result.now) c.if-depth-eq0.false c.steps_of.ensures (c.run_sequence.ensures.gives m answered known b l knows)
+    sequence_on g.A.Access.cost (world_from m answered) c.args.self.now.turn_us (checked_trees c.args.self.now.set.now) (g.A.Access.reported c.run_sequence.new.access) c.args.depth c.args.name.now _ _ c.run_sequence.result (steps_tree c.steps_of.result.now) c.if-depth-eq0.false c.steps_of.ensures (c.run_sequence.ensures.gives m answered known b l knows)
 
 pub evaluate_operands-returns-in_err-left-clause-gives : goal.evaluate_operands-returns-in_err-left-clause-gives
 evaluate_operands-returns-in_err-left-clause-gives g t c = λ m answered known b l knows.
@@ -168,7 +168,7 @@ run_control-returns-in_err-test_condition-clause-gives g t c = λ m answered kno
 
 pub declare-returns-in-Err-declare-clause-gives : goal.declare-returns-in-Err-declare-clause-gives
 declare-returns-in-Err-declare-clause-gives g t c = λ m answered known b l knows.
-    declare_refused g.A.Access.cost (world_from m answered) c.args.name.now (v.value (late g.A.Access.cost (world_from m answered)) (calls_of g.A.Access.cost (world_from m answered) c.args.self.now c.args.depth) (tree c.args.expr.now)) _ _ _ _ _ c.in_ok-value.value (c.in-Ok.ensures.gives _ _ _ _) (c.in_ok-value.ensures.gives m answered known b l knows) (c.in-Err-declare.ensures.same (g.A.Access.reported c.evaluate.new.access).asks (known_part known (g.K.Sink.written c.evaluate.new.sink)))
+    declare_refused g.A.Access.cost (world_from m answered) c.args.name.now (v.value (late g.A.Access.cost (world_from m answered)) (calls_of g.A.Access.cost (world_from m answered) c.args.self.now c.args.depth) (tree c.args.expr.now)) _ _ _ _ c.in_ok-value.value (c.in-Ok.ensures.gives _ _ _ _) (c.in_ok-value.ensures.gives m answered known b l knows) (c.in-Err-declare.ensures.same (g.A.Access.reported c.evaluate.new.access).asks (known_part known (g.K.Sink.written c.evaluate.new.sink)))
 
 pub run_inside-returns-clause-gives : goal.run_inside-returns-clause-gives
 run_inside-returns-clause-gives g t c = λ m answered known b l knows.
@@ -181,7 +181,7 @@ evaluate_operands-returns-in_err-right-clause-gives g t c = λ m answered known 
 
 pub push_value-returns-in-Err-clause-gives : goal.push_value-returns-in-Err-clause-gives
 push_value-returns-in-Err-clause-gives g t c = λ m answered known b l knows.
-    push_refused g.A.Access.cost (world_from m answered) _ c.args.values.now.items c.in_ok-value.value _ _ (c.in_ok-value.ensures.gives m answered known b l knows)
+    push_refused g.A.Access.cost (world_from m answered) c.args.values.now.items c.in_ok-value.value _ _ (c.in_ok-value.ensures.gives m answered known b l knows)
 
 pub repeat_steps-returns-in-Some-clause-gives : goal.repeat_steps-returns-in-Some-clause-gives
 repeat_steps-returns-in-Some-clause-gives g t c = λ m answered known b l knows.
@@ -222,7 +222,7 @@ call-returns-in_err-numbers-clause-gives g t c = λ m answered known b l knows.
     passed _ _ _ _ _ c.from_residual-in_err-numbers.result c.from_residual-in_err-numbers.ensures.1
     (call_second g.A.Access.cost (world_from m answered) (calls_of g.A.Access.cost (world_from m answered) c.args.self.now c.args.depth) _ c.in_err-numbers.field-0.0 c.args.called.now.name (arg_trees c.args.args.now) _ c.evaluate_arguments.new.values.items _ _ (later_sequence g.A.Access.cost (world_from m answered) c.args.self.now.turn_us (checked_trees c.args.self.now.set.now) c.args.depth)
     (rw c.new-values.ensures.items at (c.in_ok-evaluate_arguments.ensures.gives m answered known b (c.use_values.ensures.keeps.goes.left answered l) knows))
-    (rw c.as_slice.ensures.value at (c.in_err-numbers.ensures.gives m answered (bindings_of h.globals) (locals_of h.locals) h.units h.lines h.steps before (c.in_ok-evaluate_arguments.ensures.keeps.on m b) l)))
+    (rw c.as_slice.ensures.value at (c.in_err-numbers.ensures.gives m answered (bindings_of h.globals.all) (locals_of h.locals) h.units h.lines h.steps before (c.in_ok-evaluate_arguments.ensures.keeps.on m b) l)))
 
 pub call-returns-clause-gives : goal.call-returns-clause-gives
 call-returns-clause-gives g t c = λ m answered known b l knows.
@@ -232,7 +232,7 @@ call-returns-clause-gives g t c = λ m answered known b l knows.
     let on = c.in_ok-evaluate_arguments.ensures.keeps.on m b in
     call_on g.A.Access.cost (world_from m answered) (calls_of g.A.Access.cost (world_from m answered) c.args.self.now c.args.depth) _ c.args.called.now.name (arg_trees c.args.args.now) _ c.evaluate_arguments.new.values.items c.in_ok-numbers.numbers.items _ _ _ c.call_function.result c.args.called.now.function c.text_of.result.now
     (rw c.new-values.ensures.items at (c.in_ok-evaluate_arguments.ensures.gives m answered known b (c.use_values.ensures.keeps.goes.left answered mid) knows))
-    (rw c.as_slice.ensures.value at (c.in_ok-numbers.ensures.gives m answered (bindings_of h.globals) (locals_of h.locals) h.units h.lines h.steps before on mid))
+    (rw c.as_slice.ensures.value at (c.in_ok-numbers.ensures.gives m answered (bindings_of h.globals.all) (locals_of h.locals) h.units h.lines h.steps before on mid))
     c.args.called.now.found c.text_of.ensures
     (rw c.as_slice-2.ensures.value at (c.call_function.ensures.gives m answered known (c.in_ok-numbers.ensures.keeps.on m on) l (c.in_ok-evaluate_arguments.ensures.ends.knows known knows)))
 

@@ -20,8 +20,8 @@ returns-in_err-define_all-clause-gives g c = λ m answered known b l knows.
     let s = seen known c.args.held.now (g.A.Access.reported c.args.access.now).asks (g.K.Sink.written c.args.sink.now) in
     let now = seen known c.define_all.new.held (g.A.Access.reported c.define_all.new.access).asks (g.K.Sink.written c.define_all.new.sink) in
     passed _ _ _ _ _ c.from_residual.result c.from_residual.ensures.1
-    (run_first g.A.Access.cost w c.args.self.now.turn_us set (g.A.Access.reported c.define_all.new.access).lines c.args.start.now s now c.in_err-define_all.field-0.0
-    (subst (λ (k : List StmtTree). EndsLate w (g.A.Access.reported c.define_all.new.access).lines c.in_err-define_all.field-0.0 now (debugged (late g.A.Access.cost w) c.args.self.now.turn_us set k s)) code (c.in_err-define_all.ensures.gives m answered known b l knows)))
+    (run_first g.A.Access.cost w c.args.self.now.turn_us set (g.A.Access.reported c.define_all.new.access) c.args.start.now s now c.in_err-define_all.field-0.0
+    (subst (λ (k : List StmtTree). EndsLate w (g.A.Access.reported c.define_all.new.access) c.in_err-define_all.field-0.0 now (debugged (late g.A.Access.cost w) c.args.self.now.turn_us set k s)) code (c.in_err-define_all.ensures.gives m answered known b l knows)))
 
 pub returns-clause-gives : goal.returns-clause-gives
 returns-clause-gives g c = λ m answered known b l knows.

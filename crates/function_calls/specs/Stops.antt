@@ -1,0 +1,12 @@
+-- How a run ends at an answer of its access.
+use Rattle.access_calls.specs.declared.stop.Stop.{Stop}
+use Rattle.access_calls.specs.declared.stop.Stop.TheVariants as stop
+use Rattle.function_calls.specs.declared.end.End.{End}
+use Rattle.function_calls.specs.declared.end.End.TheVariants as end
+
+-- the access stopped, or memory was refused
+abbrev pub end_by : Stop → End
+end_by (stop.Cut r) = end.Stopped
+end_by (stop.BenchFault issued confirmed) = end.Stopped
+end_by stop.ReplyBad = end.Stopped
+end_by stop.OutOfMemory = end.OutOfMemory
