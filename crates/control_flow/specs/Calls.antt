@@ -1,9 +1,10 @@
 -- What the evaluator calls, and how it takes the debug variables one after the other.
-use Rattle.std.specs.Prelude.{ℕ, List, Ok}
+use Rattle.std.specs.Prelude.{◌≡◌, ℕ, List, Ok}
 use Rattle.dap_base.specs.Outcome.{◌>>=◌}
+use Rattle.dap_base.specs.declared.text.Place.{Place}
 use Rattle.expr_grammar.specs.declared.code.Name.{Name}
 use Rattle.expr_grammar.specs.Tree as t
-use Rattle.expr_grammar.specs.Tree.{Tree, StmtTree}
+use Rattle.expr_grammar.specs.Tree.{Tree, ArgTree, ArgTrees, StmtTree}
 use Rattle.target_calls.specs.declared.calls.Value.{Value}
 use Rattle.target_calls.specs.NeedPoints.{Costs}
 use Rattle.target_calls.specs.World.{World}
@@ -18,6 +19,30 @@ use Rattle.control_flow.specs.declared.runner.Runner.{Runner}
 -- the sequences of the runner's set, from which calls lead at most so deep
 abbrev pub calls_of : Costs → World → Runner → ℕ → List ℕ → State Value Late → Out Value Late (Unit {0})
 calls_of cost w runner depth name s = sequence_at (late cost w) runner.turn_us (checked_trees runner.set.now) depth name s
+
+-- one argument, a number at this place
+abbrev pub one_number : Place → Tree → ArgTrees
+one_number at a = t.MoreArgs (t.ExprArg at a) t.NoArgs
+
+-- two arguments, both numbers
+abbrev pub two_numbers : Place → Tree → Place → Tree → ArgTrees
+two_numbers at a later b = t.MoreArgs (t.ExprArg at a) (t.MoreArgs (t.ExprArg later b) t.NoArgs)
+
+-- an argument is an expression
+pub record IsNumber (arg : ArgTree) (a : Tree) : Type 0 where
+  pub at : Place
+  pub is : arg ≡ t.ExprArg at a
+
+-- the arguments are one expression
+pub record IsOne (args : ArgTrees) (a : Tree) : Type 0 where
+  pub at : Place
+  pub is : args ≡ one_number at a
+
+-- the arguments are two expressions
+pub record AreTwo (args : ArgTrees) (a b : Tree) : Type 0 where
+  pub at : Place
+  pub later : Place
+  pub is : args ≡ two_numbers at a later b
 
 module _ (cost : Costs) (w : World) (turn_us : ℕ) (set : SetTrees) where
   -- a debug variable gets its value

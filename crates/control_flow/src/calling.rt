@@ -1,5 +1,6 @@
 //! Calls of functions and of sequences.
 ghost use Rattle.std.specs.Prelude.{◌≡◌, [], Option, None, unwrap_or};
+ghost use Rattle.dap_base.specs.declared.text.Place.{Place};
 ghost use Rattle.expr_grammar.specs.Tree.{arg_tree, arg_trees, tree};
 ghost use Rattle.function_table.specs.declared.function.Function.{Function};
 ghost use Rattle.seq_check.specs.Answers.{checked_trees};
@@ -9,8 +10,9 @@ ghost use Rattle.sequence_rules.specs.Values as v;
 ghost use Rattle.function_calls.specs.Frame.{EndsWriting, IsReady, Keeps};
 ghost use Rattle.function_calls.specs.Means.{MeansWriting, MeansWritingAs};
 ghost use Rattle.sequence_rules.specs.Late.{late};
-ghost use Rattle.control_flow.specs.Calls.{calls_of};
+ghost use Rattle.control_flow.specs.Calls.{calls_of, one_number, two_numbers};
 
+use crate::arguments::{both_numbers, only_number};
 use crate::runner::Runner;
 use access_calls::Access;
 use dap_base::Sink;
@@ -95,10 +97,10 @@ impl Runner<'_> {
         Ok(())
     }
 
-    // A call: its arguments are evaluated, and then all are used, and then the function is called.
+    // A call with any arguments: they are evaluated, and then all are used, and then the function is called.
     #[cycle(eval)]
     #[tactic(auto, unfolding(sequence_rules::specs::Values::call_of, sequence_rules::specs::Values::numbers_of, sequence_rules::specs::Calls::guarded), using(crate::proofs::Exits::goes_on))]
-    pub(crate) fn call<A: Access, K: Sink>(
+    fn call_listed<A: Access, K: Sink>(
         &self,
         called: &CalledName,
         args: &[Arg],
@@ -126,6 +128,89 @@ impl Runner<'_> {
             access,
             sink,
         )
+    }
+
+    // A call whose argument is one number.
+    #[cycle(eval)]
+    #[tactic(auto, using(crate::proofs::Exits::goes_on))]
+    fn call_one<A: Access, K: Sink>(
+        &self,
+        called: &CalledName,
+        only: &Expr,
+        depth: u32,
+        held: &mut Held,
+        access: &mut A,
+        sink: &mut K,
+    ) -> Result<Value, End>
+        requires ready { IsReady held.old.units (A.reported access.old) }
+        ensures gives { (at : Place) → MeansWriting A.begun A.reported K.written access.old access.new sink.old sink.new held.old held.new result
+            (λ w s. v.call_of (late A.cost w) (calls_of A.cost w self.now depth) called.now.name (one_number at (tree only.now))
+            (v.arguments (late A.cost w) (calls_of A.cost w self.now depth) (one_number at (tree only.now)) [] s)) }
+        ensures keeps { Keeps A.begun A.reported A.identity access.old access.new }
+        ensures ends { EndsWriting K.written K.faults result held.new.units (A.reported access.new) sink.old sink.new }
+    {
+        let number = self.evaluate_number(only, depth, held, access, sink)?;
+        self.call_function(called.function, "", &[number], depth, held, access, sink)
+    }
+
+    // A call whose arguments are two numbers.
+    #[cycle(eval)]
+    #[tactic(auto, using(crate::proofs::Exits::goes_on))]
+    fn call_two<A: Access, K: Sink>(
+        &self,
+        called: &CalledName,
+        first: &Expr,
+        second: &Expr,
+        depth: u32,
+        held: &mut Held,
+        access: &mut A,
+        sink: &mut K,
+    ) -> Result<Value, End>
+        requires ready { IsReady held.old.units (A.reported access.old) }
+        ensures gives { (at later : Place) → MeansWriting A.begun A.reported K.written access.old access.new sink.old sink.new held.old held.new result
+            (λ w s. v.call_of (late A.cost w) (calls_of A.cost w self.now depth) called.now.name (two_numbers at (tree first.now) later (tree second.now))
+            (v.arguments (late A.cost w) (calls_of A.cost w self.now depth) (two_numbers at (tree first.now) later (tree second.now)) [] s)) }
+        ensures keeps { Keeps A.begun A.reported A.identity access.old access.new }
+        ensures ends { EndsWriting K.written K.faults result held.new.units (A.reported access.new) sink.old sink.new }
+    {
+        let (first, second) = self.evaluate_operands(first, second, depth, held, access, sink)?;
+        self.call_function(
+            called.function,
+            "",
+            &[first, second],
+            depth,
+            held,
+            access,
+            sink,
+        )
+    }
+
+    // A call. Most have one number or two, for which no list is made.
+    #[inline(never)]
+    #[cycle(eval)]
+    pub(crate) fn call<A: Access, K: Sink>(
+        &self,
+        called: &CalledName,
+        args: &[Arg],
+        depth: u32,
+        held: &mut Held,
+        access: &mut A,
+        sink: &mut K,
+    ) -> Result<Value, End>
+        requires ready { IsReady held.old.units (A.reported access.old) }
+        ensures gives { MeansWriting A.begun A.reported K.written access.old access.new sink.old sink.new held.old held.new result
+            (λ w s. v.call_of (late A.cost w) (calls_of A.cost w self.now depth) called.now.name (arg_trees args.now)
+            (v.arguments (late A.cost w) (calls_of A.cost w self.now depth) (arg_trees args.now) [] s)) }
+        ensures keeps { Keeps A.begun A.reported A.identity access.old access.new }
+        ensures ends { EndsWriting K.written K.faults result held.new.units (A.reported access.new) sink.old sink.new }
+    {
+        if let Some(only) = only_number(args) {
+            return self.call_one(called, only, depth, held, access, sink);
+        }
+        if let Some((first, second)) = both_numbers(args) {
+            return self.call_two(called, first, second, depth, held, access, sink);
+        }
+        self.call_listed(called, args, depth, held, access, sink)
     }
 
     // The function of a call.
@@ -226,9 +311,9 @@ impl Runner<'_> {
         ensures keeps { Keeps A.begun A.reported A.identity access.old access.new }
         ensures ends { EndsWriting K.written K.faults result held.new.units (A.reported access.new) sink.old sink.new }
     {
-        let dp = held.globals.debug_port();
-        let ap = held.globals.access_port();
-        let control = held.globals.error_control();
+        let dp = held.globals.dp();
+        let ap = held.globals.ap();
+        let control = held.globals.control();
         let locals = held.take_locals(self.alloc);
         self.run_steps(steps, depth, held, access, sink)?;
         held.give_back(dp, ap, control, locals);

@@ -1,6 +1,7 @@
 //! Runs a checked set of sequences over an access to a target, whose results may come late.
 #![tactic(auto)]
 
+mod arguments;
 mod calling;
 mod closing;
 mod controls;

@@ -18,6 +18,7 @@ use target_machine::HaltCause;
 
 impl Runner<'_> {
     // An operator before its operand.
+    #[inline(never)]
     #[cycle(eval)]
     #[tactic(auto, unfolding(sequence_rules::specs::Values::of_unary), using(crate::proofs::Exits::goes_on))]
     pub(crate) fn evaluate_unary<A: Access, K: Sink>(
@@ -40,9 +41,10 @@ impl Runner<'_> {
     }
 
     // The numbers of two operands: both are evaluated, and then both are used.
+    #[inline(always)]
     #[cycle(eval)]
     #[tactic(auto, unfolding(sequence_rules::specs::Values::operands), using(crate::proofs::Exits::goes_on))]
-    fn evaluate_operands<A: Access, K: Sink>(
+    pub(crate) fn evaluate_operands<A: Access, K: Sink>(
         &self,
         left: &Expr,
         right: &Expr,
@@ -58,8 +60,8 @@ impl Runner<'_> {
         ensures keeps { Keeps A.begun A.reported A.identity access.old access.new }
         ensures ends { EndsWriting K.written K.faults result held.new.units (A.reported access.new) sink.old sink.new }
     {
-        let left = self.evaluate(left, depth, held, access, sink)?;
-        let right = self.evaluate(right, depth, held, access, sink)?;
+        let left = self.evaluate_operand(left, depth, held, access, sink)?;
+        let right = self.evaluate_operand(right, depth, held, access, sink)?;
         use_both(left, right, access)
     }
 
@@ -112,6 +114,7 @@ impl Runner<'_> {
     }
 
     // The right side counts only where the left one is not 0.
+    #[inline(never)]
     #[cycle(eval)]
     #[tactic(auto, unfolding(sequence_rules::specs::Values::conjunction), using(crate::proofs::Exits::goes_on))]
     fn evaluate_and<A: Access, K: Sink>(
@@ -138,6 +141,7 @@ impl Runner<'_> {
     }
 
     // The right side counts only where the left one is 0.
+    #[inline(never)]
     #[cycle(eval)]
     #[tactic(auto, unfolding(sequence_rules::specs::Values::disjunction), using(crate::proofs::Exits::goes_on))]
     fn evaluate_or<A: Access, K: Sink>(

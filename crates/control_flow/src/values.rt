@@ -56,6 +56,31 @@ impl Runner<'_> {
         }
     }
 
+    // The value of an operand or an argument, which is not used. Most are numbers or names, which are taken here, without a call for each.
+    #[inline(always)]
+    #[cycle(eval)]
+    #[tactic(auto, unfolding(sequence_rules::specs::Values::value, sequence_rules::specs::Values::named, sequence_rules::specs::Calls::given, sequence_rules::specs::Calls::missing), using(crate::proofs::Exits::goes_on))]
+    pub(crate) fn evaluate_operand<A: Access, K: Sink>(
+        &self,
+        expr: &Expr,
+        depth: u32,
+        held: &mut Held,
+        access: &mut A,
+        sink: &mut K,
+    ) -> Result<Value, End>
+        requires ready { IsReady held.old.units (A.reported access.old) }
+        ensures gives { MeansWriting A.begun A.reported K.written access.old access.new sink.old sink.new held.old held.new result
+            (λ w. v.value (late A.cost w) (calls_of A.cost w self.now depth) (tree expr.now)) }
+        ensures keeps { Keeps A.begun A.reported A.identity access.old access.new }
+        ensures ends { EndsWriting K.written K.faults result held.new.units (A.reported access.new) sink.old sink.new }
+    {
+        match expr {
+            Expr::Number(number) => Ok(Value::Number(*number)),
+            Expr::Name(name) => Ok(held.get_visible(name.text.as_str())),
+            _ => self.evaluate(expr, depth, held, access, sink),
+        }
+    }
+
     // The number of an expression, whose value is used.
     #[cycle(eval)]
     #[tactic(auto, unfolding(sequence_rules::specs::Values::used_now), using(crate::proofs::Exits::goes_on))]
@@ -73,11 +98,12 @@ impl Runner<'_> {
         ensures keeps { Keeps A.begun A.reported A.identity access.old access.new }
         ensures ends { EndsWriting K.written K.faults result held.new.units (A.reported access.new) sink.old sink.new }
     {
-        let value = self.evaluate(expr, depth, held, access, sink)?;
+        let value = self.evaluate_operand(expr, depth, held, access, sink)?;
         use_value(value, access)
     }
 
     // One of two, by a condition that is used. The value of the chosen one is not used.
+    #[inline(never)]
     #[cycle(eval)]
     #[tactic(auto, unfolding(sequence_rules::specs::Values::choice), using(crate::proofs::Exits::goes_on))]
     fn evaluate_choice<A: Access, K: Sink>(
@@ -107,6 +133,7 @@ impl Runner<'_> {
     }
 
     // An assignment. The value is not used.
+    #[inline(never)]
     #[cycle(eval)]
     #[tactic(auto, unfolding(sequence_rules::specs::Values::assigned), using(crate::proofs::Exits::goes_on))]
     fn assign<A: Access, K: Sink>(

@@ -17,7 +17,7 @@ state_with globals locals units lines steps asks written =
 
 -- the state of a run that holds this, of which this was asked and written
 abbrev pub state_of : Held → Asks → Option (List ℕ) → State Value Late
-state_of held asks written = state_with (bindings_of held.globals.all) (locals_of held.locals) held.units held.lines held.steps asks written
+state_of held asks written = state_with (bindings_of held.globals.variables) (locals_of held.locals) held.units held.lines held.steps asks written
 
 -- the same, with what was written where it is asked for
 abbrev pub seen : Bool → Held → Asks → Option (List ℕ) → State Value Late

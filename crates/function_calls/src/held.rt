@@ -54,7 +54,7 @@ impl Held {
 
     /// The value of a visible variable, 0 where there is none.
     pub fn get_visible(&self, name: &str) -> Value
-        ensures { (s : State Value Late) → s.globals ≡ bindings_of self.now.globals.all → s.locals ≡ locals_of self.now.locals
+        ensures { (s : State Value Late) → s.globals ≡ bindings_of self.now.globals.variables → s.locals ≡ locals_of self.now.locals
             → result ≡ unwrap_or (visible name.now s) (Number 0) }
     {
         match self.locals.get(name) {
@@ -116,30 +116,30 @@ impl Held {
     }
 
     // Gives the caller its `__dp` again.
-    fn set_debug_port(&mut self, value: Value)
+    fn set_dp(&mut self, value: Value)
         ensures state { (asks : Asks) (written : Option (List ℕ)) → state_of self.new asks written
-            ≡ with_variables (state_of self.old asks written) (set_in (bindings_of self.old.globals.all) (codes "__dp") value) (locals_of self.old.locals) }
+            ≡ with_variables (state_of self.old asks written) (set_in (bindings_of self.old.globals.variables) (codes "__dp") value) (locals_of self.old.locals) }
         ensures units { self.new.units ≡ self.old.units }
     {
-        self.globals.set_debug_port(value);
+        self.globals.set_dp(value);
     }
 
     // Gives the caller its `__ap` again.
-    fn set_access_port(&mut self, value: Value)
+    fn set_ap(&mut self, value: Value)
         ensures state { (asks : Asks) (written : Option (List ℕ)) → state_of self.new asks written
-            ≡ with_variables (state_of self.old asks written) (set_in (bindings_of self.old.globals.all) (codes "__ap") value) (locals_of self.old.locals) }
+            ≡ with_variables (state_of self.old asks written) (set_in (bindings_of self.old.globals.variables) (codes "__ap") value) (locals_of self.old.locals) }
         ensures units { self.new.units ≡ self.old.units }
     {
-        self.globals.set_access_port(value);
+        self.globals.set_ap(value);
     }
 
     // Gives the caller its `__errorcontrol` again.
-    fn set_error_control(&mut self, value: Value)
+    fn set_control(&mut self, value: Value)
         ensures state { (asks : Asks) (written : Option (List ℕ)) → state_of self.new asks written
-            ≡ with_variables (state_of self.old asks written) (set_in (bindings_of self.old.globals.all) (codes "__errorcontrol") value) (locals_of self.old.locals) }
+            ≡ with_variables (state_of self.old asks written) (set_in (bindings_of self.old.globals.variables) (codes "__errorcontrol") value) (locals_of self.old.locals) }
         ensures units { self.new.units ≡ self.old.units }
     {
-        self.globals.set_error_control(value);
+        self.globals.set_control(value);
     }
 
     fn set_locals(&mut self, locals: Locals<Value>)
@@ -154,12 +154,12 @@ impl Held {
     pub fn give_back(&mut self, dp: Value, ap: Value, control: Value, locals: Locals<Value>)
         ensures state { (asks : Asks) (written : Option (List ℕ)) → state_of self.new asks written
             ≡ with_variables (state_of self.old asks written)
-            (set_in (set_in (set_in (bindings_of self.old.globals.all) (codes "__dp") dp) (codes "__ap") ap) (codes "__errorcontrol") control) (locals_of locals) }
+            (set_in (set_in (set_in (bindings_of self.old.globals.variables) (codes "__dp") dp) (codes "__ap") ap) (codes "__errorcontrol") control) (locals_of locals) }
         ensures units { self.new.units ≡ self.old.units }
     {
-        self.set_debug_port(dp);
-        self.set_access_port(ap);
-        self.set_error_control(control);
+        self.set_dp(dp);
+        self.set_ap(ap);
+        self.set_control(control);
         self.set_locals(locals);
     }
 

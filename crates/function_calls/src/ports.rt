@@ -20,7 +20,7 @@ pub fn use_debug_port<A: Access>(held: &Held, access: &mut A) -> Result<u64, End
     ensures keeps { Keeps A.begun A.reported A.identity access.old access.new }
     ensures ends { EndsUse result (A.reported access.old) (A.reported access.new) }
 {
-    use_value(held.globals.debug_port(), access)
+    use_value(held.globals.dp(), access)
 }
 
 // The number of `__ap`, which is used.
@@ -31,7 +31,7 @@ fn use_access_port<A: Access>(held: &Held, access: &mut A) -> Result<u64, End>
     ensures keeps { Keeps A.begun A.reported A.identity access.old access.new }
     ensures ends { EndsUse result (A.reported access.old) (A.reported access.new) }
 {
-    use_value(held.globals.access_port(), access)
+    use_value(held.globals.ap(), access)
 }
 
 // The number of `__errorcontrol`, which is used.
@@ -42,7 +42,7 @@ fn use_error_control<A: Access>(held: &Held, access: &mut A) -> Result<u64, End>
     ensures keeps { Keeps A.begun A.reported A.identity access.old access.new }
     ensures ends { EndsUse result (A.reported access.old) (A.reported access.new) }
 {
-    use_value(held.globals.error_control(), access)
+    use_value(held.globals.control(), access)
 }
 
 // `__dp` is used last.

@@ -21,7 +21,7 @@ returns-clause-gives g c = λ m answered written b l.
     let h = c.args.held.now in
     read64_on g.A.Access.cost (world_from m answered) c.args.low c.args.high (state_of h (g.A.Access.reported c.args.access.now).asks written) (g.A.Access.reported c.confirm.new.access).asks c.in_ok-confirm.ensures.asks
     c.in_ok-low.low c.in_ok-low.high c.join_words.result (state_of h (g.A.Access.reported c.use_both.new.access).asks written)
-    (c.in_ok-low.ensures.gives m answered (bindings_of h.globals.all) (locals_of h.locals) h.units h.lines h.steps written (c.in_ok-confirm.ensures.keeps.on m b) l) c.join_words.ensures
+    (c.in_ok-low.ensures.gives m answered (bindings_of h.globals.variables) (locals_of h.locals) h.units h.lines h.steps written (c.in_ok-confirm.ensures.keeps.on m b) l) c.join_words.ensures
 
 pub returns-in_err-low-clause-gives : goal.returns-in_err-low-clause-gives
 returns-in_err-low-clause-gives g c = λ m answered written b l.
@@ -29,4 +29,4 @@ returns-in_err-low-clause-gives g c = λ m answered written b l.
     passed _ _ _ _ _ c.from_residual-in_err-low.result c.from_residual-in_err-low.ensures.1
     (read64_ends g.A.Access.cost (world_from m answered) c.args.low c.args.high (state_of h (g.A.Access.reported c.args.access.now).asks written) (g.A.Access.reported c.confirm.new.access).asks c.in_ok-confirm.ensures.asks
     (g.A.Access.reported c.use_both.new.access) c.in_err-low.field-0.0 (state_of h (g.A.Access.reported c.use_both.new.access).asks written)
-    (c.in_err-low.ensures.gives m answered (bindings_of h.globals.all) (locals_of h.locals) h.units h.lines h.steps written (c.in_ok-confirm.ensures.keeps.on m b) l))
+    (c.in_err-low.ensures.gives m answered (bindings_of h.globals.variables) (locals_of h.locals) h.units h.lines h.steps written (c.in_ok-confirm.ensures.keeps.on m b) l))

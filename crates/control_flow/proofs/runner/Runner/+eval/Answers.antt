@@ -17,6 +17,7 @@ use Rattle.function_calls.proofs.FrameLemmas.{keeps_on, ends_after, ends_same}
 use Rattle.function_calls.proofs.Leaves.{passed, passed_as}
 use Rattle.control_flow.specs.Calls.{calls_of}
 use Rattle.control_flow.proofs.Exits.{later_sequence, later_value, later_inside, later_done, operands_first, call_first, turn_test}
+use Rattle.control_flow.proofs.FewLemmas.{are_two, is_one, one_first, one_on, one_size, two_first, two_on, two_size}
 use Rattle.control_flow.proofs.Parts.{used_first, assigned_first, assigned_on, operands_second, strict_first, push_refused, controlled_first, called_none, choice_test, and_first, or_first, repeated_on, sequence_none, call_on, call_second, number_on, name_on}
 use Rattle.control_flow.proofs.Loops.{declare_refused, args_next, args_fail, block_next, block_fail, done_next, done_fail, turns_fail, entered_fail, entered_as, sequence_on}
 use Rattle.sequence_rules.proofs.Sizes.{arg_size, args_size, stmt_size, block_size, step_size, steps_size, all_size, arg_within, stmt_within, step_within, named_within, less_budget}
@@ -108,7 +109,7 @@ run_sequence-returns-in_err-run_steps-clause-gives g t c = λ m answered known b
 
 pub run_sequence-returns-clause-gives : goal.run_sequence-returns-clause-gives
 run_sequence-returns-clause-gives g t c = λ m answered known b l knows.
-    entered_as g.A.Access.cost (world_from m answered) _ _ _ _ _ _ _ _ _ (c.take_locals-locals.ensures.none _ _) (c.in_ok-run_steps.ensures.gives m answered known b l knows) c.debug_port-dp.ensures c.access_port-ap.ensures c.error_control-control.ensures c.take_locals-locals.ensures.taken (c.give_back.ensures.state _ _)
+    entered_as g.A.Access.cost (world_from m answered) _ _ _ _ _ _ _ _ _ (c.take_locals-locals.ensures.none _ _) (c.in_ok-run_steps.ensures.gives m answered known b l knows) c.dp-dp.ensures c.ap-ap.ensures c.control-control.ensures c.take_locals-locals.ensures.taken (c.give_back.ensures.state _ _)
 
 pub run_named-returns-clause-gives : goal.run_named-returns-clause-gives
 run_named-returns-clause-gives g t c = λ m answered known b l knows.
@@ -119,8 +120,8 @@ evaluate_operands-returns-in_err-left-clause-gives g t c = λ m answered known b
     passed _ _ _ _ _ c.from_residual.result c.from_residual.ensures.1
     (operands_first g.A.Access.cost (world_from m answered) _ c.in_err-left.field-0.0 _ _ _ (c.in_err-left.ensures.gives m answered known b l knows) (λ s. later_value g.A.Access.cost (world_from m answered) _ (tree c.args.right.now) s (later_sequence g.A.Access.cost (world_from m answered) c.args.self.now.turn_us (checked_trees c.args.self.now.set.now) c.args.depth)))
 
-pub call-returns-in_err-evaluate_arguments-clause-gives : goal.call-returns-in_err-evaluate_arguments-clause-gives
-call-returns-in_err-evaluate_arguments-clause-gives g t c = λ m answered known b l knows.
+pub call_listed-returns-in_err-evaluate_arguments-clause-gives : goal.call_listed-returns-in_err-evaluate_arguments-clause-gives
+call_listed-returns-in_err-evaluate_arguments-clause-gives g t c = λ m answered known b l knows.
     passed _ _ _ _ _ c.from_residual.result c.from_residual.ensures.1
     (call_first g.A.Access.cost (world_from m answered) _ c.in_err-evaluate_arguments.field-0.0 _ _ c.args.called.now.name (arg_trees c.args.args.now) _ (later_sequence g.A.Access.cost (world_from m answered) c.args.self.now.turn_us (checked_trees c.args.self.now.set.now) c.args.depth) (rw c.new-values.ensures.items at (c.in_err-evaluate_arguments.ensures.gives m answered known b l knows)))
 
@@ -177,7 +178,7 @@ run_inside-returns-clause-gives g t c = λ m answered known b l knows.
 pub evaluate_operands-returns-in_err-right-clause-gives : goal.evaluate_operands-returns-in_err-right-clause-gives
 evaluate_operands-returns-in_err-right-clause-gives g t c = λ m answered known b l knows.
     passed _ _ _ _ _ c.from_residual-in_err-right.result c.from_residual-in_err-right.ensures.1
-    (operands_second g.A.Access.cost (world_from m answered) _ c.in_err-right.field-0.0 _ _ c.in_ok-left.left _ _ (c.in_ok-left.ensures.gives m answered known b (c.evaluate-2.ensures.keeps.goes.left answered l) knows) (c.in_err-right.ensures.gives m answered known (c.in_ok-left.ensures.keeps.on m b) l (c.in_ok-left.ensures.ends.knows known knows)))
+    (operands_second g.A.Access.cost (world_from m answered) _ c.in_err-right.field-0.0 _ _ c.in_ok-left.left _ _ (c.in_ok-left.ensures.gives m answered known b (c.evaluate_operand-2.ensures.keeps.goes.left answered l) knows) (c.in_err-right.ensures.gives m answered known (c.in_ok-left.ensures.keeps.on m b) l (c.in_ok-left.ensures.ends.knows known knows)))
 
 pub push_value-returns-in-Err-clause-gives : goal.push_value-returns-in-Err-clause-gives
 push_value-returns-in-Err-clause-gives g t c = λ m answered known b l knows.
@@ -215,26 +216,50 @@ evaluate_number-returns-in_err-value-clause-gives g t c = λ m answered known b 
     passed _ _ _ _ _ c.from_residual.result c.from_residual.ensures.1
     (used_first g.A.Access.cost (world_from m answered) _ c.in_err-value.field-0.0 _ _ (c.in_err-value.ensures.gives m answered known b l knows))
 
-pub call-returns-in_err-numbers-clause-gives : goal.call-returns-in_err-numbers-clause-gives
-call-returns-in_err-numbers-clause-gives g t c = λ m answered known b l knows.
+pub call_listed-returns-in_err-numbers-clause-gives : goal.call_listed-returns-in_err-numbers-clause-gives
+call_listed-returns-in_err-numbers-clause-gives g t c = λ m answered known b l knows.
     let h = c.evaluate_arguments.new.held in
     let before = known_part known (g.K.Sink.written c.evaluate_arguments.new.sink) in
     passed _ _ _ _ _ c.from_residual-in_err-numbers.result c.from_residual-in_err-numbers.ensures.1
     (call_second g.A.Access.cost (world_from m answered) (calls_of g.A.Access.cost (world_from m answered) c.args.self.now c.args.depth) _ c.in_err-numbers.field-0.0 c.args.called.now.name (arg_trees c.args.args.now) _ c.evaluate_arguments.new.values.items _ _ (later_sequence g.A.Access.cost (world_from m answered) c.args.self.now.turn_us (checked_trees c.args.self.now.set.now) c.args.depth)
     (rw c.new-values.ensures.items at (c.in_ok-evaluate_arguments.ensures.gives m answered known b (c.use_values.ensures.keeps.goes.left answered l) knows))
-    (rw c.as_slice.ensures.value at (c.in_err-numbers.ensures.gives m answered (bindings_of h.globals.all) (locals_of h.locals) h.units h.lines h.steps before (c.in_ok-evaluate_arguments.ensures.keeps.on m b) l)))
+    (rw c.as_slice.ensures.value at (c.in_err-numbers.ensures.gives m answered (bindings_of h.globals.variables) (locals_of h.locals) h.units h.lines h.steps before (c.in_ok-evaluate_arguments.ensures.keeps.on m b) l)))
 
-pub call-returns-clause-gives : goal.call-returns-clause-gives
-call-returns-clause-gives g t c = λ m answered known b l knows.
+pub call_listed-returns-clause-gives : goal.call_listed-returns-clause-gives
+call_listed-returns-clause-gives g t c = λ m answered known b l knows.
     let h = c.evaluate_arguments.new.held in
     let before = known_part known (g.K.Sink.written c.evaluate_arguments.new.sink) in
     let mid = c.call_function.ensures.keeps.goes.left answered l in
     let on = c.in_ok-evaluate_arguments.ensures.keeps.on m b in
     call_on g.A.Access.cost (world_from m answered) (calls_of g.A.Access.cost (world_from m answered) c.args.self.now c.args.depth) _ c.args.called.now.name (arg_trees c.args.args.now) _ c.evaluate_arguments.new.values.items c.in_ok-numbers.numbers.items _ _ _ c.call_function.result c.args.called.now.function c.text_of.result.now
     (rw c.new-values.ensures.items at (c.in_ok-evaluate_arguments.ensures.gives m answered known b (c.use_values.ensures.keeps.goes.left answered mid) knows))
-    (rw c.as_slice.ensures.value at (c.in_ok-numbers.ensures.gives m answered (bindings_of h.globals.all) (locals_of h.locals) h.units h.lines h.steps before on mid))
+    (rw c.as_slice.ensures.value at (c.in_ok-numbers.ensures.gives m answered (bindings_of h.globals.variables) (locals_of h.locals) h.units h.lines h.steps before on mid))
     c.args.called.now.found c.text_of.ensures
     (rw c.as_slice-2.ensures.value at (c.call_function.ensures.gives m answered known (c.in_ok-numbers.ensures.keeps.on m on) l (c.in_ok-evaluate_arguments.ensures.ends.knows known knows)))
+
+pub call_one-returns-in_err-number-clause-gives : goal.call_one-returns-in_err-number-clause-gives
+call_one-returns-in_err-number-clause-gives g t c = λ at m answered known b l knows.
+    passed _ _ _ _ _ c.from_residual.result c.from_residual.ensures.1
+    (one_first g.A.Access.cost (world_from m answered) (calls_of g.A.Access.cost (world_from m answered) c.args.self.now c.args.depth) c.args.called.now.name _ c.in_err-number.field-0.0 at (tree c.args.only.now) _ _ (later_sequence g.A.Access.cost (world_from m answered) c.args.self.now.turn_us (checked_trees c.args.self.now.set.now) c.args.depth)
+    (c.in_err-number.ensures.gives m answered known b l knows))
+
+pub call_one-returns-clause-gives : goal.call_one-returns-clause-gives
+call_one-returns-clause-gives g t c = λ at m answered known b l knows.
+    one_on g.A.Access.cost (world_from m answered) (calls_of g.A.Access.cost (world_from m answered) c.args.self.now c.args.depth) c.args.called.now.name _ at (tree c.args.only.now) _ _ _ c.in_ok-number.number c.call_function.result c.args.called.now.function
+    (c.in_ok-number.ensures.gives m answered known b (c.call_function.ensures.keeps.goes.left answered l) knows) c.args.called.now.found
+    (c.call_function.ensures.gives m answered known (c.in_ok-number.ensures.keeps.on m b) l (c.in_ok-number.ensures.ends.knows known knows))
+
+pub call_two-returns-in_err-first-clause-gives : goal.call_two-returns-in_err-first-clause-gives
+call_two-returns-in_err-first-clause-gives g t c = λ at later m answered known b l knows.
+    passed _ _ _ _ _ c.from_residual.result c.from_residual.ensures.1
+    (two_first g.A.Access.cost (world_from m answered) (calls_of g.A.Access.cost (world_from m answered) c.args.self.now c.args.depth) c.args.called.now.name _ c.in_err-first.field-0.0 at later (tree c.args.first.now) (tree c.args.second.now) _ _ (later_sequence g.A.Access.cost (world_from m answered) c.args.self.now.turn_us (checked_trees c.args.self.now.set.now) c.args.depth)
+    (c.in_err-first.ensures.gives m answered known b l knows))
+
+pub call_two-returns-clause-gives : goal.call_two-returns-clause-gives
+call_two-returns-clause-gives g t c = λ at later m answered known b l knows.
+    two_on g.A.Access.cost (world_from m answered) (calls_of g.A.Access.cost (world_from m answered) c.args.self.now c.args.depth) c.args.called.now.name _ at later (tree c.args.first.now) (tree c.args.second.now) _ _ _ c.in_ok-first.first c.in_ok-first.second c.call_function.result c.args.called.now.function
+    (c.in_ok-first.ensures.gives m answered known b (c.call_function.ensures.keeps.goes.left answered l) knows) c.args.called.now.found
+    (c.call_function.ensures.gives m answered known (c.in_ok-first.ensures.keeps.on m b) l (c.in_ok-first.ensures.ends.knows known knows))
 
 pub evaluate-returns-in-Number-clause-gives : goal.evaluate-returns-in-Number-clause-gives
 evaluate-returns-in-Number-clause-gives g t c = λ m answered known b l knows.
@@ -242,6 +267,14 @@ evaluate-returns-in-Number-clause-gives g t c = λ m answered known b l knows.
 
 pub evaluate-returns-in-Name-clause-gives : goal.evaluate-returns-in-Name-clause-gives
 evaluate-returns-in-Name-clause-gives g t c = λ m answered known b l knows.
+    rw c.in-Name.is (rw (tree-Name c.in-Name.name) (name_on g.A.Access.cost (world_from m answered) (calls_of g.A.Access.cost (world_from m answered) c.args.self.now c.args.depth) c.in-Name.name.value c.get_visible.result (seen known c.args.held.now (g.A.Access.reported c.args.access.now).asks (g.K.Sink.written c.args.sink.now)) (rw (c.as_str.ensures, c.deref.ensures) at (c.get_visible.ensures (seen known c.args.held.now (g.A.Access.reported c.args.access.now).asks (g.K.Sink.written c.args.sink.now)) refl refl))))
+
+pub evaluate_operand-returns-in-Number-clause-gives : goal.evaluate_operand-returns-in-Number-clause-gives
+evaluate_operand-returns-in-Number-clause-gives g t c = λ m answered known b l knows.
+    rw c.in-Number.is (rw (tree-Number c.in-Number.number) (number_on g.A.Access.cost (world_from m answered) (calls_of g.A.Access.cost (world_from m answered) c.args.self.now c.args.depth) c.in-Number.number (seen known c.args.held.now (g.A.Access.reported c.args.access.now).asks (g.K.Sink.written c.args.sink.now))))
+
+pub evaluate_operand-returns-in-Name-clause-gives : goal.evaluate_operand-returns-in-Name-clause-gives
+evaluate_operand-returns-in-Name-clause-gives g t c = λ m answered known b l knows.
     rw c.in-Name.is (rw (tree-Name c.in-Name.name) (name_on g.A.Access.cost (world_from m answered) (calls_of g.A.Access.cost (world_from m answered) c.args.self.now c.args.depth) c.in-Name.name.value c.get_visible.result (seen known c.args.held.now (g.A.Access.reported c.args.access.now).asks (g.K.Sink.written c.args.sink.now)) (rw (c.as_str.ensures, c.deref.ensures) at (c.get_visible.ensures (seen known c.args.held.now (g.A.Access.reported c.args.access.now).asks (g.K.Sink.written c.args.sink.now)) refl refl))))
 
 pub evaluate-returns-in-Call-clause-gives : goal.evaluate-returns-in-Call-clause-gives

@@ -48,8 +48,17 @@ decreases-push_value g l = budget l.depth (10 * all_size (checked_trees l.self.n
 abbrev pub decreases-evaluate_arguments : goal.decreases-evaluate_arguments
 decreases-evaluate_arguments g l = budget l.depth (10 * all_size (checked_trees l.self.now.set.now).sequences + 20) + 10 * args_size (arg_trees l.args.now) + 2
 
+abbrev pub decreases-call_listed : goal.decreases-call_listed
+decreases-call_listed g l = budget l.depth (10 * all_size (checked_trees l.self.now.set.now).sequences + 20) + 10 * args_size (arg_trees l.args.now) + 5
+
+abbrev pub decreases-call_one : goal.decreases-call_one
+decreases-call_one g l = budget l.depth (10 * all_size (checked_trees l.self.now.set.now).sequences + 20) + 10 * size (tree l.only.now) + 5
+
+abbrev pub decreases-call_two : goal.decreases-call_two
+decreases-call_two g l = budget l.depth (10 * all_size (checked_trees l.self.now.set.now).sequences + 20) + 10 * size (tree l.first.now) + 10 * size (tree l.second.now) + 5
+
 abbrev pub decreases-call : goal.decreases-call
-decreases-call g l = budget l.depth (10 * all_size (checked_trees l.self.now.set.now).sequences + 20) + 10 * args_size (arg_trees l.args.now) + 5
+decreases-call g l = budget l.depth (10 * all_size (checked_trees l.self.now.set.now).sequences + 20) + 10 * args_size (arg_trees l.args.now) + 7
 
 abbrev pub decreases-call_function : goal.decreases-call_function
 decreases-call_function g l = budget l.depth (10 * all_size (checked_trees l.self.now.set.now).sequences + 20) + 4
@@ -105,14 +114,17 @@ decreases-run_turn g l = budget l.depth (10 * all_size (checked_trees l.self.now
 abbrev pub decreases-run_inside : goal.decreases-run_inside
 decreases-run_inside g l = budget l.depth (10 * all_size (checked_trees l.self.now.set.now).sequences + 20) + 10 * steps_size (steps_tree l.steps.now) + 4
 
+abbrev pub decreases-evaluate_operand : goal.decreases-evaluate_operand
+decreases-evaluate_operand g l = budget l.depth (10 * all_size (checked_trees l.self.now.set.now).sequences + 20) + 10 * size (tree l.expr.now) + 1
+
 abbrev pub decreases-evaluate_number : goal.decreases-evaluate_number
-decreases-evaluate_number g l = budget l.depth (10 * all_size (checked_trees l.self.now.set.now).sequences + 20) + 10 * size (tree l.expr.now) + 1
+decreases-evaluate_number g l = budget l.depth (10 * all_size (checked_trees l.self.now.set.now).sequences + 20) + 10 * size (tree l.expr.now) + 2
 
 abbrev pub decreases-evaluate_operands : goal.decreases-evaluate_operands
 decreases-evaluate_operands g l = budget l.depth (10 * all_size (checked_trees l.self.now.set.now).sequences + 20) + 10 * size (tree l.left.now) + 10 * size (tree l.right.now) + 3
 
 abbrev pub decreases-evaluate_truth : goal.decreases-evaluate_truth
-decreases-evaluate_truth g l = budget l.depth (10 * all_size (checked_trees l.self.now.set.now).sequences + 20) + 10 * size (tree l.expr.now) + 2
+decreases-evaluate_truth g l = budget l.depth (10 * all_size (checked_trees l.self.now.set.now).sequences + 20) + 10 * size (tree l.expr.now) + 3
 
 abbrev pub invariant-evaluate_arguments-loop-arg : goal.invariant-evaluate_arguments-loop-arg
 invariant-evaluate_arguments-loop-arg g l = record {

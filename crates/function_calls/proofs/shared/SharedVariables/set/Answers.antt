@@ -5,7 +5,7 @@ pub invariant_of-self : goal.invariant_of-self
 invariant_of-self c =
     let self = c.args.self.now in
     record {
-      dp_is = c.value_after-self.ensures (bindings_of self.all) c.args.value self.dp_is c.set.ensures;
-      ap_is = c.value_after-self-2.ensures (bindings_of self.all) c.args.value self.ap_is c.set.ensures;
-      control_is = c.value_after-self-3.ensures (bindings_of self.all) c.args.value self.control_is c.set.ensures;
+      dp_is = c.value_after-self.ensures (bindings_of self.variables) c.args.value self.dp_is c.set.ensures;
+      ap_is = c.value_after-self-2.ensures (bindings_of self.variables) c.args.value self.ap_is c.set.ensures;
+      control_is = c.value_after-self-3.ensures (bindings_of self.variables) c.args.value self.control_is c.set.ensures;
     }
