@@ -1,5 +1,5 @@
 -- The entries that were begun of a run that was left off are the first of the journal of the outcome's calls.
-use Rattle.std.proofs.Common.{◌≡◌, ◌∙◌, ◌⊎◌, inl, inr, ℕ, zero, suc, ◌<◌, ◌≤◌, List, [], ◌∷◌, ◌++◌, length, take, Option, Some, refl, sym, ap, subst, arith}
+use Rattle.std.proofs.Common.{◌≡◌, ◌∙◌, ◌⊎◌, inl, inr, ℕ, zero, suc, ◌<◌, ◌≤◌, List, [], ◌∷◌, ◌++◌, append-nil, length, take, Option, Some, refl, sym, ap, subst, arith}
 use Rattle.std.specs.List.{AllByRecursion}
 use Rattle.std.specs.Prelude.{slice_get}
 use Rattle.std.proofs.lemmas.Bool.{cases_lt}
@@ -22,6 +22,7 @@ use Rattle.sequence_rules.specs.Runs as runs
 use Rattle.sequence_rules.specs.Runs.{Ending}
 use Rattle.followed_runs.proofs.CallLemmas.{from_length}
 use Rattle.job_runs.proofs.FrontLemmas.{Meets, beyond, covers, goes_beyond, within}
+use Rattle.job_runs.proofs.SharedLemmas.{Common}
 
 -- ---- lists
 
@@ -94,6 +95,20 @@ module _ (journal : TargetState → List Ask → List Entry) (grows : JournalGro
           (subst (λ (es : List Entry). begun ≤ length es) g.joined le))
       by_length (inr few) = share_longer begun (length asked) (journal t asked) (journal t (settled_last calls)) (covers journal grows settles t asked calls m few).goes_on le
 
+  -- The journal of what was asked and that of the outcome's calls come first in one list: the settled one of the outcome's calls, or the
+  -- journal of what was asked, where that is more.
+  pub in_common : (asked calls : List Ask) → Meets asked calls → Common (journal t asked) (journal t calls)
+  in_common asked calls m = by_length (cases_lt (length calls) (length asked))
+    where
+      by_length : (length calls < length asked) ⊎ (length asked ≤ length calls) → Common (journal t asked) (journal t calls)
+      by_length (inl more) =
+          let g = goes_beyond journal grows settles t asked calls m more in
+          record { all = journal t asked; their_rest = []; own_rest = g.rest; their_all = sym (append-nil (journal t asked)); own_all = g.joined }
+      by_length (inr few) =
+          let g = (covers journal grows settles t asked calls m few).goes_on in
+          let h = settles t calls in
+          record { all = journal t (settled_last calls); their_rest = g.rest; own_rest = h.rest; their_all = g.joined; own_all = h.joined }
+
 -- a part of one more entry, in lists whose first entries are the same
 pub part_shared : (theirs ours : List Entry) (count begun : ℕ) (b : Beginning) (m : BenchState) → take begun theirs ≡ take begun ours → IsAfterPart theirs count begun b m → IsAfterPart ours count begun b m
 part_shared theirs ours count begun b m same (inl h) = inl (
@@ -110,3 +125,8 @@ part_shared theirs ours count begun b m same (inr h) =
       subst (λ (x : Option Entry). IsPartOf x (target_after (start_of b) (take count ours)) (target_of m.probe)) next
           (subst (λ (es : List Entry). IsPartOf (slice_get theirs count) (target_after (start_of b) es) (target_of m.probe)) first h.1),
     )
+
+-- at most so many were begun, and one more
+pub count_begun : (entries : List Entry) (count begun : ℕ) (b : Beginning) (m : BenchState) → IsAfterPart entries count begun b m → count ≤ begun
+count_begun entries count begun b m (inl h) = (let is = h.0 in omega (arith, is))
+count_begun entries count begun b m (inr h) = (let is = h.0 in omega (arith, is))

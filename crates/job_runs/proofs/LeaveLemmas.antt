@@ -1,7 +1,8 @@
 -- What an access and a run over it report together is what a run leaves.
-use Rattle.std.proofs.Common.{◌≡◌, ◌∙◌, ◌⊎◌, inl, inr, ℕ, ◌+◌, ◌-◌, ◌*◌, ◌/◌, ◌<◌, ◌≤◌, if◌then◌else◌, List, length, take, Bool, true, false, Option, None, Some, refl, sym, ap, subst, arith}
+use Rattle.std.proofs.Common.{◌≡◌, ◌∙◌, ◌⊎◌, inl, inr, ℕ, suc, ◌+◌, ◌-◌, ◌*◌, ◌/◌, ◌<◌, ◌≤◌, if◌then◌else◌, List, length, take, Bool, true, false, Option, None, Some, refl, sym, ap, subst, arith}
 use Rattle.std.specs.List.{AllByRecursion}
 use Rattle.std.specs.Prelude.{◌&&◌, is_none, option_map, slice_get}
+use Rattle.std.proofs.lemmas.List.{length-append}
 use Rattle.target_machine.specs.Start.{start}
 use Rattle.target_machine.specs.State.{Agree, TargetState}
 use Rattle.probe_core.specs.Bench.{BenchState, Seen, StepsTo, fresh}
@@ -13,6 +14,7 @@ use Rattle.target_calls.specs.Asks.{is_settled, settled_last}
 use Rattle.target_calls.specs.Journal.{Entry, lines_before, target_after}
 use Rattle.target_calls.specs.Journal.{settles as is_settling}
 use Rattle.target_calls.specs.NeedPoints.{Asks, finished, needed}
+use Rattle.target_calls.proofs.EntryLemmas.{weight_append}
 use Rattle.target_calls.specs.Weights.{commands_in, registers_in, weight_in}
 use Rattle.target_calls.specs.World.{start_world, world_after}
 use Rattle.target_calls.specs.World.{stop as call_stop}
@@ -20,7 +22,7 @@ use Rattle.target_calls.specs.declared.calls.Ask.{Ask}
 use Rattle.target_calls.proofs.MarkLemmas.{after_marked, marked_settled}
 use Rattle.access_calls.specs.Bounds.{AreNextWrites, KeepsBounds, KeepsBoundsIf, block_words, capacity, starting_since}
 use Rattle.access_calls.specs.Left.{IsLeft, IsLeftAt, answered_at, answered_by, answered_cut}
-use Rattle.access_calls.specs.Growing.{IsWithin, JournalGrows, JournalSettles}
+use Rattle.access_calls.specs.Growing.{IsAfter, IsWithin, JournalGrows, JournalSettles}
 use Rattle.access_calls.specs.Made.{HasMemory, units_made}
 use Rattle.access_calls.specs.Numbers.{HasNumbers, StopNumbers, lines_at, unit_at}
 use Rattle.access_calls.specs.Reported.{AccessView, began, world_from}
@@ -50,10 +52,11 @@ use Rattle.followed_runs.specs.Laws as laws
 use Rattle.followed_runs.specs.Laws.{IsCutShort}
 use Rattle.followed_runs.proofs.FollowLemmas.{limits_followed}
 use Rattle.followed_runs.proofs.MadeLemmas.{followed_made}
-use Rattle.job_runs.proofs.BegunLemmas.{Share, asked_stop, begun_share, ends_how, part_shared}
-use Rattle.job_runs.proofs.FrontLemmas.{Covers, Meeting, call_within, covered, covers, few_asked, get_some, goes_beyond, meeting, meets, own_call, same_fault, same_first, same_made, same_numbers}
+use Rattle.job_runs.proofs.BegunLemmas.{Share, asked_stop, begun_share, count_begun, ends_how, in_common, part_shared}
+use Rattle.job_runs.proofs.FrontLemmas.{Covers, Meeting, call_within, covered, covers, few_asked, get_some, meeting, meets, own_call, same_fault, same_first, same_made, same_numbers}
+use Rattle.job_runs.proofs.SharedLemmas.{Common, first_same, near_by, passes_same, same_entry, same_together, work_least, work_less, work_most}
 use Rattle.job_runs.proofs.WordsLemmas.{after_from, after_meets, same_made_units, short_target}
-use Rattle.job_runs.specs.Runs.{AccessKind, ComesTo, HasStopped, IsBroken, IsFaultStop, IsFew, IsFewIf, IsFront, IsLeftOff, IsNotOpened, IsRetryStop, IsStop, IsUnopened, IsWhole, Left, LeavesAs, Run, calls_in, entries_in, is_bounded, known_after, needs_in, not_opened, opened, outcome_with}
+use Rattle.job_runs.specs.Runs.{AccessKind, ComesTo, HasStopped, IsBroken, IsFaultStop, IsFew, IsFewIf, IsFront, IsLeftOff, IsNotOpened, IsRetryStop, IsStop, IsUnopened, IsWhole, Left, LeavesAs, Run, all_entries, calls_in, entries_in, is_bounded, known_after, needs_in, not_opened, opened, outcome_with, own_entries}
 use Rattle.access_calls.specs.Endings.{ending_of}
 use Rattle.access_calls.specs.Opening.{HasTried, IsNotBegun, MayBegin, RefusedBy, opened_bench}
 
@@ -171,24 +174,16 @@ module _ (access : AccessKind) (grows : JournalGrows access.journal) (settles : 
   shared_by a begun shares own le =
       begun_share access.journal grows settles (target_of first.probe) a.asks.calls whole.calls begun (meets a.asks.calls whole shares) le (begun_own a begun shares own)
 
-  is_front : (a : AccessView) (begun : ℕ) (l : Left) → IsPart whole (ran l.ended a.asks l.written) → Share begun (entries a) (entries_in run (calls_in run)) → IsFront run a.asks.calls begun l
-  is_front a begun l part share = record {
-    written = part.written;
-    calls = part.calls;
-    entries = λ few. (covered_by a part.calls few).goes_on;
-    beyond = goes_beyond access.journal grows settles (target_of first.probe) a.asks.calls whole.calls (meets a.asks.calls whole part.calls);
-    same = share.same;
-    within = share.within;
-  }
+  is_front : (a : AccessView) (begun : ℕ) (l : Left) → IsPart whole (ran l.ended a.asks l.written) → Share begun (entries a) (all_entries run) → IsFront run begun l
+  is_front a begun l part share = record { written = part.written; within = share.within }
 
   is_left_off : (a : AccessView) (l : Left) → IsPart whole (ran l.ended a.asks l.written) → IsOpen (entries a) a (began first None) l.bench → IsLeftOff run l
   is_left_off a l part at =
       let share = shared_by a a.confirmed part.calls at.own at.performed.within in
       record {
-        asked = a.asks.calls;
         sent = a.confirmed;
         front = is_front a a.confirmed l part share;
-        performed = at.performed;
+        work = at.work ∙ ap (weight_in (target_of first.probe)) share.same;
         target = subst (λ (es : List Entry). Agree (target_of l.bench.probe) (target_after (target_of first.probe) es)) share.same at.performed.target;
         retries = at.retries;
       }
@@ -205,14 +200,37 @@ module _ (access : AccessKind) (grows : JournalGrows access.journal) (settles : 
       → s.IsBenchFault limits a.asks.calls a.came (entries a) issued confirmed (began first None) l.bench → IsBroken run issued confirmed l
   is_broken issued confirmed a l part short fault =
       let broken = fault.broken in
-      let share = shared_by a broken.begun part.calls fault.own (let high = broken.high in let within = broken.within in omega (arith, high, within)) in
+      let begun_within : broken.begun ≤ length (entries a) = (let high = broken.high in let within = broken.within in omega (arith, high, within)) in
+      let count_within : broken.count ≤ broken.begun = count_begun (entries a) broken.count broken.begun (began first None) l.bench broken.target in
+      let apart : confirmed ≤ issued = (let low = broken.low in let high = broken.high in let k = count_within in omega (arith, low, high, k)) in
+      let share = shared_by a broken.begun part.calls fault.own begun_within in
+      let both : Common (entries a) (own_entries run) = in_common access.journal grows settles (target_of first.probe) a.asks.calls whole.calls (meets a.asks.calls whole part.calls) in
+      let t0 : TargetState = target_of first.probe in
+      let n : ℕ = grown_since (began first None) l.bench in
       record {
-        asked = a.asks.calls;
         came = a.came;
-        stands = fault;
+        count = broken.count;
+        begun = broken.begun;
         front = is_front a broken.begun l part share;
         lines = short.written;
-        target = part_shared (entries a) (entries_in run (calls_in run)) broken.count broken.begun (began first None) l.bench share.same broken.target;
+        low = broken.low;
+        high = broken.high;
+        near = near_by limits (entries a) issued confirmed apart broken.within broken.together;
+        together = same_together limits (entries a) (own_entries run) confirmed issued both broken.within broken.together;
+        later = λ less. same_entry (entries a) (own_entries run) both (IsAfter a.came) confirmed (let within = broken.within in omega (arith, less, within)) fault.later;
+        good = passes_same t0 broken.begun (broken.begun - 1) (entries a) (all_entries run) (omega arith) share.same broken.good;
+        least = work_least t0 (entries a) broken.count n broken.count_is (all_entries run) (first_same broken.count broken.begun (entries a) (all_entries run) count_within share.same);
+        most = λ less.
+            let next : suc broken.count ≡ broken.count + 1 = omega arith in
+            subst (λ (k : ℕ). n ≤ weight_in t0 (take k (own_entries run))) next
+            (work_most t0 (entries a) broken.count n broken.count_is (own_entries run) both (omega (arith, count_within, begun_within)) less broken.no_more);
+        part = λ less. subst (λ (es : List Entry). n < weight_in t0 es) share.same (work_less t0 (entries a) broken.count n broken.count_is broken.begun less begun_within);
+        whole = λ ends.
+            let few = covered_by a part.calls (few_asked a.asks.calls whole part.calls ends) in
+            let long = ap length few.goes_on.joined ∙ length-append (entries a) few.goes_on.rest in
+            let heavy = ap (weight_in t0) few.goes_on.joined ∙ weight_append t0 (entries a) few.goes_on.rest in
+            ((let within = broken.within in omega (arith, within, long)), (let most = broken.no_more in omega (arith, most, heavy)));
+        target = part_shared (entries a) (all_entries run) broken.count broken.begun (began first None) l.bench share.same broken.target;
       }
 
   -- the entry that a stop names, and that its unit was asked

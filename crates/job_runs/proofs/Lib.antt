@@ -1,5 +1,6 @@
 pub mod EndLemmas
 pub mod FrontLemmas
+pub mod SharedLemmas
 pub mod BegunLemmas
 pub mod WordsLemmas
 pub mod LeaveLemmas

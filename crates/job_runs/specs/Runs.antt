@@ -1,5 +1,6 @@
 -- What a run of a job leaves.
-use Rattle.std.specs.Prelude.{◌≡◌, ⊤, ℕ, ◌&&◌, is_none, ◌+◌, ◌-◌, ◌*◌, ◌/◌, ◌^◌, ◌<◌, ◌≤◌, Bool, true, false, List, length, take, Option, Some, None}
+use Rattle.std.specs.Prelude.{◌≡◌, ⊤, ℕ, ◌&&◌, is_none, ◌+◌, ◌-◌, ◌*◌, ◌/◌, ◌^◌, ◌<◌, ◌≤◌, Bool, true, false, List, length}
+use Rattle.std.specs.Prelude.{max, drop, take, slice_get, IfSome, Option, Some, None}
 use Rattle.target_machine.specs.Start.{start}
 use Rattle.target_machine.specs.State.{Agree, TargetState}
 use Rattle.target_machine.specs.declared.unit.Settings.{Settings}
@@ -10,23 +11,23 @@ use Rattle.probe_core.specs.declared.job.Config.{Config}
 use Rattle.probe_core.specs.declared.job.Limits.{Limits}
 use Rattle.target_calls.specs.Asks.{settled_last}
 use Rattle.target_machine.specs.Counts.{one_if}
-use Rattle.target_calls.specs.Journal.{Entry, first_fault, target_after}
+use Rattle.target_calls.specs.Journal.{Entry, Passes, first_fault, target_after}
 use Rattle.target_calls.specs.NeedPoints.{Costs}
 use Rattle.target_calls.specs.Weights.{commands_in, registers_in, weight_in}
 use Rattle.target_calls.specs.declared.calls.Ask.{Ask}
 use Rattle.access_calls.specs.Bounds.{AreNextWrites, block_words, capacity}
-use Rattle.access_calls.specs.Growing.{GoesOnWith}
+use Rattle.access_calls.specs.Growing.{IsAfter}
 use Rattle.access_calls.specs.Made.{units_made}
 use Rattle.access_calls.specs.Numbers.{HasNumbers}
 use Rattle.access_calls.specs.Reported.{Beginning, began, start_of}
-use Rattle.access_calls.specs.Standing.{HasPerformed, IsAfterPart, IsBenchFault, IsOver, grown_since, number_of, pending_of, setting_of}
+use Rattle.access_calls.specs.Standing.{AreTogether, IsAfterPart, IsOver, flight_accesses, grown_since, number_of, pending_of, setting_of}
 use Rattle.access_calls.specs.declared.ended.Ended.{Ended}
 use Rattle.access_calls.specs.declared.ended.Ending.{Ending}
 use Rattle.access_calls.specs.declared.ended.Ending.TheVariants as e
 use Rattle.access_calls.specs.declared.stop.Report.{Report}
 use Rattle.access_calls.specs.declared.stop.StopCause.{StopCause}
 use Rattle.access_calls.specs.declared.stop.StopCause.TheVariants.{Faulted, NoAnswer}
-use Rattle.control_flow.specs.Answers.{SharesCalls, StopsAfter}
+use Rattle.control_flow.specs.Answers.{IsWhole as IsWholeEnd, StopsAfter}
 use Rattle.job_check.specs.declared.running.ValidRun.{ValidRun}
 use Rattle.access_calls.specs.Opening.{HasTried, opened_bench}
 use Rattle.sequence_rules.specs.Late.{Grows}
@@ -205,36 +206,54 @@ IsStop NoAnswer run r l = IsRetryStop run r l
 
 -- ---- left off
 
--- What was written comes first in the lines of the outcome. The calls that were asked and the outcome's come first in one list of
--- calls. Where no more were asked than the outcome has, their entries come first in the journal of the outcome's calls; where more were
--- asked, their entries begin with those of the outcome's calls, and go on with what is issued after these. The entries that were begun
--- are the first of the journal of the outcome's calls: none is of a call after the one that the outcome ends at.
-pub record IsFront (run : Run) (asked : List Ask) (begun : ℕ) (l : Left) : Type 0 where
+-- the journal of the outcome's calls, without what settles the last of them
+abbrev pub own_entries : Run → List Entry
+own_entries run = entries_in run (outcome_in run).calls
+
+-- the whole of it, with that
+abbrev pub all_entries : Run → List Entry
+all_entries run = entries_in run (calls_in run)
+
+-- by how much the probe's work has grown
+abbrev pub work_in : Run → Left → ℕ
+work_in run l = grown_since (began run.first None) l.bench
+
+-- What was written comes first in the lines of the outcome. The entries that were begun are the first of the journal of the outcome's
+-- calls: none is of a call after the one that the outcome ends at.
+pub record IsFront (run : Run) (begun : ℕ) (l : Left) : Type 0 where
   pub written : Grows l.written (outcome_in run).written
-  pub calls : SharesCalls asked (outcome_in run)
-  pub entries : length asked ≤ units_of (outcome_in run) → GoesOnWith (length asked) (entries_in run asked) (entries_in run (calls_in run))
-  pub beyond : units_of (outcome_in run) < length asked → GoesOnWith (units_of (outcome_in run)) (entries_in run (outcome_in run).calls) (entries_in run asked)
-  pub same : take begun (entries_in run asked) ≡ take begun (entries_in run (calls_in run))
-  pub within : begun ≤ length (entries_in run (calls_in run))
+  pub within : begun ≤ length (all_entries run)
 
--- Where the bench failed: at least the confirmed entries were performed, and perhaps a part of the next; and at most those that were
--- issued were begun. The target is the one after as many of the journal of the outcome's calls. So many calls have come, all of whose entries
--- are confirmed; and what was written comes first in the lines of the outcome with only so many units answered.
+-- Where the bench failed, by the journal of the outcome's calls: at least the confirmed entries were performed, and perhaps a part of the next;
+-- and at most those that were issued were begun. The probe's work has grown by what the performed ones weigh, and by at most the next one more.
+-- Those between the two numbers were handed over together: in one flight, or one by itself. Where the outcome ends at a fault, more may have been
+-- issued than the journal has: for calls after the one at which it ends. None of those that were begun gives a fault that its unit does not
+-- forgive, except perhaps the last. So many calls have come, all of whose entries are confirmed; and what was written comes first in the lines of
+-- the outcome with only so many units answered.
 pub record IsBroken (run : Run) (issued confirmed : ℕ) (l : Left) : Type 0 where
-  pub asked : List Ask
   pub came : ℕ
-  pub stands : IsBenchFault run.limits asked came (entries_in run asked) issued confirmed (began run.first None) l.bench
-  pub front : IsFront run asked stands.broken.begun l
+  pub count : ℕ
+  pub begun : ℕ
+  pub front : IsFront run begun l
   pub lines : Grows l.written (outcome_with run came).written
-  pub target : IsAfterPart (entries_in run (calls_in run)) stands.broken.count stands.broken.begun (began run.first None) l.bench
+  pub low : confirmed ≤ count
+  pub high : begun ≤ issued
+  pub near : issued ≤ confirmed + max 1 (flight_accesses run.limits)
+  pub together : AreTogether run.limits (drop confirmed (take issued (own_entries run)))
+  pub later : confirmed < issued → IfSome (slice_get (own_entries run) confirmed) (IsAfter came)
+  pub good : Passes (target_in run) (take (begun - 1) (all_entries run))
+  pub least : weight_in (target_in run) (take count (all_entries run)) ≤ work_in run l
+  pub most : count < length (own_entries run) → work_in run l ≤ weight_in (target_in run) (take (count + 1) (own_entries run))
+  pub part : count < begun → work_in run l < weight_in (target_in run) (take begun (all_entries run))
+  pub whole : IsWholeEnd (outcome_in run).ending → (issued ≤ length (all_entries run)) × (work_in run l ≤ weight_in (target_in run) (all_entries run))
+  pub target : IsAfterPart (all_entries run) count begun (began run.first None) l.bench
 
--- Where the sink failed or memory was refused: exactly the entries that were sent were performed.
+-- Where the sink failed or memory was refused: exactly the entries that were sent were performed, and the work is what they weigh.
 pub record IsLeftOff (run : Run) (l : Left) : Type 0 where
-  pub asked : List Ask
   pub sent : ℕ
-  pub front : IsFront run asked sent l
-  pub performed : HasPerformed (entries_in run asked) sent (began run.first None) l.bench
-  pub target : Agree (target_of l.bench.probe) (target_after (target_in run) (take sent (entries_in run (calls_in run))))
+  pub front : IsFront run sent l
+  pub work : work_in run l ≡ weight_in (target_in run) (take sent (all_entries run))
+  pub target : Agree (target_of l.bench.probe) (target_after (target_in run) (take sent (all_entries run)))
   pub retries : NoneEnded run l
 
 -- ---- together
