@@ -3,6 +3,7 @@ pub mod DebugLemmas
 pub mod DirectLemmas
 pub mod EndLemmas
 pub mod FewLemmas
+pub mod FrameLemmas
 pub mod Fine
 pub mod FineCalls
 pub mod FineValues

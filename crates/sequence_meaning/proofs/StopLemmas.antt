@@ -33,7 +33,7 @@ use Rattle.sequence_meaning.specs.declared.end.DirectEnd.{DirectEnd}
 use Rattle.sequence_meaning.specs.declared.end.DirectEnd.TheVariants as end
 use Rattle.sequence_meaning.specs.declared.runner.DirectRunner.{DirectRunner}
 use Rattle.sequence_rules.specs.Known.{Knows, known_part}
-use Rattle.sequence_meaning.specs.Held.{EndsDirect, IsEndCaused, calls_of, made_all, seen, world_at}
+use Rattle.sequence_meaning.specs.Held.{EndsDirect, calls_of, made_all, seen, world_at}
 
 abbrev S : Type 0
 S = State ℕ Now
@@ -304,12 +304,6 @@ unfolding line_result direct
 line_broken known held t old new text n few h knows =
     let test : nat_lt held.lines 100000 ≡ true = grind arith in
     rw test (record { more = []; calls = sym (append-nil held.calls); lines = broken known old new text h knows })
-
--- ---- causes
-
--- before a call the count stayed
-pub cause_on : (e : DirectEnd) (first before now : ℕ) → before ≡ first → IsEndCaused e before now → IsEndCaused e first now
-cause_on e first before now same h = subst (λ n. IsEndCaused e n now) same h
 
 -- ---- calls that were made
 

@@ -1,5 +1,6 @@
 pub mod Few
 pub mod Held
+pub mod Frame
 pub mod Starting
 pub mod Answers
 pub mod Valid

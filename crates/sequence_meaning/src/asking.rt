@@ -1,12 +1,12 @@
 //! Units, asked one at a time, and the predefined variables that they use.
 ghost use Rattle.std.specs.Prelude.{◌≡◌, ℕ, ◌<◌, ◌^◌, List, Option, IfOk, Ok, codes, false};
 ghost use Rattle.target_machine.specs.Sound.{IsSound, IsSoundProbe};
-ghost use Rattle.target_calls.specs.World.{World};
 ghost use Rattle.sequence_rules.specs.Calls as c;
 ghost use Rattle.sequence_rules.specs.Direct.{Now, direct};
 ghost use Rattle.sequence_rules.specs.Machine.{State};
 ghost use Rattle.sequence_rules.specs.Shared.{bindings_of};
-ghost use Rattle.sequence_meaning.specs.Held.{IsCaused, IsMade, MeansDirect, state_of};
+ghost use Rattle.sequence_meaning.specs.Frame.{KeepsMade};
+ghost use Rattle.sequence_meaning.specs.Held.{IsCaused, MeansDirect, state_of};
 
 use crate::end::{DirectEnd, Stopped};
 use crate::held::DirectHeld;
@@ -46,7 +46,7 @@ pub(crate) fn ask(
 ) -> Result<u64, Stopped>
     requires { IsSound unit }
     ensures gives { (written : Option (List ℕ)) → MeansDirect held.new.end result (state_of held.new target.new written) (c.ask (direct false) unit forgive (state_of held.old target.old written)) }
-    ensures made { (w : World) → IsMade w held.old target.old → IsMade w held.new target.new }
+    ensures keeps { KeepsMade held.old target.old held.new target.new }
     ensures cause { (faults : ℕ) → IsCaused held.new.end result faults faults }
     ensures word { IfOk result (λ value. value < 2 ^ 32) }
 {
@@ -95,7 +95,7 @@ pub(crate) fn ask_for_result(
 ) -> Result<u64, Stopped>
     requires { IsSound unit }
     ensures gives { (written : Option (List ℕ)) → MeansDirect held.new.end result (state_of held.new target.new written) (c.if_read (direct false) read (c.ask (direct false) unit forgive (state_of held.old target.old written))) }
-    ensures made { (w : World) → IsMade w held.old target.old → IsMade w held.new target.new }
+    ensures keeps { KeepsMade held.old target.old held.new target.new }
     ensures cause { (faults : ℕ) → IsCaused held.new.end result faults faults }
 {
     let value = ask(unit, forgive, held, target)?;
@@ -111,7 +111,7 @@ pub(crate) fn command(
 ) -> Result<u64, Stopped>
     requires { IsSoundProbe call }
     ensures gives { (written : Option (List ℕ)) → MeansDirect held.new.end result (state_of held.new target.new written) (c.command (direct false) call (state_of held.old target.old written)) }
-    ensures made { (w : World) → IsMade w held.old target.old → IsMade w held.new target.new }
+    ensures keeps { KeepsMade held.old target.old held.new target.new }
     ensures cause { (faults : ℕ) → IsCaused held.new.end result faults faults }
 {
     if held.units >= MOST_UNITS {

@@ -3,7 +3,6 @@ ghost use Rattle.std.specs.Prelude.{◌≡◌, [], ◌∷◌, ◌++◌, Bool, fa
 ghost use Rattle.expr_grammar.specs.Tree.{tree, arg_tree, arg_trees, stmt_tree, code_trees};
 ghost use Rattle.dap_base.specs.declared.text.Place.{Place};
 ghost use Rattle.seq_check.specs.Answers.{checked_trees};
-ghost use Rattle.target_calls.specs.World.{World};
 ghost use Rattle.sequence_trees.specs.Trees.{NoSteps, steps_named, steps_tree};
 ghost use Rattle.function_table.specs.declared.function.Function.{Function};
 ghost use Rattle.sequence_rules.specs.Direct.{direct};
@@ -11,7 +10,8 @@ ghost use Rattle.sequence_rules.specs.Steps as m;
 ghost use Rattle.sequence_rules.specs.Values as v;
 ghost use Rattle.sequence_rules.specs.Known.{Knows};
 ghost use Rattle.sequence_meaning.specs.Few.{one_number, two_numbers};
-ghost use Rattle.sequence_meaning.specs.Held.{IsCaused, IsMade, MeansDirect, MeansDirectAs, calls_of, seen, state_of};
+ghost use Rattle.sequence_meaning.specs.Frame.{Keeps};
+ghost use Rattle.sequence_meaning.specs.Held.{IsCaused, MeansDirect, MeansDirectAs, calls_of, seen};
 
 use crate::end::{DirectEnd, Stopped};
 use crate::functions::make_call;
@@ -38,8 +38,7 @@ impl DirectRunner<'_> {
         sink: &mut K,
     ) -> Result<(), Stopped>
         ensures gives { (known : Bool) → Knows known (K.written sink.old) → MeansDirectAs held.new.end numbers.new.items result (seen known held.new target.new (K.written sink.new)) (v.argument (direct false) (calls_of self.now depth) (arg_tree arg.now) numbers.old.items (seen known held.old target.old (K.written sink.old))) }
-        ensures knows { (known : Bool) → Knows known (K.written sink.old) → Knows known (K.written sink.new) }
-        ensures made { (w : World) → IsMade w held.old target.old → IsMade w held.new target.new }
+        ensures keeps { Keeps K.written held.old target.old sink.old held.new target.new sink.new }
         ensures cause { IsCaused held.new.end result (K.faults sink.old) (K.faults sink.new) }
     {
         match arg {
@@ -50,7 +49,7 @@ impl DirectRunner<'_> {
 
     // A value after others.
     #[cycle(eval)]
-    #[tactic(auto, unfolding(sequence_rules::specs::Values::appended), using(crate::proofs::StopLemmas::ends_appended, crate::proofs::StopLemmas::append_refused, crate::proofs::StopLemmas::cause_on))]
+    #[tactic(auto, unfolding(sequence_rules::specs::Values::appended), using(crate::proofs::StopLemmas::ends_appended, crate::proofs::StopLemmas::append_refused, crate::proofs::FrameLemmas::frames))]
     fn push_value<K: Sink>(
         &self,
         expr: &Expr,
@@ -61,8 +60,7 @@ impl DirectRunner<'_> {
         sink: &mut K,
     ) -> Result<(), Stopped>
         ensures gives { (known : Bool) → Knows known (K.written sink.old) → MeansDirectAs held.new.end numbers.new.items result (seen known held.new target.new (K.written sink.new)) (v.appended (direct false) numbers.old.items (v.value (direct false) (calls_of self.now depth) (tree expr.now) (seen known held.old target.old (K.written sink.old)))) }
-        ensures knows { (known : Bool) → Knows known (K.written sink.old) → Knows known (K.written sink.new) }
-        ensures made { (w : World) → IsMade w held.old target.old → IsMade w held.new target.new }
+        ensures keeps { Keeps K.written held.old target.old sink.old held.new target.new sink.new }
         ensures cause { IsCaused held.new.end result (K.faults sink.old) (K.faults sink.new) }
     {
         let number = self.evaluate_operand(expr, depth, held, target, sink)?;
@@ -77,7 +75,7 @@ impl DirectRunner<'_> {
 
     // The arguments of a call, in order.
     #[cycle(eval)]
-    #[tactic(auto, unfolding(sequence_rules::specs::Values::arguments), using(crate::proofs::Loops::loops, crate::proofs::StopLemmas::cause_on))]
+    #[tactic(auto, unfolding(sequence_rules::specs::Values::arguments), using(crate::proofs::Loops::loops, crate::proofs::FrameLemmas::frames))]
     fn evaluate_arguments<K: Sink>(
         &self,
         args: &[Arg],
@@ -88,8 +86,7 @@ impl DirectRunner<'_> {
         sink: &mut K,
     ) -> Result<(), Stopped>
         ensures gives { (known : Bool) → Knows known (K.written sink.old) → MeansDirectAs held.new.end numbers.new.items result (seen known held.new target.new (K.written sink.new)) (v.arguments (direct false) (calls_of self.now depth) (arg_trees args.now) numbers.old.items (seen known held.old target.old (K.written sink.old))) }
-        ensures knows { (known : Bool) → Knows known (K.written sink.old) → Knows known (K.written sink.new) }
-        ensures made { (w : World) → IsMade w held.old target.old → IsMade w held.new target.new }
+        ensures keeps { Keeps K.written held.old target.old sink.old held.new target.new sink.new }
         ensures cause { IsCaused held.new.end result (K.faults sink.old) (K.faults sink.new) }
     {
         for arg in args {
@@ -103,7 +100,7 @@ impl DirectRunner<'_> {
 
     // A call: its arguments, and then the function. The numbers among them go into an empty list.
     #[cycle(eval)]
-    #[tactic(auto, unfolding(sequence_rules::specs::Values::call_of, sequence_rules::specs::Calls::guarded, sequence_rules::specs::Values::numbers_of, sequence_rules::specs::Direct::direct), using(crate::proofs::StopLemmas::ends_call, crate::proofs::DirectLemmas::numbers_used, crate::proofs::StopLemmas::cause_on))]
+    #[tactic(auto, unfolding(sequence_rules::specs::Values::call_of, sequence_rules::specs::Calls::guarded, sequence_rules::specs::Values::numbers_of, sequence_rules::specs::Direct::direct), using(crate::proofs::StopLemmas::ends_call, crate::proofs::DirectLemmas::numbers_used, crate::proofs::FrameLemmas::frames))]
     fn call_with<K: Sink>(
         &self,
         called: &CalledName,
@@ -116,8 +113,7 @@ impl DirectRunner<'_> {
     ) -> Result<u64, Stopped>
         requires { numbers.old.items ≡ [] }
         ensures gives { (known : Bool) → Knows known (K.written sink.old) → MeansDirect held.new.end result (seen known held.new target.new (K.written sink.new)) (v.call_of (direct false) (calls_of self.now depth) called.now.name (arg_trees args.now) (v.arguments (direct false) (calls_of self.now depth) (arg_trees args.now) [] (seen known held.old target.old (K.written sink.old)))) }
-        ensures knows { (known : Bool) → Knows known (K.written sink.old) → Knows known (K.written sink.new) }
-        ensures made { (w : World) → IsMade w held.old target.old → IsMade w held.new target.new }
+        ensures keeps { Keeps K.written held.old target.old sink.old held.new target.new sink.new }
         ensures cause { IsCaused held.new.end result (K.faults sink.old) (K.faults sink.new) }
     {
         self.evaluate_arguments(args, numbers, depth, held, target, sink)?;
@@ -145,8 +141,7 @@ impl DirectRunner<'_> {
         sink: &mut K,
     ) -> Result<u64, Stopped>
         ensures gives { (known : Bool) → Knows known (K.written sink.old) → MeansDirect held.new.end result (seen known held.new target.new (K.written sink.new)) (v.call_of (direct false) (calls_of self.now depth) called.now.name (arg_trees args.now) (v.arguments (direct false) (calls_of self.now depth) (arg_trees args.now) [] (seen known held.old target.old (K.written sink.old)))) }
-        ensures knows { (known : Bool) → Knows known (K.written sink.old) → Knows known (K.written sink.new) }
-        ensures made { (w : World) → IsMade w held.old target.old → IsMade w held.new target.new }
+        ensures keeps { Keeps K.written held.old target.old sink.old held.new target.new sink.new }
         ensures cause { IsCaused held.new.end result (K.faults sink.old) (K.faults sink.new) }
     {
         let mut numbers = held.take_numbers(self.alloc);
@@ -157,7 +152,7 @@ impl DirectRunner<'_> {
 
     // A call whose argument is one number.
     #[cycle(eval)]
-    #[tactic(auto, using(crate::proofs::FewLemmas::ends_one, crate::proofs::FewLemmas::one_is, crate::proofs::StopLemmas::cause_on))]
+    #[tactic(auto, using(crate::proofs::FewLemmas::ends_one, crate::proofs::FewLemmas::one_is, crate::proofs::FrameLemmas::frames))]
     fn call_one<K: Sink>(
         &self,
         called: &CalledName,
@@ -168,8 +163,7 @@ impl DirectRunner<'_> {
         sink: &mut K,
     ) -> Result<u64, Stopped>
         ensures gives { (known : Bool) (at : Place) → Knows known (K.written sink.old) → MeansDirect held.new.end result (seen known held.new target.new (K.written sink.new)) (v.call_of (direct false) (calls_of self.now depth) called.now.name (one_number at (tree only.now)) (v.arguments (direct false) (calls_of self.now depth) (one_number at (tree only.now)) [] (seen known held.old target.old (K.written sink.old)))) }
-        ensures knows { (known : Bool) → Knows known (K.written sink.old) → Knows known (K.written sink.new) }
-        ensures made { (w : World) → IsMade w held.old target.old → IsMade w held.new target.new }
+        ensures keeps { Keeps K.written held.old target.old sink.old held.new target.new sink.new }
         ensures cause { IsCaused held.new.end result (K.faults sink.old) (K.faults sink.new) }
     {
         let number = self.evaluate_operand(only, depth, held, target, sink)?;
@@ -178,7 +172,7 @@ impl DirectRunner<'_> {
 
     // A call whose arguments are two numbers.
     #[cycle(eval)]
-    #[tactic(auto, using(crate::proofs::FewLemmas::ends_first, crate::proofs::FewLemmas::ends_second, crate::proofs::FewLemmas::two_is, crate::proofs::StopLemmas::cause_on))]
+    #[tactic(auto, using(crate::proofs::FewLemmas::ends_first, crate::proofs::FewLemmas::ends_second, crate::proofs::FewLemmas::two_is, crate::proofs::FrameLemmas::frames))]
     fn call_two<K: Sink>(
         &self,
         called: &CalledName,
@@ -190,8 +184,7 @@ impl DirectRunner<'_> {
         sink: &mut K,
     ) -> Result<u64, Stopped>
         ensures gives { (known : Bool) (at later : Place) → Knows known (K.written sink.old) → MeansDirect held.new.end result (seen known held.new target.new (K.written sink.new)) (v.call_of (direct false) (calls_of self.now depth) called.now.name (two_numbers at (tree first.now) later (tree second.now)) (v.arguments (direct false) (calls_of self.now depth) (two_numbers at (tree first.now) later (tree second.now)) [] (seen known held.old target.old (K.written sink.old)))) }
-        ensures knows { (known : Bool) → Knows known (K.written sink.old) → Knows known (K.written sink.new) }
-        ensures made { (w : World) → IsMade w held.old target.old → IsMade w held.new target.new }
+        ensures keeps { Keeps K.written held.old target.old sink.old held.new target.new sink.new }
         ensures cause { IsCaused held.new.end result (K.faults sink.old) (K.faults sink.new) }
     {
         let first = self.evaluate_operand(first, depth, held, target, sink)?;
@@ -219,8 +212,7 @@ impl DirectRunner<'_> {
         sink: &mut K,
     ) -> Result<u64, Stopped>
         ensures gives { (known : Bool) → Knows known (K.written sink.old) → MeansDirect held.new.end result (seen known held.new target.new (K.written sink.new)) (v.call_of (direct false) (calls_of self.now depth) called.now.name (arg_trees args.now) (v.arguments (direct false) (calls_of self.now depth) (arg_trees args.now) [] (seen known held.old target.old (K.written sink.old)))) }
-        ensures knows { (known : Bool) → Knows known (K.written sink.old) → Knows known (K.written sink.new) }
-        ensures made { (w : World) → IsMade w held.old target.old → IsMade w held.new target.new }
+        ensures keeps { Keeps K.written held.old target.old sink.old held.new target.new sink.new }
         ensures cause { IsCaused held.new.end result (K.faults sink.old) (K.faults sink.new) }
     {
         match args {
@@ -246,8 +238,7 @@ impl DirectRunner<'_> {
         sink: &mut K,
     ) -> Result<u64, Stopped>
         ensures gives { (known : Bool) → Knows known (K.written sink.old) → MeansDirect held.new.end result (seen known held.new target.new (K.written sink.new)) (v.call_result (direct false) (calls_of self.now depth) function text.now numbers.now (seen known held.old target.old (K.written sink.old))) }
-        ensures knows { (known : Bool) → Knows known (K.written sink.old) → Knows known (K.written sink.new) }
-        ensures made { (w : World) → IsMade w held.old target.old → IsMade w held.new target.new }
+        ensures keeps { Keeps K.written held.old target.old sink.old held.new target.new sink.new }
         ensures cause { IsCaused held.new.end result (K.faults sink.old) (K.faults sink.new) }
     {
         match function {
@@ -259,7 +250,7 @@ impl DirectRunner<'_> {
 
     // A call of a sequence.
     #[cycle(eval)]
-    #[tactic(auto, unfolding(sequence_rules::specs::Values::call_result, sequence_rules::specs::Direct::direct), using(crate::proofs::StopLemmas::ends_sequence, crate::proofs::StopLemmas::cause_on))]
+    #[tactic(auto, unfolding(sequence_rules::specs::Values::call_result, sequence_rules::specs::Direct::direct), using(crate::proofs::StopLemmas::ends_sequence, crate::proofs::FrameLemmas::frames))]
     fn call_sequence<K: Sink>(
         &self,
         name: &str,
@@ -269,8 +260,7 @@ impl DirectRunner<'_> {
         sink: &mut K,
     ) -> Result<u64, Stopped>
         ensures gives { (known : Bool) → Knows known (K.written sink.old) → MeansDirect held.new.end result (seen known held.new target.new (K.written sink.new)) (v.call_result (direct false) (calls_of self.now depth) (Some Function.Sequence) name.now [] (seen known held.old target.old (K.written sink.old))) }
-        ensures knows { (known : Bool) → Knows known (K.written sink.old) → Knows known (K.written sink.new) }
-        ensures made { (w : World) → IsMade w held.old target.old → IsMade w held.new target.new }
+        ensures keeps { Keeps K.written held.old target.old sink.old held.new target.new sink.new }
         ensures cause { IsCaused held.new.end result (K.faults sink.old) (K.faults sink.new) }
     {
         self.run_named(name, depth, held, target, sink)?;
@@ -289,8 +279,7 @@ impl DirectRunner<'_> {
         sink: &mut K,
     ) -> Result<(), Stopped>
         ensures gives { (known : Bool) → Knows known (K.written sink.old) → MeansDirect held.new.end result (seen known held.new target.new (K.written sink.new)) ((calls_of self.now depth) name.now (seen known held.old target.old (K.written sink.old))) }
-        ensures knows { (known : Bool) → Knows known (K.written sink.old) → Knows known (K.written sink.new) }
-        ensures made { (w : World) → IsMade w held.old target.old → IsMade w held.new target.new }
+        ensures keeps { Keeps K.written held.old target.old sink.old held.new target.new sink.new }
         ensures cause { IsCaused held.new.end result (K.faults sink.old) (K.faults sink.new) }
     {
         if depth == 0 {
@@ -311,7 +300,7 @@ impl DirectRunner<'_> {
 
     // The steps of a called sequence. After them the caller has its variables again, and its `__dp`, `__ap` and `__errorcontrol`.
     #[cycle(eval)]
-    #[tactic(auto, unfolding(sequence_rules::specs::Steps::sequence_result), using(crate::proofs::Loops::entering, crate::proofs::StopLemmas::cause_on))]
+    #[tactic(auto, unfolding(sequence_rules::specs::Steps::sequence_result), using(crate::proofs::Loops::entering, crate::proofs::FrameLemmas::frames))]
     fn run_sequence<K: Sink>(
         &self,
         steps: &[CheckedStep],
@@ -321,8 +310,7 @@ impl DirectRunner<'_> {
         sink: &mut K,
     ) -> Result<(), Stopped>
         ensures gives { (known : Bool) → Knows known (K.written sink.old) → MeansDirect held.new.end result (seen known held.new target.new (K.written sink.new)) (m.sequence_result (direct false) (m.steps_result (direct false) self.now.turn_us (calls_of self.now depth) (steps_tree steps.now)) (seen known held.old target.old (K.written sink.old))) }
-        ensures knows { (known : Bool) → Knows known (K.written sink.old) → Knows known (K.written sink.new) }
-        ensures made { (w : World) → IsMade w held.old target.old → IsMade w held.new target.new }
+        ensures keeps { Keeps K.written held.old target.old sink.old held.new target.new sink.new }
         ensures cause { IsCaused held.new.end result (K.faults sink.old) (K.faults sink.new) }
     {
         let dp = held.globals.dp();

@@ -1,14 +1,14 @@
 //! Controls, their turns, and polls.
 ghost use Rattle.std.specs.Prelude.{◌≡◌, [], ◌∷◌, ◌++◌, Bool, false, unwrap_or, option_map, List, Option, ℕ, ◌<◌, ◌≤◌};
 ghost use Rattle.expr_grammar.specs.Tree.{tree, arg_tree, arg_trees, stmt_tree, code_trees};
-ghost use Rattle.target_calls.specs.World.{World};
 ghost use Rattle.sequence_trees.specs.Trees.{step_tree, steps_tree};
 ghost use Rattle.sequence_rules.specs.Direct.{direct};
 ghost use Rattle.sequence_rules.specs.Polls as p;
 ghost use Rattle.sequence_rules.specs.Steps as m;
 ghost use Rattle.sequence_rules.specs.Values as v;
 ghost use Rattle.sequence_rules.specs.Known.{Knows};
-ghost use Rattle.sequence_meaning.specs.Held.{IsCaused, IsMade, MeansDirect, MeansDirectAs, calls_of, seen, state_of};
+ghost use Rattle.sequence_meaning.specs.Frame.{Keeps, KeepsMade};
+ghost use Rattle.sequence_meaning.specs.Held.{IsCaused, MeansDirect, calls_of, seen, state_of};
 
 use crate::asking::{ask, debug_port};
 use crate::end::{DirectEnd, Stopped};
@@ -24,7 +24,7 @@ use target_machine::{HaltCause, Target, Unit};
 impl DirectRunner<'_> {
     // A control.
     #[cycle(eval)]
-    #[tactic(auto, unfolding(sequence_rules::specs::Steps::controlled), using(crate::proofs::StopLemmas::ends_control, crate::proofs::StopLemmas::cause_on))]
+    #[tactic(auto, unfolding(sequence_rules::specs::Steps::controlled), using(crate::proofs::StopLemmas::ends_control, crate::proofs::FrameLemmas::frames))]
     pub(crate) fn run_control<K: Sink>(
         &self,
         cond: &Option<Expr>,
@@ -37,8 +37,7 @@ impl DirectRunner<'_> {
         sink: &mut K,
     ) -> Result<(), Stopped>
         ensures gives { (known : Bool) → Knows known (K.written sink.old) → MeansDirect held.new.end result (seen known held.new target.new (K.written sink.new)) (m.controlled (direct false) self.now.turn_us (calls_of self.now depth) (option_map tree cond.now) (option_map tree repeat.now) timeout (steps_tree steps.now) (m.steps_result (direct false) self.now.turn_us (calls_of self.now depth) (steps_tree steps.now)) (seen known held.old target.old (K.written sink.old))) }
-        ensures knows { (known : Bool) → Knows known (K.written sink.old) → Knows known (K.written sink.new) }
-        ensures made { (w : World) → IsMade w held.old target.old → IsMade w held.new target.new }
+        ensures keeps { Keeps K.written held.old target.old sink.old held.new target.new sink.new }
         ensures cause { IsCaused held.new.end result (K.faults sink.old) (K.faults sink.new) }
     {
         if self.test_condition(cond, depth, held, target, sink)? {
@@ -60,8 +59,7 @@ impl DirectRunner<'_> {
         sink: &mut K,
     ) -> Result<bool, Stopped>
         ensures gives { (known : Bool) → Knows known (K.written sink.old) → MeansDirect held.new.end result (seen known held.new target.new (K.written sink.new)) (m.condition (direct false) self.now.turn_us (calls_of self.now depth) (option_map tree cond.now) (seen known held.old target.old (K.written sink.old))) }
-        ensures knows { (known : Bool) → Knows known (K.written sink.old) → Knows known (K.written sink.new) }
-        ensures made { (w : World) → IsMade w held.old target.old → IsMade w held.new target.new }
+        ensures keeps { Keeps K.written held.old target.old sink.old held.new target.new sink.new }
         ensures cause { IsCaused held.new.end result (K.faults sink.old) (K.faults sink.new) }
     {
         match cond {
@@ -72,7 +70,7 @@ impl DirectRunner<'_> {
 
     // Whether an expression is not 0.
     #[cycle(eval)]
-    #[tactic(auto, unfolding(sequence_rules::specs::Steps::condition, sequence_rules::specs::Values::used_now, sequence_rules::specs::Calls::use_now, sequence_rules::specs::Direct::direct), using(crate::proofs::StopLemmas::ends_condition, crate::proofs::StopLemmas::cause_on))]
+    #[tactic(auto, unfolding(sequence_rules::specs::Steps::condition, sequence_rules::specs::Values::used_now, sequence_rules::specs::Calls::use_now, sequence_rules::specs::Direct::direct), using(crate::proofs::StopLemmas::ends_condition, crate::proofs::FrameLemmas::frames))]
     fn is_true<K: Sink>(
         &self,
         expr: &Expr,
@@ -82,8 +80,7 @@ impl DirectRunner<'_> {
         sink: &mut K,
     ) -> Result<bool, Stopped>
         ensures gives { (known : Bool) → Knows known (K.written sink.old) → MeansDirect held.new.end result (seen known held.new target.new (K.written sink.new)) (m.condition (direct false) self.now.turn_us (calls_of self.now depth) (Some (tree expr.now)) (seen known held.old target.old (K.written sink.old))) }
-        ensures knows { (known : Bool) → Knows known (K.written sink.old) → Knows known (K.written sink.new) }
-        ensures made { (w : World) → IsMade w held.old target.old → IsMade w held.new target.new }
+        ensures keeps { Keeps K.written held.old target.old sink.old held.new target.new sink.new }
         ensures cause { IsCaused held.new.end result (K.faults sink.old) (K.faults sink.new) }
     {
         let number = self.evaluate(expr, depth, held, target, sink)?;
@@ -104,8 +101,7 @@ impl DirectRunner<'_> {
         sink: &mut K,
     ) -> Result<(), Stopped>
         ensures gives { (known : Bool) → Knows known (K.written sink.old) → MeansDirect held.new.end result (seen known held.new target.new (K.written sink.new)) (m.repeat_result (direct false) self.now.turn_us (calls_of self.now depth) (option_map tree repeat.now) timeout (steps_tree steps.now) (m.steps_result (direct false) self.now.turn_us (calls_of self.now depth) (steps_tree steps.now)) (seen known held.old target.old (K.written sink.old))) }
-        ensures knows { (known : Bool) → Knows known (K.written sink.old) → Knows known (K.written sink.new) }
-        ensures made { (w : World) → IsMade w held.old target.old → IsMade w held.new target.new }
+        ensures keeps { Keeps K.written held.old target.old sink.old held.new target.new sink.new }
         ensures cause { IsCaused held.new.end result (K.faults sink.old) (K.faults sink.new) }
     {
         match repeat {
@@ -138,8 +134,7 @@ impl DirectRunner<'_> {
         requires least { 1 ≤ count }
         requires most { count ≤ 60000000 }
         ensures gives { (known : Bool) → Knows known (K.written sink.old) → MeansDirect held.new.end result (seen known held.new target.new (K.written sink.new)) (m.loop_result (direct false) self.now.turn_us (calls_of self.now depth) (p.poll_of (tree expr.now) (steps_tree steps.now)) (tree expr.now) count (m.steps_result (direct false) self.now.turn_us (calls_of self.now depth) (steps_tree steps.now)) (seen known held.old target.old (K.written sink.old))) }
-        ensures knows { (known : Bool) → Knows known (K.written sink.old) → Knows known (K.written sink.new) }
-        ensures made { (w : World) → IsMade w held.old target.old → IsMade w held.new target.new }
+        ensures keeps { Keeps K.written held.old target.old sink.old held.new target.new sink.new }
         ensures cause { IsCaused held.new.end result (K.faults sink.old) (K.faults sink.new) }
     {
         match poll_of(expr, steps) {
@@ -150,7 +145,7 @@ impl DirectRunner<'_> {
 
     // At most so many turns.
     #[cycle(eval)]
-    #[tactic(auto, unfolding(sequence_rules::specs::Steps::turns), using(crate::proofs::Loops::turning, crate::proofs::StopLemmas::cause_on))]
+    #[tactic(auto, unfolding(sequence_rules::specs::Steps::turns), using(crate::proofs::Loops::turning, crate::proofs::FrameLemmas::frames))]
     fn run_turns<K: Sink>(
         &self,
         expr: &Expr,
@@ -162,8 +157,7 @@ impl DirectRunner<'_> {
         sink: &mut K,
     ) -> Result<(), Stopped>
         ensures gives { (known : Bool) → Knows known (K.written sink.old) → MeansDirect held.new.end result (seen known held.new target.new (K.written sink.new)) (m.turns (direct false) (v.value (direct false) (calls_of self.now depth) (tree expr.now)) (λ r. m.inside (direct false) (m.steps_result (direct false) self.now.turn_us (calls_of self.now depth) (steps_tree steps.now)) r) count (seen known held.old target.old (K.written sink.old))) }
-        ensures knows { (known : Bool) → Knows known (K.written sink.old) → Knows known (K.written sink.new) }
-        ensures made { (w : World) → IsMade w held.old target.old → IsMade w held.new target.new }
+        ensures keeps { Keeps K.written held.old target.old sink.old held.new target.new sink.new }
         ensures cause { IsCaused held.new.end result (K.faults sink.old) (K.faults sink.new) }
     {
         let mut left = count;
@@ -179,7 +173,7 @@ impl DirectRunner<'_> {
 
     // One turn: whether another may follow.
     #[cycle(eval)]
-    #[tactic(auto, unfolding(sequence_rules::specs::Steps::turn, sequence_rules::specs::Values::used_now, sequence_rules::specs::Calls::use_now, sequence_rules::specs::Direct::direct), using(crate::proofs::StopLemmas::ends_turn, crate::proofs::StopLemmas::ends_test, crate::proofs::StopLemmas::ends_body, crate::proofs::StopLemmas::cause_on))]
+    #[tactic(auto, unfolding(sequence_rules::specs::Steps::turn, sequence_rules::specs::Values::used_now, sequence_rules::specs::Calls::use_now, sequence_rules::specs::Direct::direct), using(crate::proofs::StopLemmas::ends_turn, crate::proofs::StopLemmas::ends_test, crate::proofs::StopLemmas::ends_body, crate::proofs::FrameLemmas::frames))]
     fn run_turn<K: Sink>(
         &self,
         expr: &Expr,
@@ -190,8 +184,7 @@ impl DirectRunner<'_> {
         sink: &mut K,
     ) -> Result<bool, Stopped>
         ensures gives { (known : Bool) → Knows known (K.written sink.old) → MeansDirect held.new.end result (seen known held.new target.new (K.written sink.new)) (m.turn (direct false) (v.value (direct false) (calls_of self.now depth) (tree expr.now)) (λ r. m.inside (direct false) (m.steps_result (direct false) self.now.turn_us (calls_of self.now depth) (steps_tree steps.now)) r) (seen known held.old target.old (K.written sink.old))) }
-        ensures knows { (known : Bool) → Knows known (K.written sink.old) → Knows known (K.written sink.new) }
-        ensures made { (w : World) → IsMade w held.old target.old → IsMade w held.new target.new }
+        ensures keeps { Keeps K.written held.old target.old sink.old held.new target.new sink.new }
         ensures cause { IsCaused held.new.end result (K.faults sink.old) (K.faults sink.new) }
     {
         match count_step(held) {
@@ -211,7 +204,7 @@ impl DirectRunner<'_> {
 
     // Steps whose declarations are not visible after them.
     #[cycle(eval)]
-    #[tactic(auto, unfolding(sequence_rules::specs::Steps::inside), using(crate::proofs::StopLemmas::ends_inside, crate::proofs::Loops::inside_on, crate::proofs::StopLemmas::cause_on))]
+    #[tactic(auto, unfolding(sequence_rules::specs::Steps::inside), using(crate::proofs::StopLemmas::ends_inside, crate::proofs::Loops::inside_on, crate::proofs::FrameLemmas::frames))]
     pub(crate) fn run_inside<K: Sink>(
         &self,
         steps: &[CheckedStep],
@@ -221,8 +214,7 @@ impl DirectRunner<'_> {
         sink: &mut K,
     ) -> Result<(), Stopped>
         ensures gives { (known : Bool) → Knows known (K.written sink.old) → MeansDirect held.new.end result (seen known held.new target.new (K.written sink.new)) (m.inside (direct false) (m.steps_result (direct false) self.now.turn_us (calls_of self.now depth) (steps_tree steps.now)) (seen known held.old target.old (K.written sink.old))) }
-        ensures knows { (known : Bool) → Knows known (K.written sink.old) → Knows known (K.written sink.new) }
-        ensures made { (w : World) → IsMade w held.old target.old → IsMade w held.new target.new }
+        ensures keeps { Keeps K.written held.old target.old sink.old held.new target.new sink.new }
         ensures cause { IsCaused held.new.end result (K.faults sink.old) (K.faults sink.new) }
     {
         let count = held.local_count();
@@ -244,7 +236,7 @@ fn run_poll(
     requires least { 1 ≤ count }
     requires most { count ≤ 60000000 }
     ensures gives { (written : Option (List ℕ)) → MeansDirect held.new.end result (state_of held.new target.new written) (m.poll_result (direct false) (mask, requested) count (state_of held.old target.old written)) }
-    ensures made { (w : World) → IsMade w held.old target.old → IsMade w held.new target.new }
+    ensures keeps { KeepsMade held.old target.old held.new target.new }
     ensures cause { (faults : ℕ) → IsCaused held.new.end result faults faults }
 {
     count_step(held)?;

@@ -1,12 +1,12 @@
 //! What calls of functions do, once their arguments are numbers.
 ghost use Rattle.std.specs.Prelude.{◌≡◌, ℕ, Bool, List, IfOk, drop, slice_index, false};
 ghost use Rattle.target_machine.specs.State.{TargetState};
-ghost use Rattle.target_calls.specs.World.{World};
 ghost use Rattle.sequence_rules.specs.Calls as c;
 ghost use Rattle.sequence_rules.specs.Lines.{load_line, message_line, query_line, value_line};
 ghost use Rattle.sequence_rules.specs.Direct.{direct};
 ghost use Rattle.sequence_rules.specs.Known.{Knows};
-ghost use Rattle.sequence_meaning.specs.Held.{IsCaused, IsMade, MeansDirect, seen};
+ghost use Rattle.sequence_meaning.specs.Frame.{Keeps};
+ghost use Rattle.sequence_meaning.specs.Held.{IsCaused, MeansDirect, seen};
 
 use crate::end::{DirectEnd, Stopped};
 use crate::held::DirectHeld;
@@ -32,8 +32,7 @@ fn write_line<K: Sink>(
 ) -> Result<u64, Stopped>
     ensures gives { (known : Bool) (target : TargetState) (text : List ℕ) → IfOk line (λ l. l ≡ text) → Knows known (K.written sink.old)
         → MeansDirect held.new.end result (seen known held.new target (K.written sink.new)) (c.line_result (direct false) text value (seen known held.old target (K.written sink.old))) }
-    ensures knows { (known : Bool) → Knows known (K.written sink.old) → Knows known (K.written sink.new) }
-    ensures made { (w : World) (target : TargetState) → IsMade w held.old target → IsMade w held.new target }
+    ensures keeps { (target : TargetState) → Keeps K.written held.old target sink.old held.new target sink.new }
     ensures cause { IsCaused held.new.end result (K.faults sink.old) (K.faults sink.new) }
 {
     if held.lines >= MOST_LINES {
@@ -81,8 +80,7 @@ fn write_message<K: Sink>(
 ) -> Result<u64, Stopped>
     ensures gives { (known : Bool) (target : TargetState) → Knows known (K.written sink.old)
         → MeansDirect held.new.end result (seen known held.new target (K.written sink.new)) (c.line_result (direct false) (message_line (slice_index numbers.now 0) text.now (drop 1 numbers.now)) 0 (seen known held.old target (K.written sink.old))) }
-    ensures knows { (known : Bool) → Knows known (K.written sink.old) → Knows known (K.written sink.new) }
-    ensures made { (w : World) (target : TargetState) → IsMade w held.old target → IsMade w held.new target }
+    ensures keeps { (target : TargetState) → Keeps K.written held.old target sink.old held.new target sink.new }
     ensures cause { IsCaused held.new.end result (K.faults sink.old) (K.faults sink.new) }
 {
     let more = if numbers.is_empty() {
@@ -109,8 +107,7 @@ fn write_query<K: Sink>(
 ) -> Result<u64, Stopped>
     ensures gives { (known : Bool) (target : TargetState) → Knows known (K.written sink.old)
         → MeansDirect held.new.end result (seen known held.new target (K.written sink.new)) (c.line_result (direct false) (query_line (slice_index numbers.now 0) text.now (slice_index numbers.now 1)) (slice_index numbers.now 1) (seen known held.old target (K.written sink.old))) }
-    ensures knows { (known : Bool) → Knows known (K.written sink.old) → Knows known (K.written sink.new) }
-    ensures made { (w : World) (target : TargetState) → IsMade w held.old target → IsMade w held.new target }
+    ensures keeps { (target : TargetState) → Keeps K.written held.old target sink.old held.new target sink.new }
     ensures cause { IsCaused held.new.end result (K.faults sink.old) (K.faults sink.new) }
 {
     let default = number_at(numbers, 1);
@@ -133,8 +130,7 @@ fn write_query_value<K: Sink>(
 ) -> Result<u64, Stopped>
     ensures gives { (known : Bool) (target : TargetState) → Knows known (K.written sink.old)
         → MeansDirect held.new.end result (seen known held.new target (K.written sink.new)) (c.line_result (direct false) (value_line text.now (slice_index numbers.now 0)) (slice_index numbers.now 0) (seen known held.old target (K.written sink.old))) }
-    ensures knows { (known : Bool) → Knows known (K.written sink.old) → Knows known (K.written sink.new) }
-    ensures made { (w : World) (target : TargetState) → IsMade w held.old target → IsMade w held.new target }
+    ensures keeps { (target : TargetState) → Keeps K.written held.old target sink.old held.new target sink.new }
     ensures cause { IsCaused held.new.end result (K.faults sink.old) (K.faults sink.new) }
 {
     let default = number_at(numbers, 0);
@@ -151,8 +147,7 @@ fn write_load<K: Sink>(
 ) -> Result<u64, Stopped>
     ensures gives { (known : Bool) (target : TargetState) → Knows known (K.written sink.old)
         → MeansDirect held.new.end result (seen known held.new target (K.written sink.new)) (c.line_result (direct false) (load_line text.now) 0 (seen known held.old target (K.written sink.old))) }
-    ensures knows { (known : Bool) → Knows known (K.written sink.old) → Knows known (K.written sink.new) }
-    ensures made { (w : World) (target : TargetState) → IsMade w held.old target → IsMade w held.new target }
+    ensures keeps { (target : TargetState) → Keeps K.written held.old target sink.old held.new target sink.new }
     ensures cause { IsCaused held.new.end result (K.faults sink.old) (K.faults sink.new) }
 {
     write_line(load_line(alloc, text), 0, held, sink)
@@ -171,8 +166,7 @@ pub(crate) fn make_call<K: Sink>(
 ) -> Result<u64, Stopped>
     ensures gives { (known : Bool) → Knows known (K.written sink.old)
         → MeansDirect held.new.end result (seen known held.new target.new (K.written sink.new)) (c.function_result (direct false) function text.now numbers.now (seen known held.old target.old (K.written sink.old))) }
-    ensures knows { (known : Bool) → Knows known (K.written sink.old) → Knows known (K.written sink.new) }
-    ensures made { (w : World) → IsMade w held.old target.old → IsMade w held.new target.new }
+    ensures keeps { Keeps K.written held.old target.old sink.old held.new target.new sink.new }
     ensures cause { IsCaused held.new.end result (K.faults sink.old) (K.faults sink.new) }
 {
     match function {

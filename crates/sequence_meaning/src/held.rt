@@ -1,13 +1,14 @@
 //! What the direct runner holds.
 ghost use Rattle.std.specs.Prelude.{◌≡◌, ◌++◌, [], ◌∷◌, ℕ, List, Option, None, OnErr, OnOk, length, take, unwrap_or, codes};
 ghost use Rattle.target_machine.specs.State.{TargetState};
-ghost use Rattle.target_calls.specs.World.{World, start_world};
+ghost use Rattle.target_calls.specs.World.{start_world};
 ghost use Rattle.sequence_rules.specs.Direct.{Now, now_at};
 ghost use Rattle.sequence_rules.specs.Locals.{locals_of};
 ghost use Rattle.sequence_rules.specs.Machine.{State, with_locals, with_variables};
 ghost use Rattle.sequence_rules.specs.Variables.{bound, set_in, set_visible, value_named, visible};
 ghost use Rattle.sequence_rules.specs.Shared.{bindings_of};
-ghost use Rattle.sequence_meaning.specs.Held.{IsMade, state_of};
+ghost use Rattle.sequence_meaning.specs.Frame.{KeepsMade};
+ghost use Rattle.sequence_meaning.specs.Held.{state_of};
 
 use crate::end::DirectEnd;
 use crate::shared::SharedVariables;
@@ -69,7 +70,7 @@ impl DirectHeld {
     pub fn store(&mut self, name: &str, value: u64)
         ensures state { (target : TargetState) (written : Option (List ℕ))
             → state_of self.new target written ≡ set_visible name.now value (state_of self.old target written) }
-        ensures made { (w : World) (target : TargetState) → IsMade w self.old target → IsMade w self.new target }
+        ensures keeps { (target : TargetState) → KeepsMade self.old target self.new target }
     {
         if !self.locals.set(name, value) {
             self.globals.set(name, value);
@@ -80,7 +81,7 @@ impl DirectHeld {
     pub fn take_numbers(&mut self, alloc: Global) -> Vec<u64>
         ensures none { result.items ≡ [] }
         ensures state { (target : TargetState) (written : Option (List ℕ)) → state_of self.new target written ≡ state_of self.old target written }
-        ensures made { (w : World) (target : TargetState) → IsMade w self.old target → IsMade w self.new target }
+        ensures keeps { (target : TargetState) → KeepsMade self.old target self.new target }
     {
         let mut numbers = mem::replace(&mut self.numbers, Vec::new(alloc));
         numbers.clear();
@@ -91,7 +92,7 @@ impl DirectHeld {
     pub fn declare(&mut self, alloc: Global, name: &NameText, value: u64) -> Result<(), OutOfMemory>
         ensures state { (target : TargetState) (written : Option (List ℕ))
             → OnOk result (state_of self.new target written ≡ with_locals (state_of self.old target written) (locals_of self.old.locals ++ bound name.now value ∷ [])) }
-        ensures made { (w : World) (target : TargetState) → IsMade w self.old target → IsMade w self.new target }
+        ensures keeps { (target : TargetState) → KeepsMade self.old target self.new target }
         ensures same { (target : TargetState) (written : Option (List ℕ)) → OnErr result (state_of self.new target written ≡ state_of self.old target written) }
     {
         self.locals.add(alloc, name.as_str(), value)
@@ -109,7 +110,7 @@ impl DirectHeld {
         ensures taken { locals_of result ≡ locals_of self.old.locals }
         ensures none { (target : TargetState) (written : Option (List ℕ))
             → state_of self.new target written ≡ with_locals (state_of self.old target written) [] }
-        ensures made { (w : World) (target : TargetState) → IsMade w self.old target → IsMade w self.new target }
+        ensures keeps { (target : TargetState) → KeepsMade self.old target self.new target }
     {
         mem::replace(&mut self.locals, Locals::new(alloc))
     }
@@ -118,7 +119,7 @@ impl DirectHeld {
     pub fn cut_back(&mut self, len: usize)
         ensures state { (target : TargetState) (written : Option (List ℕ))
             → state_of self.new target written ≡ with_locals (state_of self.old target written) (take len (locals_of self.old.locals)) }
-        ensures made { (w : World) (target : TargetState) → IsMade w self.old target → IsMade w self.new target }
+        ensures keeps { (target : TargetState) → KeepsMade self.old target self.new target }
     {
         self.locals.truncate(len);
     }
@@ -127,7 +128,7 @@ impl DirectHeld {
     fn set_global(&mut self, name: &str, value: u64)
         ensures state { (target : TargetState) (written : Option (List ℕ)) → state_of self.new target written
             ≡ with_variables (state_of self.old target written) (set_in (bindings_of self.old.globals.variables) name.now value) (locals_of self.old.locals) }
-        ensures made { (w : World) (target : TargetState) → IsMade w self.old target → IsMade w self.new target }
+        ensures keeps { (target : TargetState) → KeepsMade self.old target self.new target }
     {
         self.globals.set(name, value);
     }
@@ -135,7 +136,7 @@ impl DirectHeld {
     fn set_locals(&mut self, locals: Locals<u64>)
         ensures state { (target : TargetState) (written : Option (List ℕ))
             → state_of self.new target written ≡ with_locals (state_of self.old target written) (locals_of locals) }
-        ensures made { (w : World) (target : TargetState) → IsMade w self.old target → IsMade w self.new target }
+        ensures keeps { (target : TargetState) → KeepsMade self.old target self.new target }
     {
         self.locals = locals;
     }
@@ -145,7 +146,7 @@ impl DirectHeld {
         ensures state { (target : TargetState) (written : Option (List ℕ)) → state_of self.new target written
             ≡ with_variables (state_of self.old target written)
             (set_in (set_in (set_in (bindings_of self.old.globals.variables) (codes "__dp") dp) (codes "__ap") ap) (codes "__errorcontrol") control) (locals_of locals) }
-        ensures made { (w : World) (target : TargetState) → IsMade w self.old target → IsMade w self.new target }
+        ensures keeps { (target : TargetState) → KeepsMade self.old target self.new target }
     {
         self.set_global("__dp", dp);
         self.set_global("__ap", ap);

@@ -1,10 +1,10 @@
 //! Calls that access memory.
 ghost use Rattle.std.specs.Prelude.{◌≡◌, ◌⊎◌, ℕ, ◌<◌, ◌^◌, ◌%◌, ◌≤◌, List, Option, false};
-ghost use Rattle.target_calls.specs.World.{World};
 ghost use Rattle.sequence_rules.specs.Calls as c;
 ghost use Rattle.sequence_rules.specs.Direct.{Now, direct};
 ghost use Rattle.sequence_rules.specs.Machine.{State};
-ghost use Rattle.sequence_meaning.specs.Held.{IsCaused, IsMade, MeansDirect, state_of};
+ghost use Rattle.sequence_meaning.specs.Frame.{KeepsMade};
+ghost use Rattle.sequence_meaning.specs.Held.{IsCaused, MeansDirect, state_of};
 
 use crate::asking::{ask, ask_for_result, port_of};
 use crate::end::{DirectEnd, Stopped};
@@ -37,7 +37,7 @@ fn ask_second_half(
     requires aligned { address % 8 ≡ 0 }
     requires low { low < 2 ^ 32 }
     ensures gives { (written : Option (List ℕ)) → MeansDirect held.new.end result (state_of held.new target.new written) (c.second_half (direct false) read (record { ap = ap; forgive = forgive; dp = 0 }) address value low (state_of held.old target.old written)) }
-    ensures made { (w : World) → IsMade w held.old target.old → IsMade w held.new target.new }
+    ensures keeps { KeepsMade held.old target.old held.new target.new }
     ensures cause { (faults : ℕ) → IsCaused held.new.end result faults faults }
 {
     let unit = memory_unit(4, read, ap, address + 4, value / 0x1_0000_0000);
@@ -61,7 +61,7 @@ fn ask_two_units(
 ) -> Result<u64, Stopped>
     requires aligned { address % 8 ≡ 0 }
     ensures gives { (written : Option (List ℕ)) → MeansDirect held.new.end result (state_of held.new target.new written) (c.two_units (direct false) read (record { ap = ap; forgive = forgive; dp = 0 }) address value (state_of held.old target.old written)) }
-    ensures made { (w : World) → IsMade w held.old target.old → IsMade w held.new target.new }
+    ensures keeps { KeepsMade held.old target.old held.new target.new }
     ensures cause { (faults : ℕ) → IsCaused held.new.end result faults faults }
 {
     let unit = memory_unit(4, read, ap, address, value);
@@ -86,7 +86,7 @@ fn access_memory_at(
 ) -> Result<u64, Stopped>
     requires { (size ≡ 1) ⊎ ((size ≡ 2) ⊎ ((size ≡ 4) ⊎ (size ≡ 8))) }
     ensures gives { (written : Option (List ℕ)) → MeansDirect held.new.end result (state_of held.new target.new written) (c.memory_at (direct false) size read address value (record { ap = port.ap; forgive = port.forgive; dp = port.dp }) (state_of held.old target.old written)) }
-    ensures made { (w : World) → IsMade w held.old target.old → IsMade w held.new target.new }
+    ensures keeps { KeepsMade held.old target.old held.new target.new }
     ensures cause { (faults : ℕ) → IsCaused held.new.end result faults faults }
 {
     let ap = match memory_port(size, address, port.ap, port.dp) {
@@ -121,7 +121,7 @@ pub(crate) fn access_memory(
 ) -> Result<u64, Stopped>
     requires { (size ≡ 1) ⊎ ((size ≡ 2) ⊎ ((size ≡ 4) ⊎ (size ≡ 8))) }
     ensures gives { (written : Option (List ℕ)) → MeansDirect held.new.end result (state_of held.new target.new written) (c.memory (direct false) size read address value (state_of held.old target.old written)) }
-    ensures made { (w : World) → IsMade w held.old target.old → IsMade w held.new target.new }
+    ensures keeps { KeepsMade held.old target.old held.new target.new }
     ensures cause { (faults : ℕ) → IsCaused held.new.end result faults faults }
 {
     access_memory_at(size, read, address, value, port_of(held), held, target)
@@ -137,7 +137,7 @@ pub(crate) fn access_word(
     target: &mut Target,
 ) -> Result<u64, Stopped>
     ensures gives { (written : Option (List ℕ)) → MeansDirect held.new.end result (state_of held.new target.new written) (c.memory (direct false) 4 read address value (state_of held.old target.old written)) }
-    ensures made { (w : World) → IsMade w held.old target.old → IsMade w held.new target.new }
+    ensures keeps { KeepsMade held.old target.old held.new target.new }
     ensures cause { (faults : ℕ) → IsCaused held.new.end result faults faults }
 {
     access_memory_at(4, read, address, value, port_of(held), held, target)

@@ -1,11 +1,11 @@
 //! Calls that are commands of the probe.
 ghost use Rattle.std.specs.Prelude.{ℕ, List, Option, false};
 ghost use Rattle.target_machine.specs.Sound.{IsSoundProbe};
-ghost use Rattle.target_calls.specs.World.{World};
 ghost use Rattle.sequence_rules.specs.Calls as c;
 ghost use Rattle.sequence_rules.specs.Direct.{Now, direct};
 ghost use Rattle.sequence_rules.specs.Machine.{State};
-ghost use Rattle.sequence_meaning.specs.Held.{IsCaused, IsMade, MeansDirect, state_of};
+ghost use Rattle.sequence_meaning.specs.Frame.{KeepsMade};
+ghost use Rattle.sequence_meaning.specs.Held.{IsCaused, MeansDirect, state_of};
 
 use crate::asking::{command, debug_port};
 use crate::end::{DirectEnd, Stopped};
@@ -22,7 +22,7 @@ fn command_without_result(
 ) -> Result<u64, Stopped>
     requires { IsSoundProbe call }
     ensures gives { (written : Option (List ℕ)) → MeansDirect held.new.end result (state_of held.new target.new written) (c.zero_of (direct false) (c.command (direct false) call (state_of held.old target.old written))) }
-    ensures made { (w : World) → IsMade w held.old target.old → IsMade w held.new target.new }
+    ensures keeps { KeepsMade held.old target.old held.new target.new }
     ensures cause { (faults : ℕ) → IsCaused held.new.end result faults faults }
 {
     command(call, held, target)?;
@@ -33,7 +33,7 @@ fn command_without_result(
 #[tactic(auto, unfolding(sequence_rules::specs::Calls::abort, sequence_rules::specs::Calls::abort_at, sequence_rules::specs::Calls::zero_of))]
 pub(crate) fn abort(value: u64, held: &mut DirectHeld, target: &mut Target) -> Result<u64, Stopped>
     ensures gives { (written : Option (List ℕ)) → MeansDirect held.new.end result (state_of held.new target.new written) (c.zero_of (direct false) (c.abort (direct false) value (state_of held.old target.old written))) }
-    ensures made { (w : World) → IsMade w held.old target.old → IsMade w held.new target.new }
+    ensures keeps { KeepsMade held.old target.old held.new target.new }
     ensures cause { (faults : ℕ) → IsCaused held.new.end result faults faults }
 {
     if debug_port(held) == 0 {
@@ -52,7 +52,7 @@ pub(crate) fn abort(value: u64, held: &mut DirectHeld, target: &mut Target) -> R
 #[tactic(auto, unfolding(sequence_rules::specs::Calls::delay, sequence_rules::specs::Calls::zero_of))]
 pub(crate) fn delay(micros: u64, held: &mut DirectHeld, target: &mut Target) -> Result<u64, Stopped>
     ensures gives { (written : Option (List ℕ)) → MeansDirect held.new.end result (state_of held.new target.new written) (c.zero_of (direct false) (c.delay (direct false) micros (state_of held.old target.old written))) }
-    ensures made { (w : World) → IsMade w held.old target.old → IsMade w held.new target.new }
+    ensures keeps { KeepsMade held.old target.old held.new target.new }
     ensures cause { (faults : ℕ) → IsCaused held.new.end result faults faults }
 {
     if micros > 60_000_000 {
@@ -70,7 +70,7 @@ pub(crate) fn set_clock(
     target: &mut Target,
 ) -> Result<u64, Stopped>
     ensures gives { (written : Option (List ℕ)) → MeansDirect held.new.end result (state_of held.new target.new written) (c.zero_of (direct false) (c.clock (direct false) hertz (state_of held.old target.old written))) }
-    ensures made { (w : World) → IsMade w held.old target.old → IsMade w held.new target.new }
+    ensures keeps { KeepsMade held.old target.old held.new target.new }
     ensures cause { (faults : ℕ) → IsCaused held.new.end result faults faults }
 {
     if hertz == 0 || hertz > 0xFFFF_FFFF {
@@ -90,7 +90,7 @@ pub(crate) fn set_pins(
     target: &mut Target,
 ) -> Result<u64, Stopped>
     ensures gives { (written : Option (List ℕ)) → MeansDirect held.new.end result (state_of held.new target.new written) (c.pins (direct false) output select wait (state_of held.old target.old written)) }
-    ensures made { (w : World) → IsMade w held.old target.old → IsMade w held.new target.new }
+    ensures keeps { KeepsMade held.old target.old held.new target.new }
     ensures cause { (faults : ℕ) → IsCaused held.new.end result faults faults }
 {
     match pins_command(output, select, wait) {
@@ -111,7 +111,7 @@ pub(crate) fn send_bits(
     target: &mut Target,
 ) -> Result<u64, Stopped>
     ensures gives { (written : Option (List ℕ)) → MeansDirect held.new.end result (state_of held.new target.new written) (c.zero_of (direct false) (c.line_bits (direct false) count bits (state_of held.old target.old written))) }
-    ensures made { (w : World) → IsMade w held.old target.old → IsMade w held.new target.new }
+    ensures keeps { KeepsMade held.old target.old held.new target.new }
     ensures cause { (faults : ℕ) → IsCaused held.new.end result faults faults }
 {
     if count == 0 || count > 64 {

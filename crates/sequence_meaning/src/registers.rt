@@ -1,10 +1,10 @@
 //! Calls that access registers.
 ghost use Rattle.std.specs.Prelude.{◌≡◌, ℕ, List, Option, false};
-ghost use Rattle.target_calls.specs.World.{World};
 ghost use Rattle.sequence_rules.specs.Calls as c;
 ghost use Rattle.sequence_rules.specs.Direct.{Now, direct};
 ghost use Rattle.sequence_rules.specs.Machine.{State};
-ghost use Rattle.sequence_meaning.specs.Held.{IsCaused, IsMade, MeansDirect, state_of};
+ghost use Rattle.sequence_meaning.specs.Frame.{KeepsMade};
+ghost use Rattle.sequence_meaning.specs.Held.{IsCaused, MeansDirect, state_of};
 
 use crate::asking::{ask_for_result, debug_port, port_of};
 use crate::end::{DirectEnd, Stopped};
@@ -23,7 +23,7 @@ fn access_ap_at(
     target: &mut Target,
 ) -> Result<u64, Stopped>
     ensures gives { (written : Option (List ℕ)) → MeansDirect held.new.end result (state_of held.new target.new written) (c.ap_at (direct false) read addr value (record { ap = port.ap; forgive = port.forgive; dp = port.dp }) (state_of held.old target.old written)) }
-    ensures made { (w : World) → IsMade w held.old target.old → IsMade w held.new target.new }
+    ensures keeps { KeepsMade held.old target.old held.new target.new }
     ensures cause { (faults : ℕ) → IsCaused held.new.end result faults faults }
 {
     match ap_unit(read, addr, value, port.ap, port.dp) {
@@ -45,7 +45,7 @@ pub(crate) fn access_ap(
     target: &mut Target,
 ) -> Result<u64, Stopped>
     ensures gives { (written : Option (List ℕ)) → MeansDirect held.new.end result (state_of held.new target.new written) (c.ap_register (direct false) read addr value (state_of held.old target.old written)) }
-    ensures made { (w : World) → IsMade w held.old target.old → IsMade w held.new target.new }
+    ensures keeps { KeepsMade held.old target.old held.new target.new }
     ensures cause { (faults : ℕ) → IsCaused held.new.end result faults faults }
 {
     access_ap_at(read, addr, value, port_of(held), held, target)
@@ -62,7 +62,7 @@ fn access_dp_at(
     target: &mut Target,
 ) -> Result<u64, Stopped>
     ensures gives { (written : Option (List ℕ)) → MeansDirect held.new.end result (state_of held.new target.new written) (c.dp_at (direct false) read addr value dp (state_of held.old target.old written)) }
-    ensures made { (w : World) → IsMade w held.old target.old → IsMade w held.new target.new }
+    ensures keeps { KeepsMade held.old target.old held.new target.new }
     ensures cause { (faults : ℕ) → IsCaused held.new.end result faults faults }
 {
     match dp_unit(read, addr, value, dp) {
@@ -84,7 +84,7 @@ pub(crate) fn access_dp(
     target: &mut Target,
 ) -> Result<u64, Stopped>
     ensures gives { (written : Option (List ℕ)) → MeansDirect held.new.end result (state_of held.new target.new written) (c.dp_register (direct false) read addr value (state_of held.old target.old written)) }
-    ensures made { (w : World) → IsMade w held.old target.old → IsMade w held.new target.new }
+    ensures keeps { KeepsMade held.old target.old held.new target.new }
     ensures cause { (faults : ℕ) → IsCaused held.new.end result faults faults }
 {
     access_dp_at(read, addr, value, debug_port(held), held, target)

@@ -2,11 +2,11 @@
 ghost use Rattle.std.specs.Prelude.{◌≡◌, ℕ, Bool, List, false};
 ghost use Rattle.expr_grammar.specs.Tree.{code_trees, stmt_tree, tree};
 ghost use Rattle.seq_check.specs.Answers.{checked_trees};
-ghost use Rattle.target_calls.specs.World.{World};
 ghost use Rattle.sequence_rules.specs.Direct.{direct};
 ghost use Rattle.sequence_rules.specs.Steps as m;
 ghost use Rattle.sequence_rules.specs.Known.{Knows};
-ghost use Rattle.sequence_meaning.specs.Held.{IsCaused, IsMade, MeansDirect, seen};
+ghost use Rattle.sequence_meaning.specs.Frame.{Keeps};
+ghost use Rattle.sequence_meaning.specs.Held.{IsCaused, MeansDirect, seen};
 ghost use Rattle.sequence_meaning.specs.Starting.{debugged_one, defined};
 
 use crate::end::{DirectEnd, Stopped};
@@ -19,7 +19,7 @@ use target_machine::Target;
 
 impl DirectRunner<'_> {
     // A debug variable gets its value.
-    #[tactic(auto, unfolding(sequence_rules::specs::Values::stored, sequence_rules::specs::Calls::guarded, sequence_rules::specs::Direct::direct), using(crate::proofs::DebugLemmas::defines_on, crate::proofs::StopLemmas::cause_on))]
+    #[tactic(auto, unfolding(sequence_rules::specs::Values::stored, sequence_rules::specs::Calls::guarded, sequence_rules::specs::Direct::direct), using(crate::proofs::DebugLemmas::defines_on, crate::proofs::FrameLemmas::frames))]
     fn define<K: Sink>(
         &self,
         name: &Name,
@@ -29,8 +29,7 @@ impl DirectRunner<'_> {
         sink: &mut K,
     ) -> Result<(), Stopped>
         ensures gives { (known : Bool) → Knows known (K.written sink.old) → MeansDirect held.new.end result (seen known held.new target.new (K.written sink.new)) (defined self.now.turn_us (checked_trees self.now.set.now) name.now (tree expr.now) (seen known held.old target.old (K.written sink.old))) }
-        ensures knows { (known : Bool) → Knows known (K.written sink.old) → Knows known (K.written sink.new) }
-        ensures made { (w : World) → IsMade w held.old target.old → IsMade w held.new target.new }
+        ensures keeps { Keeps K.written held.old target.old sink.old held.new target.new sink.new }
         ensures cause { IsCaused held.new.end result (K.faults sink.old) (K.faults sink.new) }
     {
         let number = self.evaluate(expr, 0, held, target, sink)?;
@@ -47,8 +46,7 @@ impl DirectRunner<'_> {
         sink: &mut K,
     ) -> Result<(), Stopped>
         ensures gives { (known : Bool) → Knows known (K.written sink.old) → MeansDirect held.new.end result (seen known held.new target.new (K.written sink.new)) (debugged_one self.now.turn_us (checked_trees self.now.set.now) (stmt_tree one.now) (seen known held.old target.old (K.written sink.old))) }
-        ensures knows { (known : Bool) → Knows known (K.written sink.old) → Knows known (K.written sink.new) }
-        ensures made { (w : World) → IsMade w held.old target.old → IsMade w held.new target.new }
+        ensures keeps { Keeps K.written held.old target.old sink.old held.new target.new sink.new }
         ensures cause { IsCaused held.new.end result (K.faults sink.old) (K.faults sink.new) }
     {
         match one {
@@ -58,7 +56,7 @@ impl DirectRunner<'_> {
     }
 
     // The debug variables get their values, in order.
-    #[tactic(auto, using(crate::proofs::DebugLemmas::debugging, crate::proofs::StopLemmas::cause_on))]
+    #[tactic(auto, using(crate::proofs::DebugLemmas::debugging, crate::proofs::FrameLemmas::frames))]
     fn define_all<K: Sink>(
         &self,
         code: &[Stmt],
@@ -67,8 +65,7 @@ impl DirectRunner<'_> {
         sink: &mut K,
     ) -> Result<(), Stopped>
         ensures gives { (known : Bool) → Knows known (K.written sink.old) → MeansDirect held.new.end result (seen known held.new target.new (K.written sink.new)) (m.debugged (direct false) self.now.turn_us (checked_trees self.now.set.now) (code_trees code.now) (seen known held.old target.old (K.written sink.old))) }
-        ensures knows { (known : Bool) → Knows known (K.written sink.old) → Knows known (K.written sink.new) }
-        ensures made { (w : World) → IsMade w held.old target.old → IsMade w held.new target.new }
+        ensures keeps { Keeps K.written held.old target.old sink.old held.new target.new sink.new }
         ensures cause { IsCaused held.new.end result (K.faults sink.old) (K.faults sink.new) }
     {
         for one in code {
@@ -81,7 +78,7 @@ impl DirectRunner<'_> {
     }
 
     // A run: the debug variables, and then the sequence of the name, in a chain of at most 32 sequences.
-    #[tactic(auto, unfolding(sequence_rules::specs::Steps::run_of), using(crate::proofs::DebugLemmas::run_first, crate::proofs::DebugLemmas::run_on, crate::proofs::StopLemmas::cause_on))]
+    #[tactic(auto, unfolding(sequence_rules::specs::Steps::run_of), using(crate::proofs::DebugLemmas::run_first, crate::proofs::DebugLemmas::run_on, crate::proofs::FrameLemmas::frames))]
     pub(crate) fn run_all<K: Sink>(
         &self,
         start: &str,
@@ -90,8 +87,7 @@ impl DirectRunner<'_> {
         sink: &mut K,
     ) -> Result<(), Stopped>
         ensures gives { (known : Bool) → Knows known (K.written sink.old) → MeansDirect held.new.end result (seen known held.new target.new (K.written sink.new)) (m.run_of (direct false) self.now.turn_us (checked_trees self.now.set.now) start.now (seen known held.old target.old (K.written sink.old))) }
-        ensures knows { (known : Bool) → Knows known (K.written sink.old) → Knows known (K.written sink.new) }
-        ensures made { (w : World) → IsMade w held.old target.old → IsMade w held.new target.new }
+        ensures keeps { Keeps K.written held.old target.old sink.old held.new target.new sink.new }
         ensures cause { IsCaused held.new.end result (K.faults sink.old) (K.faults sink.new) }
     {
         match self.define_all(self.set.debugvars().as_slice(), held, target, sink) {

@@ -1,14 +1,14 @@
 //! Steps and statements.
 ghost use Rattle.std.specs.Prelude.{◌≡◌, [], ◌∷◌, ◌++◌, Bool, false, unwrap_or, option_map, List, Option, ℕ, ◌<◌, ◌≤◌};
 ghost use Rattle.expr_grammar.specs.Tree.{tree, arg_tree, arg_trees, stmt_tree, code_trees};
-ghost use Rattle.target_calls.specs.World.{World};
 ghost use Rattle.sequence_trees.specs.Trees.{step_tree, steps_tree};
 ghost use Rattle.sequence_rules.specs.Direct.{direct};
 ghost use Rattle.target_machine.specs.State.{TargetState};
 ghost use Rattle.sequence_rules.specs.Steps as m;
 ghost use Rattle.sequence_rules.specs.Values as v;
 ghost use Rattle.sequence_rules.specs.Known.{Knows};
-ghost use Rattle.sequence_meaning.specs.Held.{IsCaused, IsMade, MeansDirect, MeansDirectAs, calls_of, seen, state_of};
+ghost use Rattle.sequence_meaning.specs.Frame.{Keeps, KeepsMade};
+ghost use Rattle.sequence_meaning.specs.Held.{IsCaused, MeansDirect, calls_of, seen, state_of};
 
 use crate::end::{DirectEnd, Stopped};
 use crate::held::DirectHeld;
@@ -22,7 +22,7 @@ use target_machine::{HaltCause, Target};
 impl DirectRunner<'_> {
     // Steps, in order.
     #[cycle(eval)]
-    #[tactic(auto, unfolding(sequence_rules::specs::Steps::steps_result), using(crate::proofs::Loops::loops, crate::proofs::StopLemmas::cause_on))]
+    #[tactic(auto, unfolding(sequence_rules::specs::Steps::steps_result), using(crate::proofs::Loops::loops, crate::proofs::FrameLemmas::frames))]
     pub(crate) fn run_steps<K: Sink>(
         &self,
         steps: &[CheckedStep],
@@ -32,8 +32,7 @@ impl DirectRunner<'_> {
         sink: &mut K,
     ) -> Result<(), Stopped>
         ensures gives { (known : Bool) → Knows known (K.written sink.old) → MeansDirect held.new.end result (seen known held.new target.new (K.written sink.new)) (m.steps_result (direct false) self.now.turn_us (calls_of self.now depth) (steps_tree steps.now) (seen known held.old target.old (K.written sink.old))) }
-        ensures knows { (known : Bool) → Knows known (K.written sink.old) → Knows known (K.written sink.new) }
-        ensures made { (w : World) → IsMade w held.old target.old → IsMade w held.new target.new }
+        ensures keeps { Keeps K.written held.old target.old sink.old held.new target.new sink.new }
         ensures cause { IsCaused held.new.end result (K.faults sink.old) (K.faults sink.new) }
     {
         for one in steps {
@@ -57,8 +56,7 @@ impl DirectRunner<'_> {
         sink: &mut K,
     ) -> Result<(), Stopped>
         ensures gives { (known : Bool) → Knows known (K.written sink.old) → MeansDirect held.new.end result (seen known held.new target.new (K.written sink.new)) (m.step (direct false) self.now.turn_us (calls_of self.now depth) (step_tree one.now) (seen known held.old target.old (K.written sink.old))) }
-        ensures knows { (known : Bool) → Knows known (K.written sink.old) → Knows known (K.written sink.new) }
-        ensures made { (w : World) → IsMade w held.old target.old → IsMade w held.new target.new }
+        ensures keeps { Keeps K.written held.old target.old sink.old held.new target.new sink.new }
         ensures cause { IsCaused held.new.end result (K.faults sink.old) (K.faults sink.new) }
     {
         match one {
@@ -83,7 +81,7 @@ impl DirectRunner<'_> {
 
     // The statements of a block, in order.
     #[cycle(eval)]
-    #[tactic(auto, unfolding(sequence_rules::specs::Steps::block), using(crate::proofs::Loops::loops, crate::proofs::StopLemmas::cause_on))]
+    #[tactic(auto, unfolding(sequence_rules::specs::Steps::block), using(crate::proofs::Loops::loops, crate::proofs::FrameLemmas::frames))]
     fn run_block<K: Sink>(
         &self,
         code: &[Stmt],
@@ -93,8 +91,7 @@ impl DirectRunner<'_> {
         sink: &mut K,
     ) -> Result<(), Stopped>
         ensures gives { (known : Bool) → Knows known (K.written sink.old) → MeansDirect held.new.end result (seen known held.new target.new (K.written sink.new)) (m.block (direct false) self.now.turn_us (calls_of self.now depth) (code_trees code.now) (seen known held.old target.old (K.written sink.old))) }
-        ensures knows { (known : Bool) → Knows known (K.written sink.old) → Knows known (K.written sink.new) }
-        ensures made { (w : World) → IsMade w held.old target.old → IsMade w held.new target.new }
+        ensures keeps { Keeps K.written held.old target.old sink.old held.new target.new sink.new }
         ensures cause { IsCaused held.new.end result (K.faults sink.old) (K.faults sink.new) }
     {
         for one in code {
@@ -118,8 +115,7 @@ impl DirectRunner<'_> {
         sink: &mut K,
     ) -> Result<(), Stopped>
         ensures gives { (known : Bool) → Knows known (K.written sink.old) → MeansDirect held.new.end result (seen known held.new target.new (K.written sink.new)) (m.statement (direct false) self.now.turn_us (calls_of self.now depth) (stmt_tree one.now) (seen known held.old target.old (K.written sink.old))) }
-        ensures knows { (known : Bool) → Knows known (K.written sink.old) → Knows known (K.written sink.new) }
-        ensures made { (w : World) → IsMade w held.old target.old → IsMade w held.new target.new }
+        ensures keeps { Keeps K.written held.old target.old sink.old held.new target.new sink.new }
         ensures cause { IsCaused held.new.end result (K.faults sink.old) (K.faults sink.new) }
     {
         match one {
@@ -131,7 +127,7 @@ impl DirectRunner<'_> {
 
     // A declaration.
     #[cycle(eval)]
-    #[tactic(auto, unfolding(sequence_rules::specs::Steps::after_counted, sequence_rules::specs::Steps::declared), using(crate::proofs::StopLemmas::declare_first, crate::proofs::StopLemmas::declare_value, crate::proofs::StopLemmas::declare_refused, crate::proofs::Loops::declared_on, crate::proofs::StopLemmas::cause_on))]
+    #[tactic(auto, unfolding(sequence_rules::specs::Steps::after_counted, sequence_rules::specs::Steps::declared), using(crate::proofs::StopLemmas::declare_first, crate::proofs::StopLemmas::declare_value, crate::proofs::StopLemmas::declare_refused, crate::proofs::Loops::declared_on, crate::proofs::FrameLemmas::frames))]
     fn declare<K: Sink>(
         &self,
         name: &Name,
@@ -142,8 +138,7 @@ impl DirectRunner<'_> {
         sink: &mut K,
     ) -> Result<(), Stopped>
         ensures gives { (known : Bool) → Knows known (K.written sink.old) → MeansDirect held.new.end result (seen known held.new target.new (K.written sink.new)) (m.after_counted (direct false) (λ r. m.declared (direct false) name.now (v.value (direct false) (calls_of self.now depth) (tree expr.now) r)) (seen known held.old target.old (K.written sink.old))) }
-        ensures knows { (known : Bool) → Knows known (K.written sink.old) → Knows known (K.written sink.new) }
-        ensures made { (w : World) → IsMade w held.old target.old → IsMade w held.new target.new }
+        ensures keeps { Keeps K.written held.old target.old sink.old held.new target.new sink.new }
         ensures cause { IsCaused held.new.end result (K.faults sink.old) (K.faults sink.new) }
     {
         match count_step(held) {
@@ -165,7 +160,7 @@ impl DirectRunner<'_> {
 
     // An expression whose value is dropped.
     #[cycle(eval)]
-    #[tactic(auto, unfolding(sequence_rules::specs::Steps::after_counted, sequence_rules::specs::Steps::dropped), using(crate::proofs::StopLemmas::plain_first, crate::proofs::StopLemmas::plain_value, crate::proofs::StopLemmas::cause_on))]
+    #[tactic(auto, unfolding(sequence_rules::specs::Steps::after_counted, sequence_rules::specs::Steps::dropped), using(crate::proofs::StopLemmas::plain_first, crate::proofs::StopLemmas::plain_value, crate::proofs::FrameLemmas::frames))]
     fn run_expression<K: Sink>(
         &self,
         expr: &Expr,
@@ -175,8 +170,7 @@ impl DirectRunner<'_> {
         sink: &mut K,
     ) -> Result<(), Stopped>
         ensures gives { (known : Bool) → Knows known (K.written sink.old) → MeansDirect held.new.end result (seen known held.new target.new (K.written sink.new)) (m.after_counted (direct false) (λ r. m.dropped (direct false) (v.value (direct false) (calls_of self.now depth) (tree expr.now) r)) (seen known held.old target.old (K.written sink.old))) }
-        ensures knows { (known : Bool) → Knows known (K.written sink.old) → Knows known (K.written sink.new) }
-        ensures made { (w : World) → IsMade w held.old target.old → IsMade w held.new target.new }
+        ensures keeps { Keeps K.written held.old target.old sink.old held.new target.new sink.new }
         ensures cause { IsCaused held.new.end result (K.faults sink.old) (K.faults sink.new) }
     {
         match count_step(held) {
@@ -194,7 +188,7 @@ impl DirectRunner<'_> {
 #[tactic(auto, unfolding(sequence_rules::specs::Steps::counted))]
 pub(crate) fn count_step(held: &mut DirectHeld) -> Result<(), Stopped>
     ensures gives { (target : TargetState) (written : Option (List ℕ)) → MeansDirect held.new.end result (state_of held.new target written) (m.counted (direct false) (state_of held.old target written)) }
-    ensures made { (w : World) (target : TargetState) → IsMade w held.old target → IsMade w held.new target }
+    ensures keeps { (target : TargetState) → KeepsMade held.old target held.new target }
     ensures cause { (faults : ℕ) → IsCaused held.new.end result faults faults }
 {
     if held.steps >= MOST_STEPS {

@@ -2,13 +2,13 @@
 ghost use Rattle.std.specs.Prelude.{◌≡◌, [], ◌∷◌, ◌++◌, Bool, false, unwrap_or, option_map, List, Option, ℕ, ◌<◌, ◌≤◌};
 ghost use Rattle.expr_grammar.specs.Arithmetic.{truth};
 ghost use Rattle.expr_grammar.specs.Tree.{tree, arg_tree, arg_trees, stmt_tree, code_trees};
-ghost use Rattle.target_calls.specs.World.{World};
 ghost use Rattle.sequence_trees.specs.Trees.{step_tree, steps_tree};
 ghost use Rattle.sequence_rules.specs.Direct.{direct};
 ghost use Rattle.sequence_rules.specs.Steps as m;
 ghost use Rattle.sequence_rules.specs.Values as v;
 ghost use Rattle.sequence_rules.specs.Known.{Knows};
-ghost use Rattle.sequence_meaning.specs.Held.{IsCaused, IsMade, MeansDirect, MeansDirectAs, calls_of, seen, state_of};
+ghost use Rattle.sequence_meaning.specs.Frame.{Keeps};
+ghost use Rattle.sequence_meaning.specs.Held.{IsCaused, MeansDirect, calls_of, seen};
 
 use crate::end::{DirectEnd, Stopped};
 use crate::held::DirectHeld;
@@ -30,8 +30,7 @@ impl DirectRunner<'_> {
         sink: &mut K,
     ) -> Result<u64, Stopped>
         ensures gives { (known : Bool) → Knows known (K.written sink.old) → MeansDirect held.new.end result (seen known held.new target.new (K.written sink.new)) (v.value (direct false) (calls_of self.now depth) (tree expr.now) (seen known held.old target.old (K.written sink.old))) }
-        ensures knows { (known : Bool) → Knows known (K.written sink.old) → Knows known (K.written sink.new) }
-        ensures made { (w : World) → IsMade w held.old target.old → IsMade w held.new target.new }
+        ensures keeps { Keeps K.written held.old target.old sink.old held.new target.new sink.new }
         ensures cause { IsCaused held.new.end result (K.faults sink.old) (K.faults sink.new) }
     {
         match expr {
@@ -71,8 +70,7 @@ impl DirectRunner<'_> {
         sink: &mut K,
     ) -> Result<u64, Stopped>
         ensures gives { (known : Bool) → Knows known (K.written sink.old) → MeansDirect held.new.end result (seen known held.new target.new (K.written sink.new)) (v.value (direct false) (calls_of self.now depth) (tree expr.now) (seen known held.old target.old (K.written sink.old))) }
-        ensures knows { (known : Bool) → Knows known (K.written sink.old) → Knows known (K.written sink.new) }
-        ensures made { (w : World) → IsMade w held.old target.old → IsMade w held.new target.new }
+        ensures keeps { Keeps K.written held.old target.old sink.old held.new target.new sink.new }
         ensures cause { IsCaused held.new.end result (K.faults sink.old) (K.faults sink.new) }
     {
         match expr {
@@ -84,7 +82,7 @@ impl DirectRunner<'_> {
 
     // An operator before its operand.
     #[cycle(eval)]
-    #[tactic(auto, unfolding(sequence_rules::specs::Values::of_unary, sequence_rules::specs::Values::used_now, sequence_rules::specs::Calls::use_now, sequence_rules::specs::Direct::direct), using(crate::proofs::StopLemmas::ends_unary, crate::proofs::StopLemmas::cause_on))]
+    #[tactic(auto, unfolding(sequence_rules::specs::Values::of_unary, sequence_rules::specs::Values::used_now, sequence_rules::specs::Calls::use_now, sequence_rules::specs::Direct::direct), using(crate::proofs::StopLemmas::ends_unary, crate::proofs::FrameLemmas::frames))]
     fn evaluate_unary<K: Sink>(
         &self,
         op: UnaryOp,
@@ -95,8 +93,7 @@ impl DirectRunner<'_> {
         sink: &mut K,
     ) -> Result<u64, Stopped>
         ensures gives { (known : Bool) → Knows known (K.written sink.old) → MeansDirect held.new.end result (seen known held.new target.new (K.written sink.new)) (v.of_unary (direct false) op (v.value (direct false) (calls_of self.now depth) (tree operand.now) (seen known held.old target.old (K.written sink.old)))) }
-        ensures knows { (known : Bool) → Knows known (K.written sink.old) → Knows known (K.written sink.new) }
-        ensures made { (w : World) → IsMade w held.old target.old → IsMade w held.new target.new }
+        ensures keeps { Keeps K.written held.old target.old sink.old held.new target.new sink.new }
         ensures cause { IsCaused held.new.end result (K.faults sink.old) (K.faults sink.new) }
     {
         let number = self.evaluate(operand, depth, held, target, sink)?;
@@ -105,7 +102,7 @@ impl DirectRunner<'_> {
 
     // An operator of two operands that are both evaluated.
     #[cycle(eval)]
-    #[tactic(auto, unfolding(sequence_rules::specs::Values::strict_binary, sequence_rules::specs::Values::operands, sequence_rules::specs::Values::both, sequence_rules::specs::Values::result_of, sequence_rules::specs::Calls::use_now, sequence_rules::specs::Direct::direct), using(crate::proofs::StopLemmas::ends_left, crate::proofs::StopLemmas::ends_right, crate::proofs::StopLemmas::cause_on))]
+    #[tactic(auto, unfolding(sequence_rules::specs::Values::strict_binary, sequence_rules::specs::Values::operands, sequence_rules::specs::Values::both, sequence_rules::specs::Values::result_of, sequence_rules::specs::Calls::use_now, sequence_rules::specs::Direct::direct), using(crate::proofs::StopLemmas::ends_left, crate::proofs::StopLemmas::ends_right, crate::proofs::FrameLemmas::frames))]
     fn evaluate_strict<K: Sink>(
         &self,
         op: BinaryOp,
@@ -117,8 +114,7 @@ impl DirectRunner<'_> {
         sink: &mut K,
     ) -> Result<u64, Stopped>
         ensures gives { (known : Bool) → Knows known (K.written sink.old) → MeansDirect held.new.end result (seen known held.new target.new (K.written sink.new)) (v.strict_binary (direct false) op (v.value (direct false) (calls_of self.now depth) (tree left.now) (seen known held.old target.old (K.written sink.old))) (v.value (direct false) (calls_of self.now depth) (tree right.now))) }
-        ensures knows { (known : Bool) → Knows known (K.written sink.old) → Knows known (K.written sink.new) }
-        ensures made { (w : World) → IsMade w held.old target.old → IsMade w held.new target.new }
+        ensures keeps { Keeps K.written held.old target.old sink.old held.new target.new sink.new }
         ensures cause { IsCaused held.new.end result (K.faults sink.old) (K.faults sink.new) }
     {
         let left = self.evaluate_operand(left, depth, held, target, sink)?;
@@ -134,7 +130,7 @@ impl DirectRunner<'_> {
 
     // The right side counts only where the left one is not 0.
     #[cycle(eval)]
-    #[tactic(auto, unfolding(sequence_rules::specs::Values::conjunction, sequence_rules::specs::Values::used_now, sequence_rules::specs::Values::truth_of, sequence_rules::specs::Calls::use_now, sequence_rules::specs::Direct::direct), using(crate::proofs::StopLemmas::ends_and, crate::proofs::StopLemmas::ends_and_right, crate::proofs::StopLemmas::cause_on))]
+    #[tactic(auto, unfolding(sequence_rules::specs::Values::conjunction, sequence_rules::specs::Values::used_now, sequence_rules::specs::Values::truth_of, sequence_rules::specs::Calls::use_now, sequence_rules::specs::Direct::direct), using(crate::proofs::StopLemmas::ends_and, crate::proofs::StopLemmas::ends_and_right, crate::proofs::FrameLemmas::frames))]
     fn evaluate_and<K: Sink>(
         &self,
         left: &Expr,
@@ -145,8 +141,7 @@ impl DirectRunner<'_> {
         sink: &mut K,
     ) -> Result<u64, Stopped>
         ensures gives { (known : Bool) → Knows known (K.written sink.old) → MeansDirect held.new.end result (seen known held.new target.new (K.written sink.new)) (v.conjunction (direct false) (v.value (direct false) (calls_of self.now depth) (tree left.now) (seen known held.old target.old (K.written sink.old))) (v.value (direct false) (calls_of self.now depth) (tree right.now))) }
-        ensures knows { (known : Bool) → Knows known (K.written sink.old) → Knows known (K.written sink.new) }
-        ensures made { (w : World) → IsMade w held.old target.old → IsMade w held.new target.new }
+        ensures keeps { Keeps K.written held.old target.old sink.old held.new target.new sink.new }
         ensures cause { IsCaused held.new.end result (K.faults sink.old) (K.faults sink.new) }
     {
         if self.evaluate(left, depth, held, target, sink)? == 0 {
@@ -158,7 +153,7 @@ impl DirectRunner<'_> {
 
     // The right side counts only where the left one is 0.
     #[cycle(eval)]
-    #[tactic(auto, unfolding(sequence_rules::specs::Values::disjunction, sequence_rules::specs::Values::used_now, sequence_rules::specs::Values::truth_of, sequence_rules::specs::Calls::use_now, sequence_rules::specs::Direct::direct), using(crate::proofs::StopLemmas::ends_or, crate::proofs::StopLemmas::ends_or_right, crate::proofs::StopLemmas::cause_on))]
+    #[tactic(auto, unfolding(sequence_rules::specs::Values::disjunction, sequence_rules::specs::Values::used_now, sequence_rules::specs::Values::truth_of, sequence_rules::specs::Calls::use_now, sequence_rules::specs::Direct::direct), using(crate::proofs::StopLemmas::ends_or, crate::proofs::StopLemmas::ends_or_right, crate::proofs::FrameLemmas::frames))]
     fn evaluate_or<K: Sink>(
         &self,
         left: &Expr,
@@ -169,8 +164,7 @@ impl DirectRunner<'_> {
         sink: &mut K,
     ) -> Result<u64, Stopped>
         ensures gives { (known : Bool) → Knows known (K.written sink.old) → MeansDirect held.new.end result (seen known held.new target.new (K.written sink.new)) (v.disjunction (direct false) (v.value (direct false) (calls_of self.now depth) (tree left.now) (seen known held.old target.old (K.written sink.old))) (v.value (direct false) (calls_of self.now depth) (tree right.now))) }
-        ensures knows { (known : Bool) → Knows known (K.written sink.old) → Knows known (K.written sink.new) }
-        ensures made { (w : World) → IsMade w held.old target.old → IsMade w held.new target.new }
+        ensures keeps { Keeps K.written held.old target.old sink.old held.new target.new sink.new }
         ensures cause { IsCaused held.new.end result (K.faults sink.old) (K.faults sink.new) }
     {
         if self.evaluate(left, depth, held, target, sink)? != 0 {
@@ -194,8 +188,7 @@ impl DirectRunner<'_> {
         sink: &mut K,
     ) -> Result<u64, Stopped>
         ensures gives { (known : Bool) → Knows known (K.written sink.old) → MeansDirect held.new.end result (seen known held.new target.new (K.written sink.new)) (v.of_binary (direct false) op (v.value (direct false) (calls_of self.now depth) (tree left.now) (seen known held.old target.old (K.written sink.old))) (v.value (direct false) (calls_of self.now depth) (tree right.now))) }
-        ensures knows { (known : Bool) → Knows known (K.written sink.old) → Knows known (K.written sink.new) }
-        ensures made { (w : World) → IsMade w held.old target.old → IsMade w held.new target.new }
+        ensures keeps { Keeps K.written held.old target.old sink.old held.new target.new sink.new }
         ensures cause { IsCaused held.new.end result (K.faults sink.old) (K.faults sink.new) }
     {
         match op {
@@ -207,7 +200,7 @@ impl DirectRunner<'_> {
 
     // One of two, by a condition.
     #[cycle(eval)]
-    #[tactic(auto, unfolding(sequence_rules::specs::Values::choice, sequence_rules::specs::Values::used_now, sequence_rules::specs::Calls::use_now, sequence_rules::specs::Direct::direct), using(crate::proofs::StopLemmas::ends_choice, crate::proofs::StopLemmas::cause_on))]
+    #[tactic(auto, unfolding(sequence_rules::specs::Values::choice, sequence_rules::specs::Values::used_now, sequence_rules::specs::Calls::use_now, sequence_rules::specs::Direct::direct), using(crate::proofs::StopLemmas::ends_choice, crate::proofs::FrameLemmas::frames))]
     fn evaluate_choice<K: Sink>(
         &self,
         test: &Expr,
@@ -219,8 +212,7 @@ impl DirectRunner<'_> {
         sink: &mut K,
     ) -> Result<u64, Stopped>
         ensures gives { (known : Bool) → Knows known (K.written sink.old) → MeansDirect held.new.end result (seen known held.new target.new (K.written sink.new)) (v.choice (direct false) (v.value (direct false) (calls_of self.now depth) (tree test.now) (seen known held.old target.old (K.written sink.old))) (v.value (direct false) (calls_of self.now depth) (tree first.now)) (v.value (direct false) (calls_of self.now depth) (tree second.now))) }
-        ensures knows { (known : Bool) → Knows known (K.written sink.old) → Knows known (K.written sink.new) }
-        ensures made { (w : World) → IsMade w held.old target.old → IsMade w held.new target.new }
+        ensures keeps { Keeps K.written held.old target.old sink.old held.new target.new sink.new }
         ensures cause { IsCaused held.new.end result (K.faults sink.old) (K.faults sink.new) }
     {
         if self.evaluate(test, depth, held, target, sink)? == 0 {
@@ -232,7 +224,7 @@ impl DirectRunner<'_> {
 
     // An assignment.
     #[cycle(eval)]
-    #[tactic(auto, unfolding(sequence_rules::specs::Values::assigned, sequence_rules::specs::Values::stored, sequence_rules::specs::Calls::guarded, sequence_rules::specs::Direct::direct), using(crate::proofs::StopLemmas::ends_assigned, crate::proofs::StopLemmas::cause_on))]
+    #[tactic(auto, unfolding(sequence_rules::specs::Values::assigned, sequence_rules::specs::Values::stored, sequence_rules::specs::Calls::guarded, sequence_rules::specs::Direct::direct), using(crate::proofs::StopLemmas::ends_assigned, crate::proofs::FrameLemmas::frames))]
     fn assign<K: Sink>(
         &self,
         name: &Name,
@@ -243,8 +235,7 @@ impl DirectRunner<'_> {
         sink: &mut K,
     ) -> Result<u64, Stopped>
         ensures gives { (known : Bool) → Knows known (K.written sink.old) → MeansDirect held.new.end result (seen known held.new target.new (K.written sink.new)) (v.assigned (direct false) name.now (v.value (direct false) (calls_of self.now depth) (tree right.now) (seen known held.old target.old (K.written sink.old)))) }
-        ensures knows { (known : Bool) → Knows known (K.written sink.old) → Knows known (K.written sink.new) }
-        ensures made { (w : World) → IsMade w held.old target.old → IsMade w held.new target.new }
+        ensures keeps { Keeps K.written held.old target.old sink.old held.new target.new sink.new }
         ensures cause { IsCaused held.new.end result (K.faults sink.old) (K.faults sink.new) }
     {
         let number = self.evaluate(right, depth, held, target, sink)?;

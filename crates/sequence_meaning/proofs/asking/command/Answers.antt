@@ -12,7 +12,9 @@ returns-clause-gives c = λ written.
     command_at _ _ _ _ _ _ _ _ _ _ c.args.call _ _ _ c.if-held-ge-MOST_UNITS.false
     (λ l. subst (λ (k : ℕ). IsDone (call_done c.args.target.now l false (Probe c.args.call)) (Answered k) c.command_at_once.new.target l) (sym c.from.ensures) (c.command_at_once.ensures.answer l)) c.in-Ok.ensures.added
 
-pub returns-clause-made : goal.returns-clause-made
-returns-clause-made c = λ w was. record {
-  world = one_made w c.args.held.now.calls _ c.args.target.now _ c.args.held.now.large.items c.args.held.now.large.items (probe_ask c.args.call) _ was.world c.in-Ok.ensures.added (c.command_at_once.ensures.answer c.args.held.now.large.items);
+pub returns-clause-keeps : goal.returns-clause-keeps
+returns-clause-keeps c = record {
+  on = λ w was. record {
+    world = one_made w c.args.held.now.calls _ c.args.target.now _ c.args.held.now.large.items c.args.held.now.large.items (probe_ask c.args.call) _ was.world c.in-Ok.ensures.added (c.command_at_once.ensures.answer c.args.held.now.large.items);
+  };
 }

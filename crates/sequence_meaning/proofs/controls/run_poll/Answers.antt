@@ -1,13 +1,11 @@
+use Rattle.sequence_meaning.proofs.FrameLemmas.{made_on}
 use Rattle.sequence_meaning.proofs.controls.run_poll.Goals as goal
 
-pub returns-in_err-count_step-clause-made : goal.returns-in_err-count_step-clause-made
-returns-in_err-count_step-clause-made c = λ w made. c.count_step.ensures.made w _ made
+pub returns-then-debug_port-ne0-clause-keeps : goal.returns-then-debug_port-ne0-clause-keeps
+returns-then-debug_port-ne0-clause-keeps c = record { on = λ w made. record { world = ((c.count_step.ensures.keeps _).on w made).world } }
 
-pub returns-then-debug_port-ne0-clause-made : goal.returns-then-debug_port-ne0-clause-made
-returns-then-debug_port-ne0-clause-made c = λ w made. record { world = (c.count_step.ensures.made w _ made).world }
+pub returns-in_err-ask-clause-keeps : goal.returns-in_err-ask-clause-keeps
+returns-in_err-ask-clause-keeps c = made_on (c.count_step.ensures.keeps _) c.ask.ensures.keeps
 
-pub returns-in_err-ask-clause-made : goal.returns-in_err-ask-clause-made
-returns-in_err-ask-clause-made c = λ w made. c.ask.ensures.made w (c.count_step.ensures.made w _ made)
-
-pub returns-clause-made : goal.returns-clause-made
-returns-clause-made c = λ w made. c.ask.ensures.made w (c.count_step.ensures.made w _ made)
+pub returns-clause-keeps : goal.returns-clause-keeps
+returns-clause-keeps c = made_on (c.count_step.ensures.keeps _) c.ask.ensures.keeps

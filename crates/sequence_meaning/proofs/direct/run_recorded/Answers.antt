@@ -43,7 +43,7 @@ returns-clause-part g c = λ known knows.
     (c.run_all-ended.ensures.gives known knows) in
     let p = program_of (checked_trees c.args.checked.now) c.args.start.now c.args.settings.now in
     let law = are_made (start_world c.args.target.now None) p w in
-    let made = c.run_all-ended.ensures.made (start_world c.args.target.now None) (start_made c.new-held.result c.args.target.now w _ (c.new-held.ensures c.args.target.now w)) in
+    let made = c.run_all-ended.ensures.keeps.made.on (start_world c.args.target.now None) (start_made c.new-held.result c.args.target.now w _ (c.new-held.ensures c.args.target.now w)) in
     c.record_run.ensures.part c.args.target.now c.run_all-ended.new.target w2 (meaning (start_world c.args.target.now None) p w) gives law.made made
 
 pub returns-in-Err-clause-part : goal.returns-in-Err-clause-part

@@ -1,4 +1,5 @@
+use Rattle.sequence_meaning.proofs.FrameLemmas.{keeps_before}
 use Rattle.sequence_meaning.proofs.runner.DirectRunner.define.Goals as goal
 
-pub returns-clause-made : goal.returns-clause-made
-returns-clause-made g c = λ w made. c.store.ensures.made w _ (c.evaluate.ensures.made w made)
+pub returns-clause-keeps : goal.returns-clause-keeps
+returns-clause-keeps g c = keeps_before c.evaluate.ensures.keeps (c.store.ensures.keeps _)

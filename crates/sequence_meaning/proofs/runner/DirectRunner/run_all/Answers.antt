@@ -14,7 +14,7 @@ returns-clause-gives g c = λ known knows.
     let code = ap (λ (l : List Stmt). code_trees l) c.as_slice.ensures ∙ c.debugvars.ensures in
     run_on c.args.self.now.turn_us (checked_trees c.args.self.now.set.now) c.args.start.now _ _ _ c.run_steps.new.held.end c.run_steps.result (steps_tree c.steps_of.result.now)
     (ap (λ k. m.debugged (direct false) c.args.self.now.turn_us (checked_trees c.args.self.now.set.now) k (seen known c.args.held.now c.args.target.now (g.K.Sink.written c.args.sink.now))) (sym code) ∙ c.in-Ok.ensures.gives known knows)
-    c.steps_of.ensures (c.run_steps.ensures.gives known (c.in-Ok.ensures.knows known knows))
+    c.steps_of.ensures (c.run_steps.ensures.gives known (c.in-Ok.ensures.keeps.knows known knows))
 
 pub returns-in-Err-clause-gives : goal.returns-in-Err-clause-gives
 returns-in-Err-clause-gives g c = λ known knows.
