@@ -1,5 +1,5 @@
 -- Where the code ends in the middle of what the meaning does: an end goes on outwards.
-use Rattle.std.proofs.Common.{◌≡◌, ℕ, ◌+◌, ◌^◌, ◌/◌, Bool, true, false, cond, nat_eq, List, [], ◌∷◌, ◌++◌, Option, None, Some, Ok, Err, codes, refl, sym, ap, subst, ◌∙◌, ◌<◌, nat_lt, arith, take, drop, option_map}
+use Rattle.std.proofs.Common.{◌≡◌, ℕ, ◌+◌, ◌^◌, ◌/◌, Bool, true, false, cond, nat_eq, List, [], ◌∷◌, ◌++◌, Option, None, Some, Ok, Err, codes, refl, sym, ap, ◌∙◌, ◌<◌, nat_lt, arith, take, drop, option_map}
 use Rattle.std.proofs.lemmas.List.{append_assoc, append-nil, take-append-drop}
 use Rattle.target_calls.specs.World.{World, next_world}
 use Rattle.target_calls.specs.declared.calls.Ask.{Ask}

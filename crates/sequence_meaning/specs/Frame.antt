@@ -12,6 +12,7 @@ pub record KeepsMade (old : DirectHeld) (before : TargetState) (new : DirectHeld
   pub on : (w : World) → IsMade w old before → IsMade w new after
 
 -- The same, and what a sink holds stays known.
-pub record Keeps {K : Type 0} (written : K → Option (List ℕ)) (old : DirectHeld) (before : TargetState) (first : K) (new : DirectHeld) (after : TargetState) (last : K) : Type 0 where
+pub record Keeps {K : Type 0} (written : K → Option (List ℕ)) (old : DirectHeld) (before : TargetState) (first : K)
+    (new : DirectHeld) (after : TargetState) (last : K) : Type 0 where
   pub made : KeepsMade old before new after
   pub knows : (known : Bool) → Knows known (written first) → Knows known (written last)
