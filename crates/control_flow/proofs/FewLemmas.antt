@@ -1,14 +1,9 @@
 -- Calls with one number or two.
-use Rattle.std.proofs.Common.{◌≡◌, ◌∙◌, ◌<◌, ◌≤◌, ◌+◌, arith, get_or, length, ℕ, List, [], ◌∷◌, ◌++◌, Option, Result, Ok, Err, refl, sym, ap, subst}
+use Rattle.std.proofs.Common.{◌≡◌, ◌∙◌, ℕ, List, [], ◌∷◌, ◌++◌, Option, Result, Ok, Err, refl, ap, subst}
 use Rattle.dap_base.specs.Outcome.{◌>>=◌}
 use Rattle.dap_base.specs.declared.text.Place.{Place}
-use Rattle.code_check.proofs.TreeLemmas.{arg_tree-Number}
-use Rattle.expr_grammar.specs.declared.code.Arg.{Arg}
-use Rattle.expr_grammar.specs.declared.code.Arg.TheVariants as arg
-use Rattle.expr_grammar.specs.declared.code.Expr.{Expr}
 use Rattle.expr_grammar.specs.declared.code.Name.{Name}
-use Rattle.expr_grammar.specs.Tree as t
-use Rattle.expr_grammar.specs.Tree.{Tree, ArgTrees, arg_tree, arg_trees, tree}
+use Rattle.expr_grammar.specs.Tree.{Tree, ArgTrees}
 use Rattle.function_table.specs.declared.function.Function.{Function}
 use Rattle.function_table.specs.Lookup.{function_named}
 use Rattle.target_calls.specs.declared.calls.Value.{Value}
@@ -19,11 +14,10 @@ use Rattle.sequence_rules.specs.Calls.{guarded, use_now}
 use Rattle.sequence_rules.specs.Late.{Late, late}
 use Rattle.sequence_rules.specs.Machine.{State, Out}
 use Rattle.sequence_rules.specs.Values.{all_used, appended, argument, arguments, both, call_of, call_result, chained, numbers_of, operands, text_of, used_now, value}
-use Rattle.sequence_rules.proofs.Sizes.{args_size, size}
 use Rattle.function_calls.specs.declared.end.End.{End}
 use Rattle.function_calls.specs.Ends.{EndsLate, MeansLate}
 use Rattle.function_calls.proofs.Leaves.{After, ends_on, later_ok}
-use Rattle.control_flow.specs.Calls.{AreTwo, IsNumber, IsOne, one_number, two_numbers}
+use Rattle.control_flow.specs.Calls.{one_number, two_numbers}
 use Rattle.control_flow.proofs.Exits.{CallsLater, later_called}
 
 abbrev S : Type 0
@@ -140,52 +134,3 @@ module _ (cost : Costs) (w : World) where
     pub two_first : (reached : AccessView) (e : End) (at later : Place) (a b : Tree) (s now : S) → CallsLater w seq → EndsLate w reached e now (operands (late cost w) (value (late cost w) seq a s) (λ q. value (late cost w) seq b q))
         → EndsLate w reached e now (call_on (two_numbers at a later b) s)
     two_first reached e at later a b s now q h = numbers_end reached e (two_numbers at a later b) _ _ now q (two_is at later a b s) (ends_on w reached e now _ _ h (λ x. later_listed_both x))
-
-    -- the arguments are these
-    pub is_one : (args : ArgTrees) (a : Tree) (reached : AccessView) (s now : S) (result : Result Value End) → IsOne args a → ((at : Place) → MeansLate w reached result now (call_on (one_number at a) s)) → MeansLate w reached result now (call_on args s)
-    is_one args a reached s now result one h = subst (λ x. MeansLate w reached result now (call_on x s)) (sym one.is) (h one.at)
-
-    pub are_two : (args : ArgTrees) (a b : Tree) (reached : AccessView) (s now : S) (result : Result Value End) → AreTwo args a b → ((at later : Place) → MeansLate w reached result now (call_on (two_numbers at a later b) s))
-        → MeansLate w reached result now (call_on args s)
-    are_two args a b reached s now result two h = subst (λ x. MeansLate w reached result now (call_on x s)) (sym two.is) (h two.at two.later)
-
--- ---- sizes
-
-pub one_size : (args : ArgTrees) (a : Tree) → IsOne args a → size a ≤ args_size args
-one_size args a one = subst (λ x. size a ≤ args_size x) (sym one.is) (within one.at)
-  where
-    within : (at : Place) → size a ≤ args_size (one_number at a)
-    within at = omega arith
-
-pub two_size : (args : ArgTrees) (a b : Tree) → AreTwo args a b → size a + size b ≤ args_size args
-two_size args a b two = subst (λ x. size a + size b ≤ args_size x) (sym two.is) (within two.at two.later)
-  where
-    within : (at later : Place) → size a + size b ≤ args_size (two_numbers at a later b)
-    within at later = omega arith
-
--- ---- lists
-
-list_of_one : (xs : List Arg) (d : Arg) → 1 ≤ length xs → length xs < 2 → xs ≡ get_or xs 0 d ∷ []
-list_of_one [] d least most = absurd (omega (arith, least))
-list_of_one (x ∷ []) d least most = refl
-list_of_one (x ∷ y ∷ xs) d least most = absurd (omega (arith, most))
-
-list_of_two : (xs : List Arg) (d k : Arg) → 2 ≤ length xs → length xs < 3 → xs ≡ get_or xs 0 d ∷ get_or xs 1 k ∷ []
-list_of_two [] d k least most = absurd (omega (arith, least))
-list_of_two (x ∷ []) d k least most = absurd (omega (arith, least))
-list_of_two (x ∷ y ∷ []) d k least most = refl
-list_of_two (x ∷ y ∷ z ∷ xs) d k least most = absurd (omega (arith, most))
-
-pub number_is : (x : Arg) (at : Place) (e : Expr) → x ≡ arg.Number at e → IsNumber (arg_tree x) (tree e)
-number_is x at e is = record { at = at; is = ap arg_tree is ∙ arg_tree-Number at e }
-
-pub only_is : (xs : List Arg) (d x : Arg) (a : Tree) → 1 ≤ length xs → length xs < 2 → x ≡ get_or xs 0 d → IsNumber (arg_tree x) a → IsOne (arg_trees xs) a
-only_is xs d x a least most is number = record { at = number.at; is = ap arg_trees (list_of_one xs d least most) ∙ ap (λ y. t.MoreArgs (arg_tree y) t.NoArgs) (sym is) ∙ ap (λ y. t.MoreArgs y t.NoArgs) number.is }
-
-pub both_are : (xs : List Arg) (d k x y : Arg) (a b : Tree) → 2 ≤ length xs → length xs < 3 → x ≡ get_or xs 0 d → y ≡ get_or xs 1 k → IsNumber (arg_tree x) a → IsNumber (arg_tree y) b → AreTwo (arg_trees xs) a b
-both_are xs d k x y a b least most is its one two = record {
-  at = one.at;
-  later = two.at;
-  is = ap arg_trees (list_of_two xs d k least most) ∙ ap (λ z. t.MoreArgs (arg_tree z) (t.MoreArgs (arg_tree (get_or xs 1 k)) t.NoArgs)) (sym is) ∙ ap (λ z. t.MoreArgs (arg_tree x) (t.MoreArgs (arg_tree z) t.NoArgs)) (sym its)
-      ∙ ap (λ z. t.MoreArgs z (t.MoreArgs (arg_tree y) t.NoArgs)) one.is ∙ ap (λ z. t.MoreArgs (t.ExprArg one.at a) (t.MoreArgs z t.NoArgs)) two.is;
-}

@@ -17,7 +17,7 @@ use Rattle.function_calls.proofs.FrameLemmas.{keeps_on, ends_after, ends_same}
 use Rattle.function_calls.proofs.Leaves.{passed, passed_as}
 use Rattle.control_flow.specs.Calls.{calls_of}
 use Rattle.control_flow.proofs.Exits.{later_sequence, later_value, later_inside, later_done, operands_first, call_first, turn_test}
-use Rattle.control_flow.proofs.FewLemmas.{are_two, is_one, one_first, one_on, one_size, two_first, two_on, two_size}
+use Rattle.control_flow.proofs.FewLemmas.{one_first, one_on, two_first, two_on}
 use Rattle.control_flow.proofs.Parts.{used_first, assigned_first, assigned_on, operands_second, strict_first, push_refused, controlled_first, called_none, choice_test, and_first, or_first, repeated_on, sequence_none, call_on, call_second, number_on, name_on}
 use Rattle.control_flow.proofs.Loops.{declare_refused, args_next, args_fail, block_next, block_fail, done_next, done_fail, turns_fail, entered_fail, entered_as, sequence_on}
 use Rattle.sequence_rules.proofs.Sizes.{arg_size, args_size, stmt_size, block_size, step_size, steps_size, all_size, arg_within, stmt_within, step_within, named_within, less_budget}
