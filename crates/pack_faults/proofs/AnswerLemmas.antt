@@ -1,6 +1,8 @@
 -- Sets that are checked one after another, and that a pack has one answer.
-use Rattle.std.proofs.Common.{◌≡◌, ◌∙◌, ◌↔◌, ◌+◌, Bool, false, cond, ◌||◌, List, [], ◌∷◌, ◌++◌, map, count_by, length, refl, ap, sym, subst, true≢false}
-use Rattle.std.specs.List.{list_any}
+use Rattle.std.proofs.Common.{◌≡◌, ◌∙◌, ◌↔◌, ◌+◌, ◌<◌, Bool, false, cond, ◌||◌, List, [], ◌∷◌, ◌++◌, map, count_by, length, refl, ap, sym, subst, true≢false}
+use Rattle.std.specs.List.{All, list_any}
+use Rattle.std.proofs.lemmas.Option.{slice_get_within}
+use Rattle.std.proofs.lemmas.List.Elements.{All-weaker}
 use Rattle.std.proofs.lemmas.List.{map-append, length-map}
 use Rattle.std.proofs.lemmas.List.Sums.{sum_by-cons}
 use Rattle.device_tree.specs.declared.pack.Pack.{Pack}
@@ -14,10 +16,16 @@ use Rattle.pack_faults.specs.declared.request.Request.{Request}
 use Rattle.pack_faults.specs.declared.answer.Found.{Found}
 use Rattle.pack_faults.specs.declared.answer.PackFaults.{PackFaults}
 use Rattle.pack_faults.specs.declared.checking.Checking.{Checking}
+use Rattle.pack_faults.specs.declared.known.KnownSet.{KnownSet}
+use Rattle.pack_faults.specs.declared.sets.SetRef.{SetRef}
+use Rattle.pack_faults.specs.declared.sets.DeviceSets.{DeviceSets}
 use Rattle.pack_faults.specs.Sets.{SetAt, sets_of}
 use Rattle.pack_faults.specs.Merged.{same_found, all_found, each_once, with_sets, merged}
 use Rattle.pack_faults.specs.Answers.{found_in, Checked, IsChecked, AreChecked, is_unread, is_unfinished, ArePackFaults, IsValidAt, AreValid}
 use Rattle.pack_faults.specs.Steps.{with_each, AreDone}
+use Rattle.pack_faults.specs.Known.{IsKnown}
+use Rattle.pack_faults.specs.Shared.{IsFound, AreFine}
+use Rattle.pack_faults.specs.Views.{set_view}
 use Rattle.pack_faults.proofs.SameLemmas.{same_itself}
 use Rattle.pack_faults.proofs.MergeLemmas.{merged_set, has-each_once}
 
@@ -44,6 +52,23 @@ done_one pack sets s c old new done is phases faults =
       phases = phases ∙ ap (λ ps. ps ++ c.phase ∷ []) done.phases ∙ sym (map-append (λ x. x.phase) done.checked (c ∷ []));
       faults = list ∙ ap merged (sym (map-append (λ x. x.found) done.checked (c ∷ [])));
     }
+
+-- ---- the sets that were found
+
+pub done_of : (pack : Pack) (f : DeviceSets) (known : List KnownSet) (sets : List SetRef) (checking : Checking) → known ≡ f.known → sets ≡ f.sets → AreFine pack f
+    → ((p : Pack) → All IsKnown known → All (IsFound p known) sets → AreDone p (map set_view sets) checking) → AreDone pack (map set_view f.sets) checking
+done_of pack f known sets checking same_known same_sets fine done =
+    let known_done = subst (λ (ks : List KnownSet). (p : Pack) → All IsKnown ks → All (IsFound p ks) sets → AreDone p (map set_view sets) checking) same_known done in
+    let all_done = subst (λ (ss : List SetRef). (p : Pack) → All IsKnown f.known → All (IsFound p f.known) ss → AreDone p (map set_view ss) checking) same_sets known_done in
+    all_done pack fine.known fine.found
+
+pub numbers_within : (pack : Pack) (f : DeviceSets) (known : List KnownSet) (sets : List SetRef) → known ≡ f.known → sets ≡ f.sets → AreFine pack f
+    → All (λ (s : SetRef). s.number < length known) sets
+numbers_within pack f known sets same_known same_sets fine =
+    let own : All (λ (s : SetRef). s.number < length f.known) f.sets =
+    All-weaker (IsFound pack f.known) (λ (s : SetRef). s.number < length f.known) (λ s is. slice_get_within f.known s.number is.one is.there) f.sets fine.found in
+    let these : All (λ (s : SetRef). s.number < length f.known) sets = subst (λ (ss : List SetRef). All (λ (s : SetRef). s.number < length f.known) ss) (sym same_sets) own in
+    subst (λ (ks : List KnownSet). All (λ (s : SetRef). s.number < length ks) sets) (sym same_known) these
 
 -- ---- counts
 

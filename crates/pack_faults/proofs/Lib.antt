@@ -2,6 +2,7 @@ pub mod SetLemmas
 pub mod LineLemmas
 pub mod SameLemmas
 pub mod EqualLemmas
-pub mod KnownLemmas
+pub mod SharedLemmas
+pub mod AddedLemmas
 pub mod MergeLemmas
 pub mod AnswerLemmas

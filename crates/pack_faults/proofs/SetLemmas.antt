@@ -1,16 +1,12 @@
 -- Devices, variants and processors that are requested.
-use Rattle.std.proofs.Common.{◌≡◌, ◌∙◌, ℕ, zero, suc, ◌+◌, ◌<◌, ◌≤◌, nat_lt, lt-ltb, le-ltb, Bool, cond, take, drop, get_or, drop-cons, add-one, append_assoc, true, false, not, List, [], ◌∷◌, ◌++◌, map, filter, length, Option, Some, None, option_map, Bor, refl, ap, sym, subst, arith}
-use Rattle.std.specs.Prelude.{count_by}
+use Rattle.std.proofs.Common.{◌≡◌, ◌∙◌, ℕ, ◌+◌, ◌<◌, nat_lt, lt-ltb, le-ltb, append_assoc, not, List, [], ◌∷◌, ◌++◌, map, filter, length, Option, Some, None, option_map, Bor, refl, ap, sym, subst, arith}
 use Rattle.std.proofs.lemmas.List.{length-append, length-map}
-use Rattle.std.proofs.lemmas.List.Sums.{sum_by-cons}
 use Rattle.device_tree.specs.declared.pack.Variant.{Variant}
 use Rattle.device_tree.specs.declared.pack.Pack.{Pack}
-use Rattle.sequence_resolve.specs.Views.{place_view}
-use Rattle.sequence_resolve.specs.declared.place.DevicePlace.{DevicePlace}
 use Rattle.sequence_resolve.specs.Places as spec
 use Rattle.pack_faults.specs.declared.request.Request.{Request}
 use Rattle.pack_faults.specs.declared.sets.SetRef.{SetRef}
-use Rattle.pack_faults.specs.Sets.{SetAt, is_requested, variants_of, processors_of, sets_at, sets_with, device_sets, devices_sets, is_empty, has_set}
+use Rattle.pack_faults.specs.Sets.{SetAt, is_requested, variants_of, processors_of, sets_at, sets_with, device_sets, is_empty, has_set}
 use Rattle.pack_faults.specs.Views.{set_view, names_view}
 
 -- where none is requested, each is meant
@@ -59,23 +55,6 @@ one_variant pack r place name old new variants some all e =
 
 -- ---- the devices with a set
 
-abbrev one_if : Bool → ℕ
-one_if b = cond b 1 0
-
-pub count_next : {A B : Type 0} (p : B → Bool) (f : A → B) (xs : List A) (i : ℕ) (x : A) → i < length xs → x ≡ get_or xs i x
-    → count_by p (map f (take (i + 1) xs)) ≡ count_by p (map f (take i xs)) + cond (p (f x)) 1 0
-count_next p f [] i x lt is = absurd (omega arith)
-count_next p f (y ∷ xs) zero x lt is =
-    let one = sum_by-cons (λ z. cond (p z) 1 0) (f y) [] in
-    let same : one_if (p (f x)) ≡ one_if (p (f y)) = ap (λ z. one_if (p (f z))) is in
-    omega (arith, one, same)
-count_next p f (y ∷ xs) (suc i) x lt is =
-    let rest = count_next p f xs i x (omega arith) is in
-    let new = sum_by-cons (λ z. cond (p z) 1 0) (f y) (map f (take (i + 1) xs)) in
-    let old = sum_by-cons (λ z. cond (p z) 1 0) (f y) (map f (take i xs)) in
-    let e : suc i + 1 ≡ suc (i + 1) = omega arith in
-    rw e (omega (arith, rest, new, old))
-
 pub grown : {A : Type 0} (ds : List A) (m n : ℕ) → n ≡ m + length ds → nat_lt m n ≡ not (is_empty ds)
 grown [] m n e = le-ltb m n (omega arith)
 grown (d ∷ ds) m n e = lt-ltb m n (omega arith)
@@ -88,19 +67,3 @@ has_grown pack r place old new e =
     let sizes : length new ≡ length old + length ds =
     sym (length-map new set_view) ∙ ap length e ∙ length-append (map set_view old) ds ∙ ap (λ n. n + length ds) (length-map old set_view) in
     grown ds (length old) (length new) sizes
-
-pub next_device : (pack : Pack) (r : Request) (places : List DevicePlace) (i : ℕ) (x : DevicePlace) (old new : List SetRef) → i < length places → x ≡ get_or places i x
-    → map set_view new ≡ map set_view old ++ device_sets pack r (place_view x)
-    → map set_view new ++ devices_sets pack r (map place_view (drop (i + 1) places)) ≡ map set_view old ++ devices_sets pack r (map place_view (drop i places))
-next_device pack r places i x old new lt is e =
-    let opened : drop i places ≡ x ∷ drop (i + 1) places = rw (add-one, drop-cons places i x) (ap (λ y. y ∷ drop (suc i) places) (sym is)) in
-    let rest = devices_sets pack r (map place_view (drop (i + 1) places)) in
-    ap (λ ss. ss ++ rest) e ∙ append_assoc (map set_view old) (device_sets pack r (place_view x)) rest
-    ∙ ap (λ ps. map set_view old ++ devices_sets pack r (map place_view ps)) (sym opened)
-
-cond_le : (b : Bool) → cond b 1 0 ≤ 1
-cond_le true = omega arith
-cond_le false = omega arith
-
-pub few_counted : (n d i : ℕ) (b : Bool) → n ≡ d + cond b 1 0 → d ≤ i → n ≤ i + 1
-few_counted n d i b e le = let small = cond_le b in omega arith

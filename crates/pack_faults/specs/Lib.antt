@@ -6,3 +6,4 @@ pub mod Equal
 pub mod Known
 pub mod Views
 pub mod Steps
+pub mod Shared

@@ -8,7 +8,7 @@ ghost use Rattle.pack_faults.specs.Answers.{is_unread, is_unfinished, ArePackFau
 ghost use Rattle.pack_faults.specs.Views.{set_view};
 
 use crate::answer::PackFaults;
-use crate::checking::check_sets;
+use crate::checking::faults_of_sets;
 use crate::merging::list_of;
 use crate::refusals::requested_sets;
 use crate::request::{PackRefusal, Request, SetName};
@@ -95,8 +95,8 @@ pub fn pack_faults(alloc: Global, pack: &Pack, request: &Request) -> Result<Pack
     ensures only_fault { (e : PackRefusal) → refusal pack.now request.now ≡ Some e → IsErrAnd result (λ f. (f ≡ e) ⊎ (f ≡ refusals.OutOfMemory)) }
 {
     let found = requested_sets(alloc, pack, request)?;
-    let checking = check_sets(alloc, pack, &found.sets)?;
-    let sets = names_of(alloc, &found.sets)?;
+    let checking = faults_of_sets(alloc, found.known.as_slice(), found.sets.as_slice())?;
+    let sets = names_of(alloc, found.sets.as_slice())?;
     let unread = count_unread(checking.phases.as_slice());
     let unreached = count_unfinished(checking.phases.as_slice());
     let faults = list_of(alloc, checking.faults)?;

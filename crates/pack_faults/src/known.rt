@@ -1,8 +1,7 @@
 //! Sets that were checked, so that an equal one is not checked again.
-ghost use Rattle.std.specs.Prelude.{◌≡◌, ◌-◌, IfOk, find, drop, length, map};
+ghost use Rattle.std.specs.Prelude.{◌≡◌, ◌-◌, ◌+◌, ◌<◌, IfOk, IfSome, position, drop, length, map, option_map};
 ghost use Rattle.std.specs.List.{IsDistinct};
 ghost use Rattle.std.specs.Str.{bytes_eq};
-ghost use Rattle.std.specs.Option.{option_copied};
 ghost use Rattle.pack_faults.specs.Equal.{same_set};
 ghost use Rattle.pack_faults.specs.Known.{IsKnown};
 
@@ -36,10 +35,19 @@ fn last_eight(known: &[KnownSet]) -> &[KnownSet]
     &known[known.len().saturating_sub(8)..]
 }
 
-/// The one of the last eight of these sets that is equal. The processors and variants of a device come one after another,
-/// and the devices of a family too.
-pub fn known_equal<'k>(known: &'k [KnownSet], set: &SeqSet) -> Option<&'k KnownSet>
-    ensures { option_copied result ≡ find (λ k. same_set set.now k.set) (drop (length known.now - 8) known.now) }
+// Where the first of these sets stands that is equal.
+fn first_equal(known: &[KnownSet], set: &SeqSet) -> Option<usize>
+    ensures place { result ≡ position (λ k. same_set set.now k.set) known.now }
+    ensures within { IfSome result (λ place. place < length known.now) }
 {
-    last_eight(known).iter().find(|one| same_set(set, &one.set))
+    known.iter().position(|one| same_set(set, &one.set))
+}
+
+/// Where the first of the last eight of these sets stands that is equal. Sets that are alike mostly come soon after one another: the
+/// processors and variants of a device, and the devices of a family.
+pub fn known_equal(known: &[KnownSet], set: &SeqSet) -> Option<usize>
+    ensures { result ≡ option_map (λ place. length known.now - 8 + place) (position (λ k. same_set set.now k.set) (drop (length known.now - 8) known.now)) }
+{
+    let place = first_equal(last_eight(known), set)?;
+    Some(known.len().saturating_sub(8) + place)
 }

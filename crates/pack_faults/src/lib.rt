@@ -6,14 +6,17 @@ mod checking;
 mod devices;
 mod equal;
 mod faults;
+mod groups;
 mod known;
 pub mod laws;
 mod lines;
 mod merging;
+mod pnames;
 mod refusals;
 mod request;
 mod same;
 mod sets;
+mod shared;
 mod texts;
 
 pub use answer::{Found, PackFault, PackFaults};

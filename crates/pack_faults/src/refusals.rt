@@ -4,11 +4,13 @@ ghost use Rattle.std.specs.List.{list_any};
 ghost use Rattle.sequence_resolve.specs.Views.{place_view};
 ghost use Rattle.pack_faults.specs.declared.request.PackRefusal.TheVariants as refusals;
 ghost use Rattle.pack_faults.specs.Sets.{devices_of, sets_of, has_set, has_variant, lacks_variant, refusal};
+ghost use Rattle.pack_faults.specs.Shared.{AreFine};
 ghost use Rattle.pack_faults.specs.Views.{set_view};
 
 use crate::devices::requested_devices;
+use crate::groups::groups_of;
 use crate::request::{PackRefusal, Request};
-use crate::sets::{DeviceSets, sets_of_devices};
+use crate::sets::{DeviceSets, sets_of_groups};
 use crate::texts::name_of;
 use device_tree::Pack;
 use sequence_resolve::DevicePlace;
@@ -52,8 +54,9 @@ pub fn requested_sets<'a>(
     pack: &'a Pack,
     request: &Request,
 ) -> Result<DeviceSets<'a>, PackRefusal>
-    ensures sets { IfOk result (λ d. map set_view d.sets.items ≡ sets_of pack.now request.now) }
+    ensures sets { IfOk result (λ d. map set_view d.sets ≡ sets_of pack.now request.now) }
     ensures devices { IfOk result (λ d. d.devices ≡ count_by (has_set pack.now request.now) (devices_of pack.now request.now)) }
+    ensures fine { IfOk result (AreFine pack.now) }
     ensures answer { IfOk result (λ d. refusal pack.now request.now ≡ None) }
     ensures answer_fault { IfErr result (λ e. (e ≡ refusals.OutOfMemory) ⊎ (refusal pack.now request.now ≡ Some e)) }
 {
@@ -64,7 +67,8 @@ pub fn requested_sets<'a>(
     if lacks_variant(&places, name_of(&request.variant)) {
         return Err(PackRefusal::NoVariant);
     }
-    let found = sets_of_devices(alloc, pack, request, &places)?;
+    let groups = groups_of(alloc, &pack.families)?;
+    let found = sets_of_groups(alloc, pack, request, groups.as_slice())?;
     if request.pname.is_some() && found.sets.is_empty() {
         return Err(PackRefusal::NoPname);
     }

@@ -1,24 +1,28 @@
-use Rattle.std.proofs.Common.{◌≡◌, ◌∙◌, List, map, ap, subst}
+use Rattle.std.proofs.Common.{◌∙◌, List, map, ap, subst}
 use Rattle.std.proofs.Common.{count_by}
-use Rattle.pack_faults.specs.Sets.{SetAt, set_name, sets_of}
+use Rattle.pack_faults.specs.Sets.{SetAt, set_name}
 use Rattle.pack_faults.specs.Views.{set_view}
 use Rattle.pack_faults.specs.Answers.{AreChecked, is_unread, is_unfinished}
-use Rattle.pack_faults.proofs.AnswerLemmas.{count-map, one_answer}
+use Rattle.pack_faults.proofs.AnswerLemmas.{count-map, done_of, numbers_within, one_answer}
 use Rattle.pack_faults.proofs.faults.pack_faults.Goals as goal
+
+pub faults_of_sets-requires : goal.faults_of_sets-requires
+faults_of_sets-requires c =
+    numbers_within c.args.pack.now c.in_ok-found.found c.as_slice.result.now c.as_slice-2.result.now c.as_slice.ensures c.as_slice-2.ensures c.in_ok-found.ensures.fine
 
 pub returns-clause-answer : goal.returns-clause-answer
 returns-clause-answer c =
-    let done = c.in_ok-checking.ensures in
-    let sets : map set_view c.deref.result.now ≡ sets_of c.args.pack.now c.args.request.now = ap (map set_view) c.deref.ensures.value ∙ c.in_ok-found.ensures.sets in
-    let again : map set_view c.deref-2.result.now ≡ sets_of c.args.pack.now c.args.request.now = ap (map set_view) c.deref-2.ensures.value ∙ c.in_ok-found.ensures.sets in
+    let pack = c.args.pack.now in
+    let f = c.in_ok-found.found in
+    let done = done_of pack f c.as_slice.result.now c.as_slice-2.result.now c.in_ok-checking.checking c.as_slice.ensures c.as_slice-2.ensures c.in_ok-found.ensures.fine c.in_ok-checking.ensures in
     record {
       checked = done.checked;
-      are = subst (λ (ss : List SetAt). AreChecked c.args.pack.now ss done.checked) sets done.are;
+      are = subst (λ (ss : List SetAt). AreChecked pack ss done.checked) c.in_ok-found.ensures.sets done.are;
       devices = c.in_ok-found.ensures.devices;
-      sets = c.in_ok-sets.ensures ∙ ap (map set_name) again;
+      sets = c.in_ok-sets.ensures ∙ ap (λ ss. map set_name (map set_view ss)) c.as_slice-3.ensures ∙ ap (map set_name) c.in_ok-found.ensures.sets;
       faults = c.in_ok-faults.ensures ∙ done.faults;
-      unread = c.count_unread-unread.ensures ∙ ap (count_by is_unread) (c.as_slice.ensures ∙ done.phases) ∙ count-map is_unread (λ x. x.phase) done.checked;
-      unreached = c.count_unfinished-unreached.ensures ∙ ap (count_by is_unfinished) (c.as_slice-2.ensures ∙ done.phases) ∙ count-map is_unfinished (λ x. x.phase) done.checked;
+      unread = c.count_unread-unread.ensures ∙ ap (count_by is_unread) (c.as_slice-4.ensures ∙ done.phases) ∙ count-map is_unread (λ x. x.phase) done.checked;
+      unreached = c.count_unfinished-unreached.ensures ∙ ap (count_by is_unfinished) (c.as_slice-5.ensures ∙ done.phases) ∙ count-map is_unfinished (λ x. x.phase) done.checked;
     }
 
 pub returns-clause-only : goal.returns-clause-only
