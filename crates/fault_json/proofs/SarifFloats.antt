@@ -15,6 +15,7 @@ use Rattle.pack_faults.specs.declared.answer.PackFault.{PackFault}
 use Rattle.pack_faults.specs.declared.answer.PackFaults.{PackFaults}
 use Rattle.fault_lines.specs.FaultText.{message_words}
 use Rattle.fault_json.specs.Parts.{count, list}
+use Rattle.fault_json.specs.Columns.{character_column}
 use Rattle.fault_json.specs.SarifLog.{one_member, line_text, step_name, all_kinds, rule_data, tool_data, logical_data, region_data, physical_data, with_physical, location_data, with_rule, message_data, result_data, run_data, sarif_data, faults_sarif}
 use Rattle.fault_json.proofs.NoFloats.{neither, no_floats, each}
 
@@ -36,17 +37,18 @@ tool_has_none =
 logical_has_none : (spot : Spot) → has_float (logical_data spot) ≡ false
 logical_has_none spot = only (codes "fullyQualifiedName") (line_text (step_name spot.sequence spot.path spot.part)) refl
 
-region_has_none : (place : Place) → has_float (region_data place) ≡ false
-region_has_none place = no_floats ((codes "startLine", count place.line) ∷ (codes "startColumn", count place.column) ∷ []) no_members (refl, (refl, tt)) refl
+region_has_none : (line : List ℕ) (place : Place) → has_float (region_data line place) ≡ false
+region_has_none line place =
+    no_floats ((codes "startLine", count place.line) ∷ (codes "startColumn", count (character_column line place.column)) ∷ []) no_members (refl, (refl, tt)) refl
 
-physical_has_none : (place : Place) → has_float (physical_data place) ≡ false
-physical_has_none place =
-    no_floats ((codes "artifactLocation", one_member (codes "uri") (string (codes "job.json"))) ∷ (codes "region", region_data place) ∷ []) no_members
-    (only (codes "uri") (string (codes "job.json")) refl, (region_has_none place, tt)) refl
+physical_has_none : (line : List ℕ) (place : Place) → has_float (physical_data line place) ≡ false
+physical_has_none line place =
+    no_floats ((codes "artifactLocation", one_member (codes "uri") (string (codes "job.json"))) ∷ (codes "region", region_data line place) ∷ []) no_members
+    (only (codes "uri") (string (codes "job.json")) refl, (region_has_none line place, tt)) refl
 
 place_has_none : (line : Option (List ℕ)) (place : Place) (ms : Members) → members_have_float ms ≡ false → members_have_float (with_physical line place ms) ≡ false
 place_has_none None place ms others = others
-place_has_none (Some line) place ms others = no_floats ((codes "physicalLocation", physical_data place) ∷ []) ms (physical_has_none place, tt) others
+place_has_none (Some line) place ms others = no_floats ((codes "physicalLocation", physical_data line place) ∷ []) ms (physical_has_none line place, tt) others
 
 location_has_none : (found : Found) → has_float (location_data found) ≡ false
 location_has_none found =
@@ -61,8 +63,8 @@ result_has_none sets f =
 
 run_has_none : (p : PackFaults) → has_float (run_data p) ≡ false
 run_has_none p =
-    no_floats ((codes "tool", tool_data) ∷ (codes "results", list (map (result_data p.sets) p.faults)) ∷ []) no_members
-    (tool_has_none, (each (result_data p.sets) (result_has_none p.sets) p.faults, tt)) refl
+    no_floats ((codes "tool", tool_data) ∷ (codes "results", list (map (result_data p.sets) p.faults)) ∷ (codes "columnKind", string (codes "unicodeCodePoints")) ∷ []) no_members
+    (tool_has_none, (each (result_data p.sets) (result_has_none p.sets) p.faults, (refl, tt))) refl
 
 log_has_none : (p : PackFaults) → has_float (sarif_data p) ≡ false
 log_has_none p =

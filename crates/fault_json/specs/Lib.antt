@@ -1,3 +1,4 @@
 pub mod Parts
 pub mod FaultsJson
+pub mod Columns
 pub mod SarifLog

@@ -16,6 +16,7 @@ use Rattle.pack_faults.specs.declared.answer.PackFault.{PackFault}
 use Rattle.pack_faults.specs.declared.answer.PackFaults.{PackFaults}
 use Rattle.fault_lines.specs.FaultText.{message_words}
 use Rattle.fault_json.specs.Parts.{count, list}
+use Rattle.fault_json.specs.Columns.{character_column}
 
 -- an object with one member
 abbrev pub one_member : List ℕ → Data → Data
@@ -49,17 +50,19 @@ step_name (Some name) path part = shown name ++ codes " " ++ dotted path ++ code
 abbrev pub logical_data : Spot → Data
 logical_data spot = one_member (codes "fullyQualifiedName") (line_text (step_name spot.sequence spot.path spot.part))
 
-abbrev pub region_data : Place → Data
-region_data place = object (put (codes "startColumn") (count place.column) (put (codes "startLine") (count place.line) no_members))
+-- a place in this line; its column counts characters from 1
+abbrev pub region_data : List ℕ → Place → Data
+region_data line place = object (put (codes "startColumn") (count (character_column line place.column)) (put (codes "startLine") (count place.line) no_members))
 
 -- a place in a text of the job, which is read from standard input and has no file
-abbrev pub physical_data : Place → Data
-physical_data place = object (put (codes "region") (region_data place) (put (codes "artifactLocation") (one_member (codes "uri") (string (codes "job.json"))) no_members))
+abbrev pub physical_data : List ℕ → Place → Data
+physical_data line place =
+    object (put (codes "region") (region_data line place) (put (codes "artifactLocation") (one_member (codes "uri") (string (codes "job.json"))) no_members))
 
 -- the members, with the place, where there is one in a text
 abbrev pub with_physical : Option (List ℕ) → Place → Members → Members
 with_physical None place ms = ms
-with_physical (Some line) place ms = put (codes "physicalLocation") (physical_data place) ms
+with_physical (Some line) place ms = put (codes "physicalLocation") (physical_data line place) ms
 
 abbrev pub location_data : Found → Data
 location_data found = object (with_physical found.line found.fault.spot.place (put (codes "logicalLocations") (list (logical_data found.fault.spot ∷ [])) no_members))
@@ -77,8 +80,10 @@ message_data sets f = one_member (codes "text") (line_text (message_words sets f
 abbrev pub result_data : List SetName → PackFault → Data
 result_data sets f = object (put (codes "locations") (list (location_data f.found ∷ [])) (put (codes "message") (message_data sets f) (with_rule f.found no_members)))
 
+-- one run of the program; its columns count characters
 abbrev pub run_data : PackFaults → Data
-run_data p = object (put (codes "results") (list (map (result_data p.sets) p.faults)) (put (codes "tool") tool_data no_members))
+run_data p = object (put (codes "columnKind") (string (codes "unicodeCodePoints"))
+    (put (codes "results") (list (map (result_data p.sets) p.faults)) (put (codes "tool") tool_data no_members)))
 
 abbrev pub sarif_data : PackFaults → Data
 sarif_data p = object (put (codes "runs") (list (run_data p ∷ []))

@@ -1,6 +1,7 @@
 //! The faults of a pack as JSON, and as a log of SARIF.
 #![tactic(auto)]
 
+mod columns;
 mod fault;
 mod parts;
 mod sarif;

@@ -7,10 +7,11 @@ ghost use Rattle.fault_json.specs.Parts.{list};
 ghost use Rattle.fault_json.specs.SarifLog as sarif;
 ghost use Rattle.fault_json.specs.SarifLog.{one_member, line_text, all_kinds, rule_data, tool_data, logical_data, region_data, physical_data, with_physical, location_data, with_rule, message_data, result_data, run_data};
 
+use crate::columns::character_column;
 use crate::writing::{line_of, put_made};
 use check_lines::{kind_text, part_text};
 use code_check::FaultKind;
-use dap_base::{OutOfMemory, Place, Sink};
+use dap_base::{NameText, OutOfMemory, Place, Sink};
 use fault_lines::message_line;
 use pack_faults::{Found, PackFault, PackFaults, SetName};
 use sequence_trees::Spot;
@@ -114,22 +115,19 @@ fn logical_value(alloc: Global, spot: &Spot) -> Result<Value, AllocError>
     one_member(alloc, "fullyQualifiedName", line_text(alloc, &name)?)
 }
 
-fn region_value(alloc: Global, place: Place) -> Result<Value, AllocError>
-    ensures { IfOk result (λ v. view v ≡ region_data place) }
+// A place in this line; its column counts characters.
+fn region_value(alloc: Global, line: &NameText, place: Place) -> Result<Value, AllocError>
+    ensures { IfOk result (λ v. view v ≡ region_data line.now place) }
 {
+    let column = character_column(line.as_str().as_bytes(), place.column);
     let mut members = Map::new(alloc);
     put(&mut members, alloc, "startLine", Value::from(place.line))?;
-    put(
-        &mut members,
-        alloc,
-        "startColumn",
-        Value::from(place.column),
-    )?;
+    put(&mut members, alloc, "startColumn", Value::from(column))?;
     Ok(Value::Object(members))
 }
 
-fn physical_value(alloc: Global, place: Place) -> Result<Value, AllocError>
-    ensures { IfOk result (λ v. view v ≡ physical_data place) }
+fn physical_value(alloc: Global, line: &NameText, place: Place) -> Result<Value, AllocError>
+    ensures { IfOk result (λ v. view v ≡ physical_data line.now place) }
 {
     let mut members = Map::new(alloc);
     let uri = Value::try_from_str(alloc, "job.json")?;
@@ -139,7 +137,8 @@ fn physical_value(alloc: Global, place: Place) -> Result<Value, AllocError>
         "artifactLocation",
         one_member(alloc, "uri", uri)?,
     )?;
-    put(&mut members, alloc, "region", region_value(alloc, place)?)?;
+    let region = region_value(alloc, line, place)?;
+    put(&mut members, alloc, "region", region)?;
     Ok(Value::Object(members))
 }
 
@@ -151,10 +150,10 @@ fn put_physical(
 ) -> Result<(), AllocError>
     ensures { OnOk result (members_view members.new.entries ≡ with_physical found.now.line found.now.fault.spot.place (members_view members.old.entries)) }
 {
-    if found.line.is_none() {
+    let Some(line) = &found.line else {
         return Ok(());
-    }
-    let physical = physical_value(alloc, found.fault.spot.place)?;
+    };
+    let physical = physical_value(alloc, line, found.fault.spot.place)?;
     put(members, alloc, "physicalLocation", physical)
 }
 
@@ -232,11 +231,13 @@ fn run_value(alloc: Global, faults: &PackFaults) -> Result<Value, AllocError>
     put(&mut members, alloc, "tool", tool_value(alloc)?)?;
     let results = results_of(alloc, faults.sets.as_slice(), faults.faults.as_slice())?;
     put(&mut members, alloc, "results", Value::Array(results))?;
+    let columns = Value::try_from_str(alloc, "unicodeCodePoints")?;
+    put(&mut members, alloc, "columnKind", columns)?;
     Ok(Value::Object(members))
 }
 
 /// The log of the faults of a pack: one run of `dapseq_faults`, with a rule for each kind of fault and a result for each
-/// fault. `AllocError` where memory is refused.
+/// fault. Columns of its regions count characters from 1. `AllocError` where memory is refused.
 pub fn sarif_value(alloc: Global, faults: &PackFaults) -> Result<Value, AllocError>
     ensures { IfOk result (λ v. view v ≡ sarif.sarif_data faults.now) }
 {
