@@ -13,6 +13,7 @@ use Rattle.sequence_rules.specs.Calls.{global, ask}
 use Rattle.sequence_rules.specs.Direct.{Now, direct}
 use Rattle.sequence_rules.specs.Machine as machine
 use Rattle.sequence_rules.specs.Machine.{State, Out, halt}
+use Rattle.sequence_rules.specs.Locals.{locals_of}
 use Rattle.sequence_rules.specs.Shared.{bindings_of}
 use Rattle.run_events.specs.Events.{Event, Writes, all_made, units_from, units_between}
 use Rattle.run_events.specs.OfSteps.{poll_end, polled_events}
@@ -26,7 +27,7 @@ use Rattle.logged_calls.specs.declared.held.Stopped.{Stopped}
 abbrev pub state_of : Held → TargetState → State ℕ Now
 state_of held target = record {
   globals = bindings_of held.globals;
-  locals = held.locals.items;
+  locals = locals_of held.locals;
   units = held.units;
   lines = held.lines;
   steps = held.steps;

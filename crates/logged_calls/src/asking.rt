@@ -149,6 +149,7 @@ pub fn ask_poll(
     requires most { turns ≤ 60000000 }
     ensures gives { Means held.new.end result (state_of held.new target.new) (poll_value (mask, requested) turns (state_of held.old target.old)) }
     ensures noted { (spot : Spot) → Unless held.new.end result (held.new.log ≡ noted_all held.old.log (polled_events spot turns (units_between (state_of held.old target.old) (state_of held.new target.new)))) }
+    ensures polled { Unless held.new.end result (SeenAsPoll (state_of held.old target.old) (state_of held.new target.new) result) }
 {
     if debug_port(held) != 0 {
         held.end = LoggedEnd::Halted(HaltCause::Unsupported);

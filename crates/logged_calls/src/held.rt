@@ -1,7 +1,7 @@
 //! What a logged run holds.
 use direct_calls::CallList;
 use log_lines::Log;
-use sequence_rules::{Binding, Globals};
+use sequence_rules::{Globals, Locals};
 use target_machine::{HaltCause, Unit};
 
 /// A run goes no further; [`Held::end`] says why.
@@ -23,7 +23,7 @@ pub enum LoggedEnd {
 #[derive(Drop)]
 pub struct Held {
     pub globals: Globals<u64>,
-    pub locals: Vec<Binding<u64>>,
+    pub locals: Locals<u64>,
     pub units: u32,
     pub lines: u32,
     pub steps: u32,
