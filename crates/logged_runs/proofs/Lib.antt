@@ -1,0 +1,13 @@
+pub mod Answering
+pub mod Ends
+pub mod Leaves
+pub mod LoopEnds
+pub mod Loops
+pub mod Messages
+pub mod NoteLemmas
+pub mod Parts
+pub mod RunLemmas
+pub mod StartLemmas
+pub mod Turns
+pub mod Units
+pub mod WalkLemmas

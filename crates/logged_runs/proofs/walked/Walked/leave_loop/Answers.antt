@@ -1,0 +1,8 @@
+use Rattle.std.proofs.Common.{refl}
+use Rattle.log_lines.specs.Places.{condition_spot}
+use Rattle.sequence_trees.specs.declared.spot.Part.TheVariants as part
+use Rattle.logged_runs.proofs.Leaves.{covered_one}
+use Rattle.logged_runs.proofs.walked.Walked.leave_loop.Goals as goal
+
+pub returns-clause-noted : goal.returns-clause-noted
+returns-clause-noted c = λ turns. covered_one turns _ _ _ (c.in-Ok.ensures (condition_spot c.args.sequence.now c.args.path.now part.While)) refl (λ earlier of. c.in-Ok-leave_loop.ensures earlier c.args.number of) refl refl refl refl

@@ -1,0 +1,86 @@
+-- What a walk holds, as a state of the meaning and as what was seen; the sequences that it can call; places.
+use Rattle.std.specs.Prelude.{◌≡◌, ℕ, Bool, true, false, List, [], ◌∷◌, ◌++◌, take, Some, Result, Ok, Err, if◌then◌else◌, nat_eq, nat_lt}
+use Rattle.dap_base.specs.Outcome.{◌>>=◌}
+use Rattle.expr_grammar.specs.declared.code.Name.{Name}
+use Rattle.expr_grammar.specs.Tree as t
+use Rattle.expr_grammar.specs.Tree.{Tree, StmtTree}
+use Rattle.seq_check.specs.Answers.{checked_trees}
+use Rattle.sequence_rules.specs.Direct.{Now, direct}
+use Rattle.sequence_rules.specs.Machine.{State, Out}
+use Rattle.sequence_rules.specs.Steps.{sequence_at}
+use Rattle.sequence_rules.specs.Values.{stored, used_now, value}
+use Rattle.sequence_trees.specs.Order.{SetStep}
+use Rattle.sequence_trees.specs.declared.spot.Part.TheVariants as part
+use Rattle.target_machine.specs.State.{TargetState}
+use Rattle.run_events.specs.Events.{Event, Begins, Assigns, after}
+use Rattle.run_events.specs.OfRuns.{at_debugvars, sequence_events}
+use Rattle.run_events.specs.OfSteps.{spot_at}
+use Rattle.run_events.specs.OfValues.{value_events}
+use Rattle.log_lines.specs.LogText.{LogText}
+use Rattle.log_lines.specs.declared.log.LogMark.{LogMark}
+use Rattle.logged_calls.specs.Held.{EndsAs, state_of}
+use Rattle.logged_calls.specs.declared.held.LoggedEnd.{LoggedEnd}
+use Rattle.logged_calls.specs.declared.held.Stopped.{Stopped}
+use Rattle.logged_runs.specs.declared.runner.LoggedRunner.{LoggedRunner}
+use Rattle.logged_runs.specs.declared.walked.Walked.{Walked}
+use Rattle.logged_runs.specs.Seen.{SeenSoFar}
+
+-- the state of a run on a target
+abbrev pub now : Walked → TargetState → State ℕ Now
+now walked target = state_of walked.held target
+
+-- what was seen of it so far
+abbrev pub seen : Walked → SeenSoFar
+seen walked = record {
+  log = walked.held.log;
+  places = walked.places;
+  coverage = walked.coverage;
+  timed_out = walked.timed_out;
+  error_shown = walked.error_shown;
+}
+
+-- the sequences of the runner's set, from which calls lead at most so deep
+abbrev pub calls_of : LoggedRunner → ℕ → List ℕ → State ℕ Now → Out ℕ Now (Unit {0})
+calls_of runner depth name s = sequence_at (direct false) runner.turn_us (checked_trees runner.set.now) depth name s
+
+-- what is seen of them
+abbrev pub events_of : (ℕ → Bool) → LoggedRunner → ℕ → List ℕ → State ℕ Now → List Event
+events_of shows runner depth name s = sequence_events shows runner.turn_us (checked_trees runner.set.now) depth name s
+
+-- the step of a path in the sequence of a name
+abbrev pub step_at : List ℕ → List ℕ → SetStep
+step_at name path = record { sequence = Some name; path = path }
+
+-- What the code answers and the state that it leaves are those of the meaning; x is what an answer stands for. Nothing is said where memory was
+-- refused.
+abbrev pub MeansAs : {A B : Type 0} → LoggedEnd → B → Result A Stopped → State ℕ Now → Out ℕ Now B → Type 0
+MeansAs e x (Ok y) s out = out ≡ Ok (x, s)
+MeansAs e x (Err stopped) s out = EndsAs e s out
+
+-- a turn after it is counted: its condition, and where that is not 0 what is done
+abbrev pub tested : (State ℕ Now → Out ℕ Now ℕ) → (State ℕ Now → Out ℕ Now (Unit {0})) → State ℕ Now → Out ℕ Now Bool
+tested test body s = used_now (direct false) (test s) >>= λ x. if nat_eq x.0 0 then Ok (false, x.1) else (body x.1 >>= λ y. Ok (true, y.1))
+
+-- the log where another turn begins after so many: the last of them is taken back, unless it is shown
+abbrev pub kept : ℕ → ℕ → LogMark → LogText → LogText
+kept turns made mark log = if nat_lt turns made then record { text = take mark.len log.text; depth = mark.depth } else log
+
+-- a debug variable gets its value
+abbrev pub defined : LoggedRunner → Name → Tree → State ℕ Now → Out ℕ Now (Unit {0})
+defined runner name e s = value (direct false) (calls_of runner 0) e s >>= λ x. stored (direct false) name x.0 x.1 >>= λ y. Ok (tt, y.1)
+
+-- one statement of the debug variables
+abbrev pub debugged_one : LoggedRunner → StmtTree → State ℕ Now → Out ℕ Now (Unit {0})
+debugged_one runner (t.Empty at) s = Ok (tt, s)
+debugged_one runner (t.Declare name e) s = defined runner name e s
+debugged_one runner (t.Plain at e) s = Ok (tt, s)
+
+-- what is seen of a debug variable that gets its value, and of one statement of the debug variables
+abbrev pub defined_events : (ℕ → Bool) → LoggedRunner → Name → Tree → State ℕ Now → List Event
+defined_events shows runner name e s =
+    value_events (calls_of runner 0) (events_of shows runner 0) e s ++ after (value (direct false) (calls_of runner 0) e s) (λ n r. Assigns name.text n ∷ [])
+
+abbrev pub one_events : (ℕ → Bool) → LoggedRunner → StmtTree → State ℕ Now → List Event
+one_events shows runner (t.Empty at) s = []
+one_events shows runner (t.Declare name e) s = Begins (spot_at at_debugvars part.Debugvars name.at) (t.Declare name e) ∷ defined_events shows runner name e s
+one_events shows runner (t.Plain at e) s = []

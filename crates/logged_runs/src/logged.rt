@@ -1,0 +1,167 @@
+//! The logged runner.
+ghost use Rattle.std.specs.Prelude.{◌≡◌, ◌<◌, ℕ, List, IfOk, None, map, slice_get};
+ghost use Rattle.function_table.specs.Variables.{predefined};
+ghost use Rattle.logged_calls.specs.Held.{Means, Unless};
+ghost use Rattle.run_events.specs.Events.{Event, places_of};
+ghost use Rattle.run_events.specs.OfRuns.{events_in};
+ghost use Rattle.seq_check.specs.Answers.{checked_trees};
+ghost use Rattle.sequence_rules.specs.Machine.{end_state};
+ghost use Rattle.sequence_rules.specs.Runs.{Program, meaning, outcome, program_of, units_of};
+ghost use Rattle.target_calls.specs.World.{start_world};
+ghost use Rattle.target_machine.specs.State.{TargetState};
+ghost use Rattle.logged_runs.specs.Answers.{IsEndOf, IsRun, IsSeen, end_place};
+ghost use Rattle.logged_runs.specs.Seen.{IsStart, Notes, SeenSoFar};
+ghost use Rattle.logged_runs.specs.Walk.{now, seen};
+
+use crate::places::Places;
+use crate::runner::LoggedRunner;
+use crate::start::{add_declared, make_globals};
+use crate::walked::Walked;
+use dap_base::OutOfMemory;
+use direct_calls::CallList;
+use log_lines::Log;
+use logged_calls::{Held, LoggedEnd, Stopped};
+use run_coverage::Coverage;
+use seq_check::Checked;
+use sequence_rules::Globals;
+use sequence_trees::Spot;
+use std::alloc::Global;
+use target_machine::{HaltCause, Settings, Target, Unit};
+
+/// How a logged run ended.
+#[derive(Clone, Copy, Debug, PartialEq, Eq)]
+pub enum LoggedEnding {
+    /// Its steps are done.
+    Done,
+    /// It halted, with this cause.
+    Halted(HaltCause),
+    /// Its last unit, number `unit` from 1, met a fault that it does not forgive.
+    Faulted {
+        /// The number of the unit, at most 1,000,000.
+        unit: u32,
+        /// The access.
+        what: Unit,
+    },
+}
+
+/// A logged run: what it came to, and what was seen of it.
+#[derive(Drop)]
+pub struct Logged {
+    /// How it ended.
+    pub ending: LoggedEnding,
+    /// The predefined variables, then the debug variables, where it is done or halted. Where it halted in a called sequence, the `__dp`, `__ap` and
+    /// `__errorcontrol` of that.
+    pub variables: Globals<u64>,
+    /// The calls that were made, one for each unit, in order.
+    pub calls: CallList,
+    /// How many of them met a fault that they forgive.
+    pub skipped: u32,
+    /// The text of what was seen: of each loop the turns that are shown and the last.
+    pub log: Log,
+    /// What all that was seen covers.
+    pub coverage: Coverage,
+    /// The place where it ended, `None` where it is done or came to no place.
+    pub at: Option<Spot>,
+    /// Whether a loop timed out.
+    pub timed_out: bool,
+    /// Whether a message of type 2 was written.
+    pub error_shown: bool,
+}
+
+// How a run ended.
+fn ending_of(ended: Result<(), Stopped>, held: &Held) -> Result<LoggedEnding, OutOfMemory>
+    ensures { IfOk result (λ ending. IsEndOf held.now.end ended ending held.now.units) }
+{
+    let Err(Stopped) = ended else {
+        return Ok(LoggedEnding::Done);
+    };
+    match held.end {
+        LoggedEnd::Halted(cause) => Ok(LoggedEnding::Halted(cause)),
+        LoggedEnd::Faulted(what) => Ok(LoggedEnding::Faulted {
+            unit: held.units,
+            what,
+        }),
+        LoggedEnd::OutOfMemory => Err(OutOfMemory),
+    }
+}
+
+// The place where a run ended.
+fn place_of_end(ending: LoggedEnding, places: Places) -> Option<Spot>
+    ensures { (seen : List Event) → places ≡ places_of seen → result ≡ end_place ending seen }
+{
+    match ending {
+        LoggedEnding::Done => None,
+        LoggedEnding::Halted(_) | LoggedEnding::Faulted { .. } => places.into_place(),
+    }
+}
+
+// What is answered at the end of a run.
+fn answer_run(ended: Result<(), Stopped>, walked: Walked) -> Result<Logged, OutOfMemory>
+    ensures answer { (p : Program) (start target : TargetState) → Means walked.held.end ended (now walked target) (meaning (start_world start None) p None)
+        → (end_state (meaning (start_world start None) p None)).units ≡ units_of (outcome p start None) → IfOk result (λ run. IsRun p start target run) }
+    ensures seen { (turns : ℕ) (p : Program) (start : TargetState) (first : SeenSoFar) → IsStart first
+        → Unless walked.held.end ended (Notes turns first (seen walked) (λ shows. events_in shows (start_world start None) p None)) → IfOk result (λ run. IsSeen turns p start run) }
+{
+    let ending = match ending_of(ended, &walked.held) {
+        Ok(ending) => ending,
+        Err(refused) => return Err(refused),
+    };
+    let Walked {
+        held,
+        places,
+        coverage,
+        timed_out,
+        error_shown,
+    } = walked;
+    Ok(Logged {
+        ending,
+        variables: held.globals,
+        calls: held.calls,
+        skipped: held.skipped,
+        log: held.log,
+        coverage,
+        at: place_of_end(ending, places),
+        timed_out,
+        error_shown,
+    })
+}
+
+/// Runs the sequence `start` of a checked set over a target, each access alone and at once, and notes what is seen: in a log, where of each loop
+/// the first `turns` turns and the last are shown; and the coverage, the place where it ended, whether a loop timed out and whether a message of
+/// type 2 was written, which are of all turns. It starts with the starting values of the settings and with the debug variables; where the set does
+/// not have the sequence, there are no steps.
+///
+/// `OutOfMemory` comes where memory is refused. The target has then made the first calls of the run; how many is not said.
+pub fn run_logged(
+    alloc: Global,
+    checked: &Checked,
+    start: &str,
+    settings: &Settings,
+    turns: u32,
+    target: &mut Target,
+) -> Result<Logged, OutOfMemory>
+    requires turn { 0 < settings.now.turn_us }
+    requires names { map (λ variable. variable.name) settings.now.start ≡ predefined }
+    // How it ended, the variables, the calls, the skips and the target are those of the outcome.
+    ensures answer { IfOk result (λ run. IsRun (program_of (checked_trees checked.now) start.now settings.now) target.old target.new run) }
+    // The log is the text of the events that are shown; the rest is what all events say.
+    ensures seen { IfOk result (λ run. IsSeen turns (program_of (checked_trees checked.now) start.now settings.now) target.old run) }
+{
+    let mut globals = match make_globals(alloc, settings.start.as_slice()) {
+        Ok(globals) => globals,
+        Err(refused) => return Err(refused),
+    };
+    match add_declared(&mut globals, alloc, checked.debugvars().as_slice()) {
+        Ok(()) => {}
+        Err(refused) => return Err(refused),
+    }
+    let mut walked = Walked::new(alloc, globals);
+    let runner = LoggedRunner {
+        alloc,
+        set: checked,
+        turn_us: settings.turn_us,
+        turns,
+    };
+    let ended = runner.run_all(start, &mut walked, target);
+    answer_run(ended, walked)
+}

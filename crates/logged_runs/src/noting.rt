@@ -1,0 +1,334 @@
+//! What is seen, noted in the log and elsewhere: each call notes one event, or what is seen of one call of a function.
+ghost use Rattle.std.specs.Prelude.{◌≡◌, ◌∷◌, [], ◌&&◌, ◌||◌, ◌≤◌, ℕ, Bool, nat_eq, slice_index, false, true, Some, IfOk, OnErr, OnOk};
+ghost use Rattle.expr_grammar.specs.Tree.{stmt_tree, tree};
+ghost use Rattle.function_table.specs.declared.function.Function.TheVariants as f;
+ghost use Rattle.logged_calls.specs.Held.{Means, Unless, poll_value};
+ghost use Rattle.logged_calls.specs.declared.held.LoggedEnd.TheVariants as end;
+ghost use Rattle.log_lines.specs.Places.{condition_spot, debug_spot, spot_in};
+ghost use Rattle.run_events.specs.Events as e;
+ghost use Rattle.run_events.specs.Events.{units_between};
+ghost use Rattle.run_events.specs.OfSteps.{place_of, poll_end, polled_events};
+ghost use Rattle.run_events.specs.OfValues.{function_events};
+ghost use Rattle.sequence_rules.specs.Calls.{function_result};
+ghost use Rattle.sequence_rules.specs.Direct.{direct};
+ghost use Rattle.sequence_rules.specs.Steps.{dropped};
+ghost use Rattle.sequence_trees.specs.declared.spot.Part.TheVariants as part;
+ghost use Rattle.sequence_trees.specs.declared.spot.Spot.{Spot};
+ghost use Rattle.target_machine.specs.Plain.{Answered};
+ghost use Rattle.target_machine.specs.State.{TargetState};
+ghost use Rattle.logged_runs.specs.Seen.{Notes, NotesAll, is_error_call};
+ghost use Rattle.logged_runs.specs.Walk.{now, seen};
+
+use crate::walked::Walked;
+use dap_base::Place;
+use expr_grammar::{Expr, Stmt};
+use function_table::Function;
+use logged_calls::{LoggedEnd, Stopped, ask_poll, make_call};
+use sequence_trees::Part;
+use std::alloc::Global;
+use target_machine::Target;
+
+// The start of a text.
+const TEXT_START: Place = Place { line: 1, column: 1 };
+
+// Where a statement begins: a declaration at its name.
+fn place_of(statement: &Stmt) -> Place
+    ensures { result ≡ place_of (stmt_tree statement.now) }
+{
+    match statement {
+        Stmt::Empty(at) | Stmt::Plain(at, _) => *at,
+        Stmt::Declare(name, _) => name.at,
+    }
+}
+
+// Whether a call is that of `Message` with type 2, an error.
+fn is_error_call(function: Function, numbers: &[u64]) -> bool
+    ensures { result ≡ is_error_call function numbers.now }
+{
+    match (function, numbers.first()) {
+        (Function::Message, Some(kind)) => *kind == 2,
+        _ => false,
+    }
+}
+
+impl Walked {
+    // Memory was refused.
+    fn refuse(&mut self) -> Result<(), Stopped>
+        ensures refused { OnErr result (self.new.held.end ≡ end.OutOfMemory) }
+        ensures never { OnOk result ⊥ }
+    {
+        self.held.end = LoggedEnd::OutOfMemory;
+        Err(Stopped)
+    }
+
+    /// A statement of a block begins.
+    pub fn begin(&mut self, sequence: &str, path: &[u64], statement: &Stmt) -> Result<(), Stopped>
+        ensures state { (target : TargetState) → OnOk result (now self.new target ≡ now self.old target) }
+        ensures refused { OnErr result (self.new.held.end ≡ end.OutOfMemory) }
+        ensures noted { (turns : ℕ) → OnOk result (Notes turns (seen self.old) (seen self.new) (λ shows. e.Begins (spot_in sequence.now path.now part.Block (place_of (stmt_tree statement.now))) (stmt_tree statement.now) ∷ [])) }
+    {
+        let Ok(()) = self.held.log.begin(sequence, path, statement) else {
+            return self.refuse();
+        };
+        let Ok(()) = self.coverage.begin(sequence, path, statement) else {
+            return self.refuse();
+        };
+        let Ok(()) = self
+            .places
+            .reach(sequence, path, Part::Block, place_of(statement))
+        else {
+            return self.refuse();
+        };
+        Ok(())
+    }
+
+    /// A declaration of the debug variables begins.
+    pub fn begin_debug(&mut self, statement: &Stmt) -> Result<(), Stopped>
+        ensures state { (target : TargetState) → OnOk result (now self.new target ≡ now self.old target) }
+        ensures refused { OnErr result (self.new.held.end ≡ end.OutOfMemory) }
+        ensures noted { (turns : ℕ) → OnOk result (Notes turns (seen self.old) (seen self.new) (λ shows. e.Begins (debug_spot (place_of (stmt_tree statement.now))) (stmt_tree statement.now) ∷ [])) }
+    {
+        let Ok(()) = self.held.log.begin_debug(statement) else {
+            return self.refuse();
+        };
+        let Ok(()) = self.places.reach_debug(place_of(statement)) else {
+            return self.refuse();
+        };
+        Ok(())
+    }
+
+    /// The `if` of a control begins.
+    pub fn test(&mut self, sequence: &str, path: &[u64], expr: &Expr) -> Result<(), Stopped>
+        ensures state { (target : TargetState) → OnOk result (now self.new target ≡ now self.old target) }
+        ensures refused { OnErr result (self.new.held.end ≡ end.OutOfMemory) }
+        ensures noted { (turns : ℕ) → OnOk result (Notes turns (seen self.old) (seen self.new) (λ shows. e.Tests (condition_spot sequence.now path.now part.If) (tree expr.now) ∷ [])) }
+    {
+        let Ok(()) = self.held.log.test(sequence, path, expr) else {
+            return self.refuse();
+        };
+        let Ok(()) = self.places.reach(sequence, path, Part::If, TEXT_START) else {
+            return self.refuse();
+        };
+        Ok(())
+    }
+
+    /// The `if` of a control has this value.
+    pub fn choose(&mut self, sequence: &str, path: &[u64], value: u64) -> Result<(), Stopped>
+        ensures state { (target : TargetState) → OnOk result (now self.new target ≡ now self.old target) }
+        ensures refused { OnErr result (self.new.held.end ≡ end.OutOfMemory) }
+        ensures noted { (turns : ℕ) → OnOk result (Notes turns (seen self.old) (seen self.new) (λ shows. e.Chooses (condition_spot sequence.now path.now part.If) value ∷ [])) }
+    {
+        let Ok(()) = self.held.log.choose(value) else {
+            return self.refuse();
+        };
+        let Ok(()) = self.coverage.choose(sequence, path, value) else {
+            return self.refuse();
+        };
+        Ok(())
+    }
+
+    /// A `while` begins, with so many turns until its timeout.
+    pub fn begin_loop(
+        &mut self,
+        sequence: &str,
+        path: &[u64],
+        expr: &Expr,
+        count: u32,
+    ) -> Result<(), Stopped>
+        ensures state { (target : TargetState) → OnOk result (now self.new target ≡ now self.old target) }
+        ensures refused { OnErr result (self.new.held.end ≡ end.OutOfMemory) }
+        ensures noted { (turns : ℕ) → OnOk result (Notes turns (seen self.old) (seen self.new) (λ shows. e.Loops (condition_spot sequence.now path.now part.While) (tree expr.now) count ∷ [])) }
+    {
+        let Ok(()) = self.held.log.begin_loop(sequence, path, expr, count) else {
+            return self.refuse();
+        };
+        let Ok(()) = self.places.reach(sequence, path, Part::While, TEXT_START) else {
+            return self.refuse();
+        };
+        Ok(())
+    }
+
+    /// The turn of this number begins.
+    pub fn turn(&mut self, sequence: &str, path: &[u64], number: u32) -> Result<(), Stopped>
+        ensures state { (target : TargetState) → OnOk result (now self.new target ≡ now self.old target) }
+        ensures refused { OnErr result (self.new.held.end ≡ end.OutOfMemory) }
+        ensures noted { (turns : ℕ) → OnOk result (Notes turns (seen self.old) (seen self.new) (λ shows. e.Turns (condition_spot sequence.now path.now part.While) number ∷ [])) }
+    {
+        let Ok(()) = self.held.log.turn(number) else {
+            return self.refuse();
+        };
+        let Ok(()) = self.places.reach(sequence, path, Part::While, TEXT_START) else {
+            return self.refuse();
+        };
+        Ok(())
+    }
+
+    /// The `while` has this value in the turn.
+    pub fn find(&mut self, value: u64) -> Result<(), Stopped>
+        ensures state { (target : TargetState) → OnOk result (now self.new target ≡ now self.old target) }
+        ensures refused { OnErr result (self.new.held.end ≡ end.OutOfMemory) }
+        ensures noted { (turns : ℕ) (spot : Spot) → OnOk result (Notes turns (seen self.old) (seen self.new) (λ shows. e.Finds spot value ∷ [])) }
+    {
+        let Ok(()) = self.held.log.find(value) else {
+            return self.refuse();
+        };
+        Ok(())
+    }
+
+    /// The `while` is left in the turn of this number.
+    pub fn leave_loop(&mut self, sequence: &str, path: &[u64], number: u32) -> Result<(), Stopped>
+        ensures state { (target : TargetState) → OnOk result (now self.new target ≡ now self.old target) }
+        ensures refused { OnErr result (self.new.held.end ≡ end.OutOfMemory) }
+        ensures noted { (turns : ℕ) → OnOk result (Notes turns (seen self.old) (seen self.new) (λ shows. e.Leaves (condition_spot sequence.now path.now part.While) number ∷ [])) }
+    {
+        let Ok(()) = self.held.log.leave_loop(number) else {
+            return self.refuse();
+        };
+        let Ok(()) = self.coverage.leave_loop(sequence, path) else {
+            return self.refuse();
+        };
+        Ok(())
+    }
+
+    /// The `while` has made so many turns, all that its timeout allows.
+    pub fn time_out(&mut self, sequence: &str, path: &[u64], count: u32) -> Result<(), Stopped>
+        ensures state { (target : TargetState) → OnOk result (now self.new target ≡ now self.old target) }
+        ensures refused { OnErr result (self.new.held.end ≡ end.OutOfMemory) }
+        ensures noted { (turns : ℕ) → OnOk result (Notes turns (seen self.old) (seen self.new) (λ shows. e.TimesOut (condition_spot sequence.now path.now part.While) count ∷ [])) }
+    {
+        let Ok(()) = self.held.log.time_out(count) else {
+            return self.refuse();
+        };
+        let Ok(()) = self.coverage.time_out(sequence, path) else {
+            return self.refuse();
+        };
+        self.timed_out = true;
+        Ok(())
+    }
+
+    /// The variable of this name has this value now.
+    pub fn assign(&mut self, name: &str, value: u64) -> Result<(), Stopped>
+        ensures state { (target : TargetState) → OnOk result (now self.new target ≡ now self.old target) }
+        ensures refused { OnErr result (self.new.held.end ≡ end.OutOfMemory) }
+        ensures noted { (turns : ℕ) → OnOk result (Notes turns (seen self.old) (seen self.new) (λ shows. e.Assigns name.now value ∷ [])) }
+    {
+        let Ok(()) = self.held.log.assign(name, value) else {
+            return self.refuse();
+        };
+        Ok(())
+    }
+
+    /// The sequence of this name is called.
+    pub fn call(&mut self, name: &str) -> Result<(), Stopped>
+        ensures state { (target : TargetState) → OnOk result (now self.new target ≡ now self.old target) }
+        ensures refused { OnErr result (self.new.held.end ≡ end.OutOfMemory) }
+        ensures noted { (turns : ℕ) → OnOk result (Notes turns (seen self.old) (seen self.new) (λ shows. e.Calls name.now ∷ [])) }
+    {
+        let Ok(()) = self.held.log.call(name) else {
+            return self.refuse();
+        };
+        let Ok(()) = self.places.call() else {
+            return self.refuse();
+        };
+        Ok(())
+    }
+
+    /// The last sequence that was called, and has not returned, returns.
+    pub fn return_back(&mut self) -> Result<(), Stopped>
+        ensures state { (target : TargetState) → OnOk result (now self.new target ≡ now self.old target) }
+        ensures refused { OnErr result (self.new.held.end ≡ end.OutOfMemory) }
+        ensures noted { (turns : ℕ) → OnOk result (Notes turns (seen self.old) (seen self.new) (λ shows. e.Returns ∷ [])) }
+    {
+        let Ok(()) = self.held.log.return_back() else {
+            return self.refuse();
+        };
+        self.places.return_back();
+        Ok(())
+    }
+
+    /// A call of a function except `Sequence`, with what is seen of it.
+    pub fn call_function(
+        &mut self,
+        alloc: Global,
+        function: Function,
+        text: &str,
+        numbers: &[u64],
+        target: &mut Target,
+    ) -> Result<u64, Stopped>
+        ensures gives { Means self.new.held.end result (now self.new target.new) (function_result (direct false) function text.now numbers.now (now self.old target.old)) }
+        ensures noted { (turns : ℕ) → Unless self.new.held.end result (Notes turns (seen self.old) (seen self.new) (λ shows. function_events function text.now numbers.now (now self.old target.old))) }
+    {
+        let value = match make_call(alloc, function, text, numbers, &mut self.held, target) {
+            Ok(value) => value,
+            Err(stopped) => return Err(stopped),
+        };
+        if is_error_call(function, numbers) {
+            self.error_shown = true;
+        }
+        Ok(value)
+    }
+
+    // A poll made all its turns.
+    fn cover_timeout(&mut self, sequence: &str, path: &[u64]) -> Result<(), Stopped>
+        ensures state { (target : TargetState) → OnOk result (now self.new target ≡ now self.old target) }
+        ensures log { OnOk result (self.new.held.log ≡ self.old.held.log) }
+        ensures refused { OnErr result (self.new.held.end ≡ end.OutOfMemory) }
+        ensures noted { (count : ℕ) → OnOk result (NotesAll (seen self.old) (seen self.new) (e.TimesOut (condition_spot sequence.now path.now part.While) count ∷ [])) }
+    {
+        let Ok(()) = self.coverage.time_out(sequence, path) else {
+            return self.refuse();
+        };
+        self.timed_out = true;
+        Ok(())
+    }
+
+    // A poll found its value.
+    fn cover_match(&mut self, sequence: &str, path: &[u64]) -> Result<(), Stopped>
+        ensures state { (target : TargetState) → OnOk result (now self.new target ≡ now self.old target) }
+        ensures log { OnOk result (self.new.held.log ≡ self.old.held.log) }
+        ensures refused { OnErr result (self.new.held.end ≡ end.OutOfMemory) }
+        ensures noted { OnOk result (NotesAll (seen self.old) (seen self.new) (e.Matches (condition_spot sequence.now path.now part.While) ∷ [])) }
+    {
+        let Ok(()) = self.coverage.end_poll(sequence, path) else {
+            return self.refuse();
+        };
+        Ok(())
+    }
+
+    // How a poll ended, by its value: all but the log.
+    fn cover_poll(&mut self, sequence: &str, path: &[u64], value: u64) -> Result<(), Stopped>
+        ensures state { (target : TargetState) → OnOk result (now self.new target ≡ now self.old target) }
+        ensures log { OnOk result (self.new.held.log ≡ self.old.held.log) }
+        ensures refused { OnErr result (self.new.held.end ≡ end.OutOfMemory) }
+        ensures noted { (count : ℕ) → OnOk result (NotesAll (seen self.old) (seen self.new) (poll_end (condition_spot sequence.now path.now part.While) count (Some (Answered value)))) }
+    {
+        if value == 0 {
+            self.cover_timeout(sequence, path)
+        } else {
+            self.cover_match(sequence, path)
+        }
+    }
+
+    /// A poll of CTRL/STAT, which is one unit, with what is seen of it.
+    pub fn poll(
+        &mut self,
+        sequence: &str,
+        path: &[u64],
+        mask: u32,
+        requested: u32,
+        count: u32,
+        target: &mut Target,
+    ) -> Result<(), Stopped>
+        requires least { 1 ≤ count }
+        requires most { count ≤ 60000000 }
+        ensures gives { Means self.new.held.end result (now self.new target.new) (dropped (direct false) (poll_value (mask, requested) count (now self.old target.old))) }
+        ensures noted { (turns : ℕ) → Unless self.new.held.end result (Notes turns (seen self.old) (seen self.new)
+            (λ shows. polled_events (condition_spot sequence.now path.now part.While) count (units_between (now self.old target.old) (now self.new target.new)))) }
+    {
+        let value = match ask_poll(mask, requested, count, &mut self.held, target) {
+            Ok(value) => value,
+            Err(stopped) => return Err(stopped),
+        };
+        self.cover_poll(sequence, path, value)
+    }
+}

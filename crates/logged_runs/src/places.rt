@@ -1,0 +1,136 @@
+//! The places that a run reached.
+ghost use Rattle.std.specs.Prelude.{◌≡◌, ◌++◌, ◌∷◌, [], drop, take, slice_get, IfOk, OnOk};
+ghost use Rattle.log_lines.specs.Places.{debug_spot, spot_in};
+
+use dap_base::{ItemList, NameText, OutOfMemory, Place};
+use sequence_trees::{Part, Spot, StepPath};
+use std::alloc::Global;
+use std::marker::Model;
+
+/// The places that a run reached: that of the running sequence, and those of its callers. Contracts see them as a list, that of the running
+/// sequence first.
+#[derive(Drop)]
+pub(crate) struct Places {
+    alloc: Global,
+    // The place of the running sequence is the last.
+    spots: Vec<Spot>,
+}
+
+impl Model for Places {
+    ghost use Rattle.std.specs.Prelude.{List, reverse};
+    ghost use Rattle.sequence_trees.specs.declared.spot.Spot.{Spot};
+
+    ghost Value = { List Spot };
+
+    ghost view = { λ places. reverse places.spots.items };
+}
+
+// A copy of a path.
+fn copy_path(alloc: Global, path: &[u64]) -> Result<StepPath, OutOfMemory>
+    ensures { IfOk result (λ copy. copy ≡ path.now) }
+{
+    let mut copy = ItemList::new(alloc);
+    for number in path {
+        copy.push(*number)?;
+    }
+    Ok(copy)
+}
+
+// A copy of a place.
+fn copy_spot(alloc: Global, spot: &Spot) -> Result<Spot, OutOfMemory>
+    ensures { IfOk result (λ copy. copy ≡ spot.now) }
+{
+    let name = match &spot.sequence {
+        None => None,
+        Some(name) => Some(NameText::new(alloc, name.as_str())?),
+    };
+    Ok(Spot {
+        sequence: name,
+        path: copy_path(alloc, spot.path.as_slice())?,
+        part: spot.part,
+        place: spot.place,
+    })
+}
+
+impl Places {
+    /// No place was reached. Nothing is allocated.
+    pub fn new(alloc: Global) -> Places
+        ensures { result ≡ [] }
+    {
+        Places {
+            alloc,
+            spots: Vec::new(alloc),
+        }
+    }
+
+    // The running sequence comes to a place.
+    fn put(&mut self, spot: Spot) -> Result<(), OutOfMemory>
+        ensures { OnOk result (self.new ≡ spot ∷ drop 1 self.old) }
+    {
+        let _before = self.spots.pop();
+        match self.spots.push(spot) {
+            Ok(()) => Ok(()),
+            Err(_) => Err(OutOfMemory),
+        }
+    }
+
+    /// The running sequence comes to a place in one of its steps.
+    pub fn reach(
+        &mut self,
+        sequence: &str,
+        path: &[u64],
+        part: Part,
+        place: Place,
+    ) -> Result<(), OutOfMemory>
+        ensures { OnOk result (self.new ≡ spot_in sequence.now path.now part place ∷ drop 1 self.old) }
+    {
+        let sequence = Some(NameText::new(self.alloc, sequence)?);
+        let path = copy_path(self.alloc, path)?;
+        self.put(Spot {
+            sequence,
+            path,
+            part,
+            place,
+        })
+    }
+
+    /// The run comes to a place in the debug variables.
+    pub fn reach_debug(&mut self, place: Place) -> Result<(), OutOfMemory>
+        ensures { OnOk result (self.new ≡ debug_spot place ∷ drop 1 self.old) }
+    {
+        self.put(Spot {
+            sequence: None,
+            path: StepPath::new(self.alloc),
+            part: Part::Debugvars,
+            place,
+        })
+    }
+
+    /// A sequence is called: it begins at the place of its call.
+    pub fn call(&mut self) -> Result<(), OutOfMemory>
+        ensures { OnOk result (self.new ≡ take 1 self.old ++ self.old) }
+    {
+        let Some(caller) = self.spots.last() else {
+            return Ok(());
+        };
+        let spot = copy_spot(self.alloc, caller)?;
+        match self.spots.push(spot) {
+            Ok(()) => Ok(()),
+            Err(_) => Err(OutOfMemory),
+        }
+    }
+
+    /// The running sequence returns.
+    pub fn return_back(&mut self)
+        ensures { self.new ≡ drop 1 self.old }
+    {
+        let _place = self.spots.pop();
+    }
+
+    /// The place of the running sequence, none where none was reached.
+    pub fn into_place(mut self) -> Option<Spot>
+        ensures { result ≡ slice_get self 0 }
+    {
+        self.spots.pop()
+    }
+}
