@@ -1,0 +1,6 @@
+use Rattle.std.proofs.Common.{◌≡◌, drop, map, bytes_eq}
+use Rattle.std.specs.List.{list_any}
+use Rattle.set_warnings.proofs.called.is_among.Given as goal
+
+abbrev pub invariant-loop-known : goal.invariant-loop-known
+invariant-loop-known l = list_any (bytes_eq l.name) (map (λ n. n.now) (drop l.known-index l.names)) ≡ list_any (bytes_eq l.name) (map (λ n. n.now) l.names)
