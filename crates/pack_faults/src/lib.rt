@@ -21,4 +21,7 @@ mod texts;
 
 pub use answer::{Found, PackFault, PackFaults};
 pub use faults::pack_faults;
+pub use lines::line_of;
+pub use refusals::requested_sets;
 pub use request::{PackRefusal, Request, SetName};
+pub use sets::{DeviceSets, SetRef};

@@ -1,0 +1,40 @@
+-- The warnings of sets, each once, with the sets that have it.
+use Rattle.std.specs.Prelude.{ℕ, suc, ◌==◌, ◌&&◌, Bool, List, [], ◌∷◌, if◌then◌else◌}
+use Rattle.device_tree.specs.Same.{same_text}
+use Rattle.pack_faults.specs.Merged.{same_spot}
+use Rattle.pack_faults.specs.Steps.{noted}
+use Rattle.set_warnings.specs.declared.warning.WarningKind.{WarningKind}
+use Rattle.set_warnings.specs.declared.warning.WarningKind.TheVariants as k
+use Rattle.pack_warnings.specs.declared.answer.FoundWarning.{FoundWarning}
+use Rattle.pack_warnings.specs.declared.answer.PackWarning.{PackWarning}
+
+-- a number for each kind
+abbrev pub kind_number : WarningKind → ℕ
+kind_number k.AssignedDebugVariable = 0
+kind_number k.WaitByName = 1
+kind_number k.UncalledSequence = 2
+kind_number k.LongWait = 3
+
+-- one kind at one spot about one name, in lines with the same text
+abbrev pub same_warning : FoundWarning → FoundWarning → Bool
+same_warning f g = kind_number f.warning.kind == kind_number g.warning.kind
+    && (same_spot f.warning.spot g.warning.spot && (same_text f.warning.name g.warning.name && same_text f.line g.line))
+
+-- The warnings of sets, and this one of the set with this number: one that is there gets the number, unless it is its last one; another goes last.
+abbrev pub with_warning : ℕ → FoundWarning → List PackWarning → List PackWarning
+with_warning number f [] = record { found = f; sets = number ∷ [] } ∷ []
+with_warning number f (p ∷ ps) = if same_warning f p.found then record { found = p.found; sets = noted number p.sets } ∷ ps else p ∷ with_warning number f ps
+
+-- and then each of these
+abbrev pub with_each : ℕ → List FoundWarning → List PackWarning → List PackWarning
+with_each number [] warnings = warnings
+with_each number (f ∷ fs) warnings = with_each number fs (with_warning number f warnings)
+
+-- and then those of sets, of which the first has this number
+abbrev pub with_sets : ℕ → List (List FoundWarning) → List PackWarning → List PackWarning
+with_sets number [] warnings = warnings
+with_sets number (found ∷ more) warnings = with_sets (suc number) more (with_each number found warnings)
+
+-- the warnings of sets, each once, in the order of first appearance, with the sets that have it
+abbrev pub merged : List (List FoundWarning) → List PackWarning
+merged lists = with_sets 0 lists []

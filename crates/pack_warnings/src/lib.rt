@@ -1,0 +1,12 @@
+//! All warnings of the sequences of all devices, variants and processors of a pack, each once with the sets that have it.
+#![tactic(auto)]
+
+mod answer;
+pub mod laws;
+mod merging;
+mod same;
+mod texts;
+mod warnings;
+
+pub use answer::{FoundWarning, PackWarning};
+pub use warnings::pack_warnings;

@@ -1,0 +1,47 @@
+//! Names as they are held.
+ghost use Rattle.std.specs.Prelude.{◌≡◌, IfOk, option_map};
+
+use dap_base::{ItemList, NameText, OutOfMemory};
+use sequence_trees::StepPath;
+use std::alloc::Global;
+
+/// The name, lent without a copy.
+pub fn name_of(name: &Option<NameText>) -> Option<&str>
+    ensures { option_map (λ w. w.now) result ≡ name.now }
+{
+    match name {
+        Some(name) => Some(name.as_str()),
+        None => None,
+    }
+}
+
+/// The name as a text.
+pub fn text_of(name: Option<&NameText>) -> Option<&str>
+    ensures { option_map (λ w. w.now) result ≡ option_map (λ w. w.now) name.entry }
+{
+    match name {
+        Some(name) => Some(name.as_str()),
+        None => None,
+    }
+}
+
+/// A copy of the text.
+pub fn copy_of(alloc: Global, text: Option<&str>) -> Result<Option<NameText>, OutOfMemory>
+    ensures { IfOk result (λ copy. copy ≡ option_map (λ w. w.now) text.entry) }
+{
+    match text {
+        Some(text) => Ok(Some(NameText::new(alloc, text)?)),
+        None => Ok(None),
+    }
+}
+
+/// A copy of a path.
+pub fn copy_path(alloc: Global, path: &[u64]) -> Result<StepPath, OutOfMemory>
+    ensures { IfOk result (λ copy. copy ≡ path.now) }
+{
+    let mut copy = ItemList::new(alloc);
+    for number in path {
+        copy.push(*number)?;
+    }
+    Ok(copy)
+}
