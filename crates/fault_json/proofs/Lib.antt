@@ -1,3 +1,4 @@
 pub mod NoFloats
 pub mod SarifFloats
 pub mod Rows
+pub mod WarnedFloats

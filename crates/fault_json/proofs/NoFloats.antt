@@ -63,7 +63,7 @@ pub each : {X : Type 0} (f : X → Data) → ((x : X) → has_float (f x) ≡ fa
 each f none [] = refl
 each f none (x ∷ xs) = neither (has_float (f x)) (items_have_float (items_of (map f xs))) (none x) (each f none xs)
 
-text_has_none : (t : Option (List ℕ)) → has_float (text_or_null t) ≡ false
+pub text_has_none : (t : Option (List ℕ)) → has_float (text_or_null t) ≡ false
 text_has_none None = refl
 text_has_none (Some t) = refl
 
@@ -71,7 +71,7 @@ bytes_have_none : (t : Option (List ℕ)) → has_float (bytes_or_null t) ≡ fa
 bytes_have_none None = refl
 bytes_have_none (Some t) = refl
 
-set_has_none : (s : Option SetName) → has_float (data_if s) ≡ false
+pub set_has_none : (s : Option SetName) → has_float (data_if s) ≡ false
 set_has_none None = refl
 set_has_none (Some s) =
     no_floats ((codes "device", string s.device) ∷ (codes "variant", text_or_null s.variant) ∷ (codes "pname", text_or_null s.pname) ∷ []) no_members
@@ -81,7 +81,7 @@ what_has_none : (found : Found) (ms : Members) → members_have_float ms ≡ fal
 what_has_none found ms others =
     no_floats ((codes "kind", string (kind_word found.fault.kind)) ∷ (codes "name", bytes_or_null (name_of found)) ∷ []) ms (refl, (bytes_have_none (name_of found), tt)) others
 
-step_has_none : (spot : Spot) (ms : Members) → members_have_float ms ≡ false → members_have_float (with_step spot ms) ≡ false
+pub step_has_none : (spot : Spot) (ms : Members) → members_have_float ms ≡ false → members_have_float (with_step spot ms) ≡ false
 step_has_none spot ms others =
     no_floats ((codes "sequence", text_or_null spot.sequence) ∷ (codes "path", counts spot.path) ∷ (codes "part", string (part_word spot.part)) ∷ []) ms
     (text_has_none spot.sequence, (each count (λ n. refl) spot.path, (refl, tt))) others
@@ -91,7 +91,7 @@ place_has_none found ms others =
     no_floats ((codes "line", count found.fault.spot.place.line) ∷ (codes "column", count found.fault.spot.place.column) ∷ (codes "text", text_or_null found.line) ∷ []) ms
     (refl, (refl, (text_has_none found.line, tt))) others
 
-fault_has_none : (sets : List SetName) (f : PackFault) → has_float (fault_data sets f) ≡ false
+pub fault_has_none : (sets : List SetName) (f : PackFault) → has_float (fault_data sets f) ≡ false
 fault_has_none sets f =
     let what = what_has_none f.found no_members refl in
     let step = step_has_none f.found.fault.spot (with_what f.found no_members) what in

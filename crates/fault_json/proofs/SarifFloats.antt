@@ -19,14 +19,14 @@ use Rattle.fault_json.specs.Columns.{character_column}
 use Rattle.fault_json.specs.SarifLog.{one_member, line_text, step_name, all_kinds, rule_data, tool_data, logical_data, region_data, physical_data, with_physical, location_data, with_rule, message_data, result_data, run_data, sarif_data, faults_sarif}
 use Rattle.fault_json.proofs.NoFloats.{neither, no_floats, each}
 
-one : (d : Data) → has_float d ≡ false → items_have_float (items_of (d ∷ [])) ≡ false
+pub one : (d : Data) → has_float d ≡ false → items_have_float (items_of (d ∷ [])) ≡ false
 one d none = neither (has_float d) false none refl
 
 -- an object with one member
-only : (key : List ℕ) (d : Data) → has_float d ≡ false → has_float (one_member key d) ≡ false
+pub only : (key : List ℕ) (d : Data) → has_float d ≡ false → has_float (one_member key d) ≡ false
 only key d none = no_floats ((key, d) ∷ []) no_members (none, tt) refl
 
-rule_of_kind : (kind : FaultKind) → has_float (rule_data kind) ≡ false
+pub rule_of_kind : (kind : FaultKind) → has_float (rule_data kind) ≡ false
 rule_of_kind kind = only (codes "id") (string (kind_word kind)) refl
 
 tool_has_none : has_float tool_data ≡ false
@@ -46,7 +46,7 @@ physical_has_none line place =
     no_floats ((codes "artifactLocation", one_member (codes "uri") (string (codes "job.json"))) ∷ (codes "region", region_data line place) ∷ []) no_members
     (only (codes "uri") (string (codes "job.json")) refl, (region_has_none line place, tt)) refl
 
-place_has_none : (line : Option (List ℕ)) (place : Place) (ms : Members) → members_have_float ms ≡ false → members_have_float (with_physical line place ms) ≡ false
+pub place_has_none : (line : Option (List ℕ)) (place : Place) (ms : Members) → members_have_float ms ≡ false → members_have_float (with_physical line place ms) ≡ false
 place_has_none None place ms others = others
 place_has_none (Some line) place ms others = no_floats ((codes "physicalLocation", physical_data line place) ∷ []) ms (physical_has_none line place, tt) others
 
@@ -55,7 +55,7 @@ location_has_none found =
     place_has_none found.line found.fault.spot.place (put (codes "logicalLocations") (list (logical_data found.fault.spot ∷ [])) no_members)
     (no_floats ((codes "logicalLocations", list (logical_data found.fault.spot ∷ [])) ∷ []) no_members (one (logical_data found.fault.spot) (logical_has_none found.fault.spot), tt) refl)
 
-result_has_none : (sets : List SetName) (f : PackFault) → has_float (result_data sets f) ≡ false
+pub result_has_none : (sets : List SetName) (f : PackFault) → has_float (result_data sets f) ≡ false
 result_has_none sets f =
     no_floats ((codes "ruleId", string (kind_word f.found.fault.kind)) ∷ (codes "level", string (codes "error")) ∷ (codes "message", message_data sets f)
     ∷ (codes "locations", list (location_data f.found ∷ [])) ∷ []) no_members

@@ -67,7 +67,8 @@ fn values_at(alloc: Global, sets: &[SetName], places: &[usize]) -> Result<Vec<Va
     Ok(values)
 }
 
-fn for_value(alloc: Global, sets: &[SetName], places: &[usize]) -> Result<Value, AllocError>
+/// The sets at these places.
+pub fn for_value(alloc: Global, sets: &[SetName], places: &[usize]) -> Result<Value, AllocError>
     ensures { IfOk result (λ v. view v ≡ for_data sets.now places.now) }
 {
     Ok(Value::Array(values_at(alloc, sets, places)?))
@@ -91,8 +92,12 @@ fn put_what(
     )
 }
 
-// The sequence, the steps and the part.
-fn put_step(alloc: Global, members: &mut Map<String, Value>, spot: &Spot) -> Result<(), AllocError>
+/// The sequence, the steps and the part.
+pub fn put_step(
+    alloc: Global,
+    members: &mut Map<String, Value>,
+    spot: &Spot,
+) -> Result<(), AllocError>
     ensures { OnOk result (members_view members.new.entries ≡ with_step spot.now (members_view members.old.entries)) }
 {
     put(

@@ -19,7 +19,8 @@ use serde_json::{Map, Value, put};
 use std::alloc::{AllocError, Global};
 use text_lines::{Line, TextError};
 
-const KINDS: [FaultKind; 15] = [
+/// All kinds of faults.
+pub const KINDS: [FaultKind; 15] = [
     FaultKind::Syntax,
     FaultKind::UndefinedName,
     FaultKind::Redeclared,
@@ -37,8 +38,8 @@ const KINDS: [FaultKind; 15] = [
     FaultKind::CallsTooDeep,
 ];
 
-// An object with one member.
-fn one_member(alloc: Global, key: &str, value: Value) -> Result<Value, AllocError>
+/// An object with one member.
+pub fn one_member(alloc: Global, key: &str, value: Value) -> Result<Value, AllocError>
     ensures { IfOk result (λ v. view v ≡ one_member key.now (view value)) }
 {
     let mut members = Map::new(alloc);
@@ -46,15 +47,15 @@ fn one_member(alloc: Global, key: &str, value: Value) -> Result<Value, AllocErro
     Ok(Value::Object(members))
 }
 
-// A list with one item.
-fn one_item(alloc: Global, item: Value) -> Result<Value, AllocError>
+/// A list with one item.
+pub fn one_item(alloc: Global, item: Value) -> Result<Value, AllocError>
     ensures { IfOk result (λ v. view v ≡ list (view item ∷ [])) }
 {
     Ok(Value::Array(vec![in alloc; item]?))
 }
 
-// The bytes of a line as a text.
-fn line_text(alloc: Global, line: &Line) -> Result<Value, AllocError>
+/// The bytes of a line as a text.
+pub fn line_text(alloc: Global, line: &Line) -> Result<Value, AllocError>
     ensures { IfOk result (λ v. view v ≡ line_text line.now) }
 {
     Ok(Value::String(String::from_utf8_lossy(alloc, line.as_bytes())?))
@@ -66,7 +67,8 @@ fn rule_value(alloc: Global, kind: FaultKind) -> Result<Value, AllocError>
     one_member(alloc, "id", Value::try_from_str(alloc, kind_text(kind))?)
 }
 
-fn rules_of(alloc: Global, kinds: &[FaultKind]) -> Result<Vec<Value>, AllocError>
+/// A rule for each of these kinds.
+pub fn rules_of(alloc: Global, kinds: &[FaultKind]) -> Result<Vec<Value>, AllocError>
     ensures { IfOk result (λ vs. map view vs.items ≡ map rule_data kinds.now) }
 {
     let mut rules = Vec::new(alloc);
@@ -91,8 +93,8 @@ fn tool_value(alloc: Global) -> Result<Value, AllocError>
     one_member(alloc, "driver", Value::Object(members))
 }
 
-// The sequence, the step and its part, or the debug variables.
-fn step_name(alloc: Global, spot: &Spot) -> Result<Line, OutOfMemory>
+/// The sequence, the step and its part, or the debug variables.
+pub fn step_name(alloc: Global, spot: &Spot) -> Result<Line, OutOfMemory>
     ensures { IfOk result (λ line. line ≡ sarif.step_name spot.now.sequence spot.now.path spot.now.part) }
 {
     match &spot.sequence {
@@ -126,7 +128,8 @@ fn region_value(alloc: Global, line: &NameText, place: Place) -> Result<Value, A
     Ok(Value::Object(members))
 }
 
-fn physical_value(alloc: Global, line: &NameText, place: Place) -> Result<Value, AllocError>
+/// A place in a text of the job, in this line.
+pub fn physical_value(alloc: Global, line: &NameText, place: Place) -> Result<Value, AllocError>
     ensures { IfOk result (λ v. view v ≡ physical_data line.now place) }
 {
     let mut members = Map::new(alloc);
@@ -210,7 +213,8 @@ fn result_value(alloc: Global, sets: &[SetName], fault: &PackFault) -> Result<Va
     Ok(Value::Object(members))
 }
 
-fn results_of(
+/// A result for each of these faults.
+pub fn results_of(
     alloc: Global,
     sets: &[SetName],
     faults: &[PackFault],

@@ -13,7 +13,8 @@ use serde_json::{Map, Value, put};
 use std::alloc::{AllocError, Global};
 use text_lines::TextError;
 
-fn fault_values(
+/// The values of faults, in order.
+pub fn fault_values(
     alloc: Global,
     sets: &[SetName],
     faults: &[PackFault],
@@ -27,8 +28,8 @@ fn fault_values(
     Ok(values)
 }
 
-// How many devices there are, and how many sets.
-fn put_checked(
+/// How many devices there are, and how many sets.
+pub fn put_checked(
     alloc: Global,
     members: &mut Map<String, Value>,
     faults: &PackFaults,
@@ -39,8 +40,8 @@ fn put_checked(
     put(members, alloc, "sets", Value::from(faults.sets.len()))
 }
 
-// How many sets have names, and calls, that were not checked.
-fn put_unchecked(
+/// How many sets have names, and calls, that were not checked.
+pub fn put_unchecked(
     alloc: Global,
     members: &mut Map<String, Value>,
     faults: &PackFaults,

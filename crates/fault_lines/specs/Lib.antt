@@ -1,3 +1,4 @@
 pub mod Source
 pub mod Counted
 pub mod FaultText
+pub mod WarningText

@@ -55,3 +55,20 @@ pub fn counts_line(
     let line = with_checked(Line::begin(alloc, "")?, faults, devices, sets)?;
     with_unreached(line, unread, unreached)?.text("\n")
 }
+
+/// The same line with this many warnings. `OutOfMemory` where memory is refused.
+pub fn warned_counts_line(
+    alloc: Global,
+    faults: u64,
+    devices: u64,
+    sets: u64,
+    unread: u64,
+    unreached: u64,
+    warnings: u64,
+) -> Result<Line, OutOfMemory>
+    ensures { IfOk result (λ line. line ≡ lines.warned_counts_line faults devices sets unread unreached warnings) }
+{
+    let line = with_checked(Line::begin(alloc, "")?, faults, devices, sets)?;
+    let line = with_unreached(line, unread, unreached)?.text("; ")?;
+    with_counted(line, warnings, " warning\n", " warnings\n")
+}

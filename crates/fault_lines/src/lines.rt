@@ -58,7 +58,8 @@ fn with_name(line: Line, name: Option<&[u8]>) -> Result<Line, OutOfMemory>
     }
 }
 
-fn with_text(line: Line, name: &Option<NameText>) -> Result<Line, OutOfMemory>
+/// A blank and the name, where there is one.
+pub fn with_text(line: Line, name: &Option<NameText>) -> Result<Line, OutOfMemory>
     ensures { IfOk result (λ l. l ≡ line ++ after_blank name.now) }
 {
     match name {
@@ -108,7 +109,8 @@ fn with_more(line: Line, more: &[usize]) -> Result<Line, OutOfMemory>
     }
 }
 
-fn with_sets(line: Line, sets: &[SetName], places: &[usize]) -> Result<Line, OutOfMemory>
+/// The first two of the sets at these places, and how many there are more.
+pub fn with_sets(line: Line, sets: &[SetName], places: &[usize]) -> Result<Line, OutOfMemory>
     ensures { IfOk result (λ l. l ≡ line ++ for_words sets.now places.now) }
 {
     match places {

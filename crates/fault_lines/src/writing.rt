@@ -14,8 +14,12 @@ use pack_faults::{PackFault, PackFaults, SetName};
 use std::alloc::Global;
 use text_lines::{Line, TextError, put_line, put_text};
 
-// The line that a fault stands in and the caret, where there is one.
-fn place_text(alloc: Global, line: &Option<NameText>, column: u64) -> Result<Vec<u8>, OutOfMemory>
+/// The line that a fault stands in and the caret, where there is one.
+pub fn place_text(
+    alloc: Global,
+    line: &Option<NameText>,
+    column: u64,
+) -> Result<Vec<u8>, OutOfMemory>
     ensures { IfOk result (λ t. t.items ≡ text.place_words line.now column) }
 {
     match line {
@@ -40,9 +44,9 @@ fn text_of(alloc: Global, sets: &[SetName], fault: &PackFault) -> Result<Vec<u8>
     Ok(text)
 }
 
-// Puts a text by one `put`, if there was memory for it.
+/// Puts a text by one `put`, if there was memory for it.
 #[tactic(auto, using(text_lines::proofs::PutLemmas::no_part))]
-fn put_made<K: Sink>(text: Result<Vec<u8>, OutOfMemory>, sink: &mut K) -> Result<(), TextError>
+pub fn put_made<K: Sink>(text: Result<Vec<u8>, OutOfMemory>, sink: &mut K) -> Result<(), TextError>
     ensures text { (bytes : List ℕ) → IfOk text (λ t. t.items ≡ bytes) → PutAppends (K.written sink.old) (K.written sink.new) result bytes }
     ensures sink { NamesFault TextError.Failed (K.faults sink.old) (K.faults sink.new) result }
 {
@@ -52,8 +56,8 @@ fn put_made<K: Sink>(text: Result<Vec<u8>, OutOfMemory>, sink: &mut K) -> Result
     }
 }
 
-// Puts the lines of each fault.
-fn write_each<K: Sink>(
+/// Puts the lines of each fault.
+pub fn write_each<K: Sink>(
     alloc: Global,
     sets: &[SetName],
     faults: &[PackFault],

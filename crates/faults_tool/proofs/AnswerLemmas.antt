@@ -24,6 +24,7 @@ undisturbed answers.TooLong is = is
 undisturbed (answers.Refused refusal) is = is
 undisturbed answers.NoPname is = is
 undisturbed (answers.Faults format faults) is = list_undisturbed faults.faults is
+undisturbed (answers.Warned format faults warnings) is = list_undisturbed faults.faults is
 
 list_unused : (faults : List PackFault) → list_status faults ≡ status.Usage → ⊥
 list_unused [] e = cc
@@ -37,6 +38,7 @@ used answers.TooLong e = absurd (cc)
 used (answers.Refused refusal) e = absurd (cc)
 used answers.NoPname e = absurd (cc)
 used (answers.Faults format faults) e = absurd (list_unused faults.faults e)
+used (answers.Warned format faults warnings) e = absurd (list_unused faults.faults e)
 
 pub usage_status : answer_status answers.Usage ≡ status.Usage
 unfolding answer_status

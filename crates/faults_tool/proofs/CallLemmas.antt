@@ -1,12 +1,16 @@
 -- What a whole call does, and what follows from it.
-use Rattle.std.proofs.Common.{◌≡◌, ◌≢◌, ◌∙◌, ◌⊎◌, ℕ, List, Option, Some, None, Result, Ok, Err, inl, inr, refl, ap, sym, subst, arith}
+use Rattle.std.proofs.Common.{◌≡◌, ◌≢◌, ◌∙◌, ◌⊎◌, ℕ, Bool, List, Option, Some, None, Result, Ok, Err, inl, inr, refl, ap, sym, subst, arith}
 use Rattle.std.specs.Prelude.{IfOk, OnOk}
 use Rattle.dap_base.specs.Causes.{IsQuiet, Rose}
 use Rattle.text_lines.specs.Causes.{NamesFault}
 use Rattle.faults_tool.specs.Answers.{answer_status}
 use Rattle.pack_faults.specs.declared.request.PackRefusal.{PackRefusal}
 use Rattle.pack_faults.specs.declared.request.PackRefusal.TheVariants as packs
-use Rattle.faults_tool.specs.Asked.{AreAllValid, Asks, IsLine, IsUsage, job, no_pack, no_set, of_refusal, pack, sets, too_long, usage}
+use Rattle.device_tree.specs.declared.pack.Pack.{Pack}
+use Rattle.pack_faults.specs.declared.request.Request.{Request}
+use Rattle.pack_faults.specs.declared.answer.PackFaults.{PackFaults}
+use Rattle.faults_words.specs.declared.format.Format.{Format}
+use Rattle.faults_tool.specs.Asked.{AreAllValid, Asks, IsLine, IsList, IsUsage, job, no_pack, no_set, of_refusal, pack, plain, request_of, sets, too_long, usage, warned}
 use Rattle.faults_tool.specs.Calls.{Blames, Call, Does, FailsPutting, IsCallOfValid, IsDisturbed, IsDone, IsFinished, does, no_memory, unread}
 use Rattle.job_source.specs.Source.{AreBytesOf}
 use Rattle.faults_tool.specs.declared.asking.Answer.{Answer}
@@ -123,12 +127,17 @@ unrefused packs.NoVariant answer e is = cc
 unrefused packs.NoPname answer e is = cc
 unrefused packs.OutOfMemory answer e is = cc
 
+unlisted : (p : Pack) (r : Request) (format : Format) (b : Bool) (faults : PackFaults) (answer : Answer) → IsList p r format b faults answer → answer ≡ answers.Usage → ⊥
+unlisted p r format b faults answer (plain off e) is = cc
+unlisted p r format b faults answer (warned list on are e) is = cc
+
 of_usage : (given : List (List ℕ)) (bytes : List ℕ) (answer : Answer) → Asks given bytes answer → answer ≡ answers.Usage → IsUsage given
 of_usage given bytes answer (usage none e) is = none
 of_usage given bytes answer (too_long line long e) is = absurd (cc)
 of_usage given bytes answer (job a asks short (no_pack r is_none e)) is = absurd (cc)
 of_usage given bytes answer (job a asks short (pack p says (no_set r is_none of))) is = absurd (unrefused r answer of is)
-of_usage given bytes answer (job a asks short (pack p says (sets faults none are e))) is = absurd (cc)
+of_usage given bytes answer (job a asks short (pack p says (sets faults none are e))) is =
+    absurd (unlisted p (request_of a) a.format a.warnings faults answer e is)
 
 usage_answer : (given : List (List ℕ)) (bytes : List ℕ) (answer : Answer) → Asks given bytes answer → IsUsage given → answer ≡ answers.Usage
 usage_answer given bytes answer (usage none e) is = e

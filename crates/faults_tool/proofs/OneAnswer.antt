@@ -1,19 +1,23 @@
 -- Words and bytes ask for one answer, and its status is that of a success exactly where each set is valid.
-use Rattle.std.proofs.Common.{◌≡◌, ◌∙◌, ◌<◌, ◌≤◌, ℕ, List, [], ◌∷◌, length, Option, None, Some, refl, ap, sym, subst, arith}
+use Rattle.std.proofs.Common.{◌≡◌, ◌∙◌, ◌<◌, ◌≤◌, ℕ, Bool, true, false, true≢false, List, [], ◌∷◌, length, Option, None, Some, refl, ap, sym, subst, arith}
 use Rattle.device_tree.specs.declared.pack.Pack.{Pack}
 use Rattle.job_check.specs.declared.answer.Refusal.{Refusal}
 use Rattle.pack_faults.specs.declared.answer.PackFault.{PackFault}
 use Rattle.pack_faults.specs.declared.answer.PackFaults.{PackFaults}
 use Rattle.pack_faults.specs.declared.request.PackRefusal.{PackRefusal}
 use Rattle.pack_faults.specs.declared.request.PackRefusal.TheVariants as packs
-use Rattle.pack_faults.specs.Answers.{AreValid}
+use Rattle.pack_faults.specs.Answers.{ArePackFaults, AreValid}
 use Rattle.pack_faults.specs.Sets.{refusal, sets_of}
 use Rattle.pack_faults.proofs.AnswerLemmas as faults_lemmas
+use Rattle.pack_faults.specs.declared.request.Request.{Request}
+use Rattle.pack_warnings.specs.declared.answer.PackWarning.{PackWarning}
+use Rattle.pack_warnings.proofs.SetLemmas as warning_lemmas
+use Rattle.faults_words.specs.declared.format.Format.{Format}
 use Rattle.faults_words.specs.declared.answer.Asked.{Asked}
 use Rattle.faults_words.specs.Asks as words
 use Rattle.faults_words.proofs.AskLemmas.{one_asked}
 use Rattle.faults_tool.specs.Answers.{answer_status, list_status}
-use Rattle.faults_tool.specs.Asked.{AreAllValid, Asks, AsksOfBytes, AsksOfPack, job, no_pack, no_set, of_refusal, pack, request_of, sets, too_long, usage}
+use Rattle.faults_tool.specs.Asked.{AreAllValid, Asks, AsksOfBytes, AsksOfPack, IsList, plain, warned, job, no_pack, no_set, of_refusal, pack, request_of, sets, too_long, usage}
 use Rattle.job_source.specs.Source.{limit}
 use Rattle.faults_tool.specs.declared.asking.Answer.{Answer}
 use Rattle.faults_tool.specs.declared.asking.Answer.TheVariants as answers
@@ -28,6 +32,16 @@ no_some r found a b = cc
 same_some : {A : Type 0} (x y : A) (found : Option A) → found ≡ Some x → found ≡ Some y → x ≡ y
 same_some x y found a b = cc
 
+not_both_ways : (b : Bool) → b ≡ false → b ≡ true → ⊥
+not_both_ways b h k = true≢false (sym k ∙ h)
+
+one_list : (p : Pack) (r : Request) (format : Format) (b : Bool) (faults : PackFaults) (x y : Answer) → IsList p r format b faults x → IsList p r format b faults y → x ≡ y
+one_list p r format b faults x y (plain off e) (plain none f) = e ∙ sym f
+one_list p r format b faults x y (plain off e) (warned list is are f) = absurd (not_both_ways b off is)
+one_list p r format b faults x y (warned list is are e) (plain off f) = absurd (not_both_ways b off is)
+one_list p r format b faults x y (warned list is are e) (warned other also others f) =
+    e ∙ ap (λ (ws : List PackWarning). answers.Warned format faults ws) (warning_lemmas.one_answer p r list other are others) ∙ sym f
+
 one_of_pack : (p : Pack) (a : Asked) (x y : Answer) → AsksOfPack p a x → AsksOfPack p a y → x ≡ y
 one_of_pack p a x y (no_set r is of) (no_set s other of_other) =
     let same : r ≡ s = same_some r s (refusal p (request_of a)) is other in
@@ -35,7 +49,8 @@ one_of_pack p a x y (no_set r is of) (no_set s other of_other) =
 one_of_pack p a x y (no_set r is of) (sets faults none are e) = absurd (no_some r (refusal p (request_of a)) is none)
 one_of_pack p a x y (sets faults none are e) (no_set r is of) = absurd (no_some r (refusal p (request_of a)) is none)
 one_of_pack p a x y (sets faults none are e) (sets others nothing are_others f) =
-    e ∙ ap (λ (q : PackFaults). answers.Faults a.format q) (faults_lemmas.one_answer p (request_of a) faults others are are_others) ∙ sym f
+    let same : faults ≡ others = faults_lemmas.one_answer p (request_of a) faults others are are_others in
+    one_list p (request_of a) a.format a.warnings others x y (subst (λ (q : PackFaults). IsList p (request_of a) a.format a.warnings q x) same e) f
 
 abbrev refused : Refusal → Answer
 refused r = answers.Refused r
@@ -71,9 +86,11 @@ list_empty (f ∷ fs) e = absurd (cc)
 empty_done : (faults : List PackFault) → faults ≡ [] → list_status faults ≡ status.Done
 empty_done faults e = ap list_status e
 
-status_of_list : (a : Asked) (answer : Answer) (faults : PackFaults) → answer ≡ answers.Faults a.format faults → answer_status answer ≡ list_status faults.faults
+-- warnings change no status
+status_of_list : (p : Pack) (a : Asked) (answer : Answer) (faults : PackFaults) → IsList p (request_of a) a.format a.warnings faults answer → answer_status answer ≡ list_status faults.faults
 unfolding answer_status
-status_of_list a answer faults e = ap answer_status e
+status_of_list p a answer faults (plain off e) = ap answer_status e
+status_of_list p a answer faults (warned list is are e) = ap answer_status e
 
 not_done : (r : Refusal) (answer : Answer) → answer ≡ answers.Refused r → answer_status answer ≡ status.Done → ⊥
 unfolding answer_status
@@ -100,7 +117,7 @@ valid_of given bytes answer (too_long line long e) done = absurd (too_long_not_d
 valid_of given bytes answer (job a asks short (no_pack r is e)) done = absurd (not_done r answer e done)
 valid_of given bytes answer (job a asks short (pack p says (no_set r is of))) done = absurd (no_set_not_done r answer of done)
 valid_of given bytes answer (job a asks short (pack p says (sets faults none are e))) done =
-    let empty : faults.faults ≡ [] = list_empty faults.faults (sym (status_of_list a answer faults e) ∙ done) in
+    let empty : faults.faults ≡ [] = list_empty faults.faults (sym (status_of_list p a answer faults e) ∙ done) in
     record { asked = a; asks = asks; short = short; pack = p; describes = says; some = none; valid = (faults_lemmas.empty_where_valid p (request_of a) faults are).0 empty }
 
 -- where each set is valid, the faults of the pack are none
@@ -115,9 +132,31 @@ none_of_valid given bytes a answer v asks (pack p says (sets faults none are e))
     let same : v.pack ≡ p = one_pack bytes v.pack p v.describes says in
     let valid : AreValid p (sets_of p (request_of a)) =
     subst (λ (b : Asked). AreValid p (sets_of p (request_of b))) asked (subst (λ (q : Pack). AreValid q (sets_of q (request_of v.asked))) same v.valid) in
-    status_of_list a answer faults e ∙ empty_done faults.faults ((faults_lemmas.empty_where_valid p (request_of a) faults are).1 valid)
+    status_of_list p a answer faults e ∙ empty_done faults.faults ((faults_lemmas.empty_where_valid p (request_of a) faults are).1 valid)
 
 pub done_of : (given : List (List ℕ)) (bytes : List ℕ) (answer : Answer) → Asks given bytes answer → AreAllValid given bytes → answer_status answer ≡ status.Done
 done_of given bytes answer (usage none e) v = absurd (none v.asked v.asks)
 done_of given bytes answer (too_long line long e) v = absurd (not_both (length bytes) long v.short)
 done_of given bytes answer (job a asks short of) v = none_of_valid given bytes a answer v asks of
+
+-- ---- the status is by the request
+
+status_of_pack : (p : Pack) (a b : Asked) (x y : Answer) → request_of a ≡ request_of b → AsksOfPack p a x → AsksOfPack p b y → answer_status x ≡ answer_status y
+status_of_pack p a b x y same (no_set r is of) (no_set s other of_other) =
+    let also : refusal p (request_of a) ≡ Some s = ap (λ (q : Request). refusal p q) same ∙ other in
+    let one : r ≡ s = same_some r s (refusal p (request_of a)) is also in
+    ap answer_status (same_some x y (of_refusal s) (subst (λ (q : PackRefusal). of_refusal q ≡ Some x) one of) of_other)
+status_of_pack p a b x y same (no_set r is of) (sets others nothing are_others f) =
+    absurd (no_some r (refusal p (request_of a)) is (ap (λ (q : Request). refusal p q) same ∙ nothing))
+status_of_pack p a b x y same (sets faults none are e) (no_set s other of_other) =
+    absurd (no_some s (refusal p (request_of a)) (ap (λ (q : Request). refusal p q) same ∙ other) none)
+status_of_pack p a b x y same (sets faults none are e) (sets others nothing are_others f) =
+    let one : faults ≡ others = faults_lemmas.one_answer p (request_of b) faults others (subst (λ (q : Request). ArePackFaults p q faults) same are) are_others in
+    status_of_list p a x faults e ∙ ap (λ (q : PackFaults). list_status q.faults) one ∙ sym (status_of_list p b y others f)
+
+pub same_status : (bytes : List ℕ) (a b : Asked) (x y : Answer) → request_of a ≡ request_of b → AsksOfBytes bytes a x → AsksOfBytes bytes b y → answer_status x ≡ answer_status y
+same_status bytes a b x y same (no_pack r is e) (no_pack s other f) = ap answer_status (e ∙ ap refused (one_refusal bytes r s is other) ∙ sym f)
+same_status bytes a b x y same (no_pack r is e) (pack p says of) = absurd (no_refusal bytes p r says is)
+same_status bytes a b x y same (pack p says of) (no_pack r is e) = absurd (no_refusal bytes p r says is)
+same_status bytes a b x y same (pack p says of) (pack q others of_others) =
+    status_of_pack q a b x y same (subst (λ (z : Pack). AsksOfPack z a x) (one_pack bytes p q says others) of) of_others

@@ -8,6 +8,10 @@ use Rattle.pack_faults.specs.declared.answer.PackFaults.{PackFaults}
 use Rattle.fault_lines.specs.FaultText.{faults_text}
 use Rattle.fault_json.specs.FaultsJson.{faults_json}
 use Rattle.fault_json.specs.SarifLog.{faults_sarif}
+use Rattle.pack_warnings.specs.declared.answer.PackWarning.{PackWarning}
+use Rattle.fault_lines.specs.WarningText.{warned_text}
+use Rattle.fault_json.specs.WarningsJson.{warned_json}
+use Rattle.fault_json.specs.WarningsSarif.{warned_sarif}
 use Rattle.faults_words.specs.declared.format.Format.{Format}
 use Rattle.faults_words.specs.declared.format.Format.TheVariants as formats
 use Rattle.faults_tool.specs.declared.asking.Answer.{Answer}
@@ -29,7 +33,7 @@ code_of status.OutOfMemory = 7
 
 -- the line of words that ask for nothing
 abbrev pub usage_line : List ℕ
-usage_line = codes "usage dapseq_faults [--device NAME] [--variant NAME] [--pname NAME] [--format text|json|sarif] < JOB\n"
+usage_line = codes "usage dapseq_faults [--device NAME] [--variant NAME] [--pname NAME] [--format text|json|sarif] [--warnings] < JOB\n"
 
 -- the line of a processor that no sequence is for
 abbrev pub no_pname_line : List ℕ
@@ -45,6 +49,12 @@ formatted formats.Text faults = faults_text faults
 formatted formats.Json faults = faults_json faults
 formatted formats.Sarif faults = faults_sarif faults
 
+-- the same, and all warnings
+abbrev pub warned_in : Format → PackFaults → List PackWarning → List ℕ
+warned_in formats.Text faults warnings = warned_text faults warnings
+warned_in formats.Json faults warnings = warned_json faults warnings
+warned_in formats.Sarif faults warnings = warned_sarif faults warnings
+
 -- the text of an answer
 unfoldable pub answer_text : Answer → List ℕ
 answer_text answers.Usage = usage_line
@@ -52,6 +62,7 @@ answer_text answers.TooLong = too_long_line
 answer_text (answers.Refused refusal) = refusal_line refusal
 answer_text answers.NoPname = no_pname_line
 answer_text (answers.Faults format faults) = formatted format faults
+answer_text (answers.Warned format faults warnings) = warned_in format faults warnings
 
 -- ---- statuses
 
@@ -60,13 +71,14 @@ abbrev pub list_status : List PackFault → Status
 list_status [] = status.Done
 list_status (f ∷ fs) = status.Faulty
 
--- the status where an answer is written
+-- the status where an answer is written; warnings change none
 unfoldable pub answer_status : Answer → Status
 answer_status answers.Usage = status.Usage
 answer_status answers.TooLong = status.Refused
 answer_status (answers.Refused refusal) = status.Refused
 answer_status answers.NoPname = status.Refused
 answer_status (answers.Faults format faults) = list_status faults.faults
+answer_status (answers.Warned format faults warnings) = list_status faults.faults
 
 -- the status where a text was not written whole
 abbrev pub failed_status : TextError → Status

@@ -1,5 +1,5 @@
 -- What the words and the bytes of a source ask for.
-use Rattle.std.specs.Prelude.{◌≡◌, ℕ, ◌<◌, ◌≤◌, List, length, Option, Some, None}
+use Rattle.std.specs.Prelude.{◌≡◌, ℕ, ◌<◌, ◌≤◌, Bool, true, false, List, length, Option, Some, None}
 use Rattle.device_tree.specs.declared.pack.Pack.{Pack}
 use Rattle.job_check.specs.declared.answer.Refusal.{Refusal}
 use Rattle.job_check.specs.declared.answer.Refusal.TheVariants as refusals
@@ -9,7 +9,10 @@ use Rattle.pack_faults.specs.declared.request.PackRefusal.TheVariants as packs
 use Rattle.pack_faults.specs.declared.answer.PackFaults.{PackFaults}
 use Rattle.pack_faults.specs.Sets.{refusal, sets_of}
 use Rattle.pack_faults.specs.Answers.{ArePackFaults, AreValid}
+use Rattle.pack_warnings.specs.declared.answer.PackWarning.{PackWarning}
+use Rattle.pack_warnings.specs.Answers.{ArePackWarnings}
 use Rattle.faults_words.specs.declared.answer.Asked.{Asked}
+use Rattle.faults_words.specs.declared.format.Format.{Format}
 use Rattle.faults_words.specs.Asks as words
 use Rattle.job_source.specs.Source.{limit}
 use Rattle.faults_tool.specs.declared.asking.Answer.{Answer}
@@ -39,11 +42,17 @@ of_refusal packs.NoVariant = Some (answers.Refused refusals.NoVariant)
 of_refusal packs.NoPname = Some answers.NoPname
 of_refusal packs.OutOfMemory = None
 
--- what is asked for of a pack: why there is no set, or all faults of the sets, in the format that is named
+-- the faults of the sets, in this format; with the warnings of the sets, where they are asked for
+pub data IsList (pack : Pack) (r : Request) (format : Format) (warnings : Bool) (faults : PackFaults) (answer : Answer) : Type 0 where
+  plain : warnings ≡ false → answer ≡ answers.Faults format faults → IsList pack r format warnings faults answer
+  warned : (list : List PackWarning) → warnings ≡ true → ArePackWarnings pack r list → answer ≡ answers.Warned format faults list
+      → IsList pack r format warnings faults answer
+
+-- what is asked for of a pack: why there is no set, or all faults of the sets, in the format that is named, with their warnings or without
 pub data AsksOfPack (pack : Pack) (a : Asked) (answer : Answer) : Type 0 where
   no_set : (r : PackRefusal) → refusal pack (request_of a) ≡ Some r → of_refusal r ≡ Some answer → AsksOfPack pack a answer
   sets : (faults : PackFaults) → refusal pack (request_of a) ≡ None → ArePackFaults pack (request_of a) faults
-      → answer ≡ answers.Faults a.format faults → AsksOfPack pack a answer
+      → IsList pack (request_of a) a.format a.warnings faults answer → AsksOfPack pack a answer
 
 -- the same of bytes: why they describe no pack, or what is asked for of the pack
 pub data AsksOfBytes (bytes : List ℕ) (a : Asked) (answer : Answer) : Type 0 where

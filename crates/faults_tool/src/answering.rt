@@ -2,16 +2,17 @@
 ghost use Rattle.std.specs.Prelude.{◌≡◌};
 ghost use Rattle.dap_base.specs.Streams.{PutAppends};
 ghost use Rattle.text_lines.specs.Causes.{NamesFault};
-ghost use Rattle.faults_tool.specs.Answers.{answer_text, answer_status, formatted, list_status, no_pname_line, usage_line};
+ghost use Rattle.faults_tool.specs.Answers.{answer_text, answer_status, formatted, warned_in, list_status, no_pname_line, usage_line};
 
 use crate::asking::Answer;
 use crate::status::Status;
 use check_lines::{write_refusal, write_too_long};
 use dap_base::Sink;
-use fault_json::{write_json, write_sarif};
-use fault_lines::write_faults;
+use fault_json::{write_json, write_sarif, write_warned_json, write_warned_sarif};
+use fault_lines::{write_faults, write_warned};
 use faults_words::Format;
 use pack_faults::{PackFault, PackFaults};
+use pack_warnings::PackWarning;
 use std::alloc::Global;
 use text_lines::{TextError, put_text};
 
@@ -33,12 +34,14 @@ pub fn status_of(answer: &Answer) -> Status
     match answer {
         Answer::Usage => Status::Usage,
         Answer::TooLong | Answer::Refused(_) | Answer::NoPname => Status::Refused,
-        Answer::Faults(_, faults) => list_status(faults.faults.as_slice()),
+        Answer::Faults(_, faults) | Answer::Warned(_, faults, _) => {
+            list_status(faults.faults.as_slice())
+        }
     }
 }
 
 const USAGE: &[u8] =
-    b"usage dapseq_faults [--device NAME] [--variant NAME] [--pname NAME] [--format text|json|sarif] < JOB\n";
+    b"usage dapseq_faults [--device NAME] [--variant NAME] [--pname NAME] [--format text|json|sarif] [--warnings] < JOB\n";
 
 // Writes the line of words that ask for nothing.
 fn write_usage<K: Sink>(sink: &mut K) -> Result<(), TextError>
@@ -73,6 +76,24 @@ fn write_formatted<K: Sink>(
     }
 }
 
+// Writes all faults and warnings in this format.
+fn write_list<K: Sink>(
+    alloc: Global,
+    format: Format,
+    faults: &PackFaults,
+    warnings: &[PackWarning],
+    sink: &mut K,
+) -> Result<(), TextError>
+    ensures text { PutAppends (K.written sink.old) (K.written sink.new) result (warned_in format faults.now warnings.now) }
+    ensures sink { NamesFault TextError.Failed (K.faults sink.old) (K.faults sink.new) result }
+{
+    match format {
+        Format::Text => write_warned(alloc, faults, warnings, sink),
+        Format::Json => write_warned_json(alloc, faults, warnings, sink),
+        Format::Sarif => write_warned_sarif(alloc, faults, warnings, sink),
+    }
+}
+
 /// Writes the text of an answer. At an error a part of it was written, from its front.
 #[tactic(auto, unfolding(crate::specs::Answers::answer_text))]
 pub fn write_answer<K: Sink>(alloc: Global, answer: &Answer, sink: &mut K) -> Result<(), TextError>
@@ -85,5 +106,8 @@ pub fn write_answer<K: Sink>(alloc: Global, answer: &Answer, sink: &mut K) -> Re
         Answer::Refused(refusal) => write_refusal(alloc, refusal, sink),
         Answer::NoPname => write_no_pname(sink),
         Answer::Faults(format, faults) => write_formatted(alloc, *format, faults, sink),
+        Answer::Warned(format, faults, warnings) => {
+            write_list(alloc, *format, faults, warnings.as_slice(), sink)
+        }
     }
 }

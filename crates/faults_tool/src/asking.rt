@@ -2,16 +2,17 @@
 ghost use Rattle.std.specs.Prelude.{◌≡◌, ℕ, List, Some, IfOk, OnOk, IsErrOf};
 ghost use Rattle.text_lines.specs.Causes.{NamesFault};
 ghost use Rattle.faults_words.specs.Asks as words_asked;
-ghost use Rattle.faults_tool.specs.Asked.{Asks, AsksOfBytes, AsksOfPack, IsLine, of_refusal};
+ghost use Rattle.faults_tool.specs.Asked.{Asks, AsksOfBytes, AsksOfPack, IsLine, IsList, of_refusal};
 ghost use Rattle.job_source.specs.Source.{AreBytesOf, AreTaken};
 
 use crate::packs::read_pack;
-use dap_base::{OutOfMemory, Source, Words};
+use dap_base::{ItemList, OutOfMemory, Source, Words};
 use device_tree::Pack;
 use faults_words::{Asked, Format, WordsError, asked_of};
 use job_check::{CheckRefusal, Refusal};
 use job_source::{Unread, read_job};
 use pack_faults::{PackFaults, PackRefusal, Request, pack_faults};
+use pack_warnings::{PackWarning, pack_warnings};
 use std::alloc::Global;
 
 /// What is answered.
@@ -27,6 +28,8 @@ pub enum Answer {
     NoPname,
     /// All faults of the sets that are requested, and how they are written.
     Faults(Format, PackFaults),
+    /// The same, and all warnings of these sets.
+    Warned(Format, PackFaults, ItemList<PackWarning>),
 }
 
 /// Why it is not known what is asked for.
@@ -50,6 +53,26 @@ fn refused_by(refusal: PackRefusal) -> Result<Answer, OutOfMemory>
     }
 }
 
+// The faults of the sets, with their warnings where these are asked for.
+fn list_of(
+    alloc: Global,
+    pack: &Pack,
+    request: &Request,
+    format: Format,
+    warnings: bool,
+    faults: PackFaults,
+) -> Result<Answer, OutOfMemory>
+    ensures { IfOk result (IsList pack.now request.now format warnings faults) }
+{
+    if !warnings {
+        return Ok(Answer::Faults(format, faults));
+    }
+    match pack_warnings(alloc, pack, request) {
+        Ok(warnings) => Ok(Answer::Warned(format, faults, warnings)),
+        Err(_) => Err(OutOfMemory),
+    }
+}
+
 // What is asked for of a pack.
 fn ask_of_pack(alloc: Global, asked: Asked, pack: &Pack) -> Result<Answer, OutOfMemory>
     ensures { IfOk result (AsksOfPack pack.now asked) }
@@ -60,7 +83,7 @@ fn ask_of_pack(alloc: Global, asked: Asked, pack: &Pack) -> Result<Answer, OutOf
         pname: asked.pname,
     };
     match pack_faults(alloc, pack, &request) {
-        Ok(faults) => Ok(Answer::Faults(asked.format, faults)),
+        Ok(faults) => list_of(alloc, pack, &request, asked.format, asked.warnings, faults),
         Err(refusal) => refused_by(refusal),
     }
 }

@@ -3,8 +3,9 @@ ghost use Rattle.std.specs.Prelude.{◌≡◌, ◌↔◌, ℕ, List};
 ghost use Rattle.serde_json.specs.Data.{Data};
 ghost use Rattle.job_text.specs.JobForm.{IsJob};
 ghost use Rattle.job_text.specs.declared.job.Job.{Job};
+ghost use Rattle.faults_words.specs.declared.answer.Asked.{Asked};
 ghost use Rattle.faults_tool.specs.Answers.{answer_status};
-ghost use Rattle.faults_tool.specs.Asked.{AreAllValid, Asks};
+ghost use Rattle.faults_tool.specs.Asked.{request_of, AreAllValid, Asks, AsksOfBytes};
 ghost use Rattle.faults_tool.specs.Packs.{HasPack};
 ghost use Rattle.faults_tool.specs.declared.asking.Answer.{Answer};
 ghost use Rattle.faults_tool.specs.declared.status.Status.TheVariants as status;
@@ -17,6 +18,11 @@ pub fn one_answer()
 /// The status of the answer is `Done` exactly where each set that is requested is valid.
 pub fn done_where_valid()
     ensures { (words : List (List ℕ)) (bytes : List ℕ) (answer : Answer) → Asks words bytes answer → (answer_status answer ≡ status.Done) ↔ AreAllValid words bytes }
+{}
+
+/// The status is by the sets that are requested. Neither the format nor the warnings change it.
+pub fn status_by_request()
+    ensures { (bytes : List ℕ) (a b : Asked) (x y : Answer) → request_of a ≡ request_of b → AsksOfBytes bytes a x → AsksOfBytes bytes b y → answer_status x ≡ answer_status y }
 {}
 
 /// A job that `dapseq` takes has its pack.

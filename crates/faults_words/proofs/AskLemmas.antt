@@ -1,5 +1,5 @@
 -- Words ask for one thing, that of their values.
-use Rattle.std.proofs.Common.{◌≡◌, ◌==◌, ℕ, List, [], ◌∷◌, if◌then◌else◌, codes, Option, None, Some, Result, Ok, Err, refl, sym, ap, subst, ◌∙◌}
+use Rattle.std.proofs.Common.{◌≡◌, ◌==◌, ℕ, Bool, List, [], ◌∷◌, if◌then◌else◌, codes, Option, None, Some, Result, Ok, Err, refl, sym, ap, subst, ◌∙◌}
 use Rattle.std.specs.Prelude.{IfOk, IfErr, MatchResult}
 use Rattle.std.proofs.lemmas.Result.{IfOk-weaker}
 use Rattle.clap.specs.Words.{first_value}
@@ -10,7 +10,7 @@ use Rattle.faults_words.specs.declared.answer.WordsError.TheVariants as errors
 use Rattle.faults_words.specs.declared.format.Format.{Format}
 use Rattle.faults_words.specs.declared.format.Format.TheVariants.{Text, Json, Sarif}
 use Rattle.faults_words.specs.Line.{Finds, IsTaken, given}
-use Rattle.faults_words.specs.Asks.{IsFormat, IsAskedBy, Asks, format_text}
+use Rattle.faults_words.specs.Asks.{IsFormat, IsAskedBy, Asks, format_text, is_set}
 
 -- values that are the same ask for the same
 pub same_values : (words : List (List ℕ)) (found : Found) (a : Asked) → Finds words found → IsAskedBy (first_value found) a → IsAskedBy (given words) a
@@ -19,6 +19,7 @@ same_values words found a finds is = record {
   variant = is.variant ∙ finds _;
   pname = is.pname ∙ finds _;
   format = subst (λ (v : Option (List ℕ)). IsFormat v a.format) (finds _) is.format;
+  warnings = is.warnings ∙ ap is_set (finds _);
 }
 
 pub same_values_back : (words : List (List ℕ)) (found : Found) (a : Asked) → Finds words found → IsAskedBy (given words) a → IsAskedBy (first_value found) a
@@ -27,6 +28,7 @@ same_values_back words found a finds is = record {
   variant = is.variant ∙ sym (finds _);
   pname = is.pname ∙ sym (finds _);
   format = subst (λ (v : Option (List ℕ)). IsFormat v a.format) (sym (finds _)) is.format;
+  warnings = is.warnings ∙ ap is_set (sym (finds _));
 }
 
 first : List ℕ → ℕ
@@ -51,16 +53,17 @@ same_format None f g is other = is ∙ sym other
 same_format (Some name) f g is other = same_named f g (sym is ∙ other)
 
 -- what is asked for, of its parts
-abbrev made : Option (List ℕ) → Option (List ℕ) → Option (List ℕ) → Format → Asked
-made device variant pname format = record { device = device; variant = variant; pname = pname; format = format }
+abbrev made : Option (List ℕ) → Option (List ℕ) → Option (List ℕ) → Format → Bool → Asked
+made device variant pname format warnings = record { device = device; variant = variant; pname = pname; format = format; warnings = warnings }
 
 -- one thing
 pub one_asked : (words : List (List ℕ)) (a b : Asked) → Asks words a → Asks words b → a ≡ b
 one_asked words a b is other =
-    ap (λ d. made d a.variant a.pname a.format) (is.found.device ∙ sym other.found.device)
-    ∙ (ap (λ v. made b.device v a.pname a.format) (is.found.variant ∙ sym other.found.variant)
-    ∙ (ap (λ p. made b.device b.variant p a.format) (is.found.pname ∙ sym other.found.pname)
-    ∙ ap (λ f. made b.device b.variant b.pname f) (same_format (given words (codes "format")) a.format b.format is.found.format other.found.format)))
+    ap (λ d. made d a.variant a.pname a.format a.warnings) (is.found.device ∙ sym other.found.device)
+    ∙ (ap (λ v. made b.device v a.pname a.format a.warnings) (is.found.variant ∙ sym other.found.variant)
+    ∙ (ap (λ p. made b.device b.variant p a.format a.warnings) (is.found.pname ∙ sym other.found.pname)
+    ∙ (ap (λ f. made b.device b.variant b.pname f a.warnings) (same_format (given words (codes "format")) a.format b.format is.found.format other.found.format)
+    ∙ ap (λ w. made b.device b.variant b.pname b.format w) (is.found.warnings ∙ sym other.found.warnings))))
 
 -- ---- an answer by what clap finds
 

@@ -10,7 +10,7 @@ use Rattle.clap.specs.declared.error.kind.ErrorKind.TheVariants as kind
 use Rattle.clap.specs.declared.parser.matches.ArgMatches.{ArgMatches}
 use Rattle.clap.proofs.OnLiterals.{clap_on_literals}
 use Rattle.clap.proofs.WalkLemmas.{first_value-rows}
-use Rattle.faults_words.specs.Line.{Finds, IsTaken, command_line, given, option_rule}
+use Rattle.faults_words.specs.Line.{Finds, IsTaken, command_line, flag_rule, given, option_rule}
 
 -- ---- building
 
@@ -33,7 +33,10 @@ with_variant = with_rule with_device (option_rule (codes "variant"))
 abbrev pub with_pname : App
 with_pname = with_rule with_variant (option_rule (codes "pname"))
 
-pub is_whole : with_rule with_pname (option_rule (codes "format")) ≡ command_line
+abbrev pub with_format : App
+with_format = with_rule with_pname (option_rule (codes "format"))
+
+pub is_whole : with_rule with_format (flag_rule (codes "warnings")) ≡ command_line
 unfolding command_line
 is_whole = refl
 

@@ -1,5 +1,6 @@
 -- What words ask for.
-use Rattle.std.specs.Prelude.{◌≡◌, ℕ, List, Option, Some, None, codes}
+use Rattle.std.specs.Prelude.{◌≡◌, ℕ, Bool, false, List, Option, Some, None, codes}
+use Rattle.std.specs.Str.{bytes_eq}
 use Rattle.faults_words.specs.declared.answer.Asked.{Asked}
 use Rattle.faults_words.specs.declared.format.Format.{Format}
 use Rattle.faults_words.specs.declared.format.Format.TheVariants as formats
@@ -16,12 +17,18 @@ abbrev pub IsFormat : Option (List ℕ) → Format → Type 0
 IsFormat None format = format ≡ formats.Text
 IsFormat (Some name) format = name ≡ format_text format
 
+-- a flag that is given has this value
+abbrev pub is_set : Option (List ℕ) → Bool
+is_set None = false
+is_set (Some value) = bytes_eq value (codes "true")
+
 -- what the values of the options ask for, by the value of each name
 pub record IsAskedBy (value : List ℕ → Option (List ℕ)) (a : Asked) : Type 0 where
   pub device : a.device ≡ value (codes "device")
   pub variant : a.variant ≡ value (codes "variant")
   pub pname : a.pname ≡ value (codes "pname")
   pub format : IsFormat (value (codes "format")) a.format
+  pub warnings : a.warnings ≡ is_set (value (codes "warnings"))
 
 -- clap takes the words, and finds these values in them
 pub record Asks (words : List (List ℕ)) (a : Asked) : Type 0 where

@@ -3,14 +3,21 @@ use Rattle.std.specs.Prelude.{◌≡◌, true, List, [], ◌∷◌, Option, Some
 use Rattle.clap.specs.Words.{App, Rule, Text, first_of, first_value, matches_of, new_app, new_rule}
 use Rattle.clap.specs.Words.{fault_of}
 use Rattle.clap.specs.Simple.{on_top}
+use Rattle.clap.specs.declared.builder.action.ArgAction.TheVariants.{SetTrue}
 use Rattle.clap.specs.declared.parser.matches.Found.{Found}
 
 -- an option of this name, which takes one value
 abbrev pub option_rule : Text → Rule
 option_rule name = record (new_rule name) { long = Some name }
 
+-- a flag of this name, without a value
+abbrev pub flag_rule : Text → Rule
+flag_rule name = record (new_rule name) { long = Some name; action = Some SetTrue }
+
 abbrev pub the_rules : List Rule
-the_rules = option_rule (codes "device") ∷ option_rule (codes "variant") ∷ option_rule (codes "pname") ∷ option_rule (codes "format") ∷ []
+the_rules =
+    option_rule (codes "device") ∷ option_rule (codes "variant") ∷ option_rule (codes "pname") ∷ option_rule (codes "format")
+    ∷ flag_rule (codes "warnings") ∷ []
 
 -- a simple command without subcommands, of which the words begin after the program's name
 unfoldable pub command_line : App

@@ -14,6 +14,8 @@ pub struct Asked {
     pub pname: Option<NameText>,
     /// How the faults are written.
     pub format: Format,
+    /// Whether the warnings of valid sets are written too.
+    pub warnings: bool,
 }
 
 /// Why the words ask for nothing.

@@ -6,7 +6,7 @@ ghost use Rattle.faults_words.specs.declared.answer.WordsError.TheVariants as er
 
 use crate::answer::WordsError;
 use clap::error::ErrorKind;
-use clap::{Arg, ArgMatches};
+use clap::{Arg, ArgAction, ArgMatches};
 use std::alloc::{AllocError, Global};
 
 pub const DEVICE: &str = "device";
@@ -17,11 +17,20 @@ pub const PNAME: &str = "pname";
 
 pub const FORMAT: &str = "format";
 
+pub const WARNINGS: &str = "warnings";
+
 fn option_arg(alloc: Global, name: &str) -> Arg<'_>
     ensures rule { rule_of result ≡ spec.option_rule name.now }
     ensures local { result.global ≡ false }
 {
     Arg::new(alloc, name).long(name)
+}
+
+fn flag_arg(alloc: Global, name: &str) -> Arg<'_>
+    ensures rule { rule_of result ≡ spec.flag_rule name.now }
+    ensures local { result.global ≡ false }
+{
+    Arg::new(alloc, name).long(name).action(ArgAction::SetTrue)
 }
 
 fn command_line<'a>(alloc: Global) -> Result<clap::Command<'a>, AllocError>
@@ -32,7 +41,8 @@ fn command_line<'a>(alloc: Global) -> Result<clap::Command<'a>, AllocError>
         .arg(option_arg(alloc, DEVICE))?
         .arg(option_arg(alloc, VARIANT))?
         .arg(option_arg(alloc, PNAME))?
-        .arg(option_arg(alloc, FORMAT))
+        .arg(option_arg(alloc, FORMAT))?
+        .arg(flag_arg(alloc, WARNINGS))
 }
 
 fn error_of(error: &clap::Error) -> WordsError

@@ -1,12 +1,12 @@
 //! From the words to what they ask for.
 ghost use Rattle.std.specs.Prelude.{◌≡◌, IfOk, IfErr, MatchResult, map};
 ghost use Rattle.clap.specs.Words.{first_value, found_of};
-ghost use Rattle.faults_words.specs.Asks.{Asks, IsAskedBy};
+ghost use Rattle.faults_words.specs.Asks.{Asks, IsAskedBy, is_set};
 ghost use Rattle.faults_words.specs.declared.answer.WordsError.TheVariants as errors;
 
 use crate::answer::{Asked, WordsError};
 use crate::format::format_of;
-use crate::line::{DEVICE, FORMAT, PNAME, VARIANT, matches_in};
+use crate::line::{DEVICE, FORMAT, PNAME, VARIANT, WARNINGS, matches_in};
 use clap::ArgMatches;
 use dap_base::{NameText, OutOfMemory, Words};
 use std::alloc::{AllocError, Global};
@@ -38,6 +38,16 @@ fn value_of(
     }
 }
 
+// Whether a flag is given.
+fn is_set(matches: &ArgMatches<'_>, name: &str) -> bool
+    ensures { result ≡ is_set (first_value (found_of matches.now) name.now) }
+{
+    match matches.get_str(name) {
+        Some(value) => value == "true",
+        None => false,
+    }
+}
+
 // What the values of the options ask for.
 fn asked_by(alloc: Global, matches: &ArgMatches<'_>) -> Result<Asked, WordsError>
     ensures answer { IfOk result (IsAskedBy (first_value (found_of matches.now))) }
@@ -51,13 +61,15 @@ fn asked_by(alloc: Global, matches: &ArgMatches<'_>) -> Result<Asked, WordsError
         variant: value_of(alloc, matches, VARIANT)?,
         pname: value_of(alloc, matches, PNAME)?,
         format,
+        warnings: is_set(matches, WARNINGS),
     })
 }
 
 /// What the words after the program's name ask for.
 ///
-/// `clap` reads them as the options `--device`, `--variant`, `--pname` and `--format`, each with one value and at
-/// most once. A format is `text`, `json` or `sarif`, and `text` where none is given. The names are copies.
+/// `clap` reads them as the options `--device`, `--variant`, `--pname` and `--format`, each with one value, and the flag
+/// `--warnings`, each at most once. A format is `text`, `json` or `sarif`, and `text` where none is given. The names are
+/// copies.
 ///
 /// `Usage` exactly where `clap` refuses the words for another cause than memory, which its answers to `--help` and
 /// `-h` are, or where the format is none of these. `OutOfMemory` where memory is refused.

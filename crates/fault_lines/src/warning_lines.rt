@@ -1,0 +1,98 @@
+//! The lines of a warning.
+ghost use Rattle.std.specs.Prelude.{◌≡◌, ◌++◌, IfOk};
+ghost use Rattle.check_lines.specs.CheckLines.{where_words};
+ghost use Rattle.check_lines.specs.CheckLines as check;
+ghost use Rattle.fault_lines.specs.WarningText as text;
+ghost use Rattle.fault_lines.specs.WarningText.{kind_word, sequence_words, spot_words, warning_words};
+
+use crate::lines::{with_sets, with_text};
+use check_lines::part_text;
+use dap_base::{NameText, OutOfMemory, Place};
+use pack_faults::SetName;
+use pack_warnings::{FoundWarning, PackWarning};
+use sequence_trees::Spot;
+use set_warnings::WarningKind;
+use std::alloc::Global;
+use text_lines::Line;
+
+/// The name of a kind of warning.
+pub fn warning_kind_text(kind: WarningKind) -> &'static str
+    ensures { result.now ≡ kind_word kind }
+{
+    match kind {
+        WarningKind::AssignedDebugVariable => "AssignedDebugVariable",
+        WarningKind::WaitByName => "WaitByName",
+        WarningKind::UncalledSequence => "UncalledSequence",
+        WarningKind::LongWait => "LongWait",
+    }
+}
+
+// A sequence itself.
+fn with_sequence(line: Line, sequence: &Option<NameText>) -> Result<Line, OutOfMemory>
+    ensures { IfOk result (λ l. l ≡ line ++ sequence_words sequence.now) }
+{
+    match sequence {
+        Some(name) => line.text(" ")?.shown(name.as_str().as_bytes()),
+        None => Ok(line),
+    }
+}
+
+// The sequence, the step and its part.
+fn with_step(line: Line, spot: &Spot) -> Result<Line, OutOfMemory>
+    ensures { IfOk result (λ l. l ≡ line ++ where_words spot.now.sequence spot.now.path spot.now.part) }
+{
+    match &spot.sequence {
+        None => line.text(" debugvars"),
+        Some(name) => line
+            .text(" ")?
+            .shown(name.as_str().as_bytes())?
+            .text(" ")?
+            .dotted(spot.path.as_slice())?
+            .text(" ")?
+            .text(part_text(spot.part)),
+    }
+}
+
+fn with_place(line: Line, place: Place) -> Result<Line, OutOfMemory>
+    ensures { IfOk result (λ l. l ≡ line ++ check.place_words place) }
+{
+    line.labelled(" ", place.line)?.labelled(":", place.column)
+}
+
+// Where it stands.
+fn with_spot(line: Line, spot: &Spot) -> Result<Line, OutOfMemory>
+    ensures { IfOk result (λ l. l ≡ line ++ spot_words spot.now) }
+{
+    match spot.path.as_slice() {
+        [] => with_sequence(line, &spot.sequence),
+        _ => with_place(with_step(line, spot)?, spot.place),
+    }
+}
+
+// What it is of, where, and the name that it is about.
+fn with_warning(line: Line, found: &FoundWarning) -> Result<Line, OutOfMemory>
+    ensures { IfOk result (λ l. l ≡ line ++ warning_words found.now) }
+{
+    let line = line.text(warning_kind_text(found.warning.kind))?;
+    let line = with_spot(line, &found.warning.spot)?;
+    with_text(line, &found.warning.name)
+}
+
+pub fn warning_line(alloc: Global, found: &FoundWarning) -> Result<Line, OutOfMemory>
+    ensures { IfOk result (λ line. line ≡ text.warning_line found.now) }
+{
+    with_warning(Line::begin(alloc, "warning ")?, found)?.text("\n")
+}
+
+/// A warning in one line, without a line feed: what it is of, where, and the name that it is about, and the sets that have
+/// it. `OutOfMemory` where memory is refused.
+pub fn warning_message_line(
+    alloc: Global,
+    sets: &[SetName],
+    warning: &PackWarning,
+) -> Result<Line, OutOfMemory>
+    ensures { IfOk result (λ line. line ≡ text.warning_message sets.now warning.now) }
+{
+    let line = with_warning(Line::begin(alloc, "")?, &warning.found)?;
+    with_sets(line.text(" for ")?, sets, warning.sets.as_slice())
+}
