@@ -24,8 +24,6 @@ use Rattle.dapseq_tool.specs.declared.asking.Answer.TheVariants as answers
 use Rattle.dapseq_tool.specs.declared.asking.Requested.{Requested}
 use Rattle.dapseq_tool.specs.declared.asking.Unasked.{Unasked}
 use Rattle.dapseq_tool.specs.declared.asking.Unasked.TheVariants as unasked
-use Rattle.dapseq_tool.specs.declared.reading.Unread.{Unread}
-use Rattle.dapseq_tool.specs.declared.reading.Unread.TheVariants as unread
 use Rattle.dapseq_tool.specs.declared.asking.What.{What}
 use Rattle.dapseq_tool.specs.declared.asking.What.TheVariants as whats
 
