@@ -39,13 +39,13 @@ are_checked-append pack (t ∷ sets) s checked c are is =
 
 -- the checks of these sets, and of one more
 pub done_one : (pack : Pack) (sets : List SetAt) (s : SetAt) (c : Checked) (old new : Checking) → AreDone pack sets old → IsChecked pack s c
-    → new.phases ≡ old.phases ++ c.phase ∷ [] → new.faults.items ≡ with_each (length old.phases) c.found old.faults.items → AreDone pack (sets ++ s ∷ []) new
+    → new.phases ≡ old.phases ++ c.phase ∷ [] → new.faults.list.items ≡ with_each (length old.phases) c.found old.faults.list.items → AreDone pack (sets ++ s ∷ []) new
 done_one pack sets s c old new done is phases faults =
     let lists = map (λ x. x.found) done.checked in
     let size : length old.phases ≡ length lists =
     ap length done.phases ∙ length-map done.checked (λ x. x.phase) ∙ sym (length-map done.checked (λ x. x.found)) in
-    let list : new.faults.items ≡ merged (lists ++ c.found ∷ []) =
-    faults ∙ ap (λ n. with_each n c.found old.faults.items) size ∙ ap (with_each (length lists) c.found) done.faults ∙ merged_set lists c.found in
+    let list : new.faults.list.items ≡ merged (lists ++ c.found ∷ []) =
+    faults ∙ ap (λ n. with_each n c.found old.faults.list.items) size ∙ ap (with_each (length lists) c.found) done.faults ∙ merged_set lists c.found in
     record {
       checked = done.checked ++ c ∷ [];
       are = are_checked-append pack sets s done.checked c done.are is;

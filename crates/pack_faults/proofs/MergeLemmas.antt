@@ -1,12 +1,9 @@
 -- What is found in one more set, after what was found before.
-use Rattle.std.proofs.Common.{◌≡◌, ◌∙◌, ℕ, zero, suc, ◌+◌, ◌-◌, ◌<◌, ◌==◌, Bool, true, false, cond, ◌||◌, List, [], ◌∷◌, ◌++◌, map, length, position, Some, None, Result, Ok, Err, OnOk, nat_lt, ltb-false, ◌≤◌, get_or, slice_set, append_assoc, append-nil, refl, ap, sym, subst, true≢false, eq-eqb, ne_eqb, arith}
-use Rattle.std.specs.List.{AllByRecursion, list_any, position_or_len}
+use Rattle.std.proofs.Common.{◌≡◌, ◌∙◌, ℕ, suc, ◌+◌, ◌-◌, ◌<◌, ◌==◌, Bool, true, false, cond, ◌||◌, List, [], ◌∷◌, ◌++◌, map, length, Result, Ok, Err, OnOk, append_assoc, append-nil, refl, ap, sym, subst, true≢false, eq-eqb, ne_eqb, arith}
+use Rattle.std.specs.List.{AllByRecursion, list_any}
 use Rattle.std.proofs.lemmas.List.{map-append}
 use Rattle.std.proofs.lemmas.List.Folds.{list_any-append}
-use Rattle.std.proofs.lemmas.List.Quantifiers.{position-Some}
-use Rattle.std.proofs.lemmas.List.Sums.{fails_before_first}
 use Rattle.pack_faults.specs.declared.answer.Found.{Found}
-use Rattle.pack_faults.specs.declared.answer.PackFault.{PackFault}
 use Rattle.pack_faults.specs.Merged.{same_found, all_found, found_added, each_once, sets_having, with_sets, merged}
 use Rattle.pack_faults.specs.Steps.{is_last, noted, with_found, with_each}
 use Rattle.pack_faults.proofs.SameLemmas.{same_equal, same_itself}
@@ -272,62 +269,8 @@ merged_none done =
 pub merged_set : (done : Lists) (fs : List Found) → with_each (length done) fs (merged done) ≡ merged (done ++ fs ∷ [])
 merged_set done fs = ap (with_each (length done) fs) (sym (merged_none done)) ∙ merged_more done [] fs
 
--- ---- where it stands
-
-found_at : (k : ℕ) (x : Found) (faults : List PackFault) (i : ℕ) (d : PackFault) → i < length faults → same_found x (get_or faults i d).found ≡ true
-    → ((j : ℕ) → j < i → same_found x (get_or faults j d).found ≡ false)
-    → with_found k x faults ≡ slice_set faults i (record { found = (get_or faults i d).found; sets = noted k (get_or faults i d).sets })
-found_at k x [] i d lt is lacks = absurd (omega arith)
-found_at k x (p ∷ faults) zero d lt is lacks = rw is refl
-found_at k x (p ∷ faults) (suc i) d lt is lacks =
-    let first : same_found x p.found ≡ false = lacks 0 (omega arith) in
-    let below : i < length faults = omega arith in
-    rw first (ap (λ ps. p ∷ ps) (found_at k x faults i d below is (λ j less. lacks (suc j) (omega arith))))
-
--- the number of a set is noted at the place of what was found
-pub found_there : (k : ℕ) (x : Found) (faults : List PackFault) (i : ℕ) (d : PackFault) → position (λ p. same_found x p.found) faults ≡ Some i
-    → with_found k x faults ≡ slice_set faults i (record { found = (get_or faults i d).found; sets = noted k (get_or faults i d).sets })
-found_there k x faults i d e =
-    let at = position-Some (λ (p : PackFault). same_found x p.found) faults i d e in
-    found_at k x faults i d at.0 at.1 at.2
-
-none_at : (k : ℕ) (x : Found) (faults : List PackFault) (d : PackFault) → ((j : ℕ) → j < length faults → same_found x (get_or faults j d).found ≡ false)
-    → with_found k x faults ≡ faults ++ record { found = x; sets = k ∷ [] } ∷ []
-none_at k x [] d lacks = refl
-none_at k x (p ∷ faults) d lacks =
-    let first : same_found x p.found ≡ false = lacks 0 (omega arith) in
-    rw first (ap (λ ps. p ∷ ps) (none_at k x faults d (λ j less. lacks (suc j) (omega arith))))
-
-not_some : (b : Bool) (i : ℕ) → cond b (Some i) None ≡ None → b ≡ false
-not_some true i e = absurd cc
-not_some false i e = refl
-
--- what was not found comes last
-pub found_last : (k : ℕ) (x : Found) (faults : List PackFault) → position (λ p. same_found x p.found) faults ≡ None
-    → with_found k x faults ≡ faults ++ record { found = x; sets = k ∷ [] } ∷ []
-found_last k x faults e =
-    let is = λ (p : PackFault). same_found x p.found in
-    let lacks : nat_lt (position_or_len is faults) (length faults) ≡ false = not_some (nat_lt (position_or_len is faults) (length faults)) (position_or_len is faults) e in
-    let far : length faults ≤ position_or_len is faults = omega (arith, ltb-false, lacks) in
-    let d : PackFault = record { found = x; sets = [] } in
-    none_at k x faults d (λ j less. fails_before_first is faults j d (omega arith))
-
 -- ---- as the code has it
 
 pub on_ok : {T E : Type 0} (r : Result T E) (P Q : Type 0) → OnOk r P → (P → Q) → OnOk r Q
 on_ok (Ok x) P Q h f = f h
 on_ok (Err e) P Q h f = tt
-
-pub noted_there : (k : ℕ) (x : Found) (faults slice : List PackFault) (i : ℕ) (now : PackFault) (sets : List ℕ) → slice ≡ faults → Some i ≡ position (λ p. same_found x p.found) slice
-    → now ≡ get_or faults i now → sets ≡ noted k now.sets → slice_set faults i (record { found = now.found; sets = sets }) ≡ with_found k x faults
-noted_there k x faults slice i now sets same at is new =
-    let there : position (λ (p : PackFault). same_found x p.found) faults ≡ Some i = sym (at ∙ ap (position (λ (p : PackFault). same_found x p.found)) same) in
-    ap (λ (ns : List ℕ). slice_set faults i (record { found = now.found; sets = ns })) new
-    ∙ ap (λ (p : PackFault). slice_set faults i (record { found = p.found; sets = noted k p.sets })) is
-    ∙ sym (found_there k x faults i now there)
-
-pub last_there : (k : ℕ) (x : Found) (faults slice new : List PackFault) → slice ≡ faults → None ≡ position (λ p. same_found x p.found) slice
-    → new ≡ faults ++ record { found = x; sets = k ∷ [] } ∷ [] → new ≡ with_found k x faults
-last_there k x faults slice new same at is =
-    let there : position (λ (p : PackFault). same_found x p.found) faults ≡ None = sym (at ∙ ap (position (λ (p : PackFault). same_found x p.found)) same) in
-    is ∙ sym (found_last k x faults there)

@@ -16,7 +16,7 @@ pub both : (a b : Bool) → a && b ≡ true → (a ≡ true) × (b ≡ true)
 both true b e = (refl, e)
 both false b e = absurd (true≢false (sym e))
 
-and_true : (a b : Bool) → a ≡ true → b ≡ true → a && b ≡ true
+pub and_true : (a b : Bool) → a ≡ true → b ≡ true → a && b ≡ true
 and_true a b p q = rw (p, q) refl
 
 -- ---- kinds and parts, by their numbers
@@ -69,7 +69,7 @@ text_equal None (Some y) e = absurd (true≢false (sym e))
 text_equal (Some x) None e = absurd (true≢false (sym e))
 text_equal (Some x) (Some y) e = ap (λ t. Some t) ((bytes_eq-Decides x y).0 e)
 
-text_itself : (x : Option (List ℕ)) → same_text x x ≡ true
+pub text_itself : (x : Option (List ℕ)) → same_text x x ≡ true
 text_itself None = refl
 text_itself (Some x) = (bytes_eq-Decides x x).1 refl
 
@@ -96,7 +96,7 @@ spot_equal x y e =
     spot_equal_at x y (text_equal x.sequence y.sequence a.0) ((bytes_eq-Decides x.path y.path).0 b.0) (same_part x.part y.part c.0)
     (place_equal x.place y.place (eqb-true x.place.line y.place.line d.0) (eqb-true x.place.column y.place.column d.1))
 
-number_itself : (n : ℕ) → n == n ≡ true
+pub number_itself : (n : ℕ) → n == n ≡ true
 number_itself n = eq-eqb n n refl
 
 pub spot_itself : (x : Spot) → same_spot x x ≡ true

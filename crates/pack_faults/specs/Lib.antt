@@ -7,3 +7,4 @@ pub mod Known
 pub mod Views
 pub mod Steps
 pub mod Shared
+pub mod Keys

@@ -104,7 +104,8 @@ pub record IsReady (pack : Pack) (r : Request) (levels : List LevelAt) (shared :
   pub along : AreShared r f.known (trimmed levels) shared
 
 -- these sets were added, and no device was counted
-pub record AreAdded (pack : Pack) (r : Request) (levels : List LevelAt) (added : List SetAt) (old : DeviceSets) (shared : Option (List PnameSet)) (new : DeviceSets) : Type 0 where
+pub record AreAdded (pack : Pack) (r : Request) (levels : List LevelAt) (added : List SetAt) (old : DeviceSets)
+    (shared : Option (List PnameSet)) (new : DeviceSets) : Type 0 where
   pub sets : map set_view new.sets ≡ map set_view old.sets ++ added
   pub devices : new.devices ≡ old.devices
   pub grown : Grown old.known new.known

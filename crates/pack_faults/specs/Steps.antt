@@ -32,4 +32,4 @@ pub record AreDone (pack : Pack) (sets : List SetAt) (c : Checking) : Type 0 whe
   pub checked : List Checked
   pub are : AreChecked pack sets checked
   pub phases : c.phases ≡ map (λ x. x.phase) checked
-  pub faults : c.faults.items ≡ merged (map (λ x. x.found) checked)
+  pub faults : c.faults.list.items ≡ merged (map (λ x. x.found) checked)

@@ -3,15 +3,15 @@ ghost use Rattle.std.specs.Prelude.{◌≡◌, ◌<◌, ◌∷◌, ◌++◌, [],
 ghost use Rattle.device_tree.specs.declared.pack.Pack.{Pack};
 ghost use Rattle.sequence_resolve.specs.Resolving.{IsSetAlong};
 ghost use Rattle.std.specs.List.{All};
+ghost use Rattle.pack_faults.specs.Keys.{Knows};
 ghost use Rattle.pack_faults.specs.Known.{IsKnown};
 ghost use Rattle.pack_faults.specs.Sets.{SetAt};
 ghost use Rattle.pack_faults.specs.Shared.{IsFound};
 ghost use Rattle.pack_faults.specs.Views.{set_view};
 ghost use Rattle.pack_faults.specs.Steps.{AreDone};
 
-use crate::answer::PackFault;
 use crate::known::KnownSet;
-use crate::merging::add_faults;
+use crate::merging::{Faults, add_faults};
 use crate::sets::SetRef;
 use dap_base::{ItemList, OutOfMemory};
 use set_faults::Phase;
@@ -19,15 +19,21 @@ use std::alloc::Global;
 
 /// Sets that were checked: the phase that each reached, and what was found in them.
 #[derive(Drop)]
-pub struct Checking {
+pub struct Checking<'k> {
     pub phases: ItemList<Phase>,
-    pub faults: Vec<PackFault>,
+    pub faults: Faults<'k>,
 }
 
 // Adds the faults of one more set, which is equal to this one.
-fn note(alloc: Global, known: &KnownSet, checking: &mut Checking) -> Result<(), OutOfMemory>
+fn note<'k>(
+    alloc: Global,
+    known: &'k KnownSet,
+    checking: &mut Checking<'k>,
+) -> Result<(), OutOfMemory>
+    requires { Knows checking.old.faults.places checking.old.faults.list.items }
     ensures ok { OnOk result ((pack : Pack) (sets : List SetAt) (s : SetAt) → IsSetAlong pack s.place s.variant s.pname known.now.set → IsKnown known.now
         → AreDone pack sets checking.old → AreDone pack (sets ++ s ∷ []) checking.new) }
+    ensures knows { OnOk result (Knows checking.new.faults.places checking.new.faults.list.items) }
 {
     let number = checking.phases.len();
     add_faults(
@@ -42,17 +48,17 @@ fn note(alloc: Global, known: &KnownSet, checking: &mut Checking) -> Result<(), 
 }
 
 /// Puts the faults of these sets together, each of which is one of those that were checked, by its number.
-pub fn faults_of_sets(
+pub fn faults_of_sets<'k>(
     alloc: Global,
-    known: &[KnownSet],
+    known: &'k [KnownSet],
     sets: &[SetRef],
-) -> Result<Checking, OutOfMemory>
+) -> Result<Checking<'k>, OutOfMemory>
     requires { All (λ s. s.number < length known.now) sets.now }
     ensures { IfOk result (λ checking. (pack : Pack) → All IsKnown known.now → All (IsFound pack known.now) sets.now → AreDone pack (map set_view sets.now) checking) }
 {
     let mut checking = Checking {
         phases: ItemList::new(alloc),
-        faults: Vec::new(alloc),
+        faults: Faults::new(alloc),
     };
     for at in sets {
         note(alloc, &known[at.number], &mut checking)?;

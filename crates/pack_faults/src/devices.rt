@@ -70,7 +70,8 @@ fn push_family<'a>(
     requested: Option<&str>,
 ) -> Result<(), OutOfMemory>
     ensures ok { OnOk result (map place_view places.new.items ≡ map place_view places.old.items
-        ++ filter (is_device (option_map (λ w. w.now) requested.entry)) (places_in_subs family.now family.now.sub_families ++ places_of family.now None family.now.devices)) }
+        ++ filter (is_device (option_map (λ w. w.now) requested.entry)) (places_in_subs family.now family.now.sub_families
+        ++ places_of family.now None family.now.devices)) }
 {
     push_subs(places, family, family.sub_families.as_slice(), requested)?;
     push_devices(places, family, None, family.devices.as_slice(), requested)

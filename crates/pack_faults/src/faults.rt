@@ -95,13 +95,14 @@ pub fn pack_faults(alloc: Global, pack: &Pack, request: &Request) -> Result<Pack
     ensures only_fault { (e : PackRefusal) → refusal pack.now request.now ≡ Some e → IsErrAnd result (λ f. (f ≡ e) ⊎ (f ≡ refusals.OutOfMemory)) }
 {
     let found = requested_sets(alloc, pack, request)?;
-    let checking = faults_of_sets(alloc, found.known.as_slice(), found.sets.as_slice())?;
+    let devices = found.devices;
     let sets = names_of(alloc, found.sets.as_slice())?;
+    let checking = faults_of_sets(alloc, found.known.as_slice(), found.sets.as_slice())?;
     let unread = count_unread(checking.phases.as_slice());
     let unreached = count_unfinished(checking.phases.as_slice());
     let faults = list_of(alloc, checking.faults)?;
     Ok(PackFaults {
-        devices: found.devices,
+        devices,
         sets,
         faults,
         unread,

@@ -1,18 +1,43 @@
 //! What is found in one set after another, each once.
-ghost use Rattle.std.specs.Prelude.{◌≡◌, ◌<◌, ◌∷◌, ◌++◌, [], IfOk, OnOk, IfSome, option_map, map, position, length};
-ghost use Rattle.pack_faults.specs.Merged.{same_found};
+ghost use Rattle.std.specs.Prelude.{◌≡◌, ◌<◌, ◌∷◌, ◌++◌, [], None, Some, IfOk, OnOk, option_map, map, length, if◌then◌else◌};
+ghost use Rattle.std.specs.Ordering.{is_eq};
+ghost use Rattle.std.specs.BTreeMap.{get};
+ghost use Rattle.pack_faults.specs.declared.answer.PackFault.{PackFault};
+ghost use Rattle.pack_faults.specs.declared.keys.FoundKey.{FoundKey};
 ghost use Rattle.pack_faults.specs.Answers.{found_in};
+ghost use Rattle.pack_faults.specs.Keys.{key_cmp, key_view, found_view, noted_at, Knows};
 ghost use Rattle.pack_faults.specs.Steps.{noted, with_found, with_each};
 
 use crate::answer::{Found, PackFault};
+use crate::keys::{FoundKey, key_of};
 use crate::lines::line_of;
-use crate::same::is_same;
 use crate::texts::{copy_of, name_of};
 use dap_base::{ItemList, OutOfMemory};
 use sequence_resolve::SeqSet;
 use sequence_trees::{Spot, StepPath};
 use set_faults::Fault;
 use std::alloc::Global;
+use std::collections::BTreeMap;
+
+/// Faults that were found, each once, and the place of each in the list.
+#[derive(Drop)]
+pub struct Faults<'k> {
+    pub list: Vec<PackFault>,
+    pub places: BTreeMap<FoundKey<'k>, usize>,
+}
+
+impl<'k> Faults<'k> {
+    /// No faults.
+    pub fn new(alloc: Global) -> Faults<'k>
+        ensures list { result.list.items ≡ [] }
+        ensures knows { Knows result.places result.list.items }
+    {
+        Faults {
+            list: Vec::new(alloc),
+            places: BTreeMap::new(alloc),
+        }
+    }
+}
 
 fn copy_path(alloc: Global, path: &[u64]) -> Result<StepPath, OutOfMemory>
     ensures { IfOk result (λ copy. copy ≡ path.now) }
@@ -39,14 +64,6 @@ fn copy_fault(alloc: Global, fault: &Fault) -> Result<Fault, OutOfMemory>
     })
 }
 
-// Where it stands among those that were found.
-fn place_of(faults: &[PackFault], fault: &Fault, line: Option<&str>) -> Option<usize>
-    ensures place { result ≡ position (λ p. same_found (record { fault = fault.now; line = option_map (λ w. w.now) line.entry }) p.found) faults.now }
-    ensures within { IfSome result (λ place. place < length faults.now) }
-{
-    faults.iter().position(|p| is_same(fault, line, &p.found))
-}
-
 // Adds the number of a set unless it is the last.
 fn note(sets: &mut ItemList<usize>, number: usize) -> Result<(), OutOfMemory>
     ensures { OnOk result (sets.new ≡ noted number sets.old) }
@@ -57,15 +74,44 @@ fn note(sets: &mut ItemList<usize>, number: usize) -> Result<(), OutOfMemory>
     }
 }
 
-// Adds the first of its kind.
+// Adds the number of a set at this place of the list.
+fn note_at(list: &mut Vec<PackFault>, place: usize, number: usize) -> Result<(), OutOfMemory>
+    requires { place < length list.old.items }
+    ensures { OnOk result ((other : PackFault) → list.new.items ≡ noted_at number list.old.items place other) }
+{
+    note(&mut list[place].sets, number)
+}
+
+fn place_of<'k>(places: &BTreeMap<FoundKey<'k>, usize>, key: &FoundKey<'k>) -> Option<usize>
+    ensures { result ≡ get key_cmp places.now key.now }
+{
+    places.get(key).copied()
+}
+
+// Notes the place of a key.
+fn note_place<'k>(
+    places: &mut BTreeMap<FoundKey<'k>, usize>,
+    key: FoundKey<'k>,
+    place: usize,
+) -> Result<(), OutOfMemory>
+    ensures { OnOk result ((other : FoundKey) → get key_cmp places.new other
+        ≡ (if is_eq (key_cmp key.entry other) then Some place else get key_cmp places.old other)) }
+{
+    if places.insert(key, place).is_err() {
+        return Err(OutOfMemory);
+    }
+    Ok(())
+}
+
+// Adds the first of its kind to the list.
 fn push_found(
     alloc: Global,
     fault: &Fault,
     line: Option<&str>,
     number: usize,
-    faults: &mut Vec<PackFault>,
+    list: &mut Vec<PackFault>,
 ) -> Result<(), OutOfMemory>
-    ensures { OnOk result (faults.new.items ≡ faults.old.items
+    ensures { OnOk result (list.new.items ≡ list.old.items
         ++ record { found = record { fault = fault.now; line = option_map (λ w. w.now) line.entry }; sets = number ∷ [] } ∷ []) }
 {
     let found = Found {
@@ -74,36 +120,62 @@ fn push_found(
     };
     let mut sets = ItemList::new(alloc);
     sets.push(number)?;
-    faults
-        .push(PackFault { found, sets })
+    list.push(PackFault { found, sets })
         .map_err(|_| OutOfMemory)
 }
 
-// Adds a fault of the set with this number.
-fn add_found(
+// Adds the first of its kind, which has this key.
+fn add_first<'k>(
     alloc: Global,
-    fault: &Fault,
-    line: Option<&str>,
+    fault: &'k Fault,
+    line: Option<&'k str>,
+    key: FoundKey<'k>,
     number: usize,
-    faults: &mut Vec<PackFault>,
+    faults: &mut Faults<'k>,
 ) -> Result<(), OutOfMemory>
-    ensures { OnOk result (faults.new.items ≡ with_found number (record { fault = fault.now; line = option_map (λ w. w.now) line.entry }) faults.old.items) }
+    requires key { key_view key ≡ found_view (record { fault = fault.now; line = option_map (λ w. w.now) line }) }
+    requires first { get key_cmp faults.old.places key ≡ None }
+    requires knows { Knows faults.old.places faults.old.list.items }
+    ensures list { OnOk result (faults.new.list.items
+        ≡ with_found number (record { fault = fault.now; line = option_map (λ w. w.now) line.entry }) faults.old.list.items) }
+    ensures knows { OnOk result (Knows faults.new.places faults.new.list.items) }
 {
-    match place_of(faults.as_slice(), fault, line) {
-        Some(place) => note(&mut faults[place].sets, number),
-        None => push_found(alloc, fault, line, number, faults),
+    let place = faults.list.len();
+    note_place(&mut faults.places, key, place)?;
+    push_found(alloc, fault, line, number, &mut faults.list)
+}
+
+// Adds a fault of the set with this number.
+fn add_found<'k>(
+    alloc: Global,
+    fault: &'k Fault,
+    line: Option<&'k str>,
+    number: usize,
+    faults: &mut Faults<'k>,
+) -> Result<(), OutOfMemory>
+    requires { Knows faults.old.places faults.old.list.items }
+    ensures list { OnOk result (faults.new.list.items
+        ≡ with_found number (record { fault = fault.now; line = option_map (λ w. w.now) line.entry }) faults.old.list.items) }
+    ensures knows { OnOk result (Knows faults.new.places faults.new.list.items) }
+{
+    let key = key_of(fault, line);
+    match place_of(&faults.places, &key) {
+        Some(place) => note_at(&mut faults.list, place, number),
+        None => add_first(alloc, fault, line, key, number, faults),
     }
 }
 
 /// Adds the faults of the set with this number.
-pub fn add_faults(
+pub fn add_faults<'k>(
     alloc: Global,
-    set: &SeqSet,
-    found: &[Fault],
+    set: &'k SeqSet,
+    found: &'k [Fault],
     number: usize,
-    faults: &mut Vec<PackFault>,
+    faults: &mut Faults<'k>,
 ) -> Result<(), OutOfMemory>
-    ensures { OnOk result (faults.new.items ≡ with_each number (map (found_in set.now) found.now) faults.old.items) }
+    requires { Knows faults.old.places faults.old.list.items }
+    ensures list { OnOk result (faults.new.list.items ≡ with_each number (map (found_in set.now) found.now) faults.old.list.items) }
+    ensures knows { OnOk result (Knows faults.new.places faults.new.list.items) }
 {
     for fault in found {
         add_found(alloc, fault, line_of(set, &fault.spot), number, faults)?;
@@ -112,11 +184,12 @@ pub fn add_faults(
 }
 
 /// The faults as a list.
-pub fn list_of(alloc: Global, faults: Vec<PackFault>) -> Result<ItemList<PackFault>, OutOfMemory>
-    ensures { IfOk result (λ list. list ≡ faults.items) }
+pub fn list_of(alloc: Global, faults: Faults) -> Result<ItemList<PackFault>, OutOfMemory>
+    ensures { IfOk result (λ list. list ≡ faults.entry.list.items) }
 {
-    let mut list = ItemList::with_room(alloc, faults.len())?;
-    for fault in faults {
+    let found = faults.list;
+    let mut list = ItemList::with_room(alloc, found.len())?;
+    for fault in found {
         list.push(fault)?;
     }
     Ok(list)

@@ -182,7 +182,8 @@ fn push_every<'a>(
 ) -> Result<(), OutOfMemory>
     requires all { request.now.variant ≡ None }
     requires ready { IsReady pack.now request.now (path_of pack.now (place_view place) None) shared.old found.old }
-    ensures { OnOk result (AreAdded pack.now request.now (path_of pack.now (place_view place.entry) None) (device_sets pack.now request.now (place_view place.entry)) found.old shared.new found.new) }
+    ensures { OnOk result (AreAdded pack.now request.now (path_of pack.now (place_view place.entry) None)
+        (device_sets pack.now request.now (place_view place.entry)) found.old shared.new found.new) }
 {
     push_sets(alloc, pack, request, place, None, shared, found)?;
     push_variants(alloc, pack, request, place, shared, found)
@@ -198,7 +199,8 @@ fn push_device<'a>(
     found: &mut DeviceSets<'a>,
 ) -> Result<(), OutOfMemory>
     requires { IsReady pack.now request.now (path_of pack.now (place_view place) None) shared.old found.old }
-    ensures { OnOk result (AreAdded pack.now request.now (path_of pack.now (place_view place.entry) None) (device_sets pack.now request.now (place_view place.entry)) found.old shared.new found.new) }
+    ensures { OnOk result (AreAdded pack.now request.now (path_of pack.now (place_view place.entry) None)
+        (device_sets pack.now request.now (place_view place.entry)) found.old shared.new found.new) }
 {
     match &request.variant {
         None => push_every(alloc, pack, request, place, shared, found),
@@ -260,7 +262,8 @@ fn push_counted<'a>(
 ) -> Result<(), OutOfMemory>
     requires { IsReady pack.now request.now (levels_above pack.now (place_view place).family (place_view place).sub_family) shared.old found.old }
     ensures counted { OnOk result (AreCounted pack.now request.now (place_view place.entry ∷ []) found.old found.new) }
-    ensures ready { OnOk result (IsReady pack.now request.now (levels_above pack.now (place_view place.entry).family (place_view place.entry).sub_family) shared.new found.new) }
+    ensures ready { OnOk result (IsReady pack.now request.now
+        (levels_above pack.now (place_view place.entry).family (place_view place.entry).sub_family) shared.new found.new) }
 {
     let before = found.sets.len();
     push_in_group(alloc, pack, request, place, shared, found)?;
@@ -280,7 +283,8 @@ fn push_if_requested<'a>(
     requires { IsReady pack.now request.now (levels_above pack.now (place_view place).family (place_view place).sub_family) shared.old found.old }
     ensures counted { OnOk result (AreCounted pack.now request.now
         (if is_device request.now.device (place_view place.entry) then place_view place.entry ∷ [] else []) found.old found.new) }
-    ensures ready { OnOk result (IsReady pack.now request.now (levels_above pack.now (place_view place.entry).family (place_view place.entry).sub_family) shared.new found.new) }
+    ensures ready { OnOk result (IsReady pack.now request.now
+        (levels_above pack.now (place_view place.entry).family (place_view place.entry).sub_family) shared.new found.new) }
 {
     if is_requested(name_of(&request.device), place.device.name.as_str()) {
         return push_counted(alloc, pack, request, place, shared, found);
@@ -318,8 +322,10 @@ pub fn sets_of_groups<'a>(
     request: &Request,
     groups: &[Group<'a>],
 ) -> Result<DeviceSets<'a>, OutOfMemory>
-    ensures sets { IfOk result (λ d. map set_view d.sets ≡ devices_sets pack.now request.now (filter (is_device request.now.device) (flat_map places_in_group groups.now))) }
-    ensures devices { IfOk result (λ d. d.devices ≡ count_by (has_set pack.now request.now) (filter (is_device request.now.device) (flat_map places_in_group groups.now))) }
+    ensures sets { IfOk result (λ d. map set_view d.sets ≡ devices_sets pack.now request.now
+        (filter (is_device request.now.device) (flat_map places_in_group groups.now))) }
+    ensures devices { IfOk result (λ d. d.devices ≡ count_by (has_set pack.now request.now)
+        (filter (is_device request.now.device) (flat_map places_in_group groups.now))) }
     ensures fine { IfOk result (AreFine pack.now) }
 {
     let mut found = DeviceSets {

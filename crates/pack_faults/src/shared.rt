@@ -77,7 +77,8 @@ fn number_along(
     known: &mut ItemList<KnownSet>,
 ) -> Result<usize, OutOfMemory>
     requires { All IsKnown known.old }
-    ensures number { IfOk result (IsNumbered known.new (path_of pack.now (place_view place.now) (option_map (λ v. v.now) variant.entry)) (option_map (λ name. name.now) pname.entry)) }
+    ensures number { IfOk result (IsNumbered known.new (path_of pack.now (place_view place.now) (option_map (λ v. v.now) variant.entry))
+        (option_map (λ name. name.now) pname.entry)) }
     ensures known { OnOk result (All IsKnown known.new) }
     ensures grown { OnOk result (Grown known.old known.new) }
 {
@@ -96,7 +97,8 @@ fn sets_for<'a>(
 ) -> Result<ItemList<PnameSet<'a>>, OutOfMemory>
     requires { All IsKnown known.old }
     ensures pnames { IfOk result (λ sets. map pname_view sets ≡ options_view pnames.now) }
-    ensures each { IfOk result (All (λ m. IsNumbered known.new (path_of pack.now (place_view place.now) (option_map (λ v. v.now) variant.entry)) (pname_view m) m.number)) }
+    ensures each { IfOk result (All (λ m. IsNumbered known.new (path_of pack.now (place_view place.now) (option_map (λ v. v.now) variant.entry))
+        (pname_view m) m.number)) }
     ensures known { OnOk result (All IsKnown known.new) }
     ensures grown { OnOk result (Grown known.old known.new) }
 {

@@ -1,6 +1,7 @@
 //! Names as they are requested and held.
 ghost use Rattle.std.specs.Prelude.{◌≡◌, IfOk, option_map};
 ghost use Rattle.std.specs.Option.{option_copied};
+ghost use Rattle.device_tree.specs.Same.{same_text};
 
 use dap_base::{NameText, OutOfMemory};
 use std::alloc::Global;
@@ -32,5 +33,16 @@ pub fn copy_of(alloc: Global, text: Option<&str>) -> Result<Option<NameText>, Ou
     match text {
         Some(text) => Ok(Some(NameText::new(alloc, text)?)),
         None => Ok(None),
+    }
+}
+
+/// Whether both are absent, or both are the same text.
+pub fn same_text(text: Option<&str>, other: Option<&str>) -> bool
+    ensures { result ≡ same_text (option_map (λ w. w.now) text.entry) (option_map (λ w. w.now) other.entry) }
+{
+    match (text, other) {
+        (None, None) => true,
+        (Some(text), Some(other)) => text == other,
+        _ => false,
     }
 }

@@ -8,18 +8,18 @@ use Rattle.pack_faults.proofs.faults.pack_faults.Goals as goal
 
 pub faults_of_sets-requires : goal.faults_of_sets-requires
 faults_of_sets-requires c =
-    numbers_within c.args.pack.now c.in_ok-found.found c.as_slice.result.now c.as_slice-2.result.now c.as_slice.ensures c.as_slice-2.ensures c.in_ok-found.ensures.fine
+    numbers_within c.args.pack.now c.in_ok-found.found c.as_slice-2.result.now c.as_slice-3.result.now c.as_slice-2.ensures c.as_slice-3.ensures c.in_ok-found.ensures.fine
 
 pub returns-clause-answer : goal.returns-clause-answer
 returns-clause-answer c =
     let pack = c.args.pack.now in
     let f = c.in_ok-found.found in
-    let done = done_of pack f c.as_slice.result.now c.as_slice-2.result.now c.in_ok-checking.checking c.as_slice.ensures c.as_slice-2.ensures c.in_ok-found.ensures.fine c.in_ok-checking.ensures in
+    let done = done_of pack f c.as_slice-2.result.now c.as_slice-3.result.now c.in_ok-checking.checking c.as_slice-2.ensures c.as_slice-3.ensures c.in_ok-found.ensures.fine c.in_ok-checking.ensures in
     record {
       checked = done.checked;
       are = subst (λ (ss : List SetAt). AreChecked pack ss done.checked) c.in_ok-found.ensures.sets done.are;
       devices = c.in_ok-found.ensures.devices;
-      sets = c.in_ok-sets.ensures ∙ ap (λ ss. map set_name (map set_view ss)) c.as_slice-3.ensures ∙ ap (map set_name) c.in_ok-found.ensures.sets;
+      sets = c.in_ok-sets.ensures ∙ ap (λ ss. map set_name (map set_view ss)) c.as_slice.ensures ∙ ap (map set_name) c.in_ok-found.ensures.sets;
       faults = c.in_ok-faults.ensures ∙ done.faults;
       unread = c.count_unread-unread.ensures ∙ ap (count_by is_unread) (c.as_slice-4.ensures ∙ done.phases) ∙ count-map is_unread (λ x. x.phase) done.checked;
       unreached = c.count_unfinished-unreached.ensures ∙ ap (count_by is_unfinished) (c.as_slice-5.ensures ∙ done.phases) ∙ count-map is_unfinished (λ x. x.phase) done.checked;
