@@ -61,7 +61,7 @@ fn list_in(
     ensures answer_fault { IfErr result (λ e. (e ≡ refusals.OutOfMemory) ⊎ (refusal pack.now request.now ≡ Some e)) }
 {
     let found = requested_sets(alloc, pack, request)?;
-    let warnings = warnings_in(alloc, pack, &found.sets)?;
+    let warnings = warnings_in(alloc, pack, found.sets.as_slice())?;
     Ok(list_of(alloc, warnings)?)
 }
 
