@@ -1,7 +1,6 @@
 //! Calls of functions and of sequences.
-ghost use Rattle.std.specs.Prelude.{◌≡◌, [], ◌∷◌, ◌++◌, ◌<◌, ◌≤◌, Bool, ℕ, List, Option, Some, false, option_map, unwrap_or, nat_eq, if◌then◌else◌};
-ghost use Rattle.expr_grammar.specs.Arithmetic.{truth};
-ghost use Rattle.expr_grammar.specs.Tree.{tree, arg_tree, arg_trees, stmt_tree, code_trees};
+ghost use Rattle.std.specs.Prelude.{◌≡◌, [], ◌++◌, ◌<◌, Option, Some, false, unwrap_or};
+ghost use Rattle.expr_grammar.specs.Tree.{tree, arg_tree, arg_trees};
 ghost use Rattle.function_table.specs.declared.function.Function.{Function};
 ghost use Rattle.logged_calls.specs.Held.{Means, Unless};
 ghost use Rattle.run_events.specs.Events as e;
@@ -11,11 +10,9 @@ ghost use Rattle.seq_check.specs.Answers.{checked_trees};
 ghost use Rattle.function_table.specs.Lookup.{function_named};
 ghost use Rattle.sequence_rules.specs.Direct.{direct};
 ghost use Rattle.sequence_rules.specs.Machine.{with_locals};
-ghost use Rattle.sequence_rules.specs.Polls as p;
 ghost use Rattle.sequence_rules.specs.Steps as m;
 ghost use Rattle.sequence_rules.specs.Values as v;
-ghost use Rattle.sequence_trees.specs.Trees.{NoSteps, step_tree, steps_tree, steps_named};
-ghost use Rattle.target_machine.specs.State.{TargetState};
+ghost use Rattle.sequence_trees.specs.Trees.{NoSteps, steps_tree, steps_named};
 ghost use Rattle.logged_runs.specs.Seen.{Notes};
 ghost use Rattle.logged_runs.specs.Walk.{MeansAs, calls_of, events_of, now, seen, step_at};
 

@@ -1,23 +1,19 @@
 //! Controls and their turns.
-ghost use Rattle.std.specs.Prelude.{◌≡◌, [], ◌∷◌, ◌++◌, ◌<◌, ◌≤◌, Bool, ℕ, List, Option, Some, false, option_map, unwrap_or, nat_eq, if◌then◌else◌};
-ghost use Rattle.expr_grammar.specs.Arithmetic.{truth};
-ghost use Rattle.expr_grammar.specs.Tree.{tree, arg_tree, arg_trees, stmt_tree, code_trees};
-ghost use Rattle.function_table.specs.declared.function.Function.{Function};
+ghost use Rattle.std.specs.Prelude.{◌≡◌, ◌∷◌, ◌<◌, ◌≤◌, ℕ, Option, Some, false, option_map};
+ghost use Rattle.expr_grammar.specs.Tree.{tree};
 ghost use Rattle.logged_calls.specs.Held.{Means, Unless};
 ghost use Rattle.run_events.specs.Events as e;
 ghost use Rattle.run_events.specs.OfSteps as os;
 ghost use Rattle.run_events.specs.OfValues as o;
-ghost use Rattle.seq_check.specs.Answers.{checked_trees};
 ghost use Rattle.sequence_rules.specs.Direct.{direct};
 ghost use Rattle.sequence_rules.specs.Polls as p;
 ghost use Rattle.sequence_rules.specs.Steps as m;
 ghost use Rattle.sequence_rules.specs.Values as v;
-ghost use Rattle.sequence_trees.specs.Trees.{NoSteps, step_tree, steps_tree, steps_named};
-ghost use Rattle.target_machine.specs.State.{TargetState};
+ghost use Rattle.sequence_trees.specs.Trees.{steps_tree};
 ghost use Rattle.logged_runs.specs.Seen.{Notes};
 ghost use Rattle.log_lines.specs.Places.{condition_spot};
 ghost use Rattle.sequence_trees.specs.declared.spot.Part.TheVariants as part;
-ghost use Rattle.logged_runs.specs.Walk.{MeansAs, kept, tested, calls_of, events_of, now, seen, step_at};
+ghost use Rattle.logged_runs.specs.Walk.{kept, tested, calls_of, events_of, now, seen, step_at};
 
 use crate::runner::LoggedRunner;
 use crate::steps::count_step;

@@ -1,5 +1,5 @@
 //! The logged runner.
-ghost use Rattle.std.specs.Prelude.{◌≡◌, ◌<◌, ℕ, List, IfOk, None, map, slice_get};
+ghost use Rattle.std.specs.Prelude.{◌≡◌, ◌<◌, ℕ, List, IfOk, None, map};
 ghost use Rattle.function_table.specs.Variables.{predefined};
 ghost use Rattle.logged_calls.specs.Held.{Means, Unless};
 ghost use Rattle.run_events.specs.Events.{Event, places_of};

@@ -1,7 +1,6 @@
 //! What is seen, noted in the log and elsewhere: each call notes one event, or what is seen of one call of a function.
-ghost use Rattle.std.specs.Prelude.{◌≡◌, ◌∷◌, [], ◌&&◌, ◌||◌, ◌≤◌, ℕ, Bool, nat_eq, slice_index, false, true, Some, IfOk, OnErr, OnOk};
+ghost use Rattle.std.specs.Prelude.{◌≡◌, ◌∷◌, [], ◌≤◌, ℕ, false, true, Some, OnErr, OnOk};
 ghost use Rattle.expr_grammar.specs.Tree.{stmt_tree, tree};
-ghost use Rattle.function_table.specs.declared.function.Function.TheVariants as f;
 ghost use Rattle.logged_calls.specs.Held.{Means, Unless, poll_value};
 ghost use Rattle.logged_calls.specs.declared.held.LoggedEnd.TheVariants as end;
 ghost use Rattle.log_lines.specs.Places.{condition_spot, debug_spot, spot_in};

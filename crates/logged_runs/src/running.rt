@@ -1,12 +1,11 @@
 //! Whole runs: the debug variables, and then the sequence that a run starts with.
-ghost use Rattle.std.specs.Prelude.{◌≡◌, ◌++◌, ◌∷◌, [], ℕ, List, false};
+ghost use Rattle.std.specs.Prelude.{[], false};
 ghost use Rattle.expr_grammar.specs.Tree.{code_trees, stmt_tree, tree};
 ghost use Rattle.logged_calls.specs.Held.{Means, Unless};
 ghost use Rattle.run_events.specs.OfRuns as r;
 ghost use Rattle.seq_check.specs.Answers.{checked_trees};
 ghost use Rattle.sequence_rules.specs.Direct.{direct};
 ghost use Rattle.sequence_rules.specs.Steps as m;
-ghost use Rattle.target_machine.specs.State.{TargetState};
 ghost use Rattle.logged_runs.specs.Seen.{Notes};
 ghost use Rattle.logged_runs.specs.Walk.{debugged_one, defined, defined_events, now, one_events, seen};
 

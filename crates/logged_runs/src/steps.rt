@@ -1,21 +1,17 @@
 //! Steps and statements.
-ghost use Rattle.std.specs.Prelude.{◌≡◌, [], ◌∷◌, ◌++◌, ◌<◌, ◌≤◌, Bool, ℕ, List, Option, Some, false, option_map, unwrap_or, nat_eq, IfOk, if◌then◌else◌};
-ghost use Rattle.expr_grammar.specs.Arithmetic.{truth};
-ghost use Rattle.expr_grammar.specs.Tree.{tree, arg_tree, arg_trees, stmt_tree, code_trees};
-ghost use Rattle.function_table.specs.declared.function.Function.{Function};
+ghost use Rattle.std.specs.Prelude.{◌≡◌, [], ◌∷◌, ◌++◌, ◌<◌, false, IfOk};
+ghost use Rattle.expr_grammar.specs.Tree.{tree, stmt_tree, code_trees};
 ghost use Rattle.logged_calls.specs.Held.{Means, Unless};
 ghost use Rattle.run_events.specs.Events as e;
 ghost use Rattle.run_events.specs.OfSteps as os;
 ghost use Rattle.run_events.specs.OfValues as o;
-ghost use Rattle.seq_check.specs.Answers.{checked_trees};
 ghost use Rattle.sequence_rules.specs.Direct.{direct};
-ghost use Rattle.sequence_rules.specs.Polls as p;
 ghost use Rattle.sequence_rules.specs.Steps as m;
 ghost use Rattle.sequence_rules.specs.Values as v;
-ghost use Rattle.sequence_trees.specs.Trees.{NoSteps, step_tree, steps_tree, steps_named};
+ghost use Rattle.sequence_trees.specs.Trees.{step_tree, steps_tree};
 ghost use Rattle.target_machine.specs.State.{TargetState};
 ghost use Rattle.logged_runs.specs.Seen.{Notes};
-ghost use Rattle.logged_runs.specs.Walk.{MeansAs, calls_of, events_of, now, seen, step_at};
+ghost use Rattle.logged_runs.specs.Walk.{calls_of, events_of, now, seen, step_at};
 
 use crate::runner::LoggedRunner;
 use crate::walked::Walked;

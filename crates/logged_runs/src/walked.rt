@@ -1,11 +1,11 @@
 //! What a walk holds: the variables, and what was seen so far.
-ghost use Rattle.std.specs.Prelude.{◌≡◌, ◌++◌, [], ◌∷◌, ℕ, false, OnErr, OnOk, length, take, None, unwrap_or, codes};
+ghost use Rattle.std.specs.Prelude.{◌≡◌, ◌++◌, [], ◌∷◌, false, OnOk, length, take, None, unwrap_or, codes};
 ghost use Rattle.target_calls.specs.World.{start_world};
 ghost use Rattle.target_machine.specs.State.{TargetState};
 ghost use Rattle.run_coverage.specs.Covered.{IsOf};
-ghost use Rattle.sequence_rules.specs.Direct.{Now, now_at};
+ghost use Rattle.sequence_rules.specs.Direct.{now_at};
 ghost use Rattle.sequence_rules.specs.Locals.{locals_of};
-ghost use Rattle.sequence_rules.specs.Machine.{State, with_locals, with_variables};
+ghost use Rattle.sequence_rules.specs.Machine.{with_locals, with_variables};
 ghost use Rattle.sequence_rules.specs.Shared.{bindings_of};
 ghost use Rattle.sequence_rules.specs.Variables.{bound, set_in, set_visible, value_named, visible};
 ghost use Rattle.logged_runs.specs.Walk.{now, seen};
