@@ -131,7 +131,7 @@ fn answer_run(ended: Result<(), Stopped>, walked: Walked) -> Result<Logged, OutO
 /// type 2 was written, which are of all turns. It starts with the starting values of the settings and with the debug variables; where the set does
 /// not have the sequence, there are no steps.
 ///
-/// `OutOfMemory` comes where memory is refused. The target has then made the first calls of the run; how many is not said.
+/// `OutOfMemory` comes where memory is refused. Nothing is said of the target then.
 pub fn run_logged(
     alloc: Global,
     checked: &Checked,
