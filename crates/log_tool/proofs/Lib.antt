@@ -1,0 +1,5 @@
+mod AskLemmas
+mod AnswerLemmas
+pub mod OneAnswer
+mod CallLemmas
+mod LogLemmas

@@ -1,0 +1,4 @@
+pub mod Logs
+pub mod Asked
+pub mod Answers
+pub mod Calls

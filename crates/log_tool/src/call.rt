@@ -1,0 +1,111 @@
+//! The whole call.
+ghost use Rattle.std.specs.Prelude.{◌≡◌, ◌≢◌, ◌⊎◌, ℕ, List, Some};
+ghost use Rattle.dap_base.specs.Causes.{IsQuiet, Rose};
+ghost use Rattle.log_tool.specs.Answers.{answer_status, answer_text, failed_status, fault_text};
+ghost use Rattle.log_tool.specs.Asked.{IsLine, IsUsage, Runs};
+ghost use Rattle.log_tool.specs.Calls.{moment, Blames, Does, IsOfRun, RunsTo, IsDisturbed, IsDone, IsFinished, IsPut};
+ghost use Rattle.job_source.specs.Source.{AreTaken};
+
+use crate::answering::{status_of, write_answer};
+use crate::asking::{Answer, Unasked, ask};
+use crate::status::Status;
+use dap_base::{Sink, Source, Words};
+use std::alloc::Global;
+use text_lines::TextError;
+
+// The status where a text was not written whole.
+fn failed_status(end: TextError) -> Status
+    ensures { result ≡ failed_status end }
+{
+    match end {
+        TextError::Failed => Status::WriteFault,
+        TextError::OutOfMemory => Status::OutOfMemory,
+    }
+}
+
+// Writes an answer.
+fn answer<K: Sink>(alloc: Global, answer: &Answer, sink: &mut K) -> Status
+    ensures text { IsPut (K.written sink.old) (K.written sink.new) (answer_text answer.now) (answer_status answer.now) result }
+    ensures sink { Blames Status.WriteFault result (K.faults sink.old) (K.faults sink.new) }
+{
+    match write_answer(alloc, answer, sink) {
+        Ok(()) => status_of(answer),
+        Err(end) => failed_status(end),
+    }
+}
+
+// Reports that the source failed.
+fn read_fault<K: Sink>(sink: &mut K) -> Status
+    ensures text { IsPut (K.written sink.old) (K.written sink.new) fault_text Status.ReadFault result }
+    ensures ends { (result ≡ Status.ReadFault) ⊎ (result ≡ Status.WriteFault) }
+    ensures sink { Blames Status.WriteFault result (K.faults sink.old) (K.faults sink.new) }
+{
+    match sink.put(b"end readfault\n") {
+        Ok(()) => Status::ReadFault,
+        Err(_) => Status::WriteFault,
+    }
+}
+
+// Writes what is asked for, or what is written where that is not known.
+fn finish<K: Sink>(alloc: Global, asked: &Result<Answer, Unasked>, sink: &mut K) -> Status
+    ensures done { IsFinished asked.now (K.written sink.old) (K.written sink.new) result }
+    ensures sink { Blames Status.WriteFault result (K.faults sink.old) (K.faults sink.new) }
+{
+    match asked {
+        Ok(asked) => answer(alloc, asked, sink),
+        Err(Unasked::ReadFault) => read_fault(sink),
+        Err(Unasked::OutOfMemory) => Status::OutOfMemory,
+    }
+}
+
+/// Runs a sequence of a job on the target of the job, each unit alone and at once, and writes the log of the run.
+///
+/// `words` are those after the program's name: `--device` and `--sequence` with a name, `--variant` and `--pname` with a name,
+/// `--turns` with a number from 0 to 1,000,000 (2 where it is absent), and `--fail`, each at most once. The source has the
+/// job, one JSON text of at most 16,777,216 bytes. Of each loop the first turns are shown, so many, and the last one.
+///
+/// | Status | What was written |
+/// |---|---|
+/// | `Done` | the log of a run that came to its end |
+/// | `Failed` | the same; with `--fail`, where an error was written by `Message(2, ..)`, a loop timed out or `__Result` is not 0 |
+/// | `Stopped` | the log of a run that halted, or whose last unit met a fault that it does not forgive |
+/// | `Refused` | one line `refused`: `TooLong`, or why no sequence of the job runs, as `dapseq` writes it |
+/// | `Usage` | the usage line; the source was not read |
+/// | `ReadFault` | `end readfault`: the source failed |
+/// | `WriteFault`, `OutOfMemory` | a part of one of these texts, from its front: the sink failed, or memory was refused |
+pub fn dapseq_log<S: Source, K: Sink>(
+    alloc: Global,
+    words: &Words,
+    source: &mut S,
+    sink: &mut K,
+) -> Status
+    // What the words and the bytes ask for was written.
+    ensures asked { let at = moment S.left S.faults K.written K.faults in
+        Does (record { words = words.now; old = at source.old sink.old; new = at source.new sink.new; end = result }) }
+    // It was written whole with its own status, unless the source or the sink failed or memory was refused.
+    ensures success { let at = moment S.left S.faults K.written K.faults in
+        IsQuiet (S.faults source.old) (S.faults source.new) → IsQuiet (K.faults sink.old) (K.faults sink.new) → result ≢ Status.OutOfMemory
+        → IsDone (record { words = words.now; old = at source.old sink.old; new = at source.new sink.new; end = result }) }
+
+    // The status of a run comes only where a sequence of the job runs, and is that of its run; and where one runs, it is no other
+    // without a fault outside.
+    ensures run { IsOfRun result → RunsTo words.now (S.left source.old) result }
+    ensures run_only { (bytes : List ℕ) (end : Status) → S.left source.old ≡ Some bytes → Runs words.now bytes end → (result ≡ end) ⊎ IsDisturbed result }
+
+    // The words alone decide on the usage, and whether the source is read: to its end, or one byte too far.
+    ensures usage { result ≡ Status.Usage → IsUsage words.now }
+    ensures usage_only { IsUsage words.now → (result ≡ Status.Usage) ⊎ (result ≡ Status.WriteFault) ⊎ (result ≡ Status.OutOfMemory) }
+    ensures unread { (IsLine words.now → ⊥) → source.new ≡ source.old }
+    ensures taken { IsLine words.now → IsQuiet (S.faults source.old) (S.faults source.new) → result ≢ Status.OutOfMemory → AreTaken (S.left source.old) (S.left source.new) }
+
+    // Each fault has its cause, and a fault outside is reported.
+    ensures read { result ≡ Status.ReadFault → Rose (S.faults source.old) (S.faults source.new) }
+    ensures source_counted { (S.faults source.new ≡ S.faults source.old) ⊎ (result ≡ Status.ReadFault) ⊎ (result ≡ Status.WriteFault) }
+    ensures sink { Blames Status.WriteFault result (K.faults sink.old) (K.faults sink.new) }
+{
+    let asked = ask(alloc, words, source);
+    let status = finish(alloc, &asked, sink);
+    // (a call drops the parts of all that can be answered; here they would be part of this function's proof)
+    drop(asked);
+    status
+}
