@@ -1,9 +1,9 @@
 -- Words and bytes ask for one answer.
-use Rattle.std.proofs.Common.{◌≡◌, ◌∙◌, ◌<◌, ◌≤◌, ℕ, List, length, Option, Some, refl, ap, sym, subst, arith}
+use Rattle.std.proofs.Common.{◌≡◌, ◌∙◌, ◌<◌, ◌≤◌, ℕ, List, length, Option, Some, ap, sym, subst, arith}
 use Rattle.job_check.specs.declared.own.Own.TheVariants as own
 use Rattle.job_check.specs.declared.running.RunRefusal.{RunRefusal}
 use Rattle.job_check.specs.declared.running.ValidRun.{ValidRun}
-use Rattle.job_check.specs.Running.{IsRefusedRun, IsSameRun, IsValidRun}
+use Rattle.job_check.specs.Running.{IsSameRun, IsValidRun}
 use Rattle.job_check.proofs.OneRun as one
 use Rattle.job_source.specs.Source.{limit}
 use Rattle.job_text.specs.declared.job.Job.{Job}

@@ -1,9 +1,9 @@
 -- What a whole call does, by what is known of its objects before and after it.
-use Rattle.std.specs.Prelude.{◌≡◌, ◌⊎◌, ℕ, List, Option, Some, Result, Ok, Err}
+use Rattle.std.specs.Prelude.{◌≡◌, ◌⊎◌, ℕ, List, Option, Result, Ok, Err}
 use Rattle.std.specs.Io.KnownBytes.{Appends}
 use Rattle.dap_base.specs.Causes.{Rose}
 use Rattle.dap_base.specs.Streams.{AppendsPrefix}
-use Rattle.job_source.specs.Source.{AreBytesOf, AreTaken}
+use Rattle.job_source.specs.Source.{AreBytesOf}
 use Rattle.log_tool.specs.Answers.{answer_status, answer_text, fault_text}
 use Rattle.log_tool.specs.Asked.{Asks, IsLine, Runs}
 use Rattle.log_tool.specs.declared.asking.Answer.{Answer}
