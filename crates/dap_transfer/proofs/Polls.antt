@@ -1,9 +1,13 @@
 -- A value match of CTRL/STAT is a poll, one read at a time; and the match mask before it or alone.
-use Rattle.std.proofs.Common.{◌≡◌, eqb, ltb, ℕ, ◌+◌, ◌-◌, ◌^◌, ◌&&◌, not, Bool, true, false, cond, List, [], ◌∷◌, refl, ap, sym, ◌∙◌, arith, suc, zero}
-use Rattle.std.specs.Prelude.{bit_and, min, slice_index}
-use Rattle.target_machine.specs.Attempt.{Attempt, answers, attempt, bank, ctrl_stat, dp_read, is_free}
-use Rattle.target_machine.specs.Plain.{Polled, dp_read_of, is_fault, looked, polled}
+use Rattle.std.proofs.Common.{◌≡◌, eqb, ltb, ℕ, ◌+◌, ◌-◌, ◌&&◌, ◌||◌, not, Bool, true, false, cond, List, [], ◌∷◌, refl, ap, sym, ◌∙◌, arith, suc, zero}
+use Rattle.std.specs.Prelude.{bit_and, slice_index}
+use Rattle.std.proofs.lemmas.Bool.{eqb-true}
+use Rattle.target_machine.specs.Attempt.{Attempt, answers, attempt, bank, ctrl_stat, is_free}
+use Rattle.target_machine.proofs.PollLemmas.{reads_plain}
+use Rattle.target_machine.specs.PollCounts.{reads_counted}
+use Rattle.target_machine.specs.Plain.{Polled, given, is_fault, looked, polled}
 use Rattle.target_machine.specs.State.{TargetState}
+use Rattle.target_machine.specs.declared.access.Outcome.{Outcome}
 use Rattle.target_machine.specs.declared.access.Outcome.TheVariants as outcome
 use Rattle.target_machine.specs.declared.access.RegAccess.{RegAccess}
 use Rattle.dap_messages.specs.declared.request.Request.{Request}
@@ -12,7 +16,7 @@ use Rattle.dap_messages.specs.declared.request.Response.{Response}
 use Rattle.dap_messages.specs.declared.request.Response.TheVariants.{Good, Wait, Fault, Mismatch}
 use Rattle.dap_messages.specs.Requests.{mask_request, match_request}
 use Rattle.dap_transfer.specs.CommandEnds.{counted_from}
-use Rattle.dap_transfer.specs.Private.{first_then, mask_if, request_ran, run, served}
+use Rattle.dap_transfer.specs.Private.{first_then, mask_if, request_ran, run, served, value_matched}
 use Rattle.dap_transfer.specs.State.{Setting, TransferState, Transferred, WireState, grown}
 use Rattle.dap_transfer.specs.Transfer.{RunResult, transferred}
 use Rattle.dap_transfer.specs.ValueMatch.{has_matched, match_ending, match_ending_as}
@@ -28,37 +32,21 @@ use Rattle.dap_transfer.proofs.Steps.{breaks_off, closes, continued, ended_here,
 abbrev pub ctrl_match : ℕ → Request
 ctrl_match v = match_request false 0x4 v
 
-abbrev ctrl_read : ℕ → RegAccess
+-- a read of CTRL/STAT; the value in the access plays no part
+abbrev pub ctrl_read : ℕ → RegAccess
 ctrl_read v = access_of (ctrl_match v)
 
 -- the target after the read
 abbrev after_read : TargetState → TargetState
-after_read t = record t { reads = min (t.reads + 1) (2 ^ 32 - 1) }
+after_read t = reads_counted t 1
 
 bank_free : (t : TargetState) (v : ℕ) → bank t ≡ 0 → is_free t (ctrl_read v) ≡ true
 unfolding is_free
 bank_free t v e = ap (λ n. eqb n 0) e
 
-not_stuck : (b f : Bool) (x y z : Attempt) → f ≡ true → y ≡ z → cond (b && not f) x y ≡ z
-not_stuck true true x y z e h = h
-not_stuck true false x y z e h = absurd (cc)
-not_stuck false f x y z e h = h
-
 reads_ctrl : (t : TargetState) (v : ℕ) → bank t ≡ 0 → attempt t (ctrl_read v) ≡ answers (ctrl_stat t) (after_read t)
-unfolding attempt
-reads_ctrl t v e =
-    not_stuck t.sticky (is_free t (ctrl_read v)) (record { outcome = outcome.Fault; next = t }) (dp_read t 4) (answers (ctrl_stat t) (after_read t)) (bank_free t v e)
-    (ap (λ n. cond (eqb n 0) (answers (ctrl_stat t) (after_read t)) (answers 0 t)) e)
-
-plain_free : (t : TargetState) → bank t ≡ 0 → is_free t (dp_read_of 4) ≡ true
-unfolding is_free
-plain_free t e = ap (λ n. eqb n 0) e
-
-reads_plain : (t : TargetState) → bank t ≡ 0 → attempt t (dp_read_of 4) ≡ answers (ctrl_stat t) (after_read t)
-unfolding attempt
-reads_plain t e =
-    not_stuck t.sticky (is_free t (dp_read_of 4)) (record { outcome = outcome.Fault; next = t }) (dp_read t 4) (answers (ctrl_stat t) (after_read t)) (plain_free t e)
-    (ap (λ n. cond (eqb n 0) (answers (ctrl_stat t) (after_read t)) (answers 0 t)) e)
+unfolding attempt is_free
+reads_ctrl t v e = reads_plain t e
 
 first_good : (f : Bool) (x : Response) → f ≡ true → cond f Good x ≡ Good
 first_good true x e = refl
@@ -82,31 +70,71 @@ ctrl_value l v e = ap (λ (x : Attempt). value_of x.outcome) (reads_ctrl l.targe
 -- ---- the reads of a value match are those of a poll
 
 -- how the value match ends, by what the poll comes to
-abbrev poll_ending : Polled → WireState → Ending
+abbrev pub poll_ending : Polled → WireState → Ending
 poll_ending x l = record { response = cond (has_matched x) Good Mismatch; line = record { target = x.next; number = l.number }; count = x.reads }
 
 abbrev hit_or : Bool → TargetState → Polled → Polled
 hit_or b u rest = cond b (record { outcome = outcome.Value 1; reads = 1; next = u }) (record rest { reads = rest.reads + 1 })
 
-one_turn : (b : Bool) (l : WireState) (v : ℕ) (x : Polled) → bank l.target ≡ 0 →
-    match_ending_as Good b l (ctrl_read v) (poll_ending x (line_after l)) ≡ poll_ending (hit_or b (after_read l.target) x) l
-one_turn true l v x e = λ i. record { response = Good; line = ctrl_made l v e i; count = 1 }
-one_turn false l v x e = refl
+one_turn : (b : Bool) (l : WireState) (w : ℕ) (x : Polled) → bank l.target ≡ 0 →
+    match_ending_as Good b l (ctrl_read w) (poll_ending x (line_after l)) ≡ poll_ending (hit_or b (after_read l.target) x) l
+one_turn true l w x e = λ i. record { response = Good; line = ctrl_made l w e i; count = 1 }
+one_turn false l w x e = refl
 
-pub match_polls : (n : ℕ) (s : Setting) (mask v : ℕ) (l : WireState) → bank l.target ≡ 0 →
-    match_ending s mask v (ctrl_read v) n l ≡ poll_ending (polled n mask v l.target) l
+pub match_polls : (n : ℕ) (s : Setting) (mask w v : ℕ) (l : WireState) → bank l.target ≡ 0 →
+    match_ending s mask v (ctrl_read w) n l ≡ poll_ending (polled n mask v l.target) l
 unfolding polled
-match_polls zero s mask v l e = refl
-match_polls (suc n) s mask v l e =
+match_polls zero s mask w v l e = refl
+match_polls (suc n) s mask w v l e =
     let t : TargetState = l.target in
-    let rest = λ (k : WireState). match_ending s mask v (ctrl_read v) n k in
+    let rest = λ (k : WireState). match_ending s mask v (ctrl_read w) n k in
     let hit : Bool = eqb (bit_and (ctrl_stat t) mask) v in
-    ap (λ r. match_ending_as r (eqb (bit_and (value l (ctrl_read v)) mask) v) l (ctrl_read v) (rest (made l (ctrl_read v)))) (ctrl_ends s l v e)
-    ∙ ap (λ c. match_ending_as Good (eqb (bit_and c mask) v) l (ctrl_read v) (rest (made l (ctrl_read v)))) (ctrl_value l v e)
-    ∙ ap (λ k. match_ending_as Good hit l (ctrl_read v) (rest k)) (ctrl_made l v e)
-    ∙ ap (λ x. match_ending_as Good hit l (ctrl_read v) x) (match_polls n s mask v (line_after l) e)
-    ∙ one_turn hit l v (polled n mask v (after_read t)) e
+    ap (λ r. match_ending_as r (eqb (bit_and (value l (ctrl_read w)) mask) v) l (ctrl_read w) (rest (made l (ctrl_read w)))) (ctrl_ends s l w e)
+    ∙ ap (λ c. match_ending_as Good (eqb (bit_and c mask) v) l (ctrl_read w) (rest (made l (ctrl_read w)))) (ctrl_value l w e)
+    ∙ ap (λ k. match_ending_as Good hit l (ctrl_read w) (rest k)) (ctrl_made l w e)
+    ∙ ap (λ x. match_ending_as Good hit l (ctrl_read w) x) (match_polls n s mask w v (line_after l) e)
+    ∙ one_turn hit l w (polled n mask v (after_read t)) e
     ∙ ap (λ (x : Attempt). poll_ending (looked x.outcome x.next mask v (polled n mask v x.next)) l) (sym (reads_plain t e))
+
+-- a read at the address of CTRL/STAT that never waits is one of CTRL/STAT
+reads_it : (at_ap read : Bool) (addr b : ℕ) → read ≡ true → addr ≡ 4 → (not at_ap && cond read (eqb addr 0 || (eqb addr 4 && eqb b 0)) (eqb addr 0)) ≡ true →
+    (at_ap ≡ false) × (b ≡ 0)
+reads_it at_ap read addr b er ea h =
+    by_port at_ap (sym (ap (λ r. not at_ap && cond r (eqb addr 0 || (eqb addr 4 && eqb b 0)) (eqb addr 0)) er ∙ ap (λ n. not at_ap && (eqb n 0 || (eqb n 4 && eqb b 0))) ea) ∙ h)
+  where
+    by_port : (p : Bool) → (not p && eqb b 0) ≡ true → (p ≡ false) × (b ≡ 0)
+    by_port true e = absurd (cc)
+    by_port false e = (refl, eqb-true b 0 e)
+
+ctrl_is : (t : TargetState) (a : RegAccess) → a.read ≡ true → a.addr ≡ 4 → is_free t a ≡ true → (a.ap ≡ false) × (bank t ≡ 0)
+unfolding is_free
+ctrl_is t a er ea free = reads_it a.ap a.read a.addr (bank t) er ea free
+
+same_read : (a : RegAccess) → a.ap ≡ false → a.read ≡ true → a.addr ≡ 4 → a ≡ ctrl_read a.value
+same_read a ea er en = λ i. record { ap = ea i; read = er i; addr = en i; value = a.value }
+
+-- what the value match of a probe comes to
+abbrev pub poll_of : TransferState → ℕ → Polled
+poll_of p v = polled (p.setting.matches + 1) p.mask v p.line.target
+
+-- a value match of CTRL/STAT that a probe makes now
+pub ctrl_matched : (p : TransferState) (a : RegAccess) (v : ℕ) → a.read ≡ true → a.addr ≡ 4 → is_free p.line.target a ≡ true →
+    value_matched p a v ≡ poll_ending (poll_of p v) p.line
+ctrl_matched p a v er ea free =
+    let is = ctrl_is p.line.target a er ea free in
+    ap (λ (x : RegAccess). value_matched p x v) (same_read a is.0 er ea) ∙ match_polls (p.setting.matches + 1) p.setting p.mask a.value v p.line is.1
+
+-- the same, by what the code makes of the poll
+pub ctrl_ended : (p : TransferState) (a : RegAccess) (v : ℕ) → a.read ≡ true → a.addr ≡ 4 → is_free p.line.target a ≡ true →
+    (t u : TargetState) (mask number turns reads : ℕ) (o : Outcome) (r : Response) →
+    t ≡ p.line.target → mask ≡ p.mask → number ≡ p.line.number → turns ≡ p.setting.matches + 1 →
+    record { outcome = o; reads = reads; next = u } ≡ polled turns mask v t → r ≡ cond (eqb (given o) 1) Good Mismatch →
+    record { response = r; line = record { target = u; number = number }; count = reads } ≡ value_matched p a v
+ctrl_ended p a v er ea free t u mask number turns reads o r target_is mask_is number_is turns_is polled_is response_is =
+    let same : record { outcome = o; reads = reads; next = u } ≡ poll_of p v = polled_is ∙ (λ i. polled (turns_is i) (mask_is i) v (target_is i)) in
+    ap (λ (x : Response). record { response = x; line = record { target = u; number = number }; count = reads }) response_is
+    ∙ (λ i. record { response = cond (has_matched (same i)) Good Mismatch; line = record { target = (same i).next; number = number_is i }; count = (same i).reads })
+    ∙ sym (ctrl_matched p a v er ea free)
 
 never_either : (b : Bool) (u : TargetState) (x : Polled) → is_fault x.outcome ≡ false → is_fault (hit_or b u x).outcome ≡ false
 never_either true u x h = refl
@@ -143,15 +171,11 @@ ran_by m x s l v mask e =
     by_end true = refl
     by_end false = refl
 
--- what the value match of a probe comes to
-abbrev pub poll_of : TransferState → ℕ → Polled
-poll_of p v = polled (p.setting.matches + 1) p.mask v p.line.target
-
 ran_match : (p : TransferState) (v : ℕ) (m : Bool) → bank p.line.target ≡ 0 → has_matched (poll_of p v) ≡ m →
     request_ran p start_notes (ctrl_match v) ≡ poll_ran m (poll_of p v) p.line p.mask
 ran_match p v m e h =
     let w : Wire = item (Matches v) (ctrl_read v) 0 p.mask in
-    ap (λ (d : Ending). first_then d.response false p.line w d (run p.setting false d.line [])) (match_polls (p.setting.matches + 1) p.setting p.mask v p.line e)
+    ap (λ (d : Ending). first_then d.response false p.line w d (run p.setting false d.line [])) (match_polls (p.setting.matches + 1) p.setting p.mask v v p.line e)
     ∙ ran_by m (poll_of p v) p.setting p.line v p.mask h
 
 -- the probe after it

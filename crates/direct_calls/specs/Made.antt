@@ -1,12 +1,11 @@
 -- How the code of a call at once is the call.
-use Rattle.std.specs.Prelude.{◌≡◌, ◌==◌, ℕ, Bool, false, bit_and, List, Result, Ok, Err, if◌then◌else◌}
+use Rattle.std.specs.Prelude.{◌≡◌, ℕ, Bool, false, List, Result, Ok, Err, if◌then◌else◌}
 use Rattle.dap_base.specs.declared.text.OutOfMemory.{OutOfMemory}
 use Rattle.target_machine.specs.Plain.{CallDone, CallEnd, Answered, Skipped, Faulted, Small, from_lanes, given, is_fault, needs_cfg}
 use Rattle.target_machine.specs.declared.unit.Call.{Call}
 use Rattle.target_machine.specs.declared.unit.Call.TheVariants.{Access}
 use Rattle.target_machine.specs.declared.unit.Unit.TheVariants as unit
 use Rattle.target_machine.specs.declared.access.Outcome.{Outcome}
-use Rattle.target_machine.specs.declared.access.Outcome.TheVariants as outcome
 use Rattle.target_machine.specs.State.{TargetState}
 use Rattle.direct_calls.specs.declared.made.Made.{Made}
 use Rattle.direct_calls.specs.declared.made.Made.TheVariants as made
@@ -42,9 +41,3 @@ end_by o = if is_fault o then Faulted else Answered (given o)
 abbrev pub memory_end_by : ℕ → Bool → ℕ → Outcome → CallEnd
 memory_end_by size read address o =
     if is_fault o then Faulted else Answered (if read then from_lanes size address (given o) else given o)
-
--- a read of CTRL/STAT has the requested value under the mask
-abbrev pub is_match : Outcome → ℕ → ℕ → Bool
-is_match (outcome.Value n) mask requested = bit_and n mask == requested
-is_match outcome.Done mask requested = false
-is_match outcome.Fault mask requested = false

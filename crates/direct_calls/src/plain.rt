@@ -1,9 +1,9 @@
 //! Accesses that forgive nothing.
 ghost use Rattle.std.specs.Prelude.{◌≡◌, ℕ, ◌<◌, ◌*◌, ◌^◌, ◌%◌, ◌⊎◌, List, MatchOption, OnErr, true, false};
-ghost use Rattle.target_machine.specs.Plain.{call_done, cfg_actions, contains, has_large, in_order, is_fault, memory_actions, needs_cfg, polled};
+ghost use Rattle.target_machine.specs.Plain.{call_done, cfg_actions, contains, has_large, in_order, is_fault, memory_actions, needs_cfg};
 ghost use Rattle.target_machine.specs.Sound.{IsSound, IsSoundMemory};
 ghost use Rattle.target_machine.specs.declared.unit.Call.TheVariants as calls;
-ghost use Rattle.direct_calls.specs.Made.{IsDone, MadeAs, call_end_of, is_match, memory_end_by, takes_memory};
+ghost use Rattle.direct_calls.specs.Made.{IsDone, MadeAs, call_end_of, memory_end_by, takes_memory};
 
 use crate::accesses::{has_faulted, make_all, make_next, number_of};
 use crate::made::{Made, made_of};
@@ -11,7 +11,7 @@ use dap_base::OutOfMemory;
 use target_calls::accesses::{
     access_ap, access_dp, access_drw, from_lanes, high_of, low_of, select,
 };
-use target_machine::registers::{CFG, CFG_LA, CSW, CTRL_STAT, TAR, TAR_HIGH};
+use target_machine::registers::{CFG, CFG_LA, CSW, TAR, TAR_HIGH};
 use target_machine::{Outcome, Target, Unit, attempt, plain_csw};
 
 // The AP is in the list.
@@ -24,35 +24,6 @@ fn is_among(large: &[u8], ap: u8) -> bool
         }
     }
     false
-}
-
-// A read of CTRL/STAT has the requested value under the mask.
-fn is_match(shown: Outcome, mask: u32, requested: u32) -> bool
-    ensures { result ≡ is_match shown mask requested }
-{
-    match shown {
-        Outcome::Value(value) => value & mask == requested,
-        Outcome::Done | Outcome::Fault => false,
-    }
-}
-
-// CTRL/STAT is read until the value under the mask is the one that is requested, at most so many times.
-fn poll(target: &mut Target, mask: u32, requested: u32, turns: u32) -> Outcome
-    ensures outcome { result ≡ (polled turns mask requested target.old).outcome }
-    ensures next { target.new ≡ (polled turns mask requested target.old).next }
-{
-    let mut left = turns;
-    while left > 0 {
-        let shown = attempt(target, access_dp(true, CTRL_STAT, 0));
-        if is_match(shown, mask, requested) {
-            return Outcome::Value(1);
-        }
-        if has_faulted(shown) {
-            return Outcome::Fault;
-        }
-        left -= 1;
-    }
-    Outcome::Value(0)
 }
 
 // The accesses of a memory access, each by itself.
@@ -212,7 +183,8 @@ fn make_plain_dp(target: &mut Target, read: bool, addr: u8, value: u32) -> Made
 fn make_plain_poll(target: &mut Target, mask: u32, value: u32, turns: u32) -> Made
     ensures { (large : List ℕ) → IsDone (call_done target.old large false (calls.Access (Unit.Poll mask value turns))) (call_end_of result) target.new large }
 {
-    made_of(poll(target, mask, value, turns))
+    let end = target.poll(mask, value, turns);
+    made_of(end.outcome)
 }
 
 // An access that forgives nothing.

@@ -1,7 +1,7 @@
 use Rattle.std.proofs.Common.{◌≡◌, ◌+◌, ◌-◌}
 use Rattle.dap_transfer.specs.ValueMatch.{match_ending}
 use Rattle.dap_transfer.proofs.ValueMatches.{counted}
-use Rattle.dap_transfer.proofs.engine.TransferEngine.match_value.Given as goal
+use Rattle.dap_transfer.proofs.engine.TransferEngine.match_by_each.Given as goal
 
 abbrev pub invariant-loop-turn : goal.invariant-loop-turn
 invariant-loop-turn l = record {
