@@ -2,11 +2,13 @@
 use Rattle.std.proofs.Common.{◌≡◌, ◌∙◌, ℕ, ◌≤◌, Option, Some, None, refl, sym, ap, subst, arith}
 use Rattle.dap_base.specs.Causes.{Rose}
 use Rattle.probe_core.proofs.RunLemmas.{keeps_own_runs, keeps_runs_on}
+use Rattle.probe_core.specs.Bench.{BenchState}
 use Rattle.probe_core.specs.Runs.{KeepsRuns}
 use Rattle.target_calls.specs.NeedPoints.{Asks}
 use Rattle.target_calls.specs.World.{AtLeast}
 use Rattle.access_calls.specs.Causes.{EndedBy}
 use Rattle.access_calls.specs.GoesOn.{GoesOn, IsSameButAsks, StaysEnded}
+use Rattle.access_calls.specs.Keeps.{Keeps}
 use Rattle.access_calls.specs.Left.{IsLeft, IsLeftAt, IsLeftCut, answered_at, answered_by, answered_cut}
 use Rattle.access_calls.specs.Reported.{AccessView}
 use Rattle.access_calls.specs.declared.stop.Stop.{Stop}
@@ -81,6 +83,19 @@ goes_trans a b c first second = record {
   left = λ n left. first.left n (second.left n left);
   ended = stays_then a.end b.end a b c refl refl first.exchanges first.ended second.ended;
 }
+
+module _ {S : Type 0} (begun : S → BenchState → Type 0) (reported : S → AccessView) (identity : S → ℕ) where
+  -- no call keeps all
+  pub keeps_same : (a : S) → Keeps begun reported identity a a
+  keeps_same a = record { on = λ m b. b; same_bench = refl; goes = goes_same (reported a) }
+
+  -- two rows of calls keep what each of them keeps
+  pub keeps_on : (a b c : S) → Keeps begun reported identity a b → Keeps begun reported identity b c → Keeps begun reported identity a c
+  keeps_on a b c first second = record {
+    on = λ m b. second.on m (first.on m b);
+    same_bench = second.same_bench ∙ first.same_bench;
+    goes = goes_trans _ _ _ first.goes second.goes;
+  }
 
 -- so many calls may be answered as a caller takes it at its end
 pub left_by : (a : AccessView) → IsLeft a (answered_by a)

@@ -6,6 +6,7 @@ pub mod Endings
 pub mod GoesOn
 pub mod Growing
 pub mod Issued
+pub mod Keeps
 pub mod Left
 pub mod Made
 pub mod Numbers

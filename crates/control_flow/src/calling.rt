@@ -1,13 +1,14 @@
 //! Calls of functions and of sequences.
 ghost use Rattle.std.specs.Prelude.{◌≡◌, [], Option, None, unwrap_or};
 ghost use Rattle.dap_base.specs.declared.text.Place.{Place};
+ghost use Rattle.access_calls.specs.Keeps.{Keeps};
 ghost use Rattle.expr_grammar.specs.Tree.{arg_tree, arg_trees, tree};
 ghost use Rattle.function_table.specs.declared.function.Function.{Function};
 ghost use Rattle.seq_check.specs.Answers.{checked_trees};
 ghost use Rattle.sequence_trees.specs.Trees.{NoSteps, steps_named, steps_tree};
 ghost use Rattle.sequence_rules.specs.Steps as st;
 ghost use Rattle.sequence_rules.specs.Values as v;
-ghost use Rattle.function_calls.specs.Frame.{EndsWriting, IsReady, Keeps};
+ghost use Rattle.function_calls.specs.Frame.{EndsWriting, IsReady};
 ghost use Rattle.function_calls.specs.Means.{MeansWriting, MeansWritingAs};
 ghost use Rattle.sequence_rules.specs.Late.{late};
 ghost use Rattle.control_flow.specs.Calls.{calls_of, one_number, two_numbers};

@@ -1,11 +1,12 @@
 //! Controls, their turns, and polls.
 ghost use Rattle.std.specs.Prelude.{◌≤◌, Option, None, Some, option_map};
+ghost use Rattle.access_calls.specs.Keeps.{Keeps};
 ghost use Rattle.expr_grammar.specs.Tree.{tree};
 ghost use Rattle.sequence_trees.specs.Trees.{steps_tree};
 ghost use Rattle.sequence_rules.specs.Polls as p;
 ghost use Rattle.sequence_rules.specs.Steps as st;
 ghost use Rattle.sequence_rules.specs.Values as v;
-ghost use Rattle.function_calls.specs.Frame.{EndsWriting, IsReady, Keeps};
+ghost use Rattle.function_calls.specs.Frame.{EndsWriting, IsReady};
 ghost use Rattle.function_calls.specs.Means.{MeansWriting};
 ghost use Rattle.sequence_rules.specs.Late.{late};
 ghost use Rattle.control_flow.specs.Calls.{calls_of};

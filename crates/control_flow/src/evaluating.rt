@@ -1,9 +1,10 @@
 //! Whole runs of the evaluator: the debug variables, and then the sequence that a run starts with.
+ghost use Rattle.access_calls.specs.Keeps.{Keeps};
 ghost use Rattle.expr_grammar.specs.Tree.{code_trees, stmt_tree, tree};
 ghost use Rattle.seq_check.specs.Answers.{checked_trees};
 ghost use Rattle.sequence_rules.specs.Late.{late};
 ghost use Rattle.sequence_rules.specs.Steps as st;
-ghost use Rattle.function_calls.specs.Frame.{EndsWriting, IsReady, Keeps};
+ghost use Rattle.function_calls.specs.Frame.{EndsWriting, IsReady};
 ghost use Rattle.function_calls.specs.Means.{MeansWriting};
 ghost use Rattle.control_flow.specs.Calls.{debugged_one, defined};
 

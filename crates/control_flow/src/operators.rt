@@ -1,10 +1,11 @@
 //! Operators and their operands.
 ghost use Rattle.std.specs.Prelude.{◌≡◌, None};
+ghost use Rattle.access_calls.specs.Keeps.{Keeps};
 ghost use Rattle.expr_grammar.specs.Arithmetic.{truth};
 ghost use Rattle.expr_grammar.specs.Tree.{tree};
 ghost use Rattle.sequence_rules.specs.Late.{late};
 ghost use Rattle.sequence_rules.specs.Values as v;
-ghost use Rattle.function_calls.specs.Frame.{EndsWriting, IsReady, Keeps};
+ghost use Rattle.function_calls.specs.Frame.{EndsWriting, IsReady};
 ghost use Rattle.function_calls.specs.Means.{MeansWriting};
 ghost use Rattle.control_flow.specs.Calls.{calls_of};
 

@@ -1,8 +1,9 @@
 //! Polls of CTRL/STAT.
 ghost use Rattle.std.specs.Prelude.{◌≤◌};
+ghost use Rattle.access_calls.specs.Keeps.{Keeps};
 ghost use Rattle.sequence_rules.specs.Late.{late};
 ghost use Rattle.sequence_rules.specs.Steps as st;
-ghost use Rattle.function_calls.specs.Frame.{EndsCall, IsReady, Keeps};
+ghost use Rattle.function_calls.specs.Frame.{EndsCall, IsReady};
 ghost use Rattle.function_calls.specs.Means.{MeansCall};
 
 use access_calls::Access;

@@ -7,10 +7,10 @@ ghost use Rattle.target_calls.specs.World.{stop};
 ghost use Rattle.access_calls.specs.Left.{IsLeft, answered_by};
 ghost use Rattle.access_calls.specs.Reported.{world_from};
 ghost use Rattle.access_calls.specs.declared.ended.Ending.TheVariants as ends;
+ghost use Rattle.access_calls.specs.Keeps.{Keeps};
 ghost use Rattle.seq_check.specs.Answers.{checked_trees};
 ghost use Rattle.sequence_rules.specs.Runs.{late_meaning, meaning, outcome_of, program_of};
 ghost use Rattle.sequence_rules.specs.Known.{Knows, known_part};
-ghost use Rattle.function_calls.specs.Frame.{Keeps};
 ghost use Rattle.control_flow.specs.Answers.{EndBy, EndsAs, HasLines, HasNeeds, HasSinkCause, IsPart, ran};
 ghost use Rattle.control_flow.specs.Closing.{ComesToEnd};
 

@@ -1,9 +1,10 @@
 //! Steps and statements.
+ghost use Rattle.access_calls.specs.Keeps.{Keeps};
 ghost use Rattle.expr_grammar.specs.Tree.{code_trees, stmt_tree, tree};
 ghost use Rattle.sequence_trees.specs.Trees.{step_tree, steps_tree};
 ghost use Rattle.sequence_rules.specs.Steps as st;
 ghost use Rattle.sequence_rules.specs.Values as v;
-ghost use Rattle.function_calls.specs.Frame.{EndsWriting, IsReady, Keeps};
+ghost use Rattle.function_calls.specs.Frame.{EndsWriting, IsReady};
 ghost use Rattle.function_calls.specs.Means.{MeansWriting};
 ghost use Rattle.sequence_rules.specs.Late.{late};
 ghost use Rattle.control_flow.specs.Calls.{calls_of};

@@ -1,24 +1,9 @@
--- The frames of calls in a row.
-use Rattle.std.proofs.Common.{ℕ, List, Option, Result, Ok, refl, ◌∙◌, subst}
-use Rattle.probe_core.specs.Bench.{BenchState}
+-- How calls in a row end.
+use Rattle.std.proofs.Common.{ℕ, List, Option, Result, Ok, subst}
 use Rattle.access_calls.specs.Reported.{AccessView}
-use Rattle.access_calls.proofs.KeepLemmas.{goes_same, goes_trans}
 use Rattle.function_calls.specs.declared.end.End.{End}
 use Rattle.function_calls.specs.Ends.{HasSinkCause}
-use Rattle.function_calls.specs.Frame.{Keeps, IsReady, EndsWriting}
-
-module _ {S : Type 0} (begun : S → BenchState → Type 0) (reported : S → AccessView) (identity : S → ℕ) where
-  -- no call keeps all
-  pub keeps_same : (a : S) → Keeps begun reported identity a a
-  keeps_same a = record { on = λ m b. b; same_bench = refl; goes = goes_same (reported a) }
-
-  -- two rows of calls keep what each of them keeps
-  pub keeps_on : (a b c : S) → Keeps begun reported identity a b → Keeps begun reported identity b c → Keeps begun reported identity a c
-  keeps_on a b c first second = record {
-    on = λ m b. second.on m (first.on m b);
-    same_bench = second.same_bench ∙ first.same_bench;
-    goes = goes_trans _ _ _ first.goes second.goes;
-  }
+use Rattle.function_calls.specs.Frame.{IsReady, EndsWriting}
 
 -- after a call that answers, another may be made
 pub ready_after : {T K : Type 0} (written : K → Option (List ℕ)) (faults : K → ℕ) (x : T) (units : ℕ) (a : AccessView) (old new : K) → EndsWriting written faults (Ok x) units a old new → IsReady units a
@@ -38,5 +23,3 @@ ends_after written faults x result first last a b r s t one two = record {
 -- another answer ends the same
 pub ends_same : {T U K : Type 0} (written : K → Option (List ℕ)) (faults : K → ℕ) (x : T) (y : U) (units : ℕ) (a : AccessView) (old new : K) → EndsWriting written faults (Ok x) units a old new → EndsWriting written faults (Ok y) units a old new
 ends_same written faults x y units a old new ends = record { end = ends.end; counted = ends.counted; knows = ends.knows; lines = ends.lines; cause = ends.cause }
-
-pub ruleset frames = (keeps_same, keeps_on)

@@ -1,19 +1,10 @@
--- The frame of a call of a run: what it keeps of its access, and how it ends.
+-- The frame of a call of a run: when it may be made, and how it ends. What it keeps of its access is `Keeps` of `access_calls`.
 use Rattle.std.specs.Prelude.{◌≡◌, ℕ, Bool, List, length, Option, None, Result}
-use Rattle.probe_core.specs.Bench.{BenchState}
-use Rattle.access_calls.specs.GoesOn.{GoesOn}
 use Rattle.access_calls.specs.Reported.{AccessView}
 use Rattle.sequence_rules.specs.Known.{Knows}
 use Rattle.function_calls.specs.declared.end.End.{End}
 use Rattle.function_calls.specs.Ends.{Counted, EndIs, HasSinkCause, NoWriteFault}
 use Rattle.function_calls.specs.Lines.{AppendsLines, WritesLines}
-
--- What each call keeps of its access, and so each row of calls: where it began, which loan its bench is, and what each call of an
--- access keeps, the number of calls that may still be answered among it.
-pub record Keeps {S : Type 0} (begun : S → BenchState → Type 0) (reported : S → AccessView) (identity : S → ℕ) (old new : S) : Type 0 where
-  pub on : (m : BenchState) → begun old m → begun new m
-  pub same_bench : identity new ≡ identity old
-  pub goes : GoesOn (reported old) (reported new)
 
 -- A call may be made: the access has no end, and one call was asked for each unit that is counted.
 pub record IsReady (units : ℕ) (a : AccessView) : Type 0 where

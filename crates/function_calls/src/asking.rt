@@ -1,8 +1,9 @@
 //! Units and commands of the probe, asked one after the other.
 ghost use Rattle.target_machine.specs.Sound.{IsSound, IsSoundProbe};
+ghost use Rattle.access_calls.specs.Keeps.{Keeps};
 ghost use Rattle.sequence_rules.specs.Calls as c;
 ghost use Rattle.sequence_rules.specs.Late.{late};
-ghost use Rattle.function_calls.specs.Frame.{EndsCall, IsReady, Keeps};
+ghost use Rattle.function_calls.specs.Frame.{EndsCall, IsReady};
 ghost use Rattle.function_calls.specs.Means.{MeansCall};
 
 use crate::end::End;

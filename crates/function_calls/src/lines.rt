@@ -3,11 +3,12 @@ ghost use Rattle.std.specs.Prelude.{◌≡◌, ℕ, Bool, List, Option, IfOk, dr
 ghost use Rattle.probe_core.specs.Bench.{BenchState};
 ghost use Rattle.access_calls.specs.Left.{IsLeft};
 ghost use Rattle.access_calls.specs.Reported.{world_from};
+ghost use Rattle.access_calls.specs.Keeps.{Keeps};
 ghost use Rattle.sequence_rules.specs.Calls as c;
 ghost use Rattle.sequence_rules.specs.Late.{late};
 ghost use Rattle.sequence_rules.specs.Lines.{message_line};
 ghost use Rattle.function_calls.specs.Ends.{MeansLate};
-ghost use Rattle.function_calls.specs.Frame.{EndsWriting, IsReady, Keeps};
+ghost use Rattle.function_calls.specs.Frame.{EndsWriting, IsReady};
 ghost use Rattle.sequence_rules.specs.Known.{Knows};
 ghost use Rattle.function_calls.specs.Held.{seen};
 ghost use Rattle.function_calls.specs.Kinds.{line_done};

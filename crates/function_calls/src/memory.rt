@@ -1,9 +1,10 @@
 //! Calls that access memory.
 ghost use Rattle.std.specs.Prelude.{◌≡◌, ◌⊎◌, ◌+◌, ◌*◌, ◌%◌, ◌^◌, None};
+ghost use Rattle.access_calls.specs.Keeps.{Keeps};
 ghost use Rattle.sequence_rules.specs.Calls as c;
 ghost use Rattle.sequence_rules.specs.Late.{late};
 ghost use Rattle.function_calls.specs.Ends.{as_port};
-ghost use Rattle.function_calls.specs.Frame.{EndsCall, EndsUse, IsReady, Keeps};
+ghost use Rattle.function_calls.specs.Frame.{EndsCall, EndsUse, IsReady};
 ghost use Rattle.function_calls.specs.Means.{MeansCall};
 
 use crate::asking::{ask, ask_for_result};

@@ -1,8 +1,9 @@
 //! What calls of functions do, once their arguments are numbers.
 ghost use Rattle.std.specs.Prelude.{◌≡◌, None, slice_index};
+ghost use Rattle.access_calls.specs.Keeps.{Keeps};
 ghost use Rattle.sequence_rules.specs.Calls as c;
 ghost use Rattle.sequence_rules.specs.Late.{late};
-ghost use Rattle.function_calls.specs.Frame.{EndsCall, EndsWriting, IsReady, Keeps};
+ghost use Rattle.function_calls.specs.Frame.{EndsCall, EndsWriting, IsReady};
 ghost use Rattle.function_calls.specs.Kinds.{IsSized, kind_done, probe_done, written_value};
 ghost use Rattle.function_calls.specs.Means.{MeansCall, MeansWriting};
 

@@ -1,9 +1,10 @@
 //! The predefined variables that calls use.
 ghost use Rattle.std.specs.Prelude.{◌≡◌, None, codes};
+ghost use Rattle.access_calls.specs.Keeps.{Keeps};
 ghost use Rattle.sequence_rules.specs.Calls as c;
 ghost use Rattle.sequence_rules.specs.Late.{late};
 ghost use Rattle.function_calls.specs.Ends.{as_port};
-ghost use Rattle.function_calls.specs.Frame.{EndsUse, Keeps};
+ghost use Rattle.function_calls.specs.Frame.{EndsUse};
 ghost use Rattle.function_calls.specs.Means.{MeansCall, MeansCallBy};
 
 use crate::end::End;

@@ -1,7 +1,8 @@
 //! Calls that are commands of the probe.
+ghost use Rattle.access_calls.specs.Keeps.{Keeps};
 ghost use Rattle.sequence_rules.specs.Calls as c;
 ghost use Rattle.sequence_rules.specs.Late.{late};
-ghost use Rattle.function_calls.specs.Frame.{EndsCall, IsReady, Keeps};
+ghost use Rattle.function_calls.specs.Frame.{EndsCall, IsReady};
 ghost use Rattle.function_calls.specs.Means.{MeansCall};
 
 use crate::asking::{command, command_without_result};

@@ -1,8 +1,9 @@
 //! Calls that access registers.
+ghost use Rattle.access_calls.specs.Keeps.{Keeps};
 ghost use Rattle.sequence_rules.specs.Calls as c;
 ghost use Rattle.sequence_rules.specs.Late.{late};
 ghost use Rattle.function_calls.specs.Ends.{as_port};
-ghost use Rattle.function_calls.specs.Frame.{EndsCall, IsReady, Keeps};
+ghost use Rattle.function_calls.specs.Frame.{EndsCall, IsReady};
 ghost use Rattle.function_calls.specs.Means.{MeansCall};
 
 use crate::asking::ask_for_result;

@@ -5,12 +5,13 @@ ghost use Rattle.target_calls.specs.NeedPoints.{needed};
 ghost use Rattle.target_calls.specs.World.{stop};
 ghost use Rattle.access_calls.specs.Left.{IsLeft};
 ghost use Rattle.access_calls.specs.Reported.{world_from};
+ghost use Rattle.access_calls.specs.Keeps.{Keeps};
 ghost use Rattle.sequence_rules.specs.declared.bindings.Binding.{Binding};
 ghost use Rattle.sequence_rules.specs.Calls as c;
 ghost use Rattle.sequence_rules.specs.Late.{late};
 ghost use Rattle.sequence_rules.specs.Values as v;
 ghost use Rattle.function_calls.specs.Ends.{IsStopAt, MeansLate, MeansLateBy};
-ghost use Rattle.function_calls.specs.Frame.{EndsUse, Keeps};
+ghost use Rattle.function_calls.specs.Frame.{EndsUse};
 ghost use Rattle.function_calls.specs.Held.{state_with};
 
 use crate::end::End;

@@ -4,7 +4,7 @@ ghost use Rattle.probe_core.specs.Bench.{BenchState};
 ghost use Rattle.target_calls.specs.World.{stop, world_after};
 ghost use Rattle.access_calls.specs.Left.{IsLeft};
 ghost use Rattle.access_calls.specs.Reported.{world_from};
-ghost use Rattle.function_calls.specs.Frame.{Keeps};
+ghost use Rattle.access_calls.specs.Keeps.{Keeps};
 ghost use Rattle.image_load.specs.LoadSequel.{loaded};
 ghost use Rattle.sequels.specs.Sequel.{Sequel, comes};
 ghost use Rattle.task_runs.specs.Following.{EndIs, FollowsAs, HasLines, HasSinkCause, NoWriteFault};

@@ -2,8 +2,8 @@ use Rattle.std.proofs.Common.{refl, sym, ap, subst, ◌∙◌, arith}
 use Rattle.access_calls.specs.Reported.{world_from}
 use Rattle.target_calls.specs.NeedPoints.{Asks}
 use Rattle.target_calls.specs.Values.{IsAsked, number_of}
+use Rattle.access_calls.proofs.KeepLemmas.{keeps_on}
 use Rattle.sequence_rules.specs.Shared.{bindings_of}
-use Rattle.function_calls.proofs.FrameLemmas.{keeps_on}
 use Rattle.control_flow.proofs.StartLemmas.{variables_more, asked_at}
 use Rattle.control_flow.proofs.closing.look_up_variables.Goals as goal
 

@@ -2,9 +2,9 @@ use Rattle.std.proofs.Common.{◌≡◌, ◌≤◌, ◌-◌, ℕ, Option, None, 
 use Rattle.probe_core.specs.Bench.{BenchState}
 use Rattle.access_calls.specs.Left.{IsLeft}
 use Rattle.access_calls.specs.Reported.{world_from}
+use Rattle.access_calls.specs.Keeps.{Keeps}
 use Rattle.sequence_rules.specs.Shared.{bindings_of}
 use Rattle.sequence_rules.specs.Runs.{variables_of}
-use Rattle.function_calls.specs.Frame.{Keeps}
 use Rattle.control_flow.specs.Closing.{AreAsked, numbers_in}
 use Rattle.control_flow.proofs.closing.look_up_variables.Given as goal
 

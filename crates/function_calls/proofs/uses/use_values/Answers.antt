@@ -1,6 +1,6 @@
 use Rattle.std.proofs.Common.{◌+◌, ◌++◌, ◌∷◌, [], refl, ◌∙◌}
 use Rattle.access_calls.specs.Reported.{world_from}
-use Rattle.function_calls.proofs.FrameLemmas.{keeps_on}
+use Rattle.access_calls.proofs.KeepLemmas.{keeps_on}
 use Rattle.function_calls.proofs.Leaves.{passed_by}
 use Rattle.function_calls.proofs.UseLemmas.{all_on, all_fail, all_over, all_refused}
 use Rattle.function_calls.proofs.uses.use_values.Goals as goal

@@ -3,10 +3,11 @@ use Rattle.probe_core.specs.Bench.{BenchState}
 use Rattle.access_calls.specs.Left.{IsLeft}
 use Rattle.access_calls.specs.Reported.{world_from}
 use Rattle.target_calls.specs.declared.calls.Value.{Value}
+use Rattle.access_calls.specs.Keeps.{Keeps}
 use Rattle.sequence_rules.specs.declared.bindings.Binding.{Binding}
 use Rattle.sequence_rules.specs.Late.{late}
 use Rattle.sequence_rules.specs.Values.{all_used}
-use Rattle.function_calls.specs.Frame.{EndsUse, Keeps}
+use Rattle.function_calls.specs.Frame.{EndsUse}
 use Rattle.function_calls.specs.Held.{state_with}
 use Rattle.function_calls.proofs.UseLemmas.{with_rest_of}
 use Rattle.function_calls.proofs.uses.use_values.Given as goal

@@ -1,13 +1,12 @@
 use Rattle.std.proofs.Common.{◌∙◌, refl, sym, subst}
 use Rattle.access_calls.specs.Left.{answered_by}
 use Rattle.access_calls.specs.Reported.{began, world_from}
-use Rattle.access_calls.proofs.KeepLemmas.{left_by}
+use Rattle.access_calls.proofs.KeepLemmas.{keeps_on, left_by}
 use Rattle.seq_check.specs.Answers.{checked_trees}
 use Rattle.sequence_rules.specs.Known.{known_part}
 use Rattle.sequence_rules.specs.Runs.{program_of}
 use Rattle.control_flow.specs.Answers.{EndBy, ran}
 use Rattle.control_flow.proofs.RunLemmas.{skipped_is}
-use Rattle.function_calls.proofs.FrameLemmas.{keeps_on}
 use Rattle.task_runs.proofs.GoLemmas.{caused_by, closes_as, closes_here, closes_not, ends_by, goes_so, is_going, knows_done, lines_by, nothing_closes, nothing_closes_as, part_so, skipped_by, some_follows, where_closed}
 use Rattle.task_runs.proofs.TaskLemmas.{part_stays, stays}
 use Rattle.task_runs.proofs.task.run_task.Goals as goal

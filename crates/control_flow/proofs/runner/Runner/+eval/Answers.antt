@@ -1,6 +1,7 @@
 use Rattle.std.proofs.Common.{◌≡◌, ◌<◌, ◌≤◌, ◌+◌, ◌*◌, refl, ap, unwrap_or, rules, arith}
 use Rattle.expr_grammar.specs.Tree.{tree, arg_tree, arg_trees, stmt_tree, code_trees}
 use Rattle.access_calls.specs.Reported.{world_from}
+use Rattle.access_calls.proofs.KeepLemmas.{keeps_on}
 use Rattle.seq_check.specs.Answers.{checked_trees}
 use Rattle.sequence_trees.specs.Trees.{NoSteps, step_tree, steps_tree, steps_named}
 use Rattle.sequence_rules.specs.Late.{late}
@@ -13,7 +14,7 @@ use Rattle.sequence_rules.specs.Values.{value}
 use Rattle.sequence_rules.specs.Known.{known_part}
 use Rattle.function_calls.specs.Held.{seen}
 use Rattle.code_check.proofs.TreeLemmas.{tree-Number, tree-Name, tree-Call}
-use Rattle.function_calls.proofs.FrameLemmas.{keeps_on, ends_after, ends_same}
+use Rattle.function_calls.proofs.FrameLemmas.{ends_after, ends_same}
 use Rattle.function_calls.proofs.Leaves.{passed, passed_as}
 use Rattle.control_flow.specs.Calls.{calls_of}
 use Rattle.control_flow.proofs.Exits.{later_sequence, later_value, later_inside, later_done, operands_first, call_first, turn_test}

@@ -2,12 +2,13 @@ use Rattle.std.proofs.Common.{◌≡◌, ℕ, ◌+◌, ◌*◌, Bool, Option, op
 use Rattle.probe_core.specs.Bench.{BenchState}
 use Rattle.access_calls.specs.Left.{IsLeft}
 use Rattle.access_calls.specs.Reported.{world_from}
+use Rattle.access_calls.specs.Keeps.{Keeps}
 use Rattle.expr_grammar.specs.Tree.{tree, arg_tree, arg_trees, stmt_tree, code_trees}
 use Rattle.seq_check.specs.Answers.{checked_trees}
 use Rattle.sequence_trees.specs.Trees.{step_tree, steps_tree}
 use Rattle.sequence_rules.specs.Late.{late}
 use Rattle.sequence_rules.specs.Known.{Knows}
-use Rattle.function_calls.specs.Frame.{EndsWriting, Keeps}
+use Rattle.function_calls.specs.Frame.{EndsWriting}
 use Rattle.function_calls.specs.Held.{seen}
 use Rattle.control_flow.specs.Calls.{calls_of}
 use Rattle.sequence_rules.specs.Steps as st

@@ -1,6 +1,7 @@
 use Rattle.access_calls.specs.Reported.{world_from}
+use Rattle.access_calls.proofs.KeepLemmas.{keeps_on}
 use Rattle.seq_check.specs.Answers.{checked_trees}
-use Rattle.function_calls.proofs.FrameLemmas.{keeps_on, ends_after}
+use Rattle.function_calls.proofs.FrameLemmas.{ends_after}
 use Rattle.function_calls.proofs.Leaves.{passed}
 use Rattle.control_flow.proofs.DebugLemmas.{debug_next, debug_end, debug_over}
 use Rattle.control_flow.proofs.runner.Runner.define_all.Goals as goal

@@ -3,11 +3,12 @@ use Rattle.expr_grammar.specs.Tree.{code_trees}
 use Rattle.probe_core.specs.Bench.{BenchState}
 use Rattle.access_calls.specs.Left.{IsLeft}
 use Rattle.access_calls.specs.Reported.{world_from}
+use Rattle.access_calls.specs.Keeps.{Keeps}
 use Rattle.seq_check.specs.Answers.{checked_trees}
 use Rattle.sequence_rules.specs.Late.{late}
 use Rattle.sequence_rules.specs.Steps.{debugged}
 use Rattle.sequence_rules.specs.Known.{Knows}
-use Rattle.function_calls.specs.Frame.{EndsWriting, Keeps}
+use Rattle.function_calls.specs.Frame.{EndsWriting}
 use Rattle.function_calls.specs.Held.{seen}
 use Rattle.control_flow.proofs.runner.Runner.define_all.Given as goal
 
