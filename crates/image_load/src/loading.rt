@@ -1,12 +1,12 @@
 //! The load of an image over an access.
-ghost use Rattle.std.specs.Prelude.{◌≡◌, ◌+◌, ◌*◌, ◌<◌, ◌≤◌, ◌++◌, ◌∷◌, [], ◌^◌, ℕ, List, Option, None, false, true, map, drop, length, slice_index, OnOk, IfOk, IfErr};
+ghost use Rattle.std.specs.Prelude.{◌≡◌, ◌+◌, ◌<◌, ◌≤◌, ◌++◌, ◌∷◌, [], ℕ, Option, None, false, true, length, slice_index, OnOk, IfOk, IfErr};
 ghost use Rattle.std.specs.List.{All};
 ghost use Rattle.probe_core.specs.Bench.{BenchState};
 ghost use Rattle.target_machine.specs.Sound.{IsSound};
-ghost use Rattle.target_calls.specs.Asks.{is_wide, settled_last, unit_ask};
+ghost use Rattle.target_calls.specs.Asks.{is_wide, unit_ask};
 ghost use Rattle.target_calls.specs.World.{results};
 ghost use Rattle.access_calls.specs.Answers.{StopsCalls};
-ghost use Rattle.access_calls.specs.GoesOn.{GoesOn};
+ghost use Rattle.access_calls.specs.Keeps.{Keeps};
 ghost use Rattle.access_calls.specs.Left.{IsLeft};
 ghost use Rattle.access_calls.specs.Reported.{world_from};
 ghost use Rattle.image_load.specs.Loading.{AskedPart, AsksLoad, EndIs, LoadEndIs, LoadedAs, StopsLoad, read_back};
@@ -50,9 +50,7 @@ fn ask<A: Access>(unit: Unit, access: &mut A) -> Result<Slot, Stop>
     ensures stops { (m : BenchState) (answered : Option ℕ) → A.begun access.old m → IsLeft (A.reported access.new) answered
         → IfErr result (StopsCalls (world_from m answered) (A.reported access.new).asks.calls (A.reported access.new).lines) }
     ensures end { EndIs result (A.reported access.new).end }
-    ensures on { (m : BenchState) → A.begun access.old m → A.begun access.new m }
-    ensures identity { A.identity access.new ≡ A.identity access.old }
-    ensures goes { GoesOn (A.reported access.old) (A.reported access.new) }
+    ensures keeps { Keeps A.begun A.reported A.identity access.old access.new }
 {
     match access.ask(unit, false) {
         Ok(Asked::Slot(slot)) => Ok(slot),
@@ -74,9 +72,7 @@ fn ask_all<A: Access>(read: bool, ap: u8, pieces: &[Piece], access: &mut A) -> R
     ensures stops { (m : BenchState) (answered : Option ℕ) → A.begun access.old m → IsLeft (A.reported access.new) answered
         → IfErr result (StopsCalls (world_from m answered) (A.reported access.new).asks.calls (A.reported access.new).lines) }
     ensures end { EndIs result (A.reported access.new).end }
-    ensures on { (m : BenchState) → A.begun access.old m → A.begun access.new m }
-    ensures identity { A.identity access.new ≡ A.identity access.old }
-    ensures goes { GoesOn (A.reported access.old) (A.reported access.new) }
+    ensures keeps { Keeps A.begun A.reported A.identity access.old access.new }
 {
     let mut first = 0;
     for i in 0..pieces.len() {
@@ -103,9 +99,7 @@ fn compare_all<A: Access>(pieces: &[Piece], first: u32, access: &mut A) -> Optio
         → result ≡ first_difference pieces.now (λ i. slice_index (results (world_from m answered) (A.reported access.old).asks.calls) (first + i)) }
     ensures calls { (A.reported access.new).asks.calls ≡ (A.reported access.old).asks.calls }
     ensures open { (A.reported access.new).end ≡ None }
-    ensures on { (m : BenchState) → A.begun access.old m → A.begun access.new m }
-    ensures identity { A.identity access.new ≡ A.identity access.old }
-    ensures goes { GoesOn (A.reported access.old) (A.reported access.new) }
+    ensures keeps { Keeps A.begun A.reported A.identity access.old access.new }
 {
     for i in 0..pieces.len() {
         let slot = Slot {
@@ -137,9 +131,7 @@ fn ask_both<A: Access>(ap: u8, pieces: &[Piece], access: &mut A) -> Result<u32, 
     ensures stops { (m : BenchState) (answered : Option ℕ) → A.begun access.old m → IsLeft (A.reported access.new) answered
         → IfErr result (StopsCalls (world_from m answered) (A.reported access.new).asks.calls (A.reported access.new).lines) }
     ensures end { EndIs result (A.reported access.new).end }
-    ensures on { (m : BenchState) → A.begun access.old m → A.begun access.new m }
-    ensures identity { A.identity access.new ≡ A.identity access.old }
-    ensures goes { GoesOn (A.reported access.old) (A.reported access.new) }
+    ensures keeps { Keeps A.begun A.reported A.identity access.old access.new }
 {
     match ask_all(false, ap, pieces, access) {
         Ok(_) => ask_all(true, ap, pieces, access),
@@ -162,9 +154,7 @@ fn load_pieces<A: Access>(ap: u8, pieces: &[Piece], access: &mut A) -> Result<()
         → StopsLoad (world_from m answered) result (load_calls ap pieces.now)
         (A.reported access.old).asks.calls (A.reported access.new).asks.calls (A.reported access.new).lines }
     ensures end { LoadEndIs result (A.reported access.new).end }
-    ensures on { (m : BenchState) → A.begun access.old m → A.begun access.new m }
-    ensures identity { A.identity access.new ≡ A.identity access.old }
-    ensures goes { GoesOn (A.reported access.old) (A.reported access.new) }
+    ensures keeps { Keeps A.begun A.reported A.identity access.old access.new }
 {
     let first = match ask_both(ap, pieces, access) {
         Ok(first) => first,
@@ -223,9 +213,7 @@ pub fn load<A: Access>(
     ensures counts { IfOk result (λ l. (l.bytes ≡ length image.now) × (l.writes ≡ length (pieces image.now))) }
     ensures few { IfOk result (λ l. l.writes ≤ 262144) }
     ensures end { LoadEndIs result (A.reported access.new).end }
-    ensures on { (m : BenchState) → A.begun access.old m → A.begun access.new m }
-    ensures identity { A.identity access.new ≡ A.identity access.old }
-    ensures goes { GoesOn (A.reported access.old) (A.reported access.new) }
+    ensures keeps { Keeps A.begun A.reported A.identity access.old access.new }
 {
     let bytes = image.bytes().len();
     let pieces = match pieces_of(alloc, image) {

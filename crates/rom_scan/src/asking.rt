@@ -1,11 +1,10 @@
 //! Accesses whose results are answered at once.
 ghost use Rattle.std.specs.Prelude.{◌≡◌, ◌+◌, ◌*◌, ◌<◌, ◌≤◌, ◌%◌, ◌^◌, ℕ, false, true, List, [], Option, None, length, IfOk, OnOk};
-ghost use Rattle.arrayvec.specs.ArrayVec.{array_vec_len};
 ghost use Rattle.probe_core.specs.Bench.{BenchState};
 ghost use Rattle.target_machine.specs.Sound.{IsSound};
 ghost use Rattle.target_calls.specs.Asks.{is_wide, unit_ask};
 ghost use Rattle.target_calls.specs.World.{stop};
-ghost use Rattle.access_calls.specs.GoesOn.{GoesOn};
+ghost use Rattle.access_calls.specs.Keeps.{Keeps};
 ghost use Rattle.access_calls.specs.Left.{IsLeft};
 ghost use Rattle.access_calls.specs.Reported.{world_from};
 ghost use Rattle.sequels.specs.Sequel.{asks};
@@ -56,12 +55,11 @@ pub(crate) fn ask_now<A: Access>(unit: Unit, access: &mut A) -> Result<u32, Stop
     requires open { (A.reported access.old).end ≡ None }
     ensures gives { (m : BenchState) (answered : Option ℕ) (written : Option (List ℕ)) → A.begun access.old m → IsLeft (A.reported access.new) answered
         → stop (world_from m answered) (A.reported access.old).asks.calls ≡ None
-        → Gives (world_from m answered) (A.reported access.new).lines (asks (unit_ask unit true)) result (A.reported access.old).asks.calls (A.reported access.new).asks.calls written written }
+        → Gives (world_from m answered) (A.reported access.new).lines (asks (unit_ask unit true))
+        result (A.reported access.old).asks.calls (A.reported access.new).asks.calls written written }
     ensures count { OnOk result (length (A.reported access.new).asks.calls ≡ length (A.reported access.old).asks.calls + 1) }
     ensures end { EndIs result (A.reported access.new).end }
-    ensures on { (m : BenchState) → A.begun access.old m → A.begun access.new m }
-    ensures identity { A.identity access.new ≡ A.identity access.old }
-    ensures goes { GoesOn (A.reported access.old) (A.reported access.new) }
+    ensures keeps { Keeps A.begun A.reported A.identity access.old access.new }
 {
     let slot = match access.ask(unit, true) {
         Ok(Asked::Slot(slot)) => slot,
@@ -93,13 +91,12 @@ pub(crate) fn read_words<A: Access>(
     requires open { (A.reported access.old).end ≡ None }
     ensures gives { (m : BenchState) (answered : Option ℕ) (written : Option (List ℕ)) → A.begun access.old m → IsLeft (A.reported access.new) answered
         → stop (world_from m answered) (A.reported access.old).asks.calls ≡ None
-        → GivesBy (λ v. v.items) (world_from m answered) (A.reported access.new).lines (words ap count address []) result (A.reported access.old).asks.calls (A.reported access.new).asks.calls written written }
+        → GivesBy (λ v. v.items) (world_from m answered) (A.reported access.new).lines (words ap count address [])
+        result (A.reported access.old).asks.calls (A.reported access.new).asks.calls written written }
     ensures items { IfOk result (λ v. length v.items ≡ count) }
     ensures count { OnOk result (length (A.reported access.new).asks.calls ≡ length (A.reported access.old).asks.calls + count) }
     ensures end { EndIs result (A.reported access.new).end }
-    ensures on { (m : BenchState) → A.begun access.old m → A.begun access.new m }
-    ensures identity { A.identity access.new ≡ A.identity access.old }
-    ensures goes { GoesOn (A.reported access.old) (A.reported access.new) }
+    ensures keeps { Keeps A.begun A.reported A.identity access.old access.new }
 {
     let mut read = ArrayVec::<u32, 4>::new();
     for i in 0..count {

@@ -1,8 +1,8 @@
 //! One component.
-ghost use Rattle.std.specs.Prelude.{◌≡◌, ◌+◌, ◌≤◌, ◌%◌, ◌^◌, ℕ, List, Option, None, length, slice_index, IfOk};
+ghost use Rattle.std.specs.Prelude.{◌≡◌, ◌+◌, ◌≤◌, ◌%◌, ℕ, List, Option, None, length, IfOk};
 ghost use Rattle.probe_core.specs.Bench.{BenchState};
 ghost use Rattle.target_calls.specs.World.{stop};
-ghost use Rattle.access_calls.specs.GoesOn.{GoesOn};
+ghost use Rattle.access_calls.specs.Keeps.{Keeps};
 ghost use Rattle.access_calls.specs.Left.{IsLeft};
 ghost use Rattle.access_calls.specs.Reported.{world_from};
 ghost use Rattle.rom_scan.specs.Components.{component_at, is_known, known_as, words_of};
@@ -74,13 +74,12 @@ pub(crate) fn read_component<A: Access>(
     requires open { (A.reported access.old).end ≡ None }
     ensures gives { (m : BenchState) (answered : Option ℕ) (written : Option (List ℕ)) → A.begun access.old m → IsLeft (A.reported access.new) answered
         → stop (world_from m answered) (A.reported access.old).asks.calls ≡ None
-        → Gives (world_from m answered) (A.reported access.new).lines (component_at ap address depth) result (A.reported access.old).asks.calls (A.reported access.new).asks.calls written written }
+        → Gives (world_from m answered) (A.reported access.new).lines (component_at ap address depth)
+        result (A.reported access.old).asks.calls (A.reported access.new).asks.calls written written }
     ensures address { IfOk result (λ c. c.address ≡ address) }
     ensures count { IfOk result (λ c. length (A.reported access.new).asks.calls ≡ length (A.reported access.old).asks.calls + words_of c.known) }
     ensures end { EndIs result (A.reported access.new).end }
-    ensures on { (m : BenchState) → A.begun access.old m → A.begun access.new m }
-    ensures identity { A.identity access.new ≡ A.identity access.old }
-    ensures goes { GoesOn (A.reported access.old) (A.reported access.new) }
+    ensures keeps { Keeps A.begun A.reported A.identity access.old access.new }
 {
     let cidr = match read_words(ap, address + 0xFF0, 4, access) {
         Ok(words) => words,

@@ -2,7 +2,7 @@
 ghost use Rattle.std.specs.Prelude.{◌≡◌, ◌+◌, ◌≤◌, ◌%◌, ℕ, List, Option, None, [], length, IfOk};
 ghost use Rattle.probe_core.specs.Bench.{BenchState};
 ghost use Rattle.target_calls.specs.World.{stop};
-ghost use Rattle.access_calls.specs.GoesOn.{GoesOn};
+ghost use Rattle.access_calls.specs.Keeps.{Keeps};
 ghost use Rattle.access_calls.specs.Left.{IsLeft};
 ghost use Rattle.access_calls.specs.Reported.{world_from};
 ghost use Rattle.rom_scan.specs.Arrivals.{AtFull, HasSinkCause, ScanEndIs};
@@ -50,7 +50,8 @@ fn list_from<A: Access, K: Sink>(
     requires open { (A.reported access.old).end ≡ None }
     ensures gives { (m : BenchState) (answered : Option ℕ) → A.begun access.old m → IsLeft (A.reported access.new) answered
         → stop (world_from m answered) (A.reported access.old).asks.calls ≡ None
-        → Lists (world_from m answered) (A.reported access.new).lines (component 1024 ap 7 address []) result (A.reported access.old).asks.calls (A.reported access.new).asks.calls (K.written sink.old) (K.written sink.new) }
+        → Lists (world_from m answered) (A.reported access.new).lines (component 1024 ap 7 address [])
+        result (A.reported access.old).asks.calls (A.reported access.new).asks.calls (K.written sink.old) (K.written sink.new) }
     ensures asked { IfOk result (λ n. length (A.reported access.new).asks.calls ≡ length (A.reported access.old).asks.calls + n) }
     ensures few { IfOk result (λ n. n ≤ 993280) }
     ensures full { AtFull result (length (A.reported access.new).asks.calls + units.old ≡ length (A.reported access.old).asks.calls + units.new) }
@@ -58,9 +59,7 @@ fn list_from<A: Access, K: Sink>(
     ensures lines { WritesComponents result (K.written sink.old) (K.written sink.new) }
     ensures cause { HasSinkCause result (K.faults sink.old) (K.faults sink.new) }
     ensures end { ScanEndIs result (A.reported access.new).end }
-    ensures on { (m : BenchState) → A.begun access.old m → A.begun access.new m }
-    ensures identity { A.identity access.new ≡ A.identity access.old }
-    ensures goes { GoesOn (A.reported access.old) (A.reported access.new) }
+    ensures keeps { Keeps A.begun A.reported A.identity access.old access.new }
 {
     let mut tables = OpenTables::new();
     let mut listed = ItemList::new(alloc);
@@ -91,7 +90,8 @@ fn list_all<A: Access, K: Sink>(
     requires open { (A.reported access.old).end ≡ None }
     ensures gives { (m : BenchState) (answered : Option ℕ) → A.begun access.old m → IsLeft (A.reported access.new) answered
         → stop (world_from m answered) (A.reported access.old).asks.calls ≡ None
-        → Lists (world_from m answered) (A.reported access.new).lines (scanned 1024 ap) result (A.reported access.old).asks.calls (A.reported access.new).asks.calls (K.written sink.old) (K.written sink.new) }
+        → Lists (world_from m answered) (A.reported access.new).lines (scanned 1024 ap)
+        result (A.reported access.old).asks.calls (A.reported access.new).asks.calls (K.written sink.old) (K.written sink.new) }
     ensures asked { IfOk result (λ n. length (A.reported access.new).asks.calls ≡ length (A.reported access.old).asks.calls + n) }
     ensures few { IfOk result (λ n. n ≤ 993281) }
     ensures full { AtFull result (length (A.reported access.new).asks.calls + units.old ≡ length (A.reported access.old).asks.calls + units.new) }
@@ -99,9 +99,7 @@ fn list_all<A: Access, K: Sink>(
     ensures lines { WritesComponents result (K.written sink.old) (K.written sink.new) }
     ensures cause { HasSinkCause result (K.faults sink.old) (K.faults sink.new) }
     ensures end { ScanEndIs result (A.reported access.new).end }
-    ensures on { (m : BenchState) → A.begun access.old m → A.begun access.new m }
-    ensures identity { A.identity access.new ≡ A.identity access.old }
-    ensures goes { GoesOn (A.reported access.old) (A.reported access.new) }
+    ensures keeps { Keeps A.begun A.reported A.identity access.old access.new }
 {
     let base = match ask_now(base_unit(ap), access) {
         Ok(base) => base,
@@ -134,7 +132,8 @@ pub fn scan_counting<A: Access, K: Sink>(
     requires open { (A.reported access.old).end ≡ None }
     ensures gives { (m : BenchState) (answered : Option ℕ) → A.begun access.old m → IsLeft (A.reported access.new) answered
         → stop (world_from m answered) (A.reported access.old).asks.calls ≡ None
-        → Scans (world_from m answered) (A.reported access.new).lines ap result (A.reported access.old).asks.calls (A.reported access.new).asks.calls (K.written sink.old) (K.written sink.new) }
+        → Scans (world_from m answered) (A.reported access.new).lines ap
+        result (A.reported access.old).asks.calls (A.reported access.new).asks.calls (K.written sink.old) (K.written sink.new) }
     ensures asked { IfOk result (λ n. length (A.reported access.new).asks.calls ≡ length (A.reported access.old).asks.calls + n) }
     ensures few { IfOk result (λ n. n ≤ 993281) }
     ensures full { AtFull result (length (A.reported access.new).asks.calls + units.old ≡ length (A.reported access.old).asks.calls + units.new) }
@@ -142,9 +141,7 @@ pub fn scan_counting<A: Access, K: Sink>(
     ensures lines { WritesComponents result (K.written sink.old) (K.written sink.new) }
     ensures cause { HasSinkCause result (K.faults sink.old) (K.faults sink.new) }
     ensures end { ScanEndIs result (A.reported access.new).end }
-    ensures on { (m : BenchState) → A.begun access.old m → A.begun access.new m }
-    ensures identity { A.identity access.new ≡ A.identity access.old }
-    ensures goes { GoesOn (A.reported access.old) (A.reported access.new) }
+    ensures keeps { Keeps A.begun A.reported A.identity access.old access.new }
 {
     match list_all(alloc, ap, access, sink, units) {
         Ok(units) => match access.finish() {
@@ -179,15 +176,14 @@ pub fn scan<A: Access, K: Sink>(
     requires open { (A.reported access.old).end ≡ None }
     ensures gives { (m : BenchState) (answered : Option ℕ) → A.begun access.old m → IsLeft (A.reported access.new) answered
         → stop (world_from m answered) (A.reported access.old).asks.calls ≡ None
-        → Scans (world_from m answered) (A.reported access.new).lines ap result (A.reported access.old).asks.calls (A.reported access.new).asks.calls (K.written sink.old) (K.written sink.new) }
+        → Scans (world_from m answered) (A.reported access.new).lines ap
+        result (A.reported access.old).asks.calls (A.reported access.new).asks.calls (K.written sink.old) (K.written sink.new) }
     ensures asked { IfOk result (λ n. length (A.reported access.new).asks.calls ≡ length (A.reported access.old).asks.calls + n) }
     ensures few { IfOk result (λ n. n ≤ 993281) }
     ensures lines { WritesComponents result (K.written sink.old) (K.written sink.new) }
     ensures cause { HasSinkCause result (K.faults sink.old) (K.faults sink.new) }
     ensures end { ScanEndIs result (A.reported access.new).end }
-    ensures on { (m : BenchState) → A.begun access.old m → A.begun access.new m }
-    ensures identity { A.identity access.new ≡ A.identity access.old }
-    ensures goes { GoesOn (A.reported access.old) (A.reported access.new) }
+    ensures keeps { Keeps A.begun A.reported A.identity access.old access.new }
 {
     let mut units = 0;
     scan_counting(alloc, ap, access, sink, &mut units)

@@ -3,7 +3,7 @@ ghost use Rattle.std.specs.Prelude.{◌≡◌, ◌+◌, ◌≤◌, ◌%◌, ◌<
 ghost use Rattle.std.specs.List.{All};
 ghost use Rattle.probe_core.specs.Bench.{BenchState};
 ghost use Rattle.target_calls.specs.World.{stop};
-ghost use Rattle.access_calls.specs.GoesOn.{GoesOn};
+ghost use Rattle.access_calls.specs.Keeps.{Keeps};
 ghost use Rattle.access_calls.specs.Left.{IsLeft};
 ghost use Rattle.access_calls.specs.Reported.{world_from};
 ghost use Rattle.rom_scan.specs.Arrivals.{AtFull, HasSinkCause, IsOpen, ScanEndIs, Walks, left_of};
@@ -62,8 +62,10 @@ pub(crate) fn arrive<A: Access, K: Sink>(
     requires open { (A.reported access.old).end ≡ None }
     ensures gives { (m : BenchState) (answered : Option ℕ) → A.begun access.old m → IsLeft (A.reported access.new) answered
         → stop (world_from m answered) (A.reported access.old).asks.calls ≡ None
-        → Walks (world_from m answered) (A.reported access.new).lines ap (reached 1024 ap tables.old address listed.old) result tables.new listed.new (A.reported access.old).asks.calls (A.reported access.new).asks.calls (K.written sink.old) (K.written sink.new) }
-    ensures count { OnOk result (length (A.reported access.new).asks.calls + left_of tables.new listed.new ≤ length (A.reported access.old).asks.calls + left_of tables.old listed.old) }
+        → Walks (world_from m answered) (A.reported access.new).lines ap (reached 1024 ap tables.old address listed.old)
+        result tables.new listed.new (A.reported access.old).asks.calls (A.reported access.new).asks.calls (K.written sink.old) (K.written sink.new) }
+    ensures count { OnOk result (length (A.reported access.new).asks.calls + left_of tables.new listed.new
+        ≤ length (A.reported access.old).asks.calls + left_of tables.old listed.old) }
     ensures open { OnOk result (All IsOpen tables.old → All IsOpen tables.new) }
     ensures deep { OnOk result (length tables.new ≤ 7) }
     ensures less { OnOk result (left_of tables.new listed.new < left_of tables.old listed.old) }
@@ -73,9 +75,7 @@ pub(crate) fn arrive<A: Access, K: Sink>(
     ensures lines { WritesComponents result (K.written sink.old) (K.written sink.new) }
     ensures cause { HasSinkCause result (K.faults sink.old) (K.faults sink.new) }
     ensures end { ScanEndIs result (A.reported access.new).end }
-    ensures on { (m : BenchState) → A.begun access.old m → A.begun access.new m }
-    ensures identity { A.identity access.new ≡ A.identity access.old }
-    ensures goes { GoesOn (A.reported access.old) (A.reported access.new) }
+    ensures keeps { Keeps A.begun A.reported A.identity access.old access.new }
 {
     if listed.len() >= 1024 {
         return Err(ScanEnd::Full);
@@ -132,8 +132,10 @@ fn step<A: Access, K: Sink>(
     requires open { (A.reported access.old).end ≡ None }
     ensures gives { (m : BenchState) (answered : Option ℕ) → A.begun access.old m → IsLeft (A.reported access.new) answered
         → stop (world_from m answered) (A.reported access.old).asks.calls ≡ None
-        → Walks (world_from m answered) (A.reported access.new).lines ap (unwound 1024 ap (table ∷ tables.old) listed.old) result tables.new listed.new (A.reported access.old).asks.calls (A.reported access.new).asks.calls (K.written sink.old) (K.written sink.new) }
-    ensures count { OnOk result (length (A.reported access.new).asks.calls + left_of tables.new listed.new ≤ length (A.reported access.old).asks.calls + left_of (table ∷ tables.old) listed.old) }
+        → Walks (world_from m answered) (A.reported access.new).lines ap (unwound 1024 ap (table ∷ tables.old) listed.old)
+        result tables.new listed.new (A.reported access.old).asks.calls (A.reported access.new).asks.calls (K.written sink.old) (K.written sink.new) }
+    ensures count { OnOk result (length (A.reported access.new).asks.calls + left_of tables.new listed.new
+        ≤ length (A.reported access.old).asks.calls + left_of (table ∷ tables.old) listed.old) }
     ensures less { OnOk result (left_of tables.new listed.new < left_of (table ∷ tables.old) listed.old) }
     ensures open { OnOk result (All IsOpen tables.old → All IsOpen tables.new) }
     ensures deep { OnOk result (length tables.new ≤ 7) }
@@ -143,9 +145,7 @@ fn step<A: Access, K: Sink>(
     ensures lines { WritesComponents result (K.written sink.old) (K.written sink.new) }
     ensures cause { HasSinkCause result (K.faults sink.old) (K.faults sink.new) }
     ensures end { ScanEndIs result (A.reported access.new).end }
-    ensures on { (m : BenchState) → A.begun access.old m → A.begun access.new m }
-    ensures identity { A.identity access.new ≡ A.identity access.old }
-    ensures goes { GoesOn (A.reported access.old) (A.reported access.new) }
+    ensures keeps { Keeps A.begun A.reported A.identity access.old access.new }
 {
     let place = table.address + 4 * (960 - table.left) as u32;
     let entry = match ask_now(word_unit(ap, place), access) {
@@ -190,7 +190,8 @@ pub(crate) fn walk<A: Access, K: Sink>(
     requires open { (A.reported access.old).end ≡ None }
     ensures gives { (m : BenchState) (answered : Option ℕ) → A.begun access.old m → IsLeft (A.reported access.new) answered
         → stop (world_from m answered) (A.reported access.old).asks.calls ≡ None
-        → Walks (world_from m answered) (A.reported access.new).lines ap (unwound 1024 ap tables.old listed.old) result tables.new listed.new (A.reported access.old).asks.calls (A.reported access.new).asks.calls (K.written sink.old) (K.written sink.new) }
+        → Walks (world_from m answered) (A.reported access.new).lines ap (unwound 1024 ap tables.old listed.old)
+        result tables.new listed.new (A.reported access.old).asks.calls (A.reported access.new).asks.calls (K.written sink.old) (K.written sink.new) }
     ensures none { OnOk result (tables.new ≡ []) }
     ensures count { OnOk result (length (A.reported access.new).asks.calls ≤ length (A.reported access.old).asks.calls + left_of tables.old listed.old) }
     ensures asked { IfOk result (λ n. length (A.reported access.new).asks.calls ≡ length (A.reported access.old).asks.calls + n) }
@@ -200,9 +201,7 @@ pub(crate) fn walk<A: Access, K: Sink>(
     ensures lines { WritesComponents result (K.written sink.old) (K.written sink.new) }
     ensures cause { HasSinkCause result (K.faults sink.old) (K.faults sink.new) }
     ensures end { ScanEndIs result (A.reported access.new).end }
-    ensures on { (m : BenchState) → A.begun access.old m → A.begun access.new m }
-    ensures identity { A.identity access.new ≡ A.identity access.old }
-    ensures goes { GoesOn (A.reported access.old) (A.reported access.new) }
+    ensures keeps { Keeps A.begun A.reported A.identity access.old access.new }
 {
     let mut asked = 0;
     'tables: loop {

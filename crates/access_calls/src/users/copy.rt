@@ -6,7 +6,7 @@ ghost use Rattle.target_calls.specs.Asks.{is_wide, unit_ask};
 ghost use Rattle.target_calls.specs.NeedPoints.{nothing_asked};
 ghost use Rattle.access_calls.specs.Answers.{IsEnd, StopsCalls};
 ghost use Rattle.access_calls.specs.Copy.{AccessEndsAs, HasSinkCause, IsCopyEnd, copied, read_word, write_word};
-ghost use Rattle.access_calls.specs.GoesOn.{GoesOn};
+ghost use Rattle.access_calls.specs.Keeps.{Keeps};
 ghost use Rattle.access_calls.specs.Left.{IsLeft, answered_by};
 ghost use Rattle.access_calls.specs.Reported.{world_from};
 
@@ -68,9 +68,7 @@ fn ask<A: Access>(unit: Unit, access: &mut A) -> Result<Slot, Stop>
         → IfErr result (StopsCalls (world_from m answered) ((A.reported access.old).asks.calls ++ unit_ask unit false ∷ []) (A.reported access.new).lines) }
     ensures open { OnOk result ((A.reported access.new).end ≡ None) }
     ensures end { IfErr result (IsEnd (A.reported access.new).end) }
-    ensures on { (m : BenchState) → A.begun access.old m → A.begun access.new m }
-    ensures identity { A.identity access.new ≡ A.identity access.old }
-    ensures goes { GoesOn (A.reported access.old) (A.reported access.new) }
+    ensures keeps { Keeps A.begun A.reported A.identity access.old access.new }
 {
     match access.ask(unit, false) {
         Ok(Asked::Slot(slot)) => Ok(slot),
@@ -92,9 +90,7 @@ pub fn copy_word<A: Access, K: Sink>(from: u32, to: u32, access: &mut A, sink: &
         → IsCopyEnd result (A.reported access.new) (copied (world_from m (answered_by (A.reported access.new))) from to) (K.written sink.old) (K.written sink.new) }
     ensures end { AccessEndsAs result (A.reported access.new).end }
     ensures cause { HasSinkCause result (K.faults sink.old) (K.faults sink.new) }
-    ensures on { (m : BenchState) → A.begun access.old m → A.begun access.new m }
-    ensures identity { A.identity access.new ≡ A.identity access.old }
-    ensures goes { GoesOn (A.reported access.old) (A.reported access.new) }
+    ensures keeps { Keeps A.begun A.reported A.identity access.old access.new }
 {
     let slot = match ask(read_word(from), access) {
         Ok(slot) => slot,

@@ -3,6 +3,7 @@ ghost use Rattle.std.specs.Prelude.{◌≡◌, OnOk, IfErr, IfSome, Err};
 ghost use Rattle.target_calls.specs.NeedPoints.{needed};
 ghost use Rattle.access_calls.specs.Answers.{IsEnd, NoMemory};
 ghost use Rattle.access_calls.specs.GoesOn.{GoesOn};
+ghost use Rattle.access_calls.specs.Keeps.{Keeps};
 
 use crate::{Access, Stop};
 
@@ -27,8 +28,7 @@ impl<A: Access> AccessOwner<A> {
         ensures memory { IfErr result NoMemory }
         ensures end { IfErr result (IsEnd (A.reported self.new.access).end) }
         ensures ended { IfSome (A.reported self.old.access).end (λ s. result ≡ Err s) }
-        ensures identity { A.identity self.new.access ≡ A.identity self.old.access }
-        ensures goes { GoesOn (A.reported self.old.access) (A.reported self.new.access) }
+        ensures keeps { Keeps A.begun A.reported A.identity self.old.access self.new.access }
     {
         self.access.flush()
     }

@@ -1,6 +1,5 @@
 use Rattle.std.proofs.Common.{◌≡◌, ◌+◌, ◌<◌, ◌++◌, None, length, take}
-use Rattle.probe_core.specs.Bench.{BenchState}
-use Rattle.access_calls.specs.GoesOn.{GoesOn}
+use Rattle.access_calls.specs.Keeps.{Keeps}
 use Rattle.image_load.specs.Pieces.{asked_all}
 use Rattle.image_load.proofs.loading.ask_all.Given as goal
 
@@ -11,7 +10,5 @@ invariant-loop-i g l = record {
   some : 0 < l.i → l.first ≡ length (g.A.Access.reported l.fn.access).asks.calls;
   none : l.i ≡ 0 → l.first ≡ 0;
   ended : (g.A.Access.reported l.access).end ≡ None;
-  on : (m : BenchState) → g.A.Access.begun l.fn.access m → g.A.Access.begun l.access m;
-  identity : g.A.Access.identity l.access ≡ g.A.Access.identity l.fn.access;
-  goes : GoesOn (g.A.Access.reported l.fn.access) (g.A.Access.reported l.access);
+  keeps : Keeps g.A.Access.begun g.A.Access.reported g.A.Access.identity l.fn.access l.access;
 }

@@ -1,5 +1,5 @@
 use Rattle.std.proofs.Common.{◌∙◌, ◌+◌, ℕ, List, slice_index, sym, ap, arith}
-use Rattle.access_calls.proofs.KeepLemmas.{goes_trans}
+use Rattle.access_calls.proofs.KeepLemmas.{keeps_on}
 use Rattle.access_calls.specs.Reported.{world_from}
 use Rattle.target_calls.specs.World.{results}
 use Rattle.target_calls.specs.declared.calls.Ask.{Ask}
@@ -12,7 +12,7 @@ returns-in-Some-clause-differs g c = λ m answered b l.
     let old = (g.A.Access.reported c.args.access.now).asks.calls in
     sym (inv.so_far m answered b (c.in-Ok.ensures.goes.left answered l)
     ∙ differs_at c.args.pieces.now c.loop-i.i _ (λ (k : ℕ). slice_index (results (world_from m answered) old) (c.args.first + k)) c.in-Some.differs c.in-Ok.value c.difference.result c.loop-i-test.true
-    (c.in-Ok.ensures.value m answered (inv.on m b) l ∙ ap (λ (x : List Ask). slice_index (results (world_from m answered) x) (c.args.first + c.loop-i.i)) inv.calls)
+    (c.in-Ok.ensures.value m answered (inv.keeps.on m b) l ∙ ap (λ (x : List Ask). slice_index (results (world_from m answered) x) (c.args.first + c.loop-i.i)) inv.calls)
     c.difference.ensures c.in-Some.is)
 
 pub loop-i-preserved : goal.loop-i-preserved
@@ -24,14 +24,12 @@ loop-i-preserved g c =
       so_far = λ m answered b l.
           inv.so_far m answered b (e.goes.left answered l)
           ∙ next_at c.args.pieces.now c.loop-i.i _ (λ (k : ℕ). slice_index (results (world_from m answered) old) (c.args.first + k)) c.in-Ok.value c.difference.result c.loop-i-test.true
-          (e.value m answered (inv.on m b) l ∙ ap (λ (x : List Ask). slice_index (results (world_from m answered) x) (c.args.first + c.loop-i.i)) inv.calls)
+          (e.value m answered (inv.keeps.on m b) l ∙ ap (λ (x : List Ask). slice_index (results (world_from m answered) x) (c.args.first + c.loop-i.i)) inv.calls)
           c.difference.ensures c.in-None.is;
       calls = e.calls ∙ inv.calls;
       known = (let a = inv.known in let d = e.goes.known in omega (arith, a, d));
       ended = e.open inv.ended;
-      on = λ m b. e.on m (inv.on m b);
-      identity = e.identity ∙ inv.identity;
-      goes = goes_trans _ _ _ inv.goes e.goes;
+      keeps = keeps_on _ _ _ _ _ _ inv.keeps (record { on = e.on; same_bench = e.identity; goes = e.goes });
     }
 
 pub returns-clause-differs : goal.returns-clause-differs

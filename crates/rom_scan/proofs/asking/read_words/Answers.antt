@@ -1,6 +1,6 @@
-use Rattle.std.proofs.Common.{◌∙◌, ◌+◌, ◌-◌, ◌*◌, ◌∷◌, ℕ, List, [], length, refl, sym, ap, subst, arith}
+use Rattle.std.proofs.Common.{◌+◌, ◌-◌, ◌*◌, ◌∷◌, ℕ, List, [], length, sym, ap, subst, arith}
 use Rattle.std.proofs.lemmas.List.{length-append}
-use Rattle.access_calls.proofs.KeepLemmas.{goes_same, goes_trans}
+use Rattle.access_calls.proofs.KeepLemmas.{keeps_on, keeps_same}
 use Rattle.access_calls.specs.Reported.{world_from}
 use Rattle.sequels.specs.Meeting.{Reaches}
 use Rattle.sequels.proofs.MeetingLemmas.{whole_after}
@@ -14,9 +14,7 @@ loop-i-init g c = record {
   items = ap (λ (x : List ℕ). length x) c.new-read.ensures;
   calls = omega arith;
   ended = c.requires.open;
-  on = λ m b. b;
-  identity = refl;
-  goes = goes_same _;
+  keeps = keeps_same _ _ _ _;
 }
 
 pub loop-i-preserved : goal.loop-i-preserved
@@ -29,10 +27,10 @@ loop-i-preserved g c =
     record {
       so_far = λ m answered written b l whole.
           let w = world_from m answered in
-          let r = inv.so_far m answered written b (e.goes.left answered l) whole in
+          let r = inv.so_far m answered written b (e.keeps.goes.left answered l) whole in
           subst (λ (x : List ℕ). Reaches w (words c.args.ap c.args.count c.args.address []) old new written written (words c.args.ap (c.args.count - (c.loop-i.i + 1)) (c.args.address + 4 * (c.loop-i.i + 1)) x)) (sym c.push.ensures.items)
           (next_word w c.args.ap c.args.count c.loop-i.i c.args.address c.loop-i.read.items _ old mid new written c.loop-i-test.true c.word_unit.ensures.asks whole r c.in-Ok.word
-          (e.gives m answered written (inv.on m b) l (whole_after w (words c.args.ap c.args.count c.args.address []) _ old mid written written whole r)));
+          (e.gives m answered written (inv.keeps.on m b) l (whole_after w (words c.args.ap c.args.count c.args.address []) _ old mid written written whole r)));
       items =
           let a = ap (λ (x : List ℕ). length x) c.push.ensures.items in
           let b = length-append c.loop-i.read.items (c.in-Ok.word ∷ []) in
@@ -40,9 +38,7 @@ loop-i-preserved g c =
           omega (arith, a, b, d);
       calls = (let a = e.count in let b = inv.calls in omega (arith, a, b));
       ended = e.end;
-      on = λ m b. e.on m (inv.on m b);
-      identity = e.identity ∙ inv.identity;
-      goes = goes_trans _ _ _ inv.goes e.goes;
+      keeps = keeps_on _ _ _ _ _ _ inv.keeps e.keeps;
     }
 
 pub returns-in-Err-clause-gives : goal.returns-in-Err-clause-gives
@@ -50,10 +46,10 @@ returns-in-Err-clause-gives g c = λ m answered written b l whole.
     let inv = c.loop-i.invariant in
     let w = world_from m answered in
     let e = c.in-Err.ensures in
-    let r = inv.so_far m answered written b (e.goes.left answered l) whole in
+    let r = inv.so_far m answered written b (e.keeps.goes.left answered l) whole in
     stops_word w c.args.ap c.args.count c.loop-i.i c.args.address c.loop-i.read.items _ (g.A.Access.reported c.args.access.now).asks.calls (g.A.Access.reported c.loop-i.access).asks.calls (g.A.Access.reported c.ask_now.new.access).asks.calls written
     c.loop-i-test.true c.word_unit.ensures.asks whole r (g.A.Access.reported c.ask_now.new.access).lines c.in-Err.stop
-    (e.gives m answered written (inv.on m b) l (whole_after w (words c.args.ap c.args.count c.args.address []) _ _ _ written written whole r))
+    (e.gives m answered written (inv.keeps.on m b) l (whole_after w (words c.args.ap c.args.count c.args.address []) _ _ _ written written whole r))
 
 pub returns-clause-gives : goal.returns-clause-gives
 returns-clause-gives g c = λ m answered written b l whole.

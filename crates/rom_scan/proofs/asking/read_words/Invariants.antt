@@ -1,7 +1,7 @@
 use Rattle.std.proofs.Common.{◌≡◌, ◌+◌, ◌-◌, ◌*◌, ℕ, List, [], Option, None, length}
 use Rattle.probe_core.specs.Bench.{BenchState}
 use Rattle.target_calls.specs.World.{stop}
-use Rattle.access_calls.specs.GoesOn.{GoesOn}
+use Rattle.access_calls.specs.Keeps.{Keeps}
 use Rattle.access_calls.specs.Left.{IsLeft}
 use Rattle.access_calls.specs.Reported.{world_from}
 use Rattle.sequels.specs.Meeting.{Reaches}
@@ -16,7 +16,5 @@ invariant-loop-i g l = record {
   items : length l.read.items ≡ l.i;
   calls : length (g.A.Access.reported l.access).asks.calls ≡ length (g.A.Access.reported l.fn.access).asks.calls + l.i;
   ended : (g.A.Access.reported l.access).end ≡ None;
-  on : (m : BenchState) → g.A.Access.begun l.fn.access m → g.A.Access.begun l.access m;
-  identity : g.A.Access.identity l.access ≡ g.A.Access.identity l.fn.access;
-  goes : GoesOn (g.A.Access.reported l.fn.access) (g.A.Access.reported l.access);
+  keeps : Keeps g.A.Access.begun g.A.Access.reported g.A.Access.identity l.fn.access l.access;
 }

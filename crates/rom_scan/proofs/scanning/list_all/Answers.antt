@@ -32,10 +32,10 @@ returns-in-Ok-list_from-clause-gives g c = λ m answered b l whole.
     let before = g.K.Sink.written c.args.sink.now in
     let now = g.K.Sink.written c.list_from.new.sink in
     let rest = component 1024 c.args.ap 7 c.page_of.result [] in
-    let r = base_some w c.args.ap old before (unit_ask c.base_unit.result true) c.base_unit.ensures.asks mid c.in-Ok.base (c.in-Ok.ensures.gives m answered before b (e.goes.left answered l) whole) c.page_of.result
+    let r = base_some w c.args.ap old before (unit_ask c.base_unit.result true) c.base_unit.ensures.asks mid c.in-Ok.base (c.in-Ok.ensures.gives m answered before b (e.keeps.goes.left answered l) whole) c.page_of.result
     (sym c.is_no_base.ensures ∙ c.if-is_no_base.false) c.page_of.ensures.page in
     lists_on w a.lines (scanned 1024 c.args.ap) rest (Ok (1 + c.in-Ok-list_from.more)) old mid a.asks.calls before before now whole r
-    (e.gives m answered (c.in-Ok.ensures.on m b) l (whole_after w (scanned 1024 c.args.ap) rest old mid before before whole r))
+    (e.gives m answered (c.in-Ok.ensures.keeps.on m b) l (whole_after w (scanned 1024 c.args.ap) rest old mid before before whole r))
 
 pub returns-in-Err-list_from-clause-gives : goal.returns-in-Err-list_from-clause-gives
 returns-in-Err-list_from-clause-gives g c = λ m answered b l whole.
@@ -47,10 +47,10 @@ returns-in-Err-list_from-clause-gives g c = λ m answered b l whole.
     let before = g.K.Sink.written c.args.sink.now in
     let now = g.K.Sink.written c.list_from.new.sink in
     let rest = component 1024 c.args.ap 7 c.page_of.result [] in
-    let r = base_some w c.args.ap old before (unit_ask c.base_unit.result true) c.base_unit.ensures.asks mid c.in-Ok.base (c.in-Ok.ensures.gives m answered before b (e.goes.left answered l) whole) c.page_of.result
+    let r = base_some w c.args.ap old before (unit_ask c.base_unit.result true) c.base_unit.ensures.asks mid c.in-Ok.base (c.in-Ok.ensures.gives m answered before b (e.keeps.goes.left answered l) whole) c.page_of.result
     (sym c.is_no_base.ensures ∙ c.if-is_no_base.false) c.page_of.ensures.page in
     lists_on w a.lines (scanned 1024 c.args.ap) rest (Err c.in-Err-list_from.end) old mid a.asks.calls before before now whole r
-    (e.gives m answered (c.in-Ok.ensures.on m b) l (whole_after w (scanned 1024 c.args.ap) rest old mid before before whole r))
+    (e.gives m answered (c.in-Ok.ensures.keeps.on m b) l (whole_after w (scanned 1024 c.args.ap) rest old mid before before whole r))
 
 pub returns-in-Err-list_from-clause-full : goal.returns-in-Err-list_from-clause-full
 returns-in-Err-list_from-clause-full g c =

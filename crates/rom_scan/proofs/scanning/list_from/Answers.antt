@@ -48,10 +48,10 @@ returns-in-Ok-walk-clause-gives g c = λ m answered b l whole.
     let r : Reaches w (component 1024 n 7 c.args.address []) old mid before then (unwound 1024 n c.arrive.new.tables c.arrive.new.listed) =
     reaches_as w (reached 1024 n c.new-tables.result c.args.address c.new-listed.result) s rest old mid before then
     (sym (root_at n c.args.address c.new-tables.result c.new-listed.result c.new-tables.ensures c.new-listed.ensures))
-    (c.in-Ok.ensures.gives m answered b (e.goes.left answered l) whole) in
+    (c.in-Ok.ensures.gives m answered b (e.keeps.goes.left answered l) whole) in
     lists_done w a.lines n (c.in-Ok.words + c.in-Ok-walk.more) s c.walk.new.tables c.walk.new.listed old a.asks.calls before now
     (walks_on w a.lines n s rest (Ok c.in-Ok-walk.more) c.walk.new.tables c.walk.new.listed old mid a.asks.calls before then now whole r
-    (e.gives m answered (c.in-Ok.ensures.on m b) l (whole_after w s rest old mid before then whole r)))
+    (e.gives m answered (c.in-Ok.ensures.keeps.on m b) l (whole_after w s rest old mid before then whole r)))
     e.none
 
 pub returns-clause-gives : goal.returns-clause-gives
@@ -70,10 +70,10 @@ returns-clause-gives g c = λ m answered b l whole.
     let r : Reaches w (component 1024 n 7 c.args.address []) old mid before then (unwound 1024 n c.arrive.new.tables c.arrive.new.listed) =
     reaches_as w (reached 1024 n c.new-tables.result c.args.address c.new-listed.result) s rest old mid before then
     (sym (root_at n c.args.address c.new-tables.result c.new-listed.result c.new-tables.ensures c.new-listed.ensures))
-    (c.in-Ok.ensures.gives m answered b (e.goes.left answered l) whole) in
+    (c.in-Ok.ensures.gives m answered b (e.keeps.goes.left answered l) whole) in
     lists_end w a.lines n s c.in-Err-walk.end c.walk.new.tables c.walk.new.listed old a.asks.calls before now
     (walks_on w a.lines n s rest (Err c.in-Err-walk.end) c.walk.new.tables c.walk.new.listed old mid a.asks.calls before then now whole r
-    (e.gives m answered (c.in-Ok.ensures.on m b) l (whole_after w s rest old mid before then whole r)))
+    (e.gives m answered (c.in-Ok.ensures.keeps.on m b) l (whole_after w s rest old mid before then whole r)))
 
 pub returns-in-Ok-walk-clause-few : goal.returns-in-Ok-walk-clause-few
 returns-in-Ok-walk-clause-few g c =

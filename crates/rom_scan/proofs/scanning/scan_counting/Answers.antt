@@ -1,4 +1,4 @@
-use Rattle.std.proofs.Common.{◌≡◌, ◌∙◌, ◌+◌, ℕ, inl, inr, length, arith}
+use Rattle.std.proofs.Common.{◌≡◌, ◌∙◌, ◌+◌, inl, inr, length, arith}
 use Rattle.access_calls.specs.Reported.{world_from}
 use Rattle.rom_scan.specs.Walk.{Listed, Full, scanned}
 use Rattle.rom_scan.specs.declared.scan_end.ScanEnd.TheVariants as e
@@ -24,7 +24,7 @@ returns-in-Err-clause-gives g c = λ m answered b l whole.
     let h = c.in-Ok.ensures.gives m answered b (c.in-Err.ensures.goes.left answered l) whole in
     inr (stops_finishing (world_from m answered) (scanned 1024 c.args.ap) (g.A.Access.reported c.args.access.now).asks.calls (g.K.Sink.written c.args.sink.now) (g.K.Sink.written c.list_all.new.sink) (Listed h.0)
     (g.A.Access.reported c.list_all.new.access) (g.A.Access.reported c.finish.new.self) c.in-Ok.ensures.end c.in-Err.ensures.calls h.1 c.in-Err.stop whole
-    (c.in-Err.ensures.stops m answered (c.in-Ok.ensures.on m b) l c.in-Ok.ensures.end))
+    (c.in-Err.ensures.stops m answered (c.in-Ok.ensures.keeps.on m b) l c.in-Ok.ensures.end))
 
 pub returns-in-Ok-finish-2-clause-gives : goal.returns-in-Ok-finish-2-clause-gives
 returns-in-Ok-finish-2-clause-gives g c = λ m answered b l whole.
@@ -50,7 +50,7 @@ returns-in-Err-finish-clause-gives g c = λ m answered b l whole.
     (lists_at w a.lines (scanned 1024 c.args.ap) c.in-Err-Full.field-0 e.Full old a.asks.calls before now c.in-Err-Full.field-0-is
     (c.in-Err-Full.ensures.gives m answered b (c.in-Err-finish.ensures.goes.left answered l) whole))
     c.in-Err-finish.stop whole
-    (c.in-Err-finish.ensures.stops m answered (c.in-Err-Full.ensures.on m b) l none))
+    (c.in-Err-finish.ensures.stops m answered (c.in-Err-Full.ensures.keeps.on m b) l none))
 
 pub returns-in-Err-WriteFault-clause-gives : goal.returns-in-Err-WriteFault-clause-gives
 returns-in-Err-WriteFault-clause-gives g c = λ m answered b l whole.

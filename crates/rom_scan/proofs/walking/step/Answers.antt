@@ -34,13 +34,13 @@ returns-in-Ok-arrive-clause-gives g c = λ m answered b l whole.
     let old = (g.A.Access.reported c.args.access.now).asks.calls in
     let mid = (g.A.Access.reported c.ask_now.new.access).asks.calls in
     let before = g.K.Sink.written c.args.sink.now in
-    let l2 = c.in-Ok-arrive.ensures.goes.left answered l in
+    let l2 = c.in-Ok-arrive.ensures.keeps.goes.left answered l in
     let r = step_visits w c.args.ap c.args.table c.args.tables.now c.args.listed.now old before (unit_ask c.word_unit.result true) c.requires.some c.word_unit.ensures.asks
     mid c.in-Ok.entry (c.in-Ok.ensures.gives m answered before b l2 whole) c.push.new.self c.named_by-address.result c.push.ensures c.named_by-address.ensures.named c.if-entry-eq0.false c.if-entry-eq0-2.false
     (rw (← c.named_by-address.ensures.named) (rw (← c.as_slice.ensures) (sym c.is_listed.ensures ∙ c.if-is_listed.false))) in
     walks_on w (g.A.Access.reported c.arrive.new.access).lines c.args.ap (unwound 1024 c.args.ap (c.args.table ∷ c.args.tables.now) c.args.listed.now) (reached 1024 c.args.ap c.push.new.self c.named_by-address.result c.args.listed.now) (Ok c.in-Ok-arrive.words)
     c.arrive.new.tables c.arrive.new.listed old mid (g.A.Access.reported c.arrive.new.access).asks.calls before before (g.K.Sink.written c.arrive.new.sink) whole r
-    (c.in-Ok-arrive.ensures.gives m answered (c.in-Ok.ensures.on m b) l
+    (c.in-Ok-arrive.ensures.gives m answered (c.in-Ok.ensures.keeps.on m b) l
     (whole_after w (unwound 1024 c.args.ap (c.args.table ∷ c.args.tables.now) c.args.listed.now) (reached 1024 c.args.ap c.push.new.self c.named_by-address.result c.args.listed.now) old mid before before whole r))
 
 pub returns-in-Err-arrive-clause-gives : goal.returns-in-Err-arrive-clause-gives
@@ -49,13 +49,13 @@ returns-in-Err-arrive-clause-gives g c = λ m answered b l whole.
     let old = (g.A.Access.reported c.args.access.now).asks.calls in
     let mid = (g.A.Access.reported c.ask_now.new.access).asks.calls in
     let before = g.K.Sink.written c.args.sink.now in
-    let l2 = c.in-Err-arrive.ensures.goes.left answered l in
+    let l2 = c.in-Err-arrive.ensures.keeps.goes.left answered l in
     let r = step_visits w c.args.ap c.args.table c.args.tables.now c.args.listed.now old before (unit_ask c.word_unit.result true) c.requires.some c.word_unit.ensures.asks
     mid c.in-Ok.entry (c.in-Ok.ensures.gives m answered before b l2 whole) c.push.new.self c.named_by-address.result c.push.ensures c.named_by-address.ensures.named c.if-entry-eq0.false c.if-entry-eq0-2.false
     (rw (← c.named_by-address.ensures.named) (rw (← c.as_slice.ensures) (sym c.is_listed.ensures ∙ c.if-is_listed.false))) in
     walks_on w (g.A.Access.reported c.arrive.new.access).lines c.args.ap (unwound 1024 c.args.ap (c.args.table ∷ c.args.tables.now) c.args.listed.now) (reached 1024 c.args.ap c.push.new.self c.named_by-address.result c.args.listed.now) (Err c.in-Err-arrive.end)
     c.arrive.new.tables c.arrive.new.listed old mid (g.A.Access.reported c.arrive.new.access).asks.calls before before (g.K.Sink.written c.arrive.new.sink) whole r
-    (c.in-Err-arrive.ensures.gives m answered (c.in-Ok.ensures.on m b) l
+    (c.in-Err-arrive.ensures.gives m answered (c.in-Ok.ensures.keeps.on m b) l
     (whole_after w (unwound 1024 c.args.ap (c.args.table ∷ c.args.tables.now) c.args.listed.now) (reached 1024 c.args.ap c.push.new.self c.named_by-address.result c.args.listed.now) old mid before before whole r))
 
 pub returns-in-Err-clause-lines : goal.returns-in-Err-clause-lines

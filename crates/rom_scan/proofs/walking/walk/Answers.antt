@@ -1,7 +1,7 @@
 use Rattle.std.proofs.Common.{◌≡◌, ◌∙◌, ◌+◌, ◌∷◌, ℕ, List, suc, length, Err, refl, ap, subst, arith}
 use Rattle.std.specs.List.{All}
 use Rattle.std.proofs.lemmas.List.Elements.{All-tail}
-use Rattle.access_calls.proofs.KeepLemmas.{goes_same, goes_trans}
+use Rattle.access_calls.proofs.KeepLemmas.{keeps_on, keeps_same}
 use Rattle.access_calls.specs.Reported.{world_from}
 use Rattle.sequels.specs.Meeting.{Reaches}
 use Rattle.sequels.proofs.MeetingLemmas.{reaches_on, reaches_same, reaches_to, whole_after}
@@ -24,9 +24,7 @@ tables-init g c = record {
   faults = refl;
   units = refl;
   ended = c.requires.open;
-  on = λ m b. b;
-  identity = refl;
-  goes = goes_same _;
+  keeps = keeps_same _ _ _ _;
 }
 
 pub tables-preserved-in-Ok : goal.tables-preserved-in-Ok
@@ -41,11 +39,11 @@ tables-preserved-in-Ok g c =
     record {
       so_far = λ m answered b l whole.
           let w = world_from m answered in
-          let r = inv.so_far m answered b (e.goes.left answered l) whole in
+          let r = inv.so_far m answered b (e.keeps.goes.left answered l) whole in
           let q = subst (λ (ts : List Table). Reaches w (unwound 1024 n c.args.tables.now c.args.listed.now) old mid (g.K.Sink.written c.args.sink.now) (g.K.Sink.written c.tables.sink) (unwound 1024 n ts c.tables.listed)) c.in-Some.ensures r in
           reaches_on w (unwound 1024 n c.args.tables.now c.args.listed.now) (unwound 1024 n (c.in-Some.table ∷ c.pop.new.self) c.tables.listed) (unwound 1024 n c.step.new.tables c.step.new.listed) old mid new
           (g.K.Sink.written c.args.sink.now) (g.K.Sink.written c.tables.sink) (g.K.Sink.written c.step.new.sink) whole q
-          (e.gives m answered (inv.on m b) l (whole_after w (unwound 1024 n c.args.tables.now c.args.listed.now) (unwound 1024 n c.tables.tables c.tables.listed) old mid (g.K.Sink.written c.args.sink.now) (g.K.Sink.written c.tables.sink) whole r));
+          (e.gives m answered (inv.keeps.on m b) l (whole_after w (unwound 1024 n c.args.tables.now c.args.listed.now) (unwound 1024 n c.tables.tables c.tables.listed) old mid (g.K.Sink.written c.args.sink.now) (g.K.Sink.written c.tables.sink) whole r));
       sound = e.open (All-tail IsOpen c.in-Some.table c.pop.new.self (subst (λ (ts : List Table). All IsOpen ts) c.in-Some.ensures inv.sound));
       deep = e.deep;
       count =
@@ -58,9 +56,7 @@ tables-preserved-in-Ok g c =
       faults = e.cause ∙ inv.faults;
       units = inv.units;
       ended = e.end;
-      on = λ m b. e.on m (inv.on m b);
-      identity = e.identity ∙ inv.identity;
-      goes = goes_trans _ _ _ inv.goes e.goes;
+      keeps = keeps_on _ _ _ _ _ _ inv.keeps e.keeps;
     }
 
 pub returns-in-Err-clause-gives : goal.returns-in-Err-clause-gives
@@ -72,11 +68,11 @@ returns-in-Err-clause-gives g c = λ m answered b l whole.
     let old = (g.A.Access.reported c.args.access.now).asks.calls in
     let mid = (g.A.Access.reported c.tables.access).asks.calls in
     let new = (g.A.Access.reported c.step.new.access).asks.calls in
-    let r = inv.so_far m answered b (e.goes.left answered l) whole in
+    let r = inv.so_far m answered b (e.keeps.goes.left answered l) whole in
     let q = subst (λ (ts : List Table). Reaches w (unwound 1024 n c.args.tables.now c.args.listed.now) old mid (g.K.Sink.written c.args.sink.now) (g.K.Sink.written c.tables.sink) (unwound 1024 n ts c.tables.listed)) c.in-Some.ensures r in
     walks_on w (g.A.Access.reported c.step.new.access).lines n (unwound 1024 n c.args.tables.now c.args.listed.now) (unwound 1024 n (c.in-Some.table ∷ c.pop.new.self) c.tables.listed) (Err c.in-Err.end) c.step.new.tables c.step.new.listed old mid new
     (g.K.Sink.written c.args.sink.now) (g.K.Sink.written c.tables.sink) (g.K.Sink.written c.step.new.sink) whole q
-    (e.gives m answered (inv.on m b) l (whole_after w (unwound 1024 n c.args.tables.now c.args.listed.now) (unwound 1024 n c.tables.tables c.tables.listed) old mid (g.K.Sink.written c.args.sink.now) (g.K.Sink.written c.tables.sink) whole r))
+    (e.gives m answered (inv.keeps.on m b) l (whole_after w (unwound 1024 n c.args.tables.now c.args.listed.now) (unwound 1024 n c.tables.tables c.tables.listed) old mid (g.K.Sink.written c.args.sink.now) (g.K.Sink.written c.tables.sink) whole r))
 
 pub returns-in-Err-clause-cause : goal.returns-in-Err-clause-cause
 returns-in-Err-clause-cause g c = subst (λ (k : ℕ). HasSinkCause (Err c.in-Err.end) k (g.K.Sink.faults c.step.new.sink)) c.tables.invariant.faults c.in-Err.ensures.cause
@@ -106,9 +102,7 @@ tables-preserved g c =
       faults = inv.faults;
       units = inv.units;
       ended = inv.ended;
-      on = inv.on;
-      identity = inv.identity;
-      goes = inv.goes;
+      keeps = inv.keeps;
     }
 
 pub returns-in-None-clause-most : goal.returns-in-None-clause-most

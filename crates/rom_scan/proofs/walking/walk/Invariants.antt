@@ -2,7 +2,7 @@ use Rattle.std.proofs.Common.{◌≡◌, ◌+◌, ◌≤◌, ℕ, Option, None, 
 use Rattle.std.specs.List.{All}
 use Rattle.probe_core.specs.Bench.{BenchState}
 use Rattle.target_calls.specs.World.{stop}
-use Rattle.access_calls.specs.GoesOn.{GoesOn}
+use Rattle.access_calls.specs.Keeps.{Keeps}
 use Rattle.access_calls.specs.Left.{IsLeft}
 use Rattle.access_calls.specs.Reported.{world_from}
 use Rattle.sequels.specs.Meeting.{Reaches}
@@ -23,9 +23,7 @@ invariant-tables g l = record {
   faults : g.K.Sink.faults l.sink ≡ g.K.Sink.faults l.fn.sink;
   units : l.units ≡ l.fn.units;
   ended : (g.A.Access.reported l.access).end ≡ None;
-  on : (m : BenchState) → g.A.Access.begun l.fn.access m → g.A.Access.begun l.access m;
-  identity : g.A.Access.identity l.access ≡ g.A.Access.identity l.fn.access;
-  goes : GoesOn (g.A.Access.reported l.fn.access) (g.A.Access.reported l.access);
+  keeps : Keeps g.A.Access.begun g.A.Access.reported g.A.Access.identity l.fn.access l.access;
 }
 
 abbrev pub decreases-tables : goal.decreases-tables
