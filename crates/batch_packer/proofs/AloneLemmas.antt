@@ -161,7 +161,7 @@ flown_alone b given accesses packet reply m n short words fits is ready does has
 pub ran_alone : (b : Bool) (given : Limits) (accesses : List RegAccess) (packet : List ℕ) (m n : BenchState) → given.packet_size ≤ 1024 →
     FitsPacket given.packet_size 0 (one_command b accesses) → packet ≡ command_bytes (one_command b accesses) → IsReady given m → DoesOne b (transfers_of m) accesses → MayHaveRun packet m n →
     MayHaveFlown (one_form b) accesses m n
-ran_alone b given accesses packet m n short fits is ready does (inl same) = inl (ap (λ (x : ExecutorState). x.transfers) same)
+ran_alone b given accesses packet m n short fits is ready does (inl same) = record { either = inl (ap (λ (x : ExecutorState). x.transfers) same); idle_cycles = ap (λ (x : ExecutorState). x.idle) same }
 ran_alone b given accesses packet m n short fits is ready does (inr ran) =
     let e : ExecutorState = m.probe.executor in
     let d : Transferred = one_done b e.transfers accesses in
@@ -169,11 +169,14 @@ ran_alone b given accesses packet m n short fits is ready does (inr ran) =
     let fits_here : FitsPacket e.limits.packet_size 0 (one_command b accesses) = subst (λ (l : Limits). FitsPacket l.packet_size 0 (one_command b accesses)) (sym ready.limits) fits in
     let next = ran ∙ ap (λ (x : Answered). x.next) (answered_alone b e accesses packet short_here fits_here is) in
     let after = ap (λ (x : ExecutorState). x.transfers) (sym next) in
-    inr (
-      one_part b d accesses,
-      subst (λ (q : TransferState). DoesPart e.transfers q accesses (one_part b d accesses)) after does.does,
-      subst (λ (q : TransferState). OnceBy (one_form b) accesses (one_part b d accesses) e.transfers q) after does.once,
-    )
+    record {
+      either = inr (
+        one_part b d accesses,
+        subst (λ (q : TransferState). DoesPart e.transfers q accesses (one_part b d accesses)) after does.does,
+        subst (λ (q : TransferState). OnceBy (one_form b) accesses (one_part b d accesses) e.transfers q) after does.once,
+      );
+      idle_cycles = ap (λ (x : ExecutorState). x.idle) next;
+    }
 
 -- ---- what was read is what was done
 

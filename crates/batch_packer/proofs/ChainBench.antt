@@ -26,7 +26,7 @@ use Rattle.batch_packer.proofs.PacketLemmas.{fits_more}
 use Rattle.probe_core.proofs.StateSteps.{steps_map, steps_then}
 use Rattle.batch_packer.specs.ChainReadings.{readings_after}
 use Rattle.batch_packer.specs.Exchanges.{IsOpen}
-use Rattle.batch_packer.specs.Flying.{HasFlown, HasFlownBy, IsReady, MayHaveFlown, transfers_of}
+use Rattle.batch_packer.specs.Flying.{HasFlown, HasFlownBy, IsReady, MayHaveFlown, NoneOrPart, transfers_of}
 use Rattle.batch_packer.specs.Queues.{HandedSome, IsQueue, ServedSome}
 use Rattle.batch_packer.specs.Readings.{IsSeen}
 use Rattle.batch_packer.specs.declared.part.Progress.{Progress}
@@ -281,7 +281,10 @@ chain_executed given accesses (first ∷ rest) m n short some all taken fits rea
     let part : Part = chain_part parts (chain_replies p parts) in
     let probe : n.probe ≡ chain_taken m.probe parts = ap (λ (b : BenchState). b.probe) is ∙ served_probe m (chain_packets parts) ∙ chain_ran m.probe first rest idle.held idle.waiting short_here fits_here in
     let transfers : transfers_of n ≡ chain_after p parts = ap (λ (x : ProbeState). x.executor.transfers) probe in
-    inr (part, subst (λ (q : TransferState). DoesPart p q accesses part) (sym transfers) (subst (λ (xs : List RegAccess). DoesPart p (chain_after p parts) xs part) all chain.part), λ form one. absurd (cc))
+    record {
+      either = inr (part, subst (λ (q : TransferState). DoesPart p q accesses part) (sym transfers) (subst (λ (xs : List RegAccess). DoesPart p (chain_after p parts) xs part) all chain.part), λ form one. absurd (cc));
+      idle_cycles = ap (λ (x : ProbeState). x.executor.idle) probe;
+    }
 
 take_most : (k : ℕ) (xs : List (List ℕ)) → length xs ≤ k → take k xs ≡ xs
 take_most zero [] h = refl
@@ -307,7 +310,9 @@ some_sent given accesses parts packets m n short some all taken fits is ready se
     next = served_some.next ∙ ap (λ xs. fold served m (take served_some.count xs)) is
 
     by_cases : (served_some.count < length parts) ⊎ (length parts ≤ served_some.count) → MayHaveFlown Chain accesses m n
-    by_cases (inl below) = inl (ap (λ (b : BenchState). b.probe.executor.transfers) next ∙ ap (λ (x : ExecutorState). x.transfers) (held_only m served_some.count parts below))
+    by_cases (inl below) =
+        let same : n.probe.executor ≡ m.probe.executor = ap (λ (b : BenchState). b.probe.executor) next ∙ held_only m served_some.count parts below in
+        record { either = inl (ap (λ (x : ExecutorState). x.transfers) same); idle_cycles = ap (λ (x : ExecutorState). x.idle) same }
     by_cases (inr most) =
         chain_executed given accesses parts m n short some all taken fits ready
         (next ∙ ap (fold served m) (take_most served_some.count (chain_packets parts) (let c = packet_count parts in omega arith)))
@@ -324,9 +329,12 @@ not_all_taken given accesses parts packets replies m n o short some all taken fi
     same : transfers_of o ≡ transfers_of n
     same = ap (λ (x : ExecutorState). x.transfers) (handed_transfers replies n o handed_is)
 
+    by_either : NoneOrPart Chain accesses m n → NoneOrPart Chain accesses m o
+    by_either (inl kept) = inl (same ∙ kept)
+    by_either (inr made) = inr (made.0, subst (λ (q : TransferState). DoesPart (transfers_of m) q accesses made.0) (sym same) made.1, λ form one. absurd (cc))
+
     after_taken : MayHaveFlown Chain accesses m n → MayHaveFlown Chain accesses m o
-    after_taken (inl kept) = inl (same ∙ kept)
-    after_taken (inr made) = inr (made.0, subst (λ (q : TransferState). DoesPart (transfers_of m) q accesses made.0) (sym same) made.1, λ form one. absurd (cc))
+    after_taken may = record { either = by_either may.either; idle_cycles = ap (λ (x : ExecutorState). x.idle) (handed_transfers replies n o handed_is) ∙ may.idle_cycles }
 
 -- ---- over a bench
 

@@ -205,11 +205,15 @@ polled_one given config ask packet reply result m n is read ready bank_is answer
 
 may_have_one : (given : Limits) (config : Config) (ask : PollAsk) (packet : List ℕ) (m n : BenchState) → IsPollSent given config ask packet → IsReady given m → bank (transfers_of m).line.target ≡ 0 →
     MayHaveRun packet m n → MayHavePolled config ask m n
-may_have_one given config ask packet m n is ready bank_is (inl same) = inl (ap (λ (x : ExecutorState). x.transfers) same)
+may_have_one given config ask packet m n is ready bank_is (inl same) = inl same
 may_have_one given config ask packet m n is ready bank_is (inr next) =
     let flies = ready.flies in
     let after : n.probe.executor ≡ poll_next m.probe.executor config ask = next ∙ ap (λ (x : Answered). x.next) (ran given config ask packet m is ready) in
-    inr (acts_poll (transfers_of m) (transfers_of n) config ask is.poll bank_is flies.guard (ap (λ (x : ExecutorState). x.transfers) after), ap (λ (x : ExecutorState). x.transfers.setting.retry) after)
+    inr (record {
+      acts = acts_poll (transfers_of m) (transfers_of n) config ask is.poll bank_is flies.guard (ap (λ (x : ExecutorState). x.transfers) after);
+      retry = ap (λ (x : ExecutorState). x.transfers.setting.retry) after;
+      idle_cycles = ap (λ (x : ExecutorState). x.idle) after;
+    })
 
 pub has_polled : (given : Limits) (config : Config) (ask : PollAsk) (packet reply : List ℕ) (result : Result Bool FlightEnd) (a b : Option BenchState) → IsPollSent given config ask packet →
     result ≡ matched_in config ask reply → StepsTo (λ m o. IsIdle m → HasAnswered packet reply m o) a b →

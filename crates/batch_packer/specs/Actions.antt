@@ -37,13 +37,15 @@ pub record HasActed (x : Action) (packets : ℕ) (m n : BenchState) : Type 0 whe
   pub limits : n.probe.executor.limits ≡ m.probe.executor.limits
   pub starting : n.starting ≡ min (m.starting + packets) (2 ^ 64 - 1)
 
--- A poll or a command of the probe was done whole, from one state of the bench to another, and left the settings of the transfers.
+-- A poll or a command of the probe was done whole, from one state of the bench to another, and left the settings of the transfers and the
+-- idle cycles.
 pub record DoesAction (x : Action) (m o : BenchState) : Type 0 where
   pub target : target_of o.probe ≡ (acted (target_of m.probe) x).next
   pub clear : (target_of o.probe).sticky ≡ false
   pub work : work_of o.probe ≡ work_of m.probe + weight (target_of m.probe) x
   pub retries : ended_retries_of o.probe ≡ ended_retries_of m.probe
   pub setting : (transfers_of o).setting ≡ (transfers_of m).setting
+  pub idle_cycles : o.probe.executor.idle ≡ m.probe.executor.idle
   pub number : (transfers_of o).line.number + 2 * commands_of x ≤ (transfers_of m).line.number + 2 * weight (target_of m.probe) x
 
 -- whether one command is enough for a probe call: for all but a delay of more than 65,535 microseconds

@@ -22,9 +22,10 @@ use Rattle.batch_packer.specs.declared.part.Progress.{Progress}
 abbrev pub transfers_of : BenchState → TransferState
 transfers_of m = m.probe.executor.transfers
 
--- A flight of these accesses did this part of them, from one state of the bench to another.
-abbrev pub Flies : List RegAccess → Part → BenchState → BenchState → Type 0
-Flies accesses part m o = DoesPart (transfers_of m) (transfers_of o) accesses part
+-- A flight of these accesses did this part of them, from one state of the bench to another, and left the idle cycles.
+pub record Flies (accesses : List RegAccess) (part : Part) (m o : BenchState) : Type 0 where
+  pub does : DoesPart (transfers_of m) (transfers_of o) accesses part
+  pub idle_cycles : o.probe.executor.idle ≡ m.probe.executor.idle
 
 -- A bench over which a flight does what is said of it: match mask and match retry are 0, bit 0 of DPIDR is set, STICKYERR is clear,
 -- and the numbers of the target fit their registers and words.
@@ -76,11 +77,16 @@ abbrev pub HasFlownBy : Form → List RegAccess → Option Progress → List (Op
 HasFlownBy form accesses None values m n = ⊥
 HasFlownBy form accesses (Some progress) values m n = HasFlown form accesses (part_with progress values) m n
 
--- a flight of which a bench call failed: it did nothing, or a part of its accesses
-abbrev pub MayHaveFlown : Form → List RegAccess → BenchState → BenchState → Type 0
-MayHaveFlown form accesses m n =
+-- it did nothing, or a part of its accesses
+abbrev pub NoneOrPart : Form → List RegAccess → BenchState → BenchState → Type 0
+NoneOrPart form accesses m n =
     (transfers_of n ≡ transfers_of m) ⊎ ((part : Part) × DoesPart (transfers_of m) (transfers_of n) accesses part
     × OnceBy form accesses part (transfers_of m) (transfers_of n))
+
+-- a flight of which a bench call failed: it did nothing, or a part of its accesses, and left the idle cycles
+pub record MayHaveFlown (form : Form) (accesses : List RegAccess) (m n : BenchState) : Type 0 where
+  pub either : NoneOrPart form accesses m n
+  pub idle_cycles : n.probe.executor.idle ≡ m.probe.executor.idle
 
 -- limits of at most these
 pub record IsWithin (limits given : Limits) : Type 0 where

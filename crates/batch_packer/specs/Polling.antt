@@ -81,10 +81,15 @@ pub record HasPolled (config : Config) (ask : PollAsk) (matched : Bool) (m n : B
   pub retry : (transfers_of n).setting.retry ≡ config.retry
   pub idle_cycles : n.probe.executor.idle ≡ config.idle
 
--- the poll was made or not; where it was, the retry number is the one that it was given
+-- the poll was made: the settings are those that it was given
+pub record WasPolled (config : Config) (ask : PollAsk) (m n : BenchState) : Type 0 where
+  pub acts : Acts (reads_of ask) (transfers_of m) (transfers_of n)
+  pub retry : (transfers_of n).setting.retry ≡ config.retry
+  pub idle_cycles : n.probe.executor.idle ≡ config.idle
+
+-- it was made, or nothing was done
 abbrev pub MayHavePolled : Config → PollAsk → BenchState → BenchState → Type 0
-MayHavePolled config ask m n = (transfers_of n ≡ transfers_of m)
-    ⊎ (Acts (reads_of ask) (transfers_of m) (transfers_of n) × ((transfers_of n).setting.retry ≡ config.retry))
+MayHavePolled config ask m n = (n.probe.executor ≡ m.probe.executor) ⊎ WasPolled config ask m n
 
 -- What was done where a poll is answered so. A reply is never bad, and no read waits or faults.
 abbrev pub PolledBy : Config → PollAsk → Result Bool FlightEnd → BenchState → BenchState → Type 0
