@@ -41,6 +41,10 @@ setting_of m = m.probe.executor.transfers.setting
 abbrev pub IsOver : Setting → ℕ → Type 0
 IsOver s number = (place : ℕ) × (number ≡ next_number place) × (s.retry < slice_index s.stalls place)
 
+-- the idle cycles after each transfer, as the last DAP_TransferConfigure set them
+abbrev pub idle_cycles_of : BenchState → ℕ
+idle_cycles_of m = m.probe.executor.idle
+
 -- by how much the probe's work has grown since the beginning
 abbrev pub grown_since : Beginning → BenchState → ℕ
 grown_since b m = work_of m.probe - work_of b.state.probe
@@ -73,8 +77,9 @@ pub record StayWithin (t : TargetState) (asks : List Ask) (entries : List Entry)
   pub so : (calls : ℕ) → stop (start_world t None) asks ≡ Some calls → AllByRecursion (IsWithin calls) entries
 
 -- Without an end: all entries were issued. Those that are confirmed were performed, and no others, and the probe's work is exactly what they
--- weigh. None of them gives a fault that its unit does not forgive, or is of a call after the first that ends at a fault. No retry ended. The
--- skipped calls are counted. Once a `finish` was made after the last call, the target agrees with the one after the calls.
+-- weigh. None of them gives a fault that its unit does not forgive, or is of a call after the first that ends at a fault. No retry ended, and
+-- the idle cycles are those of the beginning. The skipped calls are counted. Once a `finish` was made after the last call, the target agrees
+-- with the one after the calls.
 pub record IsOpen (entries : List Entry) (a : AccessView) (b : Beginning) (m : BenchState) : Type 0 where
   pub issued : a.issued ≡ length entries
   pub performed : HasPerformed entries a.confirmed b m
@@ -82,11 +87,12 @@ pub record IsOpen (entries : List Entry) (a : AccessView) (b : Beginning) (m : B
   pub good : first_fault (start_of b) (take a.confirmed entries) ≡ None
   pub own : StayWithin (start_of b) a.asks.calls (take a.confirmed entries)
   pub retries : ended_retries_of m.probe ≡ ended_retries_of b.state.probe
+  pub idle_cycles : idle_cycles_of m ≡ idle_cycles_of b.state
   pub skipped : a.skipped ≡ skips (world_of b) a.asks.calls
   pub settled : is_settled a.asks.calls ≡ true → Agree (target_of m.probe) (world_after (world_of b) a.asks.calls).target
 
 -- At a fault: the entries were performed up to the first that gives a fault which its unit does not forgive; those before it
--- are confirmed, and no more work was done. No retry ended.
+-- are confirmed, and no more work was done. No retry ended, and the idle cycles are those of the beginning.
 pub record IsFaulted (entries : List Entry) (r : Report) (a : AccessView) (b : Beginning) (m : BenchState) : Type 0 where
   pub performed : HasPerformed entries r.accesses b m
   pub first : first_fault (start_of b) entries ≡ Some r.accesses
@@ -94,17 +100,20 @@ pub record IsFaulted (entries : List Entry) (r : Report) (a : AccessView) (b : B
   pub up_to : grown_since b m ≤ weight_in (start_of b) (take (r.confirmed + 1) entries)
   pub numbers : HasNumbers entries a.asks.calls a.skipped a.lines r
   pub retries : ended_retries_of m.probe ≡ ended_retries_of b.state.probe
+  pub idle_cycles : idle_cycles_of m ≡ idle_cycles_of b.state
 
 -- Where a retry ended: the performed entries are confirmed, except the last where a read was outstanding or a write
 -- unchecked; and no more work was done than up to the named entry. Just one retry ended. The transfer that it ended met
 -- more WAITs than the retry number of the beginning allows, and has
--- at most the number of two for each register access and each read of a poll that was made: commands are no such transfers.
+-- at most the number of two for each register access and each read of a poll that was made: commands are no such transfers. The idle
+-- cycles are those of the beginning.
 pub record IsUnanswered (entries : List Entry) (r : Report) (a : AccessView) (b : Beginning) (m : BenchState) : Type 0 where
   pub performed : HasPerformed entries r.accesses b m
   pub confirmed : r.accesses ≡ r.confirmed + one_if (pending_of m)
   pub up_to : grown_since b m ≤ weight_in (start_of b) (take (r.confirmed + 1) entries)
   pub numbers : HasNumbers entries a.asks.calls a.skipped a.lines r
   pub retries : ended_retries_of m.probe ≡ ended_retries_of b.state.probe + 1
+  pub idle_cycles : idle_cycles_of m ≡ idle_cycles_of b.state
   pub over : IsOver (setting_of b.state) (number_of m)
   pub number : number_of m + 2 * commands_in (take r.accesses entries) ≤ number_of b.state + 2 * grown_since b m + 1
 
@@ -135,24 +144,28 @@ abbrev pub AreTogether : Limits → List Entry → Type 0
 AreTogether limits entries = (AllByRecursion (λ e. IsMade e.action) entries × (length entries ≤ flight_accesses limits)) ⊎ (length entries ≡ 1)
 
 -- Where the bench failed, which has these limits: at least the confirmed entries were performed, and at most those that were issued were
--- begun. Those between were handed over together. None of those that were begun gives a fault that its unit does not forgive, except
--- perhaps the last.
+-- begun. Those between were handed over together. The probe's work is at most what those weigh that were begun. None of these gives a fault
+-- that its unit does not forgive, except perhaps the last. The idle cycles are those of the beginning.
 pub record HasBroken (limits : Limits) (entries : List Entry) (issued confirmed : ℕ) (b : Beginning) (m : BenchState) : Type 0 where
   pub count : ℕ
   pub begun : ℕ
   pub count_is : count ≡ performed (start_of b) entries (grown_since b m)
   pub no_more : grown_since b m ≤ weight_in (start_of b) entries
+  pub up_to : grown_since b m ≤ weight_in (start_of b) (take begun entries)
   pub low : confirmed ≤ count
   pub high : begun ≤ issued
   pub within : issued ≤ length entries
   pub together : AreTogether limits (drop confirmed (take issued entries))
   pub good : Passes (start_of b) (take (begun - 1) entries)
+  pub idle_cycles : idle_cycles_of m ≡ idle_cycles_of b.state
   pub target : IsAfterPart entries count begun b m
 
 -- So it is with the entries of these calls, the first of which have come. All entries of those that came are confirmed: the first one that is
--- not was issued once so many calls were asked. None that was begun is of a call after the first that ends at a fault.
+-- not was issued once so many calls were asked, and no more have come than were asked. None that was begun is of a call after the first that
+-- ends at a fault.
 pub record IsBenchFault (limits : Limits) (asks : List Ask) (came : ℕ) (entries : List Entry) (issued confirmed : ℕ) (b : Beginning) (m : BenchState) : Type 0 where
   pub broken : HasBroken limits entries issued confirmed b m
+  pub asked : came ≤ length asks
   pub later : IfSome (slice_get entries confirmed) (IsAfter came)
   pub own : StayWithin (start_of b) asks (take broken.begun entries)
 
