@@ -9,7 +9,7 @@ use Rattle.std.specs.Prelude.{slice_get}
 use Rattle.target_calls.proofs.EntryLemmas.{commands_append, performed_part, registers_append, weight_append}
 use Rattle.access_calls.specs.Numbers.{HasNumbers}
 use Rattle.access_calls.specs.Reported.{AccessView, began}
-use Rattle.access_calls.specs.Standing.{AreTogether, HasBroken, IsOver, IsPart, IsPartOf, IsUnanswered, number_of, pending_of, setting_of}
+use Rattle.access_calls.specs.Standing.{AreTogether, HasBroken, IsOver, IsPart, IsPartOf, IsUnanswered, idle_cycles_of, number_of, pending_of, setting_of}
 use Rattle.access_regs.proofs.Seams.{after_split, passes_both}
 use Rattle.access_regs.specs.Entries.{NoneFault}
 use Rattle.access_regs.specs.Journal.{making}
@@ -59,6 +59,7 @@ action_done entries made e rest m0 m o on does passes room =
       retries = does.retries ∙ on.retries;
       few = on.few;
       setting = does.setting ∙ on.setting;
+      idle_cycles = does.idle_cycles ∙ on.idle_cycles;
       number = (let a = does.number in let b = on.number in let c = weight_one t0 made e in let d = commands_one made e in omega (arith, a, b, c, d, w));
     }
 
@@ -110,38 +111,43 @@ module _ (entries made : List Entry) (e : Entry) (rest : List Entry) (n : Option
   alone : (limits : Limits) → AreTogether limits (drop (length made) (take (length made + 1) entries))
   alone limits = inr (ap length (between entries made (e ∷ []) rest on.are))
 
-  pub action_bench : (limits : Limits) → Agree (target_of o.probe) (target_of m.probe) ⊎ IsPart e.action (target_of m.probe) (target_of o.probe) → HasBroken limits entries (length made + 1) (length made) (began m0 n) o
-  action_bench limits (inl same) = record {
+  pub action_bench : (limits : Limits) → ((work ≡ 0) × Agree (target_of o.probe) (target_of m.probe)) ⊎ IsPart e.action (target_of m.probe) (target_of o.probe) → idle_cycles_of o ≡ idle_cycles_of m
+      → HasBroken limits entries (length made + 1) (length made) (began m0 n) o
+  action_bench limits (inl (none, same)) idle = record {
     count = length made;
     begun = length made;
     count_is = count_at;
     no_more = work_within;
+    up_to = (let a = on.work in let f = ap (weight_in t0) made_is in omega (arith, a, grown, none, f));
     low = omega arith;
     high = omega arith;
     within = (let l = long in omega (arith, l));
     together = alone limits;
     good = passes_but_last t0 (length made) entries made (e ∷ rest) on.are on.passes (omega arith);
+    idle_cycles = idle ∙ on.idle_cycles;
     target = inl (refl, subst (Agree (target_of o.probe)) at_front same);
   }
-  action_bench limits (inr part) = record {
+  action_bench limits (inr part) idle = record {
     count = length made;
     begun = length made + 1;
     count_is = count_at;
     no_more = work_within;
+    up_to = work_up_to_here;
     low = omega arith;
     high = omega arith;
     within = (let l = long in omega (arith, l));
     together = alone limits;
     good = passes_but_last t0 (length made + 1) entries made (e ∷ rest) on.are on.passes (omega arith);
+    idle_cycles = idle ∙ on.idle_cycles;
     target = inr (
       refl,
       subst (λ (x : Option Entry). IsPartOf x (target_after t0 (take (length made) entries)) (target_of o.probe)) (sym next_is) (subst (λ (s : TargetState). IsPart e.action s (target_of o.probe)) at_front part),
     );
   }
 
-  pub action_wait : (r : Report) (b : AccessView) → Agree (target_of o.probe) (target_of m.probe) → ended_retries_of o.probe ≡ ended_retries_of m.probe + 1 → IsOver (setting_of m) (number_of o) → number_of o ≤ number_of m + 2 * work + 1 → pending_of o ≡ false → r.accesses ≡ length made → r.confirmed ≡ length made → HasNumbers entries b.asks.calls b.skipped b.lines r →
+  pub action_wait : (r : Report) (b : AccessView) → Agree (target_of o.probe) (target_of m.probe) → idle_cycles_of o ≡ idle_cycles_of m → ended_retries_of o.probe ≡ ended_retries_of m.probe + 1 → IsOver (setting_of m) (number_of o) → number_of o ≤ number_of m + 2 * work + 1 → pending_of o ≡ false → r.accesses ≡ length made → r.confirmed ≡ length made → HasNumbers entries b.asks.calls b.skipped b.lines r →
       IsUnanswered entries r b (began m0 n) o
-  action_wait r b same retries over number pending accesses confirmed numbers = record {
+  action_wait r b same idle retries over number pending accesses confirmed numbers = record {
     performed = record {
       count_is = accesses ∙ count_at;
       no_more = work_within;
@@ -152,6 +158,7 @@ module _ (entries made : List Entry) (e : Entry) (rest : List Entry) (n : Option
     up_to = subst (λ (k : ℕ). work_of o.probe - work_of m0.probe ≤ weight_in t0 (take (k + 1) entries)) (sym confirmed) work_up_to_here;
     numbers = numbers;
     retries = retries ∙ ap (λ k. k + 1) on.retries;
+    idle_cycles = idle ∙ on.idle_cycles;
     over = subst (λ (s : Setting). IsOver s (number_of o)) on.setting over;
     number =
         (let c : commands_in (take r.accesses entries) ≡ commands_in made = (λ j. commands_in (take (accesses j) (on.are j))) ∙ ap commands_in (take-append_seam made (e ∷ rest)) in
@@ -159,10 +166,10 @@ module _ (entries made : List Entry) (e : Entry) (rest : List Entry) (n : Option
   }
 
 pub action_bench_law : ActionBench
-action_bench_law limits entries made e rest n m0 m o work on grown less left = action_bench entries made e rest n m0 m o work on grown less limits left
+action_bench_law limits entries made e rest n m0 m o work on grown less left idle = action_bench entries made e rest n m0 m o work on grown less limits left idle
 
 pub action_wait_law : ActionWait
-action_wait_law entries made e rest n m0 m o work r b on grown less same retries over number pending accesses confirmed numbers = action_wait entries made e rest n m0 m o work on grown less r b same retries over number pending accesses confirmed numbers
+action_wait_law entries made e rest n m0 m o work r b on grown less same idle retries over number pending accesses confirmed numbers = action_wait entries made e rest n m0 m o work on grown less r b same idle retries over number pending accesses confirmed numbers
 
 -- ---- a fault that is forgiven
 
@@ -194,12 +201,12 @@ clash false e f = cc
 module _ (entries made flying rest : List Entry) (lead : List RegAccess) (a : RegAccess) (m0 m o : BenchState) (part : Part) (on : IsUnderWay entries made flying rest (lead ++ a ∷ []) m0 m) (flies : Flies (lead ++ a ∷ []) part m o) (bad : part.response ≡ Fault) (none : NoneFault (target_of m.probe) lead) where
   early : part.confirmed < length lead → part.confirmed < length (lead ++ a ∷ []) → ⊥
   early less short =
-      let c : Cutting part.confirmed flying = cut entries made flying rest (lead ++ a ∷ []) None m0 m o part on flies bad short in
+      let c : Cutting part.confirmed flying = cut entries made flying rest (lead ++ a ∷ []) None m0 m o part on flies.does bad short in
       let good : is_fault (acted (after (target_of m.probe) (actions_in c.front)) c.entry.action).outcome ≡ false =
       none_fault_at (target_of m.probe) c.front c.entry c.back lead a none (ap actions_in (sym c.is) ∙ on.flight) (let at = c.at in omega (arith, at, less)) in
       let here : after (target_of m0.probe) (actions_in (made ++ c.front)) ≡ after (target_of m.probe) (actions_in c.front) = after_split (target_of m0.probe) made c.front ∙ ap (λ (s : TargetState). after s (actions_in c.front)) (sym on.target) in
       clash (is_fault (acted (after (target_of m.probe) (actions_in c.front)) c.entry.action).outcome)
-      (ap (λ (s : TargetState). is_fault (acted s c.entry.action).outcome) (sym here) ∙ faults entries made flying rest (lead ++ a ∷ []) None m0 m o part on flies bad short) good
+      (ap (λ (s : TargetState). is_fault (acted s c.entry.action).outcome) (sym here) ∙ faults entries made flying rest (lead ++ a ∷ []) None m0 m o part on flies.does bad short) good
 
   last_by : part.confirmed < length (lead ++ a ∷ []) → length (lead ++ a ∷ []) ≡ length lead + 1 → (part.confirmed < length lead → ⊥) → part.confirmed ≡ length lead
   last_by short len never = by_place (cases_lt part.confirmed (length lead))
@@ -210,8 +217,8 @@ module _ (entries made flying rest : List Entry) (lead : List RegAccess) (a : Re
 
   pub all_performed : part.performed ≡ length flying
   all_performed =
-      let short : part.confirmed < length (lead ++ a ∷ []) = flies.made.short (λ good. absurd (let x : ◌≡◌ {A = Response} Good Fault = sym good ∙ bad in cc)) in
-      let one : part.performed ≡ part.confirmed + 1 = one_more entries made flying rest (lead ++ a ∷ []) None m0 m o part on flies bad short in
+      let short : part.confirmed < length (lead ++ a ∷ []) = flies.does.made.short (λ good. absurd (let x : ◌≡◌ {A = Response} Good Fault = sym good ∙ bad in cc)) in
+      let one : part.performed ≡ part.confirmed + 1 = one_more entries made flying rest (lead ++ a ∷ []) None m0 m o part on flies.does bad short in
       let len : length (lead ++ a ∷ []) ≡ length lead + 1 = length-append lead (a ∷ []) in
       let flen : length flying ≡ length (lead ++ a ∷ []) = flight_length flying (lead ++ a ∷ []) on.flight in
       let at_last : part.confirmed ≡ length lead = last_by short len (λ less. early less short) in
@@ -224,7 +231,7 @@ fault_forgiven entries made flying abort rest lead a m0 m o p part on flies bad 
     let tm : TargetState = target_of m.probe in
     let all : part.performed ≡ length flying = all_performed entries made flying (abort ∷ rest) lead a m0 m o part on flies bad none in
     let whole : take part.performed flying ≡ flying = take_all part.performed flying (omega (arith, all)) in
-    let target_o : target_of o.probe ≡ after t0 (actions_in (made ++ flying)) = front_target entries made flying (abort ∷ rest) accesses None m0 m o part on flies ∙ ap (λ (l : List Entry). after t0 (actions_in (made ++ l))) whole in
+    let target_o : target_of o.probe ≡ after t0 (actions_in (made ++ flying)) = front_target entries made flying (abort ∷ rest) accesses None m0 m o part on flies.does ∙ ap (λ (l : List Entry). after t0 (actions_in (made ++ l))) whole in
     let joined : made ++ (flying ++ abort ∷ []) ≡ (made ++ flying) ++ abort ∷ [] = sym (append_assoc made flying (abort ∷ [])) in
     let w1 = weight_one t0 (made ++ flying) abort in
     let w2 = weight_both t0 made flying accesses on.flight in
@@ -234,7 +241,7 @@ fault_forgiven entries made flying abort rest lead a m0 m o p part on flies bad 
     let c2 = commands_both made flying accesses on.flight in
     let c3 : commands_of abort.action ≡ 1 = ap commands_of action in
     let cj : commands_in (made ++ (flying ++ abort ∷ [])) ≡ commands_in ((made ++ flying) ++ abort ∷ []) = ap commands_in joined in
-    let work_o = work_is entries made flying (abort ∷ rest) accesses None m0 m o part on flies in
+    let work_o = work_is entries made flying (abort ∷ rest) accesses None m0 m o part on flies.does in
     record {
       are = on.are ∙ ap (λ (l : List Entry). made ++ l) (sym (append_assoc flying (abort ∷ []) rest)) ∙ sym (append_assoc made (flying ++ abort ∷ []) rest);
       weighty = on.weighty;
@@ -245,11 +252,12 @@ fault_forgiven entries made flying abort rest lead a m0 m o p part on flies bad 
       clear = does.clear;
       work = (let w = on.work in let d : work_of p.probe ≡ work_of o.probe + 1 = does.work in omega (arith, w, d, work_o, w1, w2, w3, wj, all));
       room = omega (arith, room);
-      retries = does.retries ∙ flies.retries ∙ ap (λ (x : Response). cond (is_wait x) (min (ended_retries_of m.probe + 1) (2 ^ 32 - 1)) (ended_retries_of m.probe)) bad ∙ on.retries;
+      retries = does.retries ∙ flies.does.retries ∙ ap (λ (x : Response). cond (is_wait x) (min (ended_retries_of m.probe + 1) (2 ^ 32 - 1)) (ended_retries_of m.probe)) bad ∙ on.retries;
       few = on.few;
-      setting = does.setting ∙ flies.setting ∙ on.setting;
+      setting = does.setting ∙ flies.does.setting ∙ on.setting;
+      idle_cycles = does.idle_cycles ∙ flies.idle_cycles ∙ on.idle_cycles;
       number =
-          (let x = flies.number in let y : one_if (is_wait part.response) ≡ 0 = ap (λ (x : Response). one_if (is_wait x)) bad in let z = on.number in
+          (let x = flies.does.number in let y : one_if (is_wait part.response) ≡ 0 = ap (λ (x : Response). one_if (is_wait x)) bad in let z = on.number in
           let d : number_of p + 2 * 1 ≤ number_of o + 2 * 1 = does.number in
           omega (arith, x, y, z, d, w1, w2, w3, wj, c1, c2, c3, cj, all));
     }

@@ -223,16 +223,17 @@ first_fault_at entries t k f =
 
 pub fault_flies : FaultFlies
 fault_flies entries made flying rest accesses n m0 m o part r b on flies bad strict accesses_is confirmed_is numbers =
-    let short : part.confirmed < length accesses = flies.made.short (λ good. absurd (let x : ◌≡◌ {A = Response} Good Fault = sym good ∙ bad in cc)) in
-    let one : part.performed ≡ part.confirmed + 1 = one_more entries made flying rest accesses n m0 m o part on flies bad short in
-    let at : IsFaultAt entries (length made + part.confirmed) (target_of m0.probe) = fault_at entries made flying rest accesses n m0 m o part on flies bad short strict in (
+    let short : part.confirmed < length accesses = flies.does.made.short (λ good. absurd (let x : ◌≡◌ {A = Response} Good Fault = sym good ∙ bad in cc)) in
+    let one : part.performed ≡ part.confirmed + 1 = one_more entries made flying rest accesses n m0 m o part on flies.does bad short in
+    let at : IsFaultAt entries (length made + part.confirmed) (target_of m0.probe) = fault_at entries made flying rest accesses n m0 m o part on flies.does bad short strict in (
       record {
-        performed = subst (λ (k : ℕ). HasPerformed entries k (began m0 n) o) (sym accesses_is) (has_part entries made flying rest accesses n m0 m o part on flies);
+        performed = subst (λ (k : ℕ). HasPerformed entries k (began m0 n) o) (sym accesses_is) (has_part entries made flying rest accesses n m0 m o part on flies.does);
         first = first_fault_at entries (target_of m0.probe) (length made + part.confirmed) at ∙ (let same : (length made + part.confirmed) + 1 ≡ r.accesses = omega (arith, one, accesses_is) in ap Some same);
         confirmed = omega (arith, one, accesses_is, confirmed_is);
-        up_to = work_up_to entries made flying rest accesses n m0 m o part on flies (r.confirmed + 1) (omega (arith, one, confirmed_is));
+        up_to = work_up_to entries made flying rest accesses n m0 m o part on flies.does (r.confirmed + 1) (omega (arith, one, confirmed_is));
         numbers = numbers;
-        retries = flies.retries ∙ ap (λ (x : Response). cond (is_wait x) (min (ended_retries_of m.probe + 1) (2 ^ 32 - 1)) (ended_retries_of m.probe)) bad ∙ on.retries;
+        retries = flies.does.retries ∙ ap (λ (x : Response). cond (is_wait x) (min (ended_retries_of m.probe + 1) (2 ^ 32 - 1)) (ended_retries_of m.probe)) bad ∙ on.retries;
+        idle_cycles = flies.idle_cycles ∙ on.idle_cycles;
       },
       subst (λ (k : ℕ). IsFaultAt entries k (target_of m0.probe)) (sym confirmed_is) at,
     )
@@ -243,28 +244,29 @@ one_if_cond false = refl
 
 pub wait_flies : WaitFlies
 wait_flies entries made flying rest accesses n m0 m o part r b on flies wait accesses_is confirmed_is numbers =
-    let short : part.confirmed < length accesses = flies.made.short (λ good. absurd (let x : ◌≡◌ {A = Response} Good Wait = sym good ∙ wait in cc)) in
+    let short : part.confirmed < length accesses = flies.does.made.short (λ good. absurd (let x : ◌≡◌ {A = Response} Good Wait = sym good ∙ wait in cc)) in
     let first_are : take r.accesses entries ≡ (made ++ take part.performed flying) =
     (λ j. take (accesses_is j) (split entries made flying rest accesses n m0 m o part on j))
-    ∙ ap (λ (k : ℕ). take k ((made ++ take part.performed flying) ++ (drop part.performed flying ++ rest))) (sym (front_length entries made flying rest accesses n m0 m o part on flies))
+    ∙ ap (λ (k : ℕ). take k ((made ++ take part.performed flying) ++ (drop part.performed flying ++ rest))) (sym (front_length entries made flying rest accesses n m0 m o part on flies.does))
     ∙ take-append_seam (made ++ take part.performed flying) (drop part.performed flying ++ rest) in
     let commands : commands_in (take r.accesses entries) ≡ commands_in made = ap commands_in first_are ∙ commands_both made (take part.performed flying) (take part.performed accesses) (part_flight entries made flying rest accesses n m0 m o part on) in (
       record {
-        performed = subst (λ (k : ℕ). HasPerformed entries k (began m0 n) o) (sym accesses_is) (has_part entries made flying rest accesses n m0 m o part on flies);
-        confirmed = (let p = flies.pending wait in let c = one_if_cond (pending_of o) in omega (arith, p, c, accesses_is, confirmed_is));
-        up_to = work_up_to entries made flying rest accesses n m0 m o part on flies (r.confirmed + 1)
-            (let near = flies.made.near in let few = doubt_most flies.made.doubt in omega (arith, near, few, confirmed_is));
+        performed = subst (λ (k : ℕ). HasPerformed entries k (began m0 n) o) (sym accesses_is) (has_part entries made flying rest accesses n m0 m o part on flies.does);
+        confirmed = (let p = flies.does.pending wait in let c = one_if_cond (pending_of o) in omega (arith, p, c, accesses_is, confirmed_is));
+        up_to = work_up_to entries made flying rest accesses n m0 m o part on flies.does (r.confirmed + 1)
+            (let near = flies.does.made.near in let few = doubt_most flies.does.made.doubt in omega (arith, near, few, confirmed_is));
         numbers = numbers;
         retries =
-            flies.retries ∙ ap (λ (x : Response). cond (is_wait x) (min (ended_retries_of m.probe + 1) (2 ^ 32 - 1)) (ended_retries_of m.probe)) wait
+            flies.does.retries ∙ ap (λ (x : Response). cond (is_wait x) (min (ended_retries_of m.probe + 1) (2 ^ 32 - 1)) (ended_retries_of m.probe)) wait
             ∙ (let f = on.few in let r = on.retries in omega (arith, f, r));
-        over = subst (λ (s : Setting). IsOver s (number_of o)) on.setting (flies.over wait);
+        idle_cycles = flies.idle_cycles ∙ on.idle_cycles;
+        over = subst (λ (s : Setting). IsOver s (number_of o)) on.setting (flies.does.over wait);
         number =
             (let w : one_if (is_wait part.response) ≡ 1 = ap (λ (x : Response). one_if (is_wait x)) wait in
-            let a = flies.number in let x = on.number in let y = work_is entries made flying rest accesses n m0 m o part on flies in let z = on.work in
+            let a = flies.does.number in let x = on.number in let y = work_is entries made flying rest accesses n m0 m o part on flies.does in let z = on.work in
             omega (arith, w, a, x, y, z, commands));
       },
-      subst (λ (k : ℕ). IsCutAt entries k (target_of m0.probe)) (sym confirmed_is) (cut_at entries made flying rest accesses n m0 m o part on flies short),
+      subst (λ (k : ℕ). IsCutAt entries k (target_of m0.probe)) (sym confirmed_is) (cut_at entries made flying rest accesses n m0 m o part on flies.does short),
     )
 
 -- the accesses of one flight
@@ -286,18 +288,20 @@ one_flight limits entries made flying rest accesses are flight held =
     (inl (all_made flying accesses flight, (let l = flight_length flying accesses flight in omega (arith, l, held))))
 
 pub bench_flies : BenchFlies
-bench_flies limits entries made flying rest accesses n m0 m o part on (inl same) never held =
+bench_flies limits entries made flying rest accesses n m0 m o part on (inl same) idle never held =
     let is : entries ≡ made ++ (flying ++ rest) = on.are in
     record {
       count = length made;
       begun = length made;
       count_is = has_none.count_is;
       no_more = has_none.no_more;
+      up_to = (let w = ap (λ (x : TransferState). x.work) same ∙ on.work in let f = ap (weight_in (target_of m0.probe)) (take_front (length made) entries made (flying ++ rest) is refl) in omega (arith, w, f));
       low = omega arith;
       high = omega arith;
       within = entries_within;
       together = one_flight limits entries made flying rest accesses on.are on.flight held;
       good = passes_but_last (target_of m0.probe) (length made) entries made (flying ++ rest) is on.passes (omega arith);
+      idle_cycles = idle ∙ on.idle_cycles;
       target = inl (refl, has_none.target);
     }
   where
@@ -306,17 +310,19 @@ bench_flies limits entries made flying rest accesses n m0 m o part on (inl same)
 
     entries_within : length made + length flying ≤ length entries
     entries_within = (let l = ap length on.are ∙ length-append made (flying ++ rest) in let k = length-append flying rest in omega (arith, l, k))
-bench_flies limits entries made flying rest accesses n m0 m o part on (inr does) never held =
+bench_flies limits entries made flying rest accesses n m0 m o part on (inr does) idle never held =
     record {
       count = length made + part.performed;
       begun = length made + part.performed;
       count_is = has.count_is;
       no_more = has.no_more;
+      up_to = work_up_to entries made flying rest accesses n m0 m o part on does (length made + part.performed) (omega arith);
       low = omega arith;
       high = (let h = most entries made flying rest accesses n m0 m o part on does in omega (arith, h));
       within = entries_within;
       together = one_flight limits entries made flying rest accesses on.are on.flight held;
       good = begun_pass entries made flying rest accesses n m0 m o part on does;
+      idle_cycles = idle ∙ on.idle_cycles;
       target = inl (refl, has.target);
     }
   where

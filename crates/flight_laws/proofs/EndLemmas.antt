@@ -1,5 +1,6 @@
 -- How an access ends whose calls lie in a flight.
-use Rattle.std.proofs.Common.{◌≡◌, ◌∙◌, ℕ, ◌+◌, ◌≤◌, List, [], ◌∷◌, ◌++◌, length, slice_get, take, IfSome, Option, Some, None, refl, sym, ap, subst, arith}
+use Rattle.std.proofs.Common.{◌≡◌, ◌∙◌, ℕ, suc, ◌+◌, ◌≤◌, Bool, true, false, cond, List, [], ◌∷◌, ◌++◌, length, slice_get, take, IfSome, Option, Some, None, refl, sym, ap, subst, arith}
+use Rattle.std.proofs.lemmas.List.{length-take}
 use Rattle.target_machine.specs.State.{TargetState}
 use Rattle.target_machine.specs.declared.access.RegAccess.{RegAccess}
 use Rattle.probe_core.specs.Bench.{BenchState}
@@ -9,7 +10,7 @@ use Rattle.target_calls.specs.Asks.{AreAskable}
 use Rattle.target_calls.specs.Journal.{Entry, Passes, lines_before}
 use Rattle.target_calls.specs.declared.calls.Ask.{Ask}
 use Rattle.target_machine.specs.Fresh.{IsFresh}
-use Rattle.target_calls.specs.World.{AtLeast, results}
+use Rattle.target_calls.specs.World.{AtLeast, World, done_now, end_result, next_world, results, stops_here}
 use Rattle.access_regs.specs.Journal.{issued}
 use Rattle.access_regs.specs.Kept.{Kept}
 use Rattle.access_calls.specs.Growing.{IsAfter}
@@ -150,14 +151,14 @@ flight_ends p confirmed count flying rest accesses came m0 m o part r b s flies 
         }
 
 pub poll_ends : PollEnds
-poll_ends p confirmed count e rest came m0 m o work r b s grown less same retries over number pending why accesses_is confirmed_is off =
+poll_ends p confirmed count e rest came m0 m o work r b s grown less same idle retries over number pending why accesses_is confirmed_is off =
     ends_cut p confirmed count [] (e ∷ rest) [] came m0 m o r b s (omega (arith, confirmed_is)) off (subst (λ (c : StopCause). Cutting p c r b m0 o) (sym why) cutting)
   where
     cut : IsCutAt (issued p (target_of m0.probe) b.asks.calls) r.confirmed (target_of m0.probe)
     cut = record { front = s.made; entry = e; more = rest; is = s.on.are; at = s.confirmed_is ∙ sym confirmed_is; passes = s.on.passes }
 
     stands : (n : Option ℕ) → IsCutBy NoAnswer (issued p (target_of m0.probe) b.asks.calls) r b (began m0 n) o
-    stands n = action_wait_law (issued p (target_of m0.probe) b.asks.calls) s.made e rest n m0 m o work r b s.on grown less same retries over number pending (accesses_is ∙ sym s.confirmed_is) (confirmed_is ∙ sym s.confirmed_is) off.numbers
+    stands n = action_wait_law (issued p (target_of m0.probe) b.asks.calls) s.made e rest n m0 m o work r b s.on grown less same idle retries over number pending (accesses_is ∙ sym s.confirmed_is) (confirmed_is ∙ sym s.confirmed_is) off.numbers
 
     cutting : Cutting p NoAnswer r b m0 o
     cutting = record {
@@ -191,9 +192,9 @@ later_there p calls confirmed count flying rest accesses came m0 m s =
 
 -- what was begun is of the calls up to the first that ends at a fault
 pub bench_fault : (p : Planner) (limits : Limits) (asks : List Ask) (came issued_count confirmed : ℕ) (n : Option ℕ) (m0 o : BenchState) → IsFresh (target_of m0.probe) → AreAskable asks
-    → IfSome (slice_get (issued p (target_of m0.probe) asks) confirmed) (IsAfter came)
+    → came ≤ length asks → IfSome (slice_get (issued p (target_of m0.probe) asks) confirmed) (IsAfter came)
     → HasBroken limits (issued p (target_of m0.probe) asks) issued_count confirmed (began m0 n) o → IsBenchFault limits asks came (issued p (target_of m0.probe) asks) issued_count confirmed (began m0 n) o
-bench_fault p limits asks came issued_count confirmed n m0 o fresh ok later h = record { broken = h; later = later; own = begun_stay p (target_of m0.probe) asks h.begun fresh ok h.good }
+bench_fault p limits asks came issued_count confirmed n m0 o fresh ok asked later h = record { broken = h; asked = asked; later = later; own = begun_stay p (target_of m0.probe) asks h.begun fresh ok h.good }
 
 -- the calls that came stay answered
 came_left : (issued confirmed : ℕ) (b : AccessView) (n : Option ℕ) → b.end ≡ Some (BenchFault issued confirmed) → IsLeft b n → AtLeast b.came n
@@ -205,23 +206,47 @@ later_here : (p : Planner) (confirmed count : ℕ) (flying rest : List Entry) (a
 later_here p confirmed count flying rest accesses came m0 m b same s =
     subst (λ (k : ℕ). IfSome (slice_get (issued p (target_of m0.probe) b.asks.calls) confirmed) (IsAfter k)) (sym same) (later_there p b.asks.calls confirmed count flying rest accesses came m0 m s)
 
+-- no more calls have results than there are
+pub results_few : (w : World) (calls : List Ask) → length (results w calls) ≤ length calls
+results_few w [] = omega arith
+results_few w (ask ∷ calls) = by_here (stops_here w ask) (results_few (next_world w ask) calls)
+  where
+    by_here : (b : Bool) → length (results (next_world w ask) calls) ≤ length calls → length (cond b [] (end_result (done_now w ask).end ∷ results (next_world w ask) calls)) ≤ suc (length calls)
+    by_here true le = omega arith
+    by_here false le = omega (arith, le)
+
+-- no more calls have come than there are
+pub calls_have_come : (p : Planner) (calls : List Ask) (confirmed count : ℕ) (flying rest : List Entry) (accesses : List RegAccess) (came : List ℕ) (m0 m : BenchState)
+    → IsSending p calls confirmed count flying rest accesses came m0 m → count ≤ length calls
+calls_have_come p calls confirmed count flying rest accesses came m0 m s =
+    let all : List ℕ = results (world_from m0 None) calls in
+    let taken : length (take count all) ≡ count = ap length (s.results_are None tt) ∙ s.length_is in
+    let few = length-take count all in
+    let most = results_few (world_from m0 None) calls in
+    grind (arith, taken, few, most)
+
+asked_here : (p : Planner) (confirmed count : ℕ) (flying rest : List Entry) (accesses : List RegAccess) (came : List ℕ) (m0 m : BenchState) (b : AccessView) → b.came ≡ count
+    → IsSending p b.asks.calls confirmed count flying rest accesses came m0 m → b.came ≤ length b.asks.calls
+asked_here p confirmed count flying rest accesses came m0 m b same s =
+    subst (λ (k : ℕ). k ≤ length b.asks.calls) (sym same) (calls_have_come p b.asks.calls confirmed count flying rest accesses came m0 m s)
+
 pub flight_fails : FlightFails
-flight_fails p confirmed count flying rest accesses came m0 m o part b s either never held ended = record {
-  stands = λ n left. bench_fault p b.bench.limits b.asks.calls b.came (confirmed + length flying) confirmed n m0 o s.fresh s.askable
+flight_fails p confirmed count flying rest accesses came m0 m o part b s either idle never held ended = record {
+  stands = λ n left. bench_fault p b.bench.limits b.asks.calls b.came (confirmed + length flying) confirmed n m0 o s.fresh s.askable (asked_here p confirmed count flying rest accesses came m0 m b ended.came s)
       (later_here p confirmed count flying rest accesses came m0 m b ended.came s)
       (subst (λ (k : ℕ). HasBroken b.bench.limits (issued p (target_of m0.probe) b.asks.calls) (k + length flying) k (began m0 n) o) s.confirmed_is
-      (bench_flies b.bench.limits (issued p (target_of m0.probe) b.asks.calls) s.made flying rest accesses n m0 m o part s.on either never held));
+      (bench_flies b.bench.limits (issued p (target_of m0.probe) b.asks.calls) s.made flying rest accesses n m0 m o part s.on either idle never held));
   results_are = λ n left.
       ap (λ (k : ℕ). take k (results (world_from m0 n) b.asks.calls)) s.length_is
       ∙ s.results_are n (subst (λ (k : ℕ). AtLeast k n) ended.came (came_left (confirmed + length flying) confirmed b n ended.end left));
 }
 
 pub action_fails : ActionFails
-action_fails p confirmed count e rest came m0 m o work b s grown less either ended = record {
-  stands = λ n left. bench_fault p b.bench.limits b.asks.calls b.came (confirmed + 1) confirmed n m0 o s.fresh s.askable
+action_fails p confirmed count e rest came m0 m o work b s grown less either idle ended = record {
+  stands = λ n left. bench_fault p b.bench.limits b.asks.calls b.came (confirmed + 1) confirmed n m0 o s.fresh s.askable (asked_here p confirmed count [] (e ∷ rest) [] came m0 m b ended.came s)
       (later_here p confirmed count [] (e ∷ rest) [] came m0 m b ended.came s)
       (subst (λ (k : ℕ). HasBroken b.bench.limits (issued p (target_of m0.probe) b.asks.calls) (k + 1) k (began m0 n) o) s.confirmed_is
-      (action_bench_law b.bench.limits (issued p (target_of m0.probe) b.asks.calls) s.made e rest n m0 m o work s.on grown less either));
+      (action_bench_law b.bench.limits (issued p (target_of m0.probe) b.asks.calls) s.made e rest n m0 m o work s.on grown less either idle));
   results_are = λ n left.
       ap (λ (k : ℕ). take k (results (world_from m0 n) b.asks.calls)) s.length_is
       ∙ s.results_are n (subst (λ (k : ℕ). AtLeast k n) ended.came (came_left (confirmed + 1) confirmed b n ended.end left));

@@ -130,20 +130,20 @@ module _ (entries made flying rest : List Entry) (accesses : List RegAccess) (m0
   same_length = flight_length flying accesses on.flight
 
   work_is : work_of o.probe ≡ work_of m.probe + part.performed
-  work_is = flies.work ∙ room_grown (work_of m.probe) part.performed (let most = flies.made.most in let r = on.room in let l = same_length in omega (arith, most, r, l))
+  work_is = flies.does.work ∙ room_grown (work_of m.probe) part.performed (let most = flies.does.made.most in let r = on.room in let l = same_length in omega (arith, most, r, l))
 
   module _ (good : part.response ≡ Good) where
     confirmed_all : part.confirmed ≡ length accesses
-    confirmed_all = flies.made.whole good
+    confirmed_all = flies.does.made.whole good
 
     performed_all : part.performed ≡ length accesses
-    performed_all = no_doubt flies.made.doubt part.confirmed part.performed flies.made.near (let most = flies.made.most in let c = confirmed_all in omega (arith, most, c)) ∙ confirmed_all
+    performed_all = no_doubt flies.does.made.doubt part.confirmed part.performed flies.does.made.near (let most = flies.does.made.most in let c = confirmed_all in omega (arith, most, c)) ∙ confirmed_all
 
     all_clear : AreClear (target_of m.probe) accesses
-    all_clear = subst (AreClear (target_of m.probe)) (take_all part.confirmed accesses (let c = confirmed_all in omega (arith, c))) flies.made.clear
+    all_clear = subst (AreClear (target_of m.probe)) (take_all part.confirmed accesses (let c = confirmed_all in omega (arith, c))) flies.does.made.clear
 
     target_is : target_of o.probe ≡ one_at_a_time (target_of m.probe) accesses
-    target_is = flies.made.target ∙ ap (one_at_a_time (target_of m.probe)) (take_all part.performed accesses (let c = performed_all in omega (arith, c)))
+    target_is = flies.does.made.target ∙ ap (one_at_a_time (target_of m.probe)) (take_all part.performed accesses (let c = performed_all in omega (arith, c)))
 
     pub whole_flies : IsUnderWay entries (made ++ flying) [] rest [] m0 o
     whole_flies = record {
@@ -155,11 +155,12 @@ module _ (entries made flying rest : List Entry) (accesses : List RegAccess) (m0
       clear = ap (λ (s : TargetState). s.sticky) target_is ∙ clear_end (target_of m.probe) accesses all_clear;
       work = (let w = work_is in let x = on.work in let y = weight_both t0 made flying accesses on.flight in let p = performed_all in let l = same_length in omega (arith, w, x, y, p, l));
       room = (let w = work_is in let r = on.room in let p = performed_all in let l = same_length in omega (arith, w, r, p, l));
-      retries = flies.retries ∙ ap (λ (x : Response). cond (is_wait x) (min (ended_retries_of m.probe + 1) (2 ^ 32 - 1)) (ended_retries_of m.probe)) good ∙ on.retries;
+      retries = flies.does.retries ∙ ap (λ (x : Response). cond (is_wait x) (min (ended_retries_of m.probe + 1) (2 ^ 32 - 1)) (ended_retries_of m.probe)) good ∙ on.retries;
       few = on.few;
-      setting = flies.setting ∙ on.setting;
-      number = (let a = flies.number in let w : one_if (is_wait part.response) ≡ 0 = ap (λ (x : Response). one_if (is_wait x)) good in let b = on.number in let c = commands_both made flying accesses on.flight in let y = weight_both t0 made flying accesses on.flight in let p = performed_all in let l = same_length in omega (arith, a, w, b, c, y, p, l));
+      setting = flies.does.setting ∙ on.setting;
+      idle_cycles = flies.idle_cycles ∙ on.idle_cycles;
+      number = (let a = flies.does.number in let w : one_if (is_wait part.response) ≡ 0 = ap (λ (x : Response). one_if (is_wait x)) good in let b = on.number in let c = commands_both made flying accesses on.flight in let y = weight_both t0 made flying accesses on.flight in let p = performed_all in let l = same_length in omega (arith, a, w, b, c, y, p, l));
     }
 
     pub values_came : part.values ≡ slot_values (after t0 (actions_in made)) accesses
-    values_came = flies.values ∙ ap (slot_values (target_of m.probe)) (take_all part.confirmed accesses (let c = confirmed_all in omega (arith, c))) ∙ ap (λ (s : TargetState). slot_values s accesses) at_made
+    values_came = flies.does.values ∙ ap (slot_values (target_of m.probe)) (take_all part.confirmed accesses (let c = confirmed_all in omega (arith, c))) ∙ ap (λ (s : TargetState). slot_values s accesses) at_made

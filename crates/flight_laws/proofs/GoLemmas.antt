@@ -106,6 +106,7 @@ push_goes p a b ask kept learned accesses more came m0 m f h =
         retries = on.retries;
         few = on.few;
         setting = on.setting;
+        idle_cycles = on.idle_cycles;
         number = on.number;
       };
       kept_is = ap (kept_by p t0) h.calls ∙ grows.1 ∙ ap (λ (k : Kept). (issue_of p u k ask).kept) f.kept_is ∙ sym h.kept_is;

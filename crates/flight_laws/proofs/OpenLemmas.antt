@@ -126,7 +126,7 @@ module _ (p : Planner) (a : AccessView) (kept : Kept) (accesses : List RegAccess
       agree_sym _ _ (subst (λ (t : TargetState). Agree t (target_of m.probe)) (sym alone_is) (subst (Agree (alone_after t0 [] a.asks.calls)) target here))
 
   pub open_stands : IsOpen (issued p t0 a.asks.calls) a (began m0 n) m
-  open_stands = record { issued = is_issued; performed = is_performed; work = is_work; good = is_good; own = is_own; retries = f.on.retries; skipped = is_skipped; settled = is_calm }
+  open_stands = record { issued = is_issued; performed = is_performed; work = is_work; good = is_good; own = is_own; retries = f.on.retries; idle_cycles = f.on.idle_cycles; skipped = is_skipped; settled = is_calm }
 
   came_length : length came ≡ a.came
   came_length = ap length f.came_are ∙ count_of (start_world t0 None) f.front (front_none.stops None tt) ∙ sym f.came_is

@@ -40,6 +40,7 @@ journal_grew entries grown made flying more accesses m0 m on is weighty = record
   retries = on.retries;
   few = on.few;
   setting = on.setting;
+  idle_cycles = on.idle_cycles;
   number = on.number;
 }
 
@@ -56,6 +57,7 @@ entry_pushed entries made flying e rest accesses a m0 m on is room = record {
   retries = on.retries;
   few = on.few;
   setting = on.setting;
+  idle_cycles = on.idle_cycles;
   number = on.number;
 }
 

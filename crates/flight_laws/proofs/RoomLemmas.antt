@@ -79,9 +79,9 @@ grown_few w n = omega arith
 pub forgiven_room : ForgivenRoom
 forgiven_room p calls confirmed count flying abort rest accesses came m0 m o q part s flies does room =
     let r = rest_room p calls s.made flying (abort ∷ rest) accesses m0 m s.askable s.on room in
-    let few = flies.made.most in
+    let few = flies.does.made.most in
     let len = flight_length flying accesses s.on.flight in
-    let work = flies.work in
+    let work = flies.does.work in
     let most = grown_few (work_of m.probe) part.performed in
     let w = does.work in
     omega (arith, r, few, len, work, most, w)

@@ -18,7 +18,7 @@ use Rattle.access_regs.specs.declared.planner.Planner.{Planner}
 use Rattle.access_calls.specs.Left.{IsLeft}
 use Rattle.access_calls.specs.Numbers.{HasNumbers}
 use Rattle.access_calls.specs.Reported.{AccessView, began, world_from}
-use Rattle.access_calls.specs.Standing.{IsOver, IsPart, Stands, StandsAt, WhereObservable, flight_accesses, number_of, pending_of, setting_of}
+use Rattle.access_calls.specs.Standing.{IsOver, IsPart, Stands, StandsAt, WhereObservable, flight_accesses, idle_cycles_of, number_of, pending_of, setting_of}
 use Rattle.access_calls.specs.declared.stop.Report.{Report}
 use Rattle.access_calls.specs.declared.stop.Stop.{Stop}
 use Rattle.access_calls.specs.declared.stop.Stop.TheVariants.{BenchFault, Cut}
@@ -96,7 +96,7 @@ abbrev pub PollEnds : Type 0
 PollEnds = (p : Planner) (confirmed count : ℕ) (e : Entry) (rest : List Entry) (came : List ℕ) (m0 m o : BenchState) (work : ℕ) (r : Report) (b : AccessView) →
     IsSending p b.asks.calls confirmed count [] (e ∷ rest) [] came m0 m →
     work_of o.probe ≡ work_of m.probe + work → work < weight (target_of m.probe) e.action → Agree (target_of o.probe) (target_of m.probe) →
-    ended_retries_of o.probe ≡ ended_retries_of m.probe + 1 → IsOver (setting_of m) (number_of o) → number_of o ≤ number_of m + 2 * work + 1 → pending_of o ≡ false →
+    idle_cycles_of o ≡ idle_cycles_of m → ended_retries_of o.probe ≡ ended_retries_of m.probe + 1 → IsOver (setting_of m) (number_of o) → number_of o ≤ number_of m + 2 * work + 1 → pending_of o ≡ false →
     r.cause ≡ NoAnswer → r.accesses ≡ confirmed → r.confirmed ≡ confirmed → IsCutOff p r b m0 → EndsCut p r b count came m0 o
 
 -- ---- a bench that failed
@@ -111,8 +111,8 @@ abbrev pub FlightFails : Type 0
 FlightFails = (p : Planner) (confirmed count : ℕ) (flying rest : List Entry) (accesses : List RegAccess) (came : List ℕ) (m0 m o : BenchState) (part : Part)
     (b : AccessView) →
     IsSending p b.asks.calls confirmed count flying rest accesses came m0 m →
-    (transfers_of o ≡ transfers_of m) ⊎ DoesPart (transfers_of m) (transfers_of o) accesses part → (part.response ≡ Mismatch → ⊥) →
-    length accesses ≤ flight_accesses b.bench.limits → IsBenchEnd (confirmed + length flying) confirmed count b →
+    (transfers_of o ≡ transfers_of m) ⊎ DoesPart (transfers_of m) (transfers_of o) accesses part → idle_cycles_of o ≡ idle_cycles_of m →
+    (part.response ≡ Mismatch → ⊥) → length accesses ≤ flight_accesses b.bench.limits → IsBenchEnd (confirmed + length flying) confirmed count b →
     IsEnded p (BenchFault (confirmed + length flying) confirmed) b came m0 o
 
 -- The bench failed in a poll or a command of the probe, of which a part was done, or nothing.
@@ -120,5 +120,6 @@ abbrev pub ActionFails : Type 0
 ActionFails = (p : Planner) (confirmed count : ℕ) (e : Entry) (rest : List Entry) (came : List ℕ) (m0 m o : BenchState) (work : ℕ) (b : AccessView) →
     IsSending p b.asks.calls confirmed count [] (e ∷ rest) [] came m0 m →
     work_of o.probe ≡ work_of m.probe + work → work < weight (target_of m.probe) e.action →
-    Agree (target_of o.probe) (target_of m.probe) ⊎ IsPart e.action (target_of m.probe) (target_of o.probe) →
+    ((work ≡ 0) × Agree (target_of o.probe) (target_of m.probe)) ⊎ IsPart e.action (target_of m.probe) (target_of o.probe) →
+    idle_cycles_of o ≡ idle_cycles_of m →
     IsBenchEnd (confirmed + 1) confirmed count b → IsEnded p (BenchFault (confirmed + 1) confirmed) b came m0 o

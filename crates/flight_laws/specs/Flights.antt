@@ -12,7 +12,7 @@ use Rattle.probe_core.specs.declared.job.Limits.{Limits}
 use Rattle.target_calls.specs.Journal.{Entry, Passes, target_after}
 use Rattle.access_calls.specs.Numbers.{HasNumbers}
 use Rattle.access_calls.specs.Reported.{AccessView, began}
-use Rattle.access_calls.specs.Standing.{HasBroken, IsFaulted, IsUnanswered, flight_accesses}
+use Rattle.access_calls.specs.Standing.{HasBroken, IsFaulted, IsUnanswered, flight_accesses, idle_cycles_of}
 use Rattle.access_calls.specs.declared.stop.Report.{Report}
 use Rattle.batch_packer.specs.Flying.{Flies, transfers_of}
 use Rattle.flight_laws.specs.UnderWay.{IsUnderWay}
@@ -66,5 +66,5 @@ WaitFlies = (entries made flying rest : List Entry) (accesses : List RegAccess) 
 abbrev pub BenchFlies : Type 0
 BenchFlies = (limits : Limits) (entries made flying rest : List Entry) (accesses : List RegAccess) (n : Option ℕ) (m0 m o : BenchState) (part : Part) →
     IsUnderWay entries made flying rest accesses m0 m →
-    (transfers_of o ≡ transfers_of m) ⊎ DoesPart (transfers_of m) (transfers_of o) accesses part → (part.response ≡ Mismatch → ⊥) →
-    length accesses ≤ flight_accesses limits → HasBroken limits entries (length made + length flying) (length made) (began m0 n) o
+    (transfers_of o ≡ transfers_of m) ⊎ DoesPart (transfers_of m) (transfers_of o) accesses part → idle_cycles_of o ≡ idle_cycles_of m →
+    (part.response ≡ Mismatch → ⊥) → length accesses ≤ flight_accesses limits → HasBroken limits entries (length made + length flying) (length made) (began m0 n) o

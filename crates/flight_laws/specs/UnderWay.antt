@@ -7,12 +7,12 @@ use Rattle.target_calls.specs.Journal.{Entry, Passes, actions_in, target_after}
 use Rattle.target_calls.specs.Weights.{AreWeighty, commands_in, weight_in}
 use Rattle.access_regs.specs.Journal.{making}
 use Rattle.access_calls.specs.Reported.{began}
-use Rattle.access_calls.specs.Standing.{HasPerformed, number_of, setting_of}
+use Rattle.access_calls.specs.Standing.{HasPerformed, idle_cycles_of, number_of, setting_of}
 
 -- Of these entries the first were made and are confirmed, the next lie in a flight as these accesses, and the rest is still to
 -- be pushed. None of those made gives a fault that its unit does not forgive; the target is the one after them, with STICKYERR
--- clear; the work has grown by what they weigh; no retry ended; the settings of the transfers are the same; and the transfers are at
--- most two for each register access and each read of a poll.
+-- clear; the work has grown by what they weigh; no retry ended; the settings of the transfers and the idle cycles are the same; and the
+-- transfers are at most two for each register access and each read of a poll.
 pub record IsUnderWay (entries made flying rest : List Entry) (accesses : List RegAccess) (m0 m : BenchState) : Type 0 where
   pub are : entries ≡ made ++ (flying ++ rest)
   pub weighty : AreWeighty entries
@@ -25,6 +25,7 @@ pub record IsUnderWay (entries made flying rest : List Entry) (accesses : List R
   pub retries : ended_retries_of m.probe ≡ ended_retries_of m0.probe
   pub few : ended_retries_of m0.probe + 1 < 2 ^ 32
   pub setting : setting_of m ≡ setting_of m0
+  pub idle_cycles : idle_cycles_of m ≡ idle_cycles_of m0
   pub number : number_of m + 2 * commands_in made ≤ number_of m0 + 2 * weight_in (target_of m0.probe) made
 
 -- Where the work has grown by what the first entries weigh, and the target is the one after them, exactly they were performed.
