@@ -11,7 +11,7 @@ use Rattle.target_calls.specs.Weights.{commands_for, commands_of, delay_commands
 use Rattle.dap_transfer.specs.State.{Setting, TransferState}
 use Rattle.probe_core.specs.Bench.{BenchState, StepsTo}
 use Rattle.probe_core.specs.Bench.{Reported as BenchReported}
-use Rattle.probe_core.specs.Probe.{target_of}
+use Rattle.probe_core.specs.Probe.{ExecutorState, target_of}
 use Rattle.batch_packer.specs.Actions.{Acts, is_one}
 use Rattle.batch_packer.specs.Flying.{CanFly, transfers_of}
 use Rattle.batch_packer.specs.declared.ends.FlightEnd.{FlightEnd}
@@ -50,6 +50,7 @@ made_done x word m o flies h = record {
     work = (let w = h.acts.work in omega (arith, w, counts));
     retries = h.acts.retries;
     setting = h.setting;
+    idle_cycles = h.idle_cycles;
     number = numbers_made x (target_of m.probe) _ _ h.acts.number;
   };
   good = h.acts.passes;
@@ -65,7 +66,7 @@ delays_add p count rest few some = (last_delayed p count rest few some).target
 delays_next : (p : TransferState) (count : ℕ) → delayed (delayed p.line.target (65535 * count)) 65535 ≡ delayed p.line.target (65535 * (count + 1))
 delays_next p count = ap (λ (q : TransferState). q.line.target) (next_delayed p count)
 
-pub delay_begins : (x : Option BenchState) → StepsTo (λ m o. IsInRange (target_of m.probe) → HasDelayed 0 (transfers_of m) (transfers_of o)) x x
+pub delay_begins : (x : Option BenchState) → StepsTo (λ m o. IsInRange (target_of m.probe) → HasDelayed 0 m o) x x
 delay_begins None = tt
 delay_begins (Some m) = λ in_range. record {
   target = sym (ap (λ (q : TransferState). q.line.target) (none_delayed (transfers_of m) in_range));
@@ -75,11 +76,12 @@ delay_begins (Some m) = λ in_range. record {
   pending = refl;
   mask = refl;
   setting = refl;
+  idle_cycles = refl;
   in_range = in_range;
 }
 
-one_more : (count word : ℕ) (m k o : BenchState) → (IsInRange (target_of m.probe) → HasDelayed count (transfers_of m) (transfers_of k)) → (IsInRange (target_of k.probe) → HasMade (Commands (probe.Delay 65535)) word k o) →
-    IsInRange (target_of m.probe) → HasDelayed (count + 1) (transfers_of m) (transfers_of o)
+one_more : (count word : ℕ) (m k o : BenchState) → (IsInRange (target_of m.probe) → HasDelayed count m k) → (IsInRange (target_of k.probe) → HasMade (Commands (probe.Delay 65535)) word k o) →
+    IsInRange (target_of m.probe) → HasDelayed (count + 1) m o
 one_more count word m k o h d in_range =
     let a = h in_range in
     let made = d a.in_range in
@@ -92,11 +94,12 @@ one_more count word m k o h d in_range =
       pending = b.pending ∙ a.pending;
       mask = b.mask ∙ a.mask;
       setting = made.setting ∙ a.setting;
+      idle_cycles = made.idle_cycles ∙ a.idle_cycles;
       in_range = b.in_range a.in_range;
     }
 
-pub delay_next : (x y z : Option BenchState) (count word : ℕ) → StepsTo (λ m o. IsInRange (target_of m.probe) → HasDelayed count (transfers_of m) (transfers_of o)) x y →
-    StepsTo (λ m o. IsInRange (target_of m.probe) → HasMade (Commands (probe.Delay 65535)) word m o) y z → StepsTo (λ m o. IsInRange (target_of m.probe) → HasDelayed (count + 1) (transfers_of m) (transfers_of o)) x z
+pub delay_next : (x y z : Option BenchState) (count word : ℕ) → StepsTo (λ m o. IsInRange (target_of m.probe) → HasDelayed count m o) x y →
+    StepsTo (λ m o. IsInRange (target_of m.probe) → HasMade (Commands (probe.Delay 65535)) word m o) y z → StepsTo (λ m o. IsInRange (target_of m.probe) → HasDelayed (count + 1) m o) x z
 delay_next x y z count word h d = steps_join _ _ _ (one_more count word) x y z h d
 
 delay_weight : (count rest : ℕ) → rest ≤ 65535 → (0 < count → 0 < rest) → delay_commands (65535 * count + rest) ≡ count + 1
@@ -106,7 +109,7 @@ delay_weight (suc n) rest few some = (let s = some (omega arith) in omega (arith
 delay_one : (rest : ℕ) → rest ≤ 65535 → delay_commands rest ≡ 1
 delay_one rest few = omega (arith, few)
 
-whole_acts : (count rest : ℕ) (m k o : BenchState) → rest ≤ 65535 → (0 < count → 0 < rest) → HasDelayed count (transfers_of m) (transfers_of k) → Acts (Commands (probe.Delay rest)) (transfers_of k) (transfers_of o) →
+whole_acts : (count rest : ℕ) (m k o : BenchState) → rest ≤ 65535 → (0 < count → 0 < rest) → HasDelayed count m k → Acts (Commands (probe.Delay rest)) (transfers_of k) (transfers_of o) →
     IsInRange (target_of m.probe) → Acts (Commands (probe.Delay (65535 * count + rest))) (transfers_of m) (transfers_of o)
 whole_acts count rest m k o few some a b in_range = record {
   passes = refl;
@@ -123,74 +126,76 @@ whole_acts count rest m k o few some a b in_range = record {
   in_range = λ in_range. b.in_range a.in_range;
 }
 
-delay_whole : (count rest word : ℕ) → rest ≤ 65535 → (0 < count → 0 < rest) → (m k o : BenchState) → (IsInRange (target_of m.probe) → HasDelayed count (transfers_of m) (transfers_of k)) →
+delay_whole : (count rest word : ℕ) → rest ≤ 65535 → (0 < count → 0 < rest) → (m k o : BenchState) → (IsInRange (target_of m.probe) → HasDelayed count m k) →
     (IsInRange (target_of k.probe) → HasMade (Commands (probe.Delay rest)) word k o) → IsInRange (target_of m.probe) → HasMade (Commands (probe.Delay (65535 * count + rest))) word m o
 delay_whole count rest word few some m k o h d in_range =
     let a = h in_range in
     let b = d a.in_range in
-    record { acts = whole_acts count rest m k o few some a b.acts in_range; setting = b.setting ∙ a.setting; word_is = b.word_is }
+    record { acts = whole_acts count rest m k o few some a b.acts in_range; setting = b.setting ∙ a.setting; idle_cycles = b.idle_cycles ∙ a.idle_cycles; word_is = b.word_is }
 
-pub delay_made : (x y z : Option BenchState) (count rest word : ℕ) → rest ≤ 65535 → (0 < count → 0 < rest) → StepsTo (λ m o. IsInRange (target_of m.probe) → HasDelayed count (transfers_of m) (transfers_of o)) x y →
+pub delay_made : (x y z : Option BenchState) (count rest word : ℕ) → rest ≤ 65535 → (0 < count → 0 < rest) → StepsTo (λ m o. IsInRange (target_of m.probe) → HasDelayed count m o) x y →
     StepsTo (λ m o. IsInRange (target_of m.probe) → HasMade (Commands (probe.Delay rest)) word m o) y z → StepsTo (λ m o. IsInRange (target_of m.probe) → HasMade (Commands (probe.Delay (65535 * count + rest))) word m o) x z
 delay_made x y z count rest word few some h d = steps_join _ _ _ (delay_whole count rest word few some) x y z h d
 
 -- ---- a delay of which a bench call failed
 
-less_delayed : (count micros : ℕ) (m k o : BenchState) → 65535 * count < micros → HasDelayed count (transfers_of m) (transfers_of k) → transfers_of o ≡ transfers_of k → DidLess (Commands (probe.Delay micros)) m o
+less_delayed : (count micros : ℕ) (m k o : BenchState) → 65535 * count < micros → HasDelayed count m k → o.probe.executor ≡ k.probe.executor → DidLess (Commands (probe.Delay micros)) m o
 less_delayed count micros m k o less a same = record {
   work = count;
-  work_is = λ counts. (let w = a.work in let s = ap (λ (p : TransferState). p.work) same in omega (arith, w, s, counts, less));
+  work_is = λ counts. (let w = a.work in let s = ap (λ (e : ExecutorState). e.transfers.work) same in omega (arith, w, s, counts, less));
   less = omega (arith, less);
-  target = inr (count, less, record { same = ap (λ (t : TargetState). record t { rdbuff = 0 }) (ap (λ (p : TransferState). p.line.target) same ∙ a.target) });
+  idle_cycles = ap (λ (e : ExecutorState). e.idle) same ∙ a.idle_cycles;
+  target = inr (count, less, record { same = ap (λ (t : TargetState). record t { rdbuff = 0 }) (ap (λ (e : ExecutorState). e.transfers.line.target) same ∙ a.target) });
 }
 
-none_delayed_yet : (micros : ℕ) (m k o : BenchState) → HasDelayed 0 (transfers_of m) (transfers_of k) → transfers_of o ≡ transfers_of k → IsInRange (target_of m.probe) → DidLess (Commands (probe.Delay micros)) m o
+none_delayed_yet : (micros : ℕ) (m k o : BenchState) → HasDelayed 0 m k → o.probe.executor ≡ k.probe.executor → IsInRange (target_of m.probe) → DidLess (Commands (probe.Delay micros)) m o
 none_delayed_yet micros m k o a same in_range = record {
   work = 0;
-  work_is = λ counts. (let w = a.work in let s = ap (λ (p : TransferState). p.work) same in omega (arith, w, s, counts));
+  work_is = λ counts. (let w = a.work in let s = ap (λ (e : ExecutorState). e.transfers.work) same in omega (arith, w, s, counts));
   less = omega arith;
-  target = inl (record { same = ap (λ (t : TargetState). record t { rdbuff = 0 }) (ap (λ (p : TransferState). p.line.target) same ∙ a.target ∙ ap (λ (q : TransferState). q.line.target) (none_delayed (transfers_of m) in_range)) });
+  idle_cycles = ap (λ (e : ExecutorState). e.idle) same ∙ a.idle_cycles;
+  target = inl (refl, record { same = ap (λ (t : TargetState). record t { rdbuff = 0 }) (ap (λ (e : ExecutorState). e.transfers.line.target) same ∙ a.target ∙ ap (λ (q : TransferState). q.line.target) (none_delayed (transfers_of m) in_range)) });
 }
 
 -- the next of the parts, or the last, was made or not
 part_left : (count part micros : ℕ) (end : FlightEnd) → part ≤ 65535 → (0 < count → 0 < part) → (65535 * count + part ≡ micros) ⊎ ((part ≡ 65535) × (65535 * (count + 1) < micros)) → (m k o : BenchState) →
-    (IsInRange (target_of m.probe) → HasDelayed count (transfers_of m) (transfers_of k)) → (IsInRange (target_of k.probe) → MadeOrNot (Commands (probe.Delay part)) end k o) → CanFly m → LeftOff (Commands (probe.Delay micros)) end m o
+    (IsInRange (target_of m.probe) → HasDelayed count m k) → (IsInRange (target_of k.probe) → MadeOrNot (Commands (probe.Delay part)) end k o) → CanFly m → LeftOff (Commands (probe.Delay micros)) end m o
 part_left count part micros ends.BenchFault few some which m k o h d flies = by_what (d a.in_range) which
   where
-    a : HasDelayed count (transfers_of m) (transfers_of k)
+    a : HasDelayed count m k
     a = h flies.in_range
 
-    untouched : transfers_of o ≡ transfers_of k → (0 < count → 65535 * count < micros) → DidLess (Commands (probe.Delay micros)) m o
+    untouched : o.probe.executor ≡ k.probe.executor → (0 < count → 65535 * count < micros) → DidLess (Commands (probe.Delay micros)) m o
     untouched same less = by_count count refl
       where
         by_count : (n : ℕ) → count ≡ n → DidLess (Commands (probe.Delay micros)) m o
-        by_count zero none = none_delayed_yet micros m k o (subst (λ (c : ℕ). HasDelayed c (transfers_of m) (transfers_of k)) none a) same flies.in_range
+        by_count zero none = none_delayed_yet micros m k o (subst (λ (c : ℕ). HasDelayed c m k) none a) same flies.in_range
         by_count (suc n) is = less_delayed count micros m k o (less (omega (arith, is))) a same
 
-    by_what : WasMade (Commands (probe.Delay part)) k o ⊎ (transfers_of o ≡ transfers_of k) → (65535 * count + part ≡ micros) ⊎ ((part ≡ 65535) × (65535 * (count + 1) < micros)) → LeftOff (Commands (probe.Delay micros)) ends.BenchFault m o
+    by_what : WasMade (Commands (probe.Delay part)) k o ⊎ (o.probe.executor ≡ k.probe.executor) → (65535 * count + part ≡ micros) ⊎ ((part ≡ 65535) × (65535 * (count + 1) < micros)) → LeftOff (Commands (probe.Delay micros)) ends.BenchFault m o
     by_what (inl made) (inl last) =
-        inl (made_done (Commands (probe.Delay micros)) 0 m o flies (record { acts = subst (λ (n : ℕ). Acts (Commands (probe.Delay n)) (transfers_of m) (transfers_of o)) last (whole_acts count part m k o few some a made.acts flies.in_range); setting = made.setting ∙ a.setting; word_is = refl }))
+        inl (made_done (Commands (probe.Delay micros)) 0 m o flies (record { acts = subst (λ (n : ℕ). Acts (Commands (probe.Delay n)) (transfers_of m) (transfers_of o)) last (whole_acts count part m k o few some a made.acts flies.in_range); setting = made.setting ∙ a.setting; idle_cycles = made.idle_cycles ∙ a.idle_cycles; word_is = refl }))
     by_what (inl made) (inr (full, less)) =
         inr (less_delayed (count + 1) micros m o o less
-        (one_more count 0 m k o h (λ in_range. record { acts = subst (λ (n : ℕ). Acts (Commands (probe.Delay n)) (transfers_of k) (transfers_of o)) full made.acts; setting = made.setting; word_is = refl }) flies.in_range) refl)
+        (one_more count 0 m k o h (λ in_range. record { acts = subst (λ (n : ℕ). Acts (Commands (probe.Delay n)) (transfers_of k) (transfers_of o)) full made.acts; setting = made.setting; idle_cycles = made.idle_cycles; word_is = refl }) flies.in_range) refl)
     by_what (inr same) (inl last) = inr (untouched same (λ some_made. omega (arith, last, some some_made)))
     by_what (inr same) (inr (full, less)) = inr (untouched same (λ some_made. omega (arith, less)))
 part_left count part micros ends.ReplyBad few some which m k o h d flies = d (h flies.in_range).in_range
 part_left count part micros (ends.Cut cut) few some which m k o h d flies = absurd (d (h flies.in_range).in_range)
 
 pub delay_left : (x y z : Option BenchState) (count part micros : ℕ) (end : FlightEnd) → part ≤ 65535 → (0 < count → 0 < part) → (65535 * count + part ≡ micros) ⊎ ((part ≡ 65535) × (65535 * (count + 1) < micros)) →
-    StepsTo (λ m o. IsInRange (target_of m.probe) → HasDelayed count (transfers_of m) (transfers_of o)) x y → StepsTo (λ m o. IsInRange (target_of m.probe) → MadeOrNot (Commands (probe.Delay part)) end m o) y z →
+    StepsTo (λ m o. IsInRange (target_of m.probe) → HasDelayed count m o) x y → StepsTo (λ m o. IsInRange (target_of m.probe) → MadeOrNot (Commands (probe.Delay part)) end m o) y z →
     StepsTo (λ m o. CanFly m → LeftOff (Commands (probe.Delay micros)) end m o) x z
 delay_left x y z count part micros end few some which h d = steps_join _ _ _ (part_left count part micros end few some which) x y z h d
 
 -- the last of the parts, by what it answers
-pub delay_mades : (x y z : Option BenchState) (count rest micros : ℕ) (result : Result ℕ FlightEnd) → rest ≤ 65535 → (0 < count → 0 < rest) → 65535 * count + rest ≡ micros → StepsTo (λ m o. IsInRange (target_of m.probe) → HasDelayed count (transfers_of m) (transfers_of o)) x y →
+pub delay_mades : (x y z : Option BenchState) (count rest micros : ℕ) (result : Result ℕ FlightEnd) → rest ≤ 65535 → (0 < count → 0 < rest) → 65535 * count + rest ≡ micros → StepsTo (λ m o. IsInRange (target_of m.probe) → HasDelayed count m o) x y →
     IfOk result (λ word. StepsTo (λ m o. IsInRange (target_of m.probe) → HasMade (Commands (probe.Delay rest)) word m o) y z) → IfOk result (λ word. StepsTo (λ m o. IsInRange (target_of m.probe) → HasMade (Commands (probe.Delay micros)) word m o) x z)
 delay_mades x y z count rest micros (Err end) few some is h d = tt
 delay_mades x y z count rest micros (Ok word) few some is h d =
     subst (λ (n : ℕ). StepsTo (λ m o. IsInRange (target_of m.probe) → HasMade (Commands (probe.Delay n)) word m o) x z) is (delay_made x y z count rest word few some h d)
 
-pub delay_lefts : (x y z : Option BenchState) (count rest micros : ℕ) (result : Result ℕ FlightEnd) → rest ≤ 65535 → (0 < count → 0 < rest) → 65535 * count + rest ≡ micros → StepsTo (λ m o. IsInRange (target_of m.probe) → HasDelayed count (transfers_of m) (transfers_of o)) x y →
+pub delay_lefts : (x y z : Option BenchState) (count rest micros : ℕ) (result : Result ℕ FlightEnd) → rest ≤ 65535 → (0 < count → 0 < rest) → 65535 * count + rest ≡ micros → StepsTo (λ m o. IsInRange (target_of m.probe) → HasDelayed count m o) x y →
     IfErr result (λ end. StepsTo (λ m o. IsInRange (target_of m.probe) → MadeOrNot (Commands (probe.Delay rest)) end m o) y z) → IfErr result (λ end. StepsTo (λ m o. CanFly m → LeftOff (Commands (probe.Delay micros)) end m o) x z)
 delay_lefts x y z count rest micros (Ok word) few some is h d = tt
 delay_lefts x y z count rest micros (Err end) few some is h d = delay_left x y z count rest micros end few some (inl is) h d
@@ -214,6 +219,7 @@ cleared_done call word m o h d =
         work = (let w = d.acts.work in omega (arith, w, counts));
         retries = d.acts.retries;
         setting = d.setting;
+        idle_cycles = d.idle_cycles;
         number = numbers_made (Commands call) (target_of m.probe) _ _ d.acts.number;
       };
       good = d.acts.passes;
@@ -251,16 +257,17 @@ one_weighs (probe.Pins output select wait) one = refl
 one_weighs (probe.Clock hertz) one = refl
 one_weighs (probe.Line count bits) one = refl
 
-untouched_less : (call : ProbeCall) (m o : BenchState) → is_one call ≡ true → transfers_of o ≡ transfers_of m → DidLess (Commands call) m o
+untouched_less : (call : ProbeCall) (m o : BenchState) → is_one call ≡ true → o.probe.executor ≡ m.probe.executor → DidLess (Commands call) m o
 untouched_less call m o one same = record {
   work = 0;
-  work_is = λ counts. (let s = ap (λ (p : TransferState). p.work) same in omega (arith, s));
+  work_is = λ counts. (let s = ap (λ (e : ExecutorState). e.transfers.work) same in omega (arith, s));
   less = (let w = one_weighs call one in omega (arith, w));
-  target = inl (record { same = ap (λ (p : TransferState). record p.line.target { rdbuff = 0 }) same });
+  idle_cycles = ap (λ (e : ExecutorState). e.idle) same;
+  target = inl (refl, record { same = ap (λ (e : ExecutorState). record e.transfers.line.target { rdbuff = 0 }) same });
 }
 
 call_left : (call : ProbeCall) (end : FlightEnd) (m o : BenchState) → is_one call ≡ true → CanCommand call m → MadeOrNot (Commands call) end m o → LeftOff (Commands call) end m o
-call_left call ends.BenchFault m o one can (inl made) = inl (call_done call _ m o can (record { acts = made.acts; setting = made.setting; word_is = refl }))
+call_left call ends.BenchFault m o one can (inl made) = inl (call_done call _ m o can (record { acts = made.acts; setting = made.setting; idle_cycles = made.idle_cycles; word_is = refl }))
 call_left call ends.BenchFault m o one can (inr same) = inr (untouched_less call m o one same)
 call_left call ends.ReplyBad m o one can h = h
 call_left call (ends.Cut cut) m o one can h = absurd h

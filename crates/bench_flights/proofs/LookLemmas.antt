@@ -7,9 +7,9 @@ use Rattle.target_machine.specs.State.{TargetState}
 use Rattle.target_machine.specs.declared.access.Outcome.{Outcome}
 use Rattle.target_machine.specs.declared.access.Outcome.TheVariants.{Value, Done, Fault}
 use Rattle.target_calls.proofs.EntryLemmas.{weight_some}
-use Rattle.dap_transfer.specs.State.{Setting, TransferState}
+use Rattle.dap_transfer.specs.State.{Setting}
 use Rattle.probe_core.specs.Bench.{BenchState, StepsTo}
-use Rattle.probe_core.specs.Probe.{target_of}
+use Rattle.probe_core.specs.Probe.{ExecutorState, target_of}
 use Rattle.access_calls.specs.Standing.{setting_of}
 use Rattle.batch_packer.specs.Actions.{Acts}
 use Rattle.batch_packer.specs.Flying.{CanFly, transfers_of}
@@ -19,7 +19,7 @@ use Rattle.batch_packer.specs.declared.ends.FlightEnd.TheVariants as ends
 use Rattle.batch_packer.specs.declared.poll.Config.{Config}
 use Rattle.batch_packer.specs.declared.poll.PollAsk.{PollAsk}
 use Rattle.batch_packer.proofs.CallLemmas.{flies_after}
-use Rattle.bench_flights.specs.Flown.{CanMatch, DidLess, HasDone, LeftOff, matched_word}
+use Rattle.bench_flights.specs.Flown.{CanMatch, DidLess, HasDone, IsSetTo, LeftOff, matched_word}
 use Rattle.bench_flights.specs.Wires.{HasLooked, HasMade, MadeOrNot, WasMade}
 use Rattle.bench_flights.proofs.WireLemmas.{steps_join, steps_map}
 
@@ -169,6 +169,7 @@ looked_none mask requested m flies = record {
   retries = refl;
   number = omega arith;
   setting = refl;
+  idle_cycles = refl;
   flies = flies;
 }
 
@@ -181,6 +182,7 @@ looked_made mask requested n word m o flies h = record {
   retries = h.acts.retries;
   number = (let a = h.acts.number in omega (arith, a));
   setting = h.setting;
+  idle_cycles = h.idle_cycles;
   flies = flies_after (Polls mask requested n) m o flies h.acts;
 }
 
@@ -199,6 +201,7 @@ looked_more mask requested a b word m k o h l =
       retries = l.retries ∙ h.retries;
       number = (let w = h.number in let v = l.number in omega (arith, w, v, count, made));
       setting = l.setting ∙ h.setting;
+      idle_cycles = l.idle_cycles ∙ h.idle_cycles;
       flies = l.flies;
     }
 
@@ -213,6 +216,7 @@ looked_stops mask requested a b m o h =
       retries = h.retries;
       number = (let w = h.number in let count = ap (λ (p : Polled). p.reads) same in omega (arith, w, count));
       setting = h.setting;
+      idle_cycles = h.idle_cycles;
       flies = h.flies;
     }
 
@@ -224,6 +228,7 @@ looked_done mask requested turns word m o h = record {
     work = (let w = h.work in omega (arith, w, counts));
     retries = h.retries;
     setting = h.setting;
+    idle_cycles = h.idle_cycles;
     number = (let n = h.number in omega (arith, n));
   };
   good = h.good;
@@ -232,7 +237,7 @@ looked_done mask requested turns word m o h = record {
 }
 
 -- fewer reads than all were made
-pub looked_less : (mask requested turns made : ℕ) (m k o : BenchState) → made < turns → HasLooked mask requested made 0 m k → transfers_of o ≡ transfers_of k → DidLess (Polls mask requested turns) m o
+pub looked_less : (mask requested turns made : ℕ) (m k o : BenchState) → made < turns → HasLooked mask requested made 0 m k → o.probe.executor ≡ k.probe.executor → DidLess (Polls mask requested turns) m o
 looked_less mask requested turns made m k o less h same =
     let t : TargetState = target_of m.probe in
     let reads : (polled made mask requested t).reads ≡ made = unmet_reads made mask requested t (unmet_of mask requested made m k h) in
@@ -245,61 +250,62 @@ looked_less mask requested turns made m k o less h same =
     let fewer : made < (polled turns mask requested t).reads = omega (arith, count, some) in
     record {
       work = made;
-      work_is = λ counts. (let w = h.work in let s = ap (λ (p : TransferState). p.work) same in omega (arith, w, s, counts, reads, fewer));
+      work_is = λ counts. (let w = h.work in let s = ap (λ (e : ExecutorState). e.transfers.work) same in omega (arith, w, s, counts, reads, fewer));
       less = fewer;
-      target = inr (made, fewer, record { same = ap (λ (u : TargetState). record u { rdbuff = 0 }) (ap (λ (p : TransferState). p.line.target) same ∙ h.target) });
+      idle_cycles = ap (λ (e : ExecutorState). e.idle) same ∙ h.idle_cycles;
+      target = inr (made, fewer, record { same = ap (λ (u : TargetState). record u { rdbuff = 0 }) (ap (λ (e : ExecutorState). e.transfers.line.target) same ∙ h.target) });
     }
 
 -- ---- portions of a poll
 
-pub bank_kept : (retry mask requested n word : ℕ) (m o : BenchState) → HasLooked mask requested n word m o → CanMatch retry m → CanMatch retry o
-bank_kept retry mask requested n word m o h can = record {
+pub bank_kept : (idle retry mask requested n word : ℕ) (m o : BenchState) → HasLooked mask requested n word m o → CanMatch idle retry m → CanMatch idle retry o
+bank_kept idle retry mask requested n word m o h can = record {
   bank_zero = ap (λ (t : TargetState). bank t) h.target ∙ ap (λ (s : ℕ). bit_and s 0xF) (polled_select n mask requested (target_of m.probe)) ∙ can.bank_zero;
-  retry_is = ap (λ (s : Setting). s.retry) h.setting ∙ can.retry_is;
+  set = record { idle_is = h.idle_cycles ∙ can.set.idle_is; retry_is = ap (λ (s : Setting). s.retry) h.setting ∙ can.set.retry_is };
 }
 
-pub poll_begins : (x : Option BenchState) (retry mask requested : ℕ) → StepsTo (λ m o. CanFly m → CanMatch retry m → HasLooked mask requested 0 0 m o) x x
-poll_begins None retry mask requested = tt
-poll_begins (Some m) retry mask requested = λ flies can. looked_none mask requested m flies
+pub poll_begins : (x : Option BenchState) (idle retry mask requested : ℕ) → StepsTo (λ m o. CanFly m → CanMatch idle retry m → HasLooked mask requested 0 0 m o) x x
+poll_begins None idle retry mask requested = tt
+poll_begins (Some m) idle retry mask requested = λ flies can. looked_none mask requested m flies
 
-joined_portion : (retry mask requested a b word : ℕ) (m k o : BenchState) → (CanFly m → CanMatch retry m → HasLooked mask requested a 0 m k) → (CanFly k → CanMatch retry k → HasMade (Polls mask requested b) word k o) →
-    CanFly m → CanMatch retry m → HasLooked mask requested (a + b) word m o
-joined_portion retry mask requested a b word m k o h d flies can =
+joined_portion : (idle retry mask requested a b word : ℕ) (m k o : BenchState) → (CanFly m → CanMatch idle retry m → HasLooked mask requested a 0 m k) → (CanFly k → CanMatch idle retry k → HasMade (Polls mask requested b) word k o) →
+    CanFly m → CanMatch idle retry m → HasLooked mask requested (a + b) word m o
+joined_portion idle retry mask requested a b word m k o h d flies can =
     let l = h flies can in
-    looked_more mask requested a b word m k o l (looked_made mask requested b word k o l.flies (d l.flies (bank_kept retry mask requested a 0 m k l can)))
+    looked_more mask requested a b word m k o l (looked_made mask requested b word k o l.flies (d l.flies (bank_kept idle retry mask requested a 0 m k l can)))
 
-pub poll_next : (x y z : Option BenchState) (retry mask requested a b word : ℕ) → StepsTo (λ m o. CanFly m → CanMatch retry m → HasLooked mask requested a 0 m o) x y →
-    StepsTo (λ m o. CanFly m → CanMatch retry m → HasMade (Polls mask requested b) word m o) y z → StepsTo (λ m o. CanFly m → CanMatch retry m → HasLooked mask requested (a + b) word m o) x z
-poll_next x y z retry mask requested a b word h d = steps_join _ _ _ (joined_portion retry mask requested a b word) x y z h d
+pub poll_next : (x y z : Option BenchState) (idle retry mask requested a b word : ℕ) → StepsTo (λ m o. CanFly m → CanMatch idle retry m → HasLooked mask requested a 0 m o) x y →
+    StepsTo (λ m o. CanFly m → CanMatch idle retry m → HasMade (Polls mask requested b) word m o) y z → StepsTo (λ m o. CanFly m → CanMatch idle retry m → HasLooked mask requested (a + b) word m o) x z
+poll_next x y z idle retry mask requested a b word h d = steps_join _ _ _ (joined_portion idle retry mask requested a b word) x y z h d
 
 -- the register matched
-pub poll_matches : (x z : Option BenchState) (retry mask requested a b turns : ℕ) → a + b ≡ turns → StepsTo (λ m o. CanFly m → CanMatch retry m → HasLooked mask requested a 1 m o) x z →
-    StepsTo (λ m o. CanFly m → CanMatch retry m → HasDone (Polls mask requested turns) (matched_word true) m o) x z
-poll_matches x z retry mask requested a b turns sum h =
+pub poll_matches : (x z : Option BenchState) (idle retry mask requested a b turns : ℕ) → a + b ≡ turns → StepsTo (λ m o. CanFly m → CanMatch idle retry m → HasLooked mask requested a 1 m o) x z →
+    StepsTo (λ m o. CanFly m → CanMatch idle retry m → HasDone (Polls mask requested turns) (matched_word true) m o) x z
+poll_matches x z idle retry mask requested a b turns sum h =
     steps_map _ _ (λ m o f flies can. looked_done mask requested turns 1 m o (subst (λ (n : ℕ). HasLooked mask requested n 1 m o) sum (looked_stops mask requested a b m o (f flies can)))) x z h
 
 -- the turns are used up
-pub poll_used : (x z : Option BenchState) (retry mask requested made turns : ℕ) → made ≡ turns → StepsTo (λ m o. CanFly m → CanMatch retry m → HasLooked mask requested made 0 m o) x z →
-    StepsTo (λ m o. CanFly m → CanMatch retry m → HasDone (Polls mask requested turns) (matched_word false) m o) x z
-poll_used x z retry mask requested made turns all h =
+pub poll_used : (x z : Option BenchState) (idle retry mask requested made turns : ℕ) → made ≡ turns → StepsTo (λ m o. CanFly m → CanMatch idle retry m → HasLooked mask requested made 0 m o) x z →
+    StepsTo (λ m o. CanFly m → CanMatch idle retry m → HasDone (Polls mask requested turns) (matched_word false) m o) x z
+poll_used x z idle retry mask requested made turns all h =
     steps_map _ _ (λ m o f flies can. looked_done mask requested turns 0 m o (subst (λ (n : ℕ). HasLooked mask requested n 0 m o) all (f flies can))) x z h
 
 -- a bench call failed in a portion
-portion_left : (retry mask requested a b turns : ℕ) (end : FlightEnd) → 1 ≤ b → a + b ≤ turns → (m k o : BenchState) → (CanFly m → CanMatch retry m → HasLooked mask requested a 0 m k) →
-    (CanFly k → CanMatch retry k → MadeOrNot (Polls mask requested b) end k o) → CanFly m → CanMatch retry m → LeftOff (Polls mask requested turns) end m o
-portion_left retry mask requested a b turns ends.BenchFault some within m k o h d flies can = by_what (d l.flies (bank_kept retry mask requested a 0 m k l can))
+portion_left : (idle retry mask requested a b turns : ℕ) (end : FlightEnd) → 1 ≤ b → a + b ≤ turns → (m k o : BenchState) → (CanFly m → CanMatch idle retry m → HasLooked mask requested a 0 m k) →
+    (CanFly k → CanMatch idle retry k → MadeOrNot (Polls mask requested b) end k o) → CanFly m → CanMatch idle retry m → LeftOff (Polls mask requested turns) end m o
+portion_left idle retry mask requested a b turns ends.BenchFault some within m k o h d flies can = by_what (d l.flies (bank_kept idle retry mask requested a 0 m k l can))
   where
     l : HasLooked mask requested a 0 m k
     l = h flies can
 
     by_word : WasMade (Polls mask requested b) k o → (given (polled b mask requested (target_of k.probe)).outcome ≡ 0) ⊎ (given (polled b mask requested (target_of k.probe)).outcome ≡ 1) → LeftOff (Polls mask requested turns) ends.BenchFault m o
     by_word made (inr one) =
-        let n : HasLooked mask requested (a + b) 1 m o = looked_more mask requested a b 1 m k o l (looked_made mask requested b 1 k o l.flies (record { acts = made.acts; setting = made.setting; word_is = sym one })) in
+        let n : HasLooked mask requested (a + b) 1 m o = looked_more mask requested a b 1 m k o l (looked_made mask requested b 1 k o l.flies (record { acts = made.acts; setting = made.setting; idle_cycles = made.idle_cycles; word_is = sym one })) in
         let sum : (a + b) + (turns - (a + b)) ≡ turns = omega (arith, within) in
         let w : HasLooked mask requested turns 1 m o = subst (λ (c : ℕ). HasLooked mask requested c 1 m o) sum (looked_stops mask requested (a + b) (turns - (a + b)) m o n) in
         inl (looked_done mask requested turns (given (polled turns mask requested (target_of m.probe)).outcome) m o (subst (λ (c : ℕ). HasLooked mask requested turns c m o) w.word_is w))
     by_word made (inl none) =
-        let n : HasLooked mask requested (a + b) 0 m o = looked_more mask requested a b 0 m k o l (looked_made mask requested b 0 k o l.flies (record { acts = made.acts; setting = made.setting; word_is = sym none })) in
+        let n : HasLooked mask requested (a + b) 0 m o = looked_more mask requested a b 0 m k o l (looked_made mask requested b 0 k o l.flies (record { acts = made.acts; setting = made.setting; idle_cycles = made.idle_cycles; word_is = sym none })) in
         by_rest n (turns - (a + b)) refl
       where
         by_rest : HasLooked mask requested (a + b) 0 m o → (rest : ℕ) → turns - (a + b) ≡ rest → LeftOff (Polls mask requested turns) ends.BenchFault m o
@@ -309,15 +315,15 @@ portion_left retry mask requested a b turns ends.BenchFault some within m k o h 
             inl (looked_done mask requested turns (given (polled turns mask requested (target_of m.probe)).outcome) m o (subst (λ (c : ℕ). HasLooked mask requested turns c m o) w.word_is w))
         by_rest n (suc rest) is = inr (looked_less mask requested turns (a + b) m o o (omega (arith, is)) n refl)
 
-    by_what : WasMade (Polls mask requested b) k o ⊎ (transfers_of o ≡ transfers_of k) → LeftOff (Polls mask requested turns) ends.BenchFault m o
+    by_what : WasMade (Polls mask requested b) k o ⊎ (o.probe.executor ≡ k.probe.executor) → LeftOff (Polls mask requested turns) ends.BenchFault m o
     by_what (inl made) = by_word made (polled_word b mask requested (target_of k.probe))
     by_what (inr same) = inr (looked_less mask requested turns a m k o (omega (arith, some, within)) l same)
-portion_left retry mask requested a b turns ends.ReplyBad some within m k o h d flies can = let l = h flies can in d l.flies (bank_kept retry mask requested a 0 m k l can)
-portion_left retry mask requested a b turns (ends.Cut cut) some within m k o h d flies can = absurd (let l = h flies can in d l.flies (bank_kept retry mask requested a 0 m k l can))
+portion_left idle retry mask requested a b turns ends.ReplyBad some within m k o h d flies can = let l = h flies can in d l.flies (bank_kept idle retry mask requested a 0 m k l can)
+portion_left idle retry mask requested a b turns (ends.Cut cut) some within m k o h d flies can = absurd (let l = h flies can in d l.flies (bank_kept idle retry mask requested a 0 m k l can))
 
-pub poll_left : (x y z : Option BenchState) (retry mask requested a b turns : ℕ) (end : FlightEnd) → 1 ≤ b → a + b ≤ turns → StepsTo (λ m o. CanFly m → CanMatch retry m → HasLooked mask requested a 0 m o) x y →
-    StepsTo (λ m o. CanFly m → CanMatch retry m → MadeOrNot (Polls mask requested b) end m o) y z → StepsTo (λ m o. CanFly m → CanMatch retry m → LeftOff (Polls mask requested turns) end m o) x z
-poll_left x y z retry mask requested a b turns end some within h d = steps_join _ _ _ (portion_left retry mask requested a b turns end some within) x y z h d
+pub poll_left : (x y z : Option BenchState) (idle retry mask requested a b turns : ℕ) (end : FlightEnd) → 1 ≤ b → a + b ≤ turns → StepsTo (λ m o. CanFly m → CanMatch idle retry m → HasLooked mask requested a 0 m o) x y →
+    StepsTo (λ m o. CanFly m → CanMatch idle retry m → MadeOrNot (Polls mask requested b) end m o) y z → StepsTo (λ m o. CanFly m → CanMatch idle retry m → LeftOff (Polls mask requested turns) end m o) x z
+poll_left x y z idle retry mask requested a b turns end some within h d = steps_join _ _ _ (portion_left idle retry mask requested a b turns end some within) x y z h d
 
 -- ---- one portion, as the layer below says it
 
@@ -328,33 +334,37 @@ word_matched n matched (inr one) is = ap matched_word (is ∙ ap (λ (k : ℕ). 
 setting_same : (a b : Setting) → a.stalls ≡ b.stalls → a.retry ≡ b.retry → a.matches ≡ b.matches → a ≡ b
 setting_same a b stalls retry matches = λ i. record { stalls = stalls i; retry = retry i; matches = matches i }
 
--- the retry number is the one that the probe had
-was_polled : (retry : ℕ) (x : Action) (m o : BenchState) → CanMatch retry m → Acts x (transfers_of m) (transfers_of o) → (setting_of o).retry ≡ retry → WasMade x m o
-was_polled retry x m o can acts set = record { acts = acts; setting = setting_same (setting_of o) (setting_of m) acts.stalls (set ∙ sym can.retry_is) acts.matches }
+-- the idle cycles and the retry number are those that the probe had
+was_polled : (idle retry : ℕ) (x : Action) (m o : BenchState) → CanMatch idle retry m → Acts x (transfers_of m) (transfers_of o) → IsSetTo idle retry o → WasMade x m o
+was_polled idle retry x m o can acts set = record {
+  acts = acts;
+  setting = setting_same (setting_of o) (setting_of m) acts.stalls (set.retry_is ∙ sym can.set.retry_is) acts.matches;
+  idle_cycles = set.idle_is ∙ sym can.set.idle_is;
+}
 
 pub portion_made : (x y : Option BenchState) (config : Config) (ask : PollAsk) (result : Result Bool FlightEnd) →
     StepsTo (λ m o. CanFly m → bank (target_of m.probe) ≡ 0 → PolledBy config ask result m o) x y →
-    IfOk result (λ matched. StepsTo (λ m o. CanFly m → CanMatch config.retry m → HasMade (Polls ask.mask ask.value ask.turns) (matched_word matched) m o) x y)
+    IfOk result (λ matched. StepsTo (λ m o. CanFly m → CanMatch config.idle config.retry m → HasMade (Polls ask.mask ask.value ask.turns) (matched_word matched) m o) x y)
 portion_made x y config ask (Err end) h = tt
 portion_made x y config ask (Ok matched) h =
-    steps_map _ _ (λ m o f flies can. let p = f flies can.bank_zero in let made = was_polled config.retry _ m o can p.acted.acts p.retry in
-    record { acts = made.acts; setting = made.setting; word_is = word_matched (given (polled ask.turns ask.mask ask.value (target_of m.probe)).outcome) matched (polled_word ask.turns ask.mask ask.value (target_of m.probe)) p.matched_is }) x y h
+    steps_map _ _ (λ m o f flies can. let p = f flies can.bank_zero in let made = was_polled config.idle config.retry _ m o can p.acted.acts (record { idle_is = p.idle_cycles; retry_is = p.retry }) in
+    record { acts = made.acts; setting = made.setting; idle_cycles = made.idle_cycles; word_is = word_matched (given (polled ask.turns ask.mask ask.value (target_of m.probe)).outcome) matched (polled_word ask.turns ask.mask ask.value (target_of m.probe)) p.matched_is }) x y h
 
-left_portion : (config : Config) (ask : PollAsk) (end : FlightEnd) (m o : BenchState) → CanMatch config.retry m → PolledBy config ask (Err end) m o → MadeOrNot (Polls ask.mask ask.value ask.turns) end m o
+left_portion : (config : Config) (ask : PollAsk) (end : FlightEnd) (m o : BenchState) → CanMatch config.idle config.retry m → PolledBy config ask (Err end) m o → MadeOrNot (Polls ask.mask ask.value ask.turns) end m o
 left_portion config ask ends.BenchFault m o can (inl same) = inr same
-left_portion config ask ends.BenchFault m o can (inr polled) = inl (was_polled config.retry _ m o can polled.0 polled.1)
+left_portion config ask ends.BenchFault m o can (inr polled) = inl (was_polled config.idle config.retry _ m o can polled.acts (record { idle_is = polled.idle_cycles; retry_is = polled.retry }))
 left_portion config ask ends.ReplyBad m o can h = h
 left_portion config ask (ends.Cut cut) m o can h = absurd h
 
 pub portion_lefts : (x y : Option BenchState) (config : Config) (ask : PollAsk) (result : Result Bool FlightEnd) →
     StepsTo (λ m o. CanFly m → bank (target_of m.probe) ≡ 0 → PolledBy config ask result m o) x y →
-    IfErr result (λ end. StepsTo (λ m o. CanFly m → CanMatch config.retry m → MadeOrNot (Polls ask.mask ask.value ask.turns) end m o) x y)
+    IfErr result (λ end. StepsTo (λ m o. CanFly m → CanMatch config.idle config.retry m → MadeOrNot (Polls ask.mask ask.value ask.turns) end m o) x y)
 portion_lefts x y config ask (Ok matched) h = tt
 portion_lefts x y config ask (Err end) h = steps_map _ _ (λ m o f flies can. left_portion config ask end m o can (f flies can.bank_zero)) x y h
 
 -- what a portion answers, by its case
-pub word_for : (x y : Option BenchState) (retry mask requested turns : ℕ) (matched is : Bool) → matched ≡ is →
-    StepsTo (λ m o. CanFly m → CanMatch retry m → HasMade (Polls mask requested turns) (matched_word matched) m o) x y →
-    StepsTo (λ m o. CanFly m → CanMatch retry m → HasMade (Polls mask requested turns) (matched_word is) m o) x y
-word_for x y retry mask requested turns matched is same h =
-    subst (λ (b : Bool). StepsTo (λ m o. CanFly m → CanMatch retry m → HasMade (Polls mask requested turns) (matched_word b) m o) x y) same h
+pub word_for : (x y : Option BenchState) (idle retry mask requested turns : ℕ) (matched is : Bool) → matched ≡ is →
+    StepsTo (λ m o. CanFly m → CanMatch idle retry m → HasMade (Polls mask requested turns) (matched_word matched) m o) x y →
+    StepsTo (λ m o. CanFly m → CanMatch idle retry m → HasMade (Polls mask requested turns) (matched_word is) m o) x y
+word_for x y idle retry mask requested turns matched is same h =
+    subst (λ (b : Bool). StepsTo (λ m o. CanFly m → CanMatch idle retry m → HasMade (Polls mask requested turns) (matched_word b) m o) x y) same h

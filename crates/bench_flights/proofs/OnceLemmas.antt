@@ -22,12 +22,13 @@ use Rattle.flight_forms.specs.declared.form.Form.TheVariants.{Transfer}
 use Rattle.flight_forms.proofs.Capacity.{one_fits}
 use Rattle.flight_forms.proofs.Rows.{dpidr_stays}
 use Rattle.probe_core.specs.Bench.{BenchState, StepsTo}
-use Rattle.probe_core.specs.Probe.{target_of, work_of}
+use Rattle.probe_core.specs.Probe.{ExecutorState, target_of, work_of}
+use Rattle.access_calls.specs.Standing.{idle_cycles_of}
 use Rattle.probe_core.specs.Ranges.{AreLimits}
 use Rattle.probe_core.specs.declared.job.Limits.{Limits}
 use Rattle.batch_packer.specs.FlightEnds.{EndsBy, Flew, FlewCut, cut_part, flight_reading, whole_part}
 use Rattle.batch_packer.specs.FlightStates.{ReadBy, SentBy, sent_form}
-use Rattle.batch_packer.specs.Flying.{CanFly, HasFlown, MayHaveFlown, ReadsOnce, transfers_of}
+use Rattle.batch_packer.specs.Flying.{CanFly, HasFlown, MayHaveFlown, NoneOrPart, ReadsOnce, transfers_of}
 use Rattle.batch_packer.specs.SlotList.{slot_at}
 use Rattle.batch_packer.specs.declared.ends.Cut.{Cut}
 use Rattle.batch_packer.specs.declared.ends.FlightEnd.{FlightEnd}
@@ -55,7 +56,7 @@ read_gives t clear =
     by_stuck true e = absurd (cc)
     by_stuck false e = either_value (bank t == 0) (ctrl_stat t) 0 (record t { reads = min (t.reads + 1) (2 ^ 32 - 1) }) t
 
-module _ (m o : BenchState) (part : Part) (flies : CanFly m) (does : DoesPart (transfers_of m) (transfers_of o) look part) (once : ReadsOnce part (transfers_of m) (transfers_of o)) where
+module _ (m o : BenchState) (part : Part) (flies : CanFly m) (does : DoesPart (transfers_of m) (transfers_of o) look part) (once : ReadsOnce part (transfers_of m) (transfers_of o)) (idle : idle_cycles_of o ≡ idle_cycles_of m) where
   -- a read that was good
   all_made : part.response ≡ Good → (part.confirmed ≡ 1) × (part.performed ≡ 1)
   all_made good = (does.made.whole good, (let w = does.made.whole good in let n = does.made.near in let p = does.made.most in omega (arith, w, n, p)))
@@ -73,6 +74,7 @@ module _ (m o : BenchState) (part : Part) (flies : CanFly m) (does : DoesPart (t
         retries = does.retries ∙ ap (λ (r : Response). cond (is_wait r) (min ((transfers_of m).ended_retries + 1) (2 ^ 32 - 1)) (transfers_of m).ended_retries) good;
         number = (let n = does.number in let w : one_if (is_wait part.response) ≡ 0 = ap (λ (r : Response). one_if (is_wait r)) good in let p = (all_made good).1 in omega (arith, n, w, p));
         setting = does.setting;
+        idle_cycles = idle;
         flies = record {
           guard = record {
             mask = once.mask ∙ flies.guard.mask;
@@ -94,6 +96,7 @@ module _ (m o : BenchState) (part : Part) (flies : CanFly m) (does : DoesPart (t
       record {
         target = does.made.target ∙ ap (λ (n : ℕ). one_at_a_time (target_of m.probe) (take n look)) none;
         work = does.work ∙ ap (grown (work_of m.probe)) none;
+        idle_cycles = idle;
       }
 
   waited : part.response ≡ Wait → HasWaited m o
@@ -132,18 +135,21 @@ came_once : (values : List (Option ℕ)) (value : ℕ) (m o : BenchState) → va
 came_once values value m o is flies h =
     let one : values ≡ Some (value_now (target_of m.probe) (dp_read_of 0x4)) ∷ [] = h.does.values in
     let same : value ≡ value_now (target_of m.probe) (dp_read_of 0x4) = is ∙ ap (λ (v : List (Option ℕ)). unwrap_or (slot_at v 0) 0) one in
-    subst (λ (v : ℕ). HasRead v m o) (sym same) (has_read m o (whole_part look values) flies h.does (h.once refl refl) refl)
+    subst (λ (v : ℕ). HasRead v m o) (sym same) (has_read m o (whole_part look values) flies h.does (h.once refl refl) (ap (λ (e : ExecutorState). e.idle) h.executor) refl)
 
 cut_once : (cut : Cut) (values : List (Option ℕ)) (m o : BenchState) (r : Option Response) → response_of cut.response ≡ r → CanFly m → FlewCut Transfer look cut values r m o → (cut.response ≡ 0x02) × HasWaited m o
 cut_once cut values m o None named flies h = absurd h
 cut_once cut values m o (Some Good) named flies h = absurd (h.0 refl)
 cut_once cut values m o (Some Mismatch) named flies h = absurd (h.1.does.made.never refl)
-cut_once cut values m o (Some Wait) named flies h = (response_is cut.response Wait named, waited m o (cut_part cut Wait values) flies h.1.does (h.1.once refl refl) refl)
-cut_once cut values m o (Some Fault) named flies h = absurd (never_faults m o (cut_part cut Fault values) flies h.1.does (h.1.once refl refl) refl)
+cut_once cut values m o (Some Wait) named flies h = (response_is cut.response Wait named, waited m o (cut_part cut Wait values) flies h.1.does (h.1.once refl refl) (ap (λ (e : ExecutorState). e.idle) h.1.executor) refl)
+cut_once cut values m o (Some Fault) named flies h = absurd (never_faults m o (cut_part cut Fault values) flies h.1.does (h.1.once refl refl) (ap (λ (e : ExecutorState). e.idle) h.1.executor) refl)
 
 failed_once : (m o : BenchState) → CanFly m → MayHaveFlown Transfer look m o → ((value : ℕ) × HasRead value m o) ⊎ IsUnread m o
-failed_once m o flies (inl same) = inr (record { target = ap (λ (p : TransferState). p.line.target) same; work = (let w = ap (λ (p : TransferState). p.work) same in omega (arith, w)) })
-failed_once m o flies (inr (part, does, once)) = by_response m o part flies does (once refl refl) part.response refl
+failed_once m o flies may = by_either may.either
+  where
+    by_either : NoneOrPart Transfer look m o → ((value : ℕ) × HasRead value m o) ⊎ IsUnread m o
+    by_either (inl same) = inr (record { target = ap (λ (p : TransferState). p.line.target) same; work = (let w = ap (λ (p : TransferState). p.work) same in omega (arith, w)); idle_cycles = may.idle_cycles })
+    by_either (inr (part, does, once)) = by_response m o part flies does (once refl refl) may.idle_cycles part.response refl
 
 left_once : (end : FlightEnd) (values : List (Option ℕ)) (m o : BenchState) → CanFly m → Flew Transfer look (Some end) values m o → ReadOrNot end m o
 left_once (ends.Cut cut) values m o flies h = cut_once cut values m o (response_of cut.response) refl flies h

@@ -13,7 +13,7 @@ use Rattle.access_regs.specs.Costs.{command_cost}
 use Rattle.flight_forms.specs.declared.form.Form.{Form}
 use Rattle.batch_packer.specs.Commands.{DoneBy}
 use Rattle.batch_packer.specs.FlightStates.{SentBy, sent_form}
-use Rattle.batch_packer.specs.Flying.{CanFly, transfers_of}
+use Rattle.batch_packer.specs.Flying.{CanFly}
 use Rattle.batch_packer.specs.Polling.{PolledBy}
 use Rattle.batch_packer.specs.declared.ends.FlightEnd.{FlightEnd}
 use Rattle.batch_packer.specs.declared.poll.Config.{Config}
@@ -60,12 +60,12 @@ single_few x y c (Ok word) h = steps_map _ _ (λ m o f in_range. done_few c word
 
 -- ---- a delay
 
-pub delay_few : (x y z : Option BenchState) (count : ℕ) → StepsTo (λ m o. IsInRange (target_of m.probe) → HasDelayed count (transfers_of m) (transfers_of o)) x y → StepsTo (λ m o. IsInRange (target_of m.probe) → SendsFew count m o) x y →
+pub delay_few : (x y z : Option BenchState) (count : ℕ) → StepsTo (λ m o. IsInRange (target_of m.probe) → HasDelayed count m o) x y → StepsTo (λ m o. IsInRange (target_of m.probe) → SendsFew count m o) x y →
     StepsTo (λ m o. IsInRange (target_of m.probe) → SendsFew 1 m o) y z → StepsTo (λ m o. IsInRange (target_of m.probe) → SendsFew (count + 1) m o) x z
 delay_few x y z count h s d =
-    few_then (λ m. IsInRange (target_of m.probe)) (λ m o. IsInRange (target_of m.probe) → HasDelayed count (transfers_of m) (transfers_of o)) (λ m k f in_range. (f in_range).in_range) x y z count 1 h s d
+    few_then (λ m. IsInRange (target_of m.probe)) (λ m o. IsInRange (target_of m.probe) → HasDelayed count m o) (λ m k f in_range. (f in_range).in_range) x y z count 1 h s d
 
-pub delays_few : (x y z : Option BenchState) (count rest micros : ℕ) (result : Result ℕ FlightEnd) → rest ≤ 65535 → 65535 * count + rest ≡ micros → StepsTo (λ m o. IsInRange (target_of m.probe) → HasDelayed count (transfers_of m) (transfers_of o)) x y →
+pub delays_few : (x y z : Option BenchState) (count rest micros : ℕ) (result : Result ℕ FlightEnd) → rest ≤ 65535 → 65535 * count + rest ≡ micros → StepsTo (λ m o. IsInRange (target_of m.probe) → HasDelayed count m o) x y →
     StepsTo (λ m o. IsInRange (target_of m.probe) → SendsFew count m o) x y → OnOk result (StepsTo (λ m o. IsInRange (target_of m.probe) → SendsFew 1 m o) y z) → OnOk result (StepsTo (λ m o. IsInRange (target_of m.probe) → SendsFew (1 + micros / 65535) m o) x z)
 delays_few x y z count rest micros (Err end) few is h s d = tt
 delays_few x y z count rest micros (Ok word) few is h s d =
@@ -99,27 +99,27 @@ polled_one : (config : Config) (ask : PollAsk) (matched : Bool) (m o : BenchStat
 polled_one config ask matched m o h = let s = h.acted.starting in record { few = omega (arith, s); counts = λ few. omega (arith, s) }
 
 pub portion_few : (x y : Option BenchState) (config : Config) (ask : PollAsk) (result : Result Bool FlightEnd) → StepsTo (λ m o. CanFly m → bank (target_of m.probe) ≡ 0 → PolledBy config ask result m o) x y →
-    OnOk result (StepsTo (λ m o. CanFly m → CanMatch config.retry m → SendsFew 1 m o) x y)
+    OnOk result (StepsTo (λ m o. CanFly m → CanMatch config.idle config.retry m → SendsFew 1 m o) x y)
 portion_few x y config ask (Err end) h = tt
 portion_few x y config ask (Ok matched) h = steps_map _ _ (λ m o f flies can. polled_one config ask matched m o (f flies can.bank_zero)) x y h
 
-abbrev CanPoll : ℕ → BenchState → Type 0
-CanPoll retry m = CanFly m × CanMatch retry m
+abbrev CanPoll : ℕ → ℕ → BenchState → Type 0
+CanPoll idle retry m = CanFly m × CanMatch idle retry m
 
-pub portions_next : (x y z : Option BenchState) (retry mask requested made count : ℕ) → StepsTo (λ m o. CanFly m → CanMatch retry m → HasLooked mask requested made 0 m o) x y →
-    StepsTo (λ m o. CanFly m → CanMatch retry m → SendsFew count m o) x y → StepsTo (λ m o. CanFly m → CanMatch retry m → SendsFew 1 m o) y z → StepsTo (λ m o. CanFly m → CanMatch retry m → SendsFew (count + 1) m o) x z
-portions_next x y z retry mask requested made count h s d =
+pub portions_next : (x y z : Option BenchState) (idle retry mask requested made count : ℕ) → StepsTo (λ m o. CanFly m → CanMatch idle retry m → HasLooked mask requested made 0 m o) x y →
+    StepsTo (λ m o. CanFly m → CanMatch idle retry m → SendsFew count m o) x y → StepsTo (λ m o. CanFly m → CanMatch idle retry m → SendsFew 1 m o) y z → StepsTo (λ m o. CanFly m → CanMatch idle retry m → SendsFew (count + 1) m o) x z
+portions_next x y z idle retry mask requested made count h s d =
     steps_map _ _ (λ m o f flies can. f (flies, can)) x z
-    (few_then (λ m. CanPoll retry m) (λ m o. CanFly m → CanMatch retry m → HasLooked mask requested made 0 m o)
-    (λ m k f p. let l = f p.0 p.1 in (l.flies, bank_kept retry mask requested made 0 m k l p.1)) x y z count 1 h
+    (few_then (λ m. CanPoll idle retry m) (λ m o. CanFly m → CanMatch idle retry m → HasLooked mask requested made 0 m o)
+    (λ m k f p. let l = f p.0 p.1 in (l.flies, bank_kept idle retry mask requested made 0 m k l p.1)) x y z count 1 h
     (steps_map _ _ (λ m o f p. f p.0 p.1) x y s) (steps_map _ _ (λ m o f p. f p.0 p.1) y z d))
 
-pub portions_begin : (retry : ℕ) (x : Option BenchState) → StepsTo (λ m o. CanFly m → CanMatch retry m → SendsFew 0 m o) x x
-portions_begin retry None = tt
-portions_begin retry (Some m) = λ flies can. none_sent m
+pub portions_begin : (idle retry : ℕ) (x : Option BenchState) → StepsTo (λ m o. CanFly m → CanMatch idle retry m → SendsFew 0 m o) x x
+portions_begin idle retry None = tt
+portions_begin idle retry (Some m) = λ flies can. none_sent m
 
-pub portions_most : (retry : ℕ) (x y : Option BenchState) (a b : ℕ) → a ≤ b → StepsTo (λ m o. CanFly m → CanMatch retry m → SendsFew a m o) x y → StepsTo (λ m o. CanFly m → CanMatch retry m → SendsFew b m o) x y
-portions_most retry x y a b le h = steps_map _ _ (λ m o f flies can. few_most a b m o le (f flies can)) x y h
+pub portions_most : (idle retry : ℕ) (x y : Option BenchState) (a b : ℕ) → a ≤ b → StepsTo (λ m o. CanFly m → CanMatch idle retry m → SendsFew a m o) x y → StepsTo (λ m o. CanFly m → CanMatch idle retry m → SendsFew b m o) x y
+portions_most idle retry x y a b le h = steps_map _ _ (λ m o f flies can. few_most a b m o le (f flies can)) x y h
 
 -- ---- reads
 

@@ -12,11 +12,12 @@ use Rattle.flight_forms.proofs.Capacity.{one_fits}
 use Rattle.flight_forms.specs.Packing.{AreWords, IsTaken}
 use Rattle.flight_forms.specs.declared.form.Form.{Form}
 use Rattle.probe_core.specs.Bench.{BenchState, StepsTo, counted}
+use Rattle.probe_core.specs.Probe.{ExecutorState}
 use Rattle.probe_core.specs.Ranges.{AreLimits}
 use Rattle.probe_core.specs.declared.job.Limits.{Limits}
 use Rattle.batch_packer.specs.FlightEnds.{FlewCut, cut_part, whole_part}
 use Rattle.batch_packer.specs.FlightStates.{SentBy, has_room, sent_form}
-use Rattle.batch_packer.specs.Flying.{CanFly, transfers_of}
+use Rattle.batch_packer.specs.Flying.{CanFly, NoneOrPart, transfers_of}
 use Rattle.batch_packer.specs.Flying.{MayHaveFlown as FlewSome}
 use Rattle.batch_packer.specs.declared.ends.Cut.{Cut}
 use Rattle.batch_packer.specs.declared.ends.FlightEnd.{FlightEnd}
@@ -59,7 +60,7 @@ came_by None accesses values m o empty sent flies =
     let none : accesses ≡ [] = empty refl in
     let start : HasCome [] [] m m = record {
       part = whole_part [] [];
-      flies = nothing_flies (transfers_of m) flies.guard.clear;
+      flies = record { does = nothing_flies (transfers_of m) flies.guard.clear; idle_cycles = refl };
       good = refl;
       values_are = refl;
       next = flies;
@@ -69,7 +70,7 @@ came_by None accesses values m o empty sent flies =
     (subst (λ (l : List RegAccess). HasCome l values m m) (sym none) (subst (λ (v : List (Option ℕ)). HasCome [] v m m) (sym sent.2) start))
 came_by (Some form) accesses values m o empty sent flies = record {
   part = whole_part accesses values;
-  flies = sent.does;
+  flies = record { does = sent.does; idle_cycles = ap (λ (e : ExecutorState). e.idle) sent.executor };
   good = refl;
   values_are = refl;
   next = flies_again form accesses values m o flies sent;
@@ -93,7 +94,7 @@ cut_by : (form : Form) (accesses : List RegAccess) (cut : Cut) (values : List (O
 cut_by form accesses cut values m o None named h = absurd h
 cut_by form accesses cut values m o (Some response) named h = record {
   part = cut_part cut response values;
-  flies = h.1.does;
+  flies = record { does = h.1.does; idle_cycles = ap (λ (e : ExecutorState). e.idle) h.1.executor };
   performed = refl;
   confirmed = refl;
   wait = λ two. (let k : response_of cut.response ≡ Some Wait = ap response_of two in cc (k, named));
@@ -107,8 +108,11 @@ cut_by form accesses cut values m o (Some response) named h = record {
     by_response Mismatch named bad never other = absurd (never refl)
 
 failed_by : (form : Form) (accesses : List RegAccess) (m o : BenchState) → FlewSome form accesses m o → MayHaveFlown accesses m o
-failed_by form accesses m o (inl same) = record { part = whole_part accesses []; either = inl same; never = λ never. cc }
-failed_by form accesses m o (inr (part, does, once)) = record { part = part; either = inr does; never = does.made.never }
+failed_by form accesses m o may = by_either may.either
+  where
+    by_either : NoneOrPart form accesses m o → MayHaveFlown accesses m o
+    by_either (inl same) = record { part = whole_part accesses []; either = inl same; idle_cycles = may.idle_cycles; never = λ never. cc }
+    by_either (inr (part, does, once)) = record { part = part; either = inr does; idle_cycles = may.idle_cycles; never = does.made.never }
 
 broke_by : (form : Option Form) (accesses : List RegAccess) (end : FlightEnd) (values : List (Option ℕ)) (m o : BenchState) → SentBy form accesses (Some end) values m o → BrokeOff end accesses m o
 broke_by None accesses end values m o h = absurd (let k = h.1 in cc)

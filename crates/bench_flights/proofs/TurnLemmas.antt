@@ -40,6 +40,7 @@ read_looked mask requested value m o true h is =
       retries = h.retries;
       number = (let n = h.number in let r = ap (λ (p : Polled). p.reads) all in omega (arith, n, r));
       setting = h.setting;
+      idle_cycles = h.idle_cycles;
       flies = h.flies;
     }
 read_looked mask requested value m o false h is =
@@ -52,6 +53,7 @@ read_looked mask requested value m o false h is =
       retries = h.retries;
       number = (let n = h.number in let r = ap (λ (p : Polled). p.reads) all in omega (arith, n, r));
       setting = h.setting;
+      idle_cycles = h.idle_cycles;
       flies = h.flies;
     }
 
@@ -164,6 +166,7 @@ unread_less mask requested a turns m k o less h u =
       work = a;
       work_is = λ counts. (let w = h.work in let v = u.work in omega (arith, w, v, counts, reads, fewer));
       less = fewer;
+      idle_cycles = u.idle_cycles ∙ h.idle_cycles;
       target = inr (a, fewer, record { same = ap (λ (t : TargetState). record t { rdbuff = 0 }) (u.target ∙ h.target) });
     }
 
@@ -183,6 +186,7 @@ waited_there mask requested a turns m k o less h w =
       target = record { same = ap (λ (t : TargetState). record t { rdbuff = 0 }) same };
       retries = λ few. (let r = h.retries in let s = w.retries (omega (arith, r, few)) in omega (arith, r, s));
       over = subst (λ (s : Setting). IsOver s (number_of o)) h.setting w.over;
+      idle_cycles = w.unread.idle_cycles ∙ h.idle_cycles;
       number = (let n = h.number in let l = w.number in omega (arith, n, l, reads));
       pending = w.pending;
     }
@@ -201,7 +205,7 @@ read_there mask requested a turns value m k o false less h r is =
         let all : a + 1 ≡ turns = omega (arith, same, less) in
         let w : HasLooked mask requested turns 0 m o = subst (λ (c : ℕ). HasLooked mask requested c 0 m o) all n in
         inl (looked_done mask requested turns (given (polled turns mask requested (target_of m.probe)).outcome) m o (subst (λ (c : ℕ). HasLooked mask requested turns c m o) w.word_is w))
-    by_rest n (suc rest) same = inr (unread_less mask requested (a + 1) turns m o o (omega (arith, same)) n (record { target = refl; work = omega arith }))
+    by_rest n (suc rest) same = inr (unread_less mask requested (a + 1) turns m o o (omega (arith, same)) n (record { target = refl; work = omega arith; idle_cycles = refl }))
 
 turn_broke : (mask requested a turns : ℕ) (end : FlightEnd) → a < turns → (m k o : BenchState) → (CanFly m → HasLooked mask requested a 0 m k) → (CanFly k → ReadOrNot end k o) → CanFly m → LeftOff (Polls mask requested turns) end m o
 turn_broke mask requested a turns (ends.Cut cut) less m k o h r flies = let l = h flies in let w = r l.flies in (w.0, waited_there mask requested a turns m k o less l w.1)

@@ -36,6 +36,14 @@ steps_join P Q R f (Some m) (Some n) (Some o) h k = f m n o h k
 
 -- ---- one command
 
+-- no command of a call sets the idle cycles
+call_keeps_idle : (e : ExecutorState) (call : ProbeCall) → (done e (command_of call)).next.idle ≡ e.idle
+call_keeps_idle e (probe.Delay micros) = refl
+call_keeps_idle e (probe.Abort value) = refl
+call_keeps_idle e (probe.Pins output select wait) = refl
+call_keeps_idle e (probe.Clock hertz) = refl
+call_keeps_idle e (probe.Line count bits) = refl
+
 acts_by : (call : ProbeCall) (m o : BenchState) → is_one call ≡ true → IsCommand (command_of call) → o.probe.executor ≡ (done m.probe.executor (command_of call)).next → Acts (Commands call) (transfers_of m) (transfers_of o)
 acts_by call m o one command same =
     subst (λ (e : ExecutorState). Acts (Commands call) (transfers_of m) e.transfers) (sym same) (call_acts m.probe.executor call one command)
@@ -44,13 +52,14 @@ was_made : (call : ProbeCall) (m o : BenchState) → is_one call ≡ true → Is
 was_made call m o one command same = record {
   acts = acts_by call m o one command same;
   setting = ap (λ (e : ExecutorState). e.transfers.setting) same ∙ call_sets_nothing m.probe.executor call;
+  idle_cycles = ap (λ (e : ExecutorState). e.idle) same ∙ call_keeps_idle m.probe.executor call;
 }
 
 made_by : (call : ProbeCall) (word : ℕ) (m o : BenchState) → is_one call ≡ true → IsCommand (command_of call) → HasDone (command_of call) word m o → HasMade (Commands call) word m o
-made_by call word m o one command h = (let made = was_made call m o one command h.executor in record { acts = made.acts; setting = made.setting; word_is = h.number_is ∙ call_gives m.probe.executor call })
+made_by call word m o one command h = (let made = was_made call m o one command h.executor in record { acts = made.acts; setting = made.setting; idle_cycles = made.idle_cycles; word_is = h.number_is ∙ call_gives m.probe.executor call })
 
 left_by : (call : ProbeCall) (end : FlightEnd) (m o : BenchState) → is_one call ≡ true → IsCommand (command_of call) → DoneBy (command_of call) (Err end) m o → MadeOrNot (Commands call) end m o
-left_by call ends.BenchFault m o one command (inl same) = inr (ap (λ (e : ExecutorState). e.transfers) same)
+left_by call ends.BenchFault m o one command (inl same) = inr same
 left_by call ends.BenchFault m o one command (inr made) = inl (was_made call m o one command made)
 left_by call ends.ReplyBad m o one command h = absurd h
 left_by call (ends.Cut cut) m o one command h = absurd h

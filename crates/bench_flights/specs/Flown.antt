@@ -18,7 +18,7 @@ use Rattle.probe_core.specs.Probe.{ended_retries_of, target_of, work_of}
 use Rattle.probe_core.specs.Runs.{KeepsRuns}
 use Rattle.target_calls.specs.Weights.{weight}
 use Rattle.access_calls.specs.Causes.{HasResponse, IsBadReply}
-use Rattle.access_calls.specs.Standing.{IsOver, IsPart, number_of, pending_of, setting_of}
+use Rattle.access_calls.specs.Standing.{IsOver, IsPart, idle_cycles_of, number_of, pending_of, setting_of}
 use Rattle.batch_packer.specs.Flying.{CanFly}
 use Rattle.batch_packer.specs.declared.ends.Cut.{Cut}
 use Rattle.batch_packer.specs.declared.ends.FlightEnd.{FlightEnd}
@@ -51,10 +51,11 @@ pub record WasCut (cut : Cut) (accesses : List RegAccess) (m o : BenchState) : T
   pub wait : cut.response ≡ 0x02 → part.response ≡ Wait
   pub fault : (cut.response ≡ 0x02 → ⊥) → part.response ≡ Fault
 
--- The bench failed: nothing was done, or a part of the accesses.
+-- The bench failed: nothing was done, or a part of the accesses, and the idle cycles stay.
 pub record MayHaveFlown (accesses : List RegAccess) (m o : BenchState) : Type 0 where
   pub part : Part
   pub either : (transfers_of o ≡ transfers_of m) ⊎ DoesPart (transfers_of m) (transfers_of o) accesses part
+  pub idle_cycles : idle_cycles_of o ≡ idle_cycles_of m
   pub never : part.response ≡ Mismatch → ⊥
 
 -- A flight that did not come to its end; a reply of an observable bench is never bad.
@@ -65,11 +66,16 @@ BrokeOff ends.ReplyBad accesses m o = ⊥
 
 -- ---- polls and commands
 
--- A bench over which a poll by value matches does what is said of it: SELECT has DPBANKSEL 0, and the probe has the retry number that
--- the poll sets again.
-pub record CanMatch (retry : ℕ) (m : BenchState) : Type 0 where
-  pub bank_zero : bank (target_of m.probe) ≡ 0
+-- the probe has these idle cycles after each transfer, and this retry number
+pub record IsSetTo (idle retry : ℕ) (m : BenchState) : Type 0 where
+  pub idle_is : idle_cycles_of m ≡ idle
   pub retry_is : (setting_of m).retry ≡ retry
+
+-- A bench over which a poll by value matches does what is said of it: SELECT has DPBANKSEL 0, and the probe has the idle cycles and the
+-- retry number that the poll sets again.
+pub record CanMatch (idle retry : ℕ) (m : BenchState) : Type 0 where
+  pub bank_zero : bank (target_of m.probe) ≡ 0
+  pub set : IsSetTo idle retry m
 
 -- the command clears STICKYERR
 abbrev pub clears : ProbeCall → Bool
@@ -99,15 +105,16 @@ pub record HasDone (x : Action) (word : ℕ) (m o : BenchState) : Type 0 where
   pub word_is : word ≡ given (acted (target_of m.probe) x).outcome
   pub next : CanFly o
 
--- less than the whole action was done
+-- nothing of the action was done, or a part of it, and the idle cycles stay
 pub record DidLess (x : Action) (m o : BenchState) : Type 0 where
   pub work : ℕ
   pub work_is : CanCount x m → work_of o.probe ≡ work_of m.probe + work
   pub less : work < weight (target_of m.probe) x
-  pub target : Agree (target_of o.probe) (target_of m.probe) ⊎ IsPart x (target_of m.probe) (target_of o.probe)
+  pub idle_cycles : idle_cycles_of o ≡ idle_cycles_of m
+  pub target : ((work ≡ 0) × Agree (target_of o.probe) (target_of m.probe)) ⊎ IsPart x (target_of m.probe) (target_of o.probe)
 
 -- A retry ended in a poll that is made read by read, whose reads changed nothing: at a transfer that met more WAITs than the retry number
--- allows.
+-- allows. The idle cycles stay.
 pub record WasUnanswered (x : Action) (m o : BenchState) : Type 0 where
   pub work : ℕ
   pub work_is : CanCount x m → work_of o.probe ≡ work_of m.probe + work
@@ -115,6 +122,7 @@ pub record WasUnanswered (x : Action) (m o : BenchState) : Type 0 where
   pub target : Agree (target_of o.probe) (target_of m.probe)
   pub retries : ended_retries_of m.probe + 1 < 2 ^ 32 → ended_retries_of o.probe ≡ ended_retries_of m.probe + 1
   pub over : IsOver (setting_of m) (number_of o)
+  pub idle_cycles : idle_cycles_of o ≡ idle_cycles_of m
   pub number : number_of o ≤ number_of m + 2 * work + 1
   pub pending : pending_of o ≡ false
 

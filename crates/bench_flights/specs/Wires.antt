@@ -6,11 +6,11 @@ use Rattle.target_machine.specs.Lines.{delayed}
 use Rattle.target_machine.specs.Plain.{Action, acted, dp_read_of, given, is_fault, polled}
 use Rattle.target_machine.specs.declared.access.Outcome.TheVariants.{Value}
 use Rattle.target_machine.specs.declared.access.RegAccess.{RegAccess}
-use Rattle.dap_transfer.specs.State.{TransferState, grown}
+use Rattle.dap_transfer.specs.State.{grown}
 use Rattle.probe_core.specs.Bench.{BenchState}
 use Rattle.probe_core.specs.Probe.{ended_retries_of, target_of, work_of}
 use Rattle.probe_core.specs.declared.job.Limits.{Limits}
-use Rattle.access_calls.specs.Standing.{IsOver, number_of, pending_of, setting_of}
+use Rattle.access_calls.specs.Standing.{IsOver, idle_cycles_of, number_of, pending_of, setting_of}
 use Rattle.flight_forms.specs.Forms.{form_of}
 use Rattle.batch_packer.specs.Actions.{Acts}
 use Rattle.batch_packer.specs.Flying.{CanFly, transfers_of}
@@ -25,21 +25,23 @@ AreHeld limits accesses = 0 < length accesses → is_some (form_of limits.packet
 abbrev pub AreSmall : List RegAccess → Type 0
 AreSmall accesses = (k : ℕ) (a : RegAccess) → slice_get accesses k ≡ Some a → a.value < 2 ^ 32
 
--- The action was made whole, and left the settings.
+-- The action was made whole, and left the settings and the idle cycles.
 pub record WasMade (x : Action) (m o : BenchState) : Type 0 where
   pub acts : Acts x (transfers_of m) (transfers_of o)
   pub setting : setting_of o ≡ setting_of m
+  pub idle_cycles : idle_cycles_of o ≡ idle_cycles_of m
 
 -- The action was made whole, and gave this.
 pub record HasMade (x : Action) (word : ℕ) (m o : BenchState) : Type 0 where
   pub acts : Acts x (transfers_of m) (transfers_of o)
   pub setting : setting_of o ≡ setting_of m
+  pub idle_cycles : idle_cycles_of o ≡ idle_cycles_of m
   pub word_is : word ≡ given (acted (target_of m.probe) x).outcome
 
 -- Of an action in one packet that ended so: where the bench failed it was made whole, or nothing was done. No reply is bad, and nothing
 -- is cut.
 abbrev pub MadeOrNot : Action → FlightEnd → BenchState → BenchState → Type 0
-MadeOrNot x ends.BenchFault m o = WasMade x m o ⊎ (transfers_of o ≡ transfers_of m)
+MadeOrNot x ends.BenchFault m o = WasMade x m o ⊎ (o.probe.executor ≡ m.probe.executor)
 MadeOrNot x ends.ReplyBad m o = ⊥
 MadeOrNot x (ends.Cut cut) m o = ⊥
 
@@ -50,15 +52,16 @@ IsNoCut ends.ReplyBad = Unit {0}
 IsNoCut (ends.Cut cut) = ⊥
 
 -- so many delays of 65,535 microseconds were made
-pub record HasDelayed (count : ℕ) (p q : TransferState) : Type 0 where
-  pub target : q.line.target ≡ delayed p.line.target (65535 * count)
-  pub work : q.work ≡ grown p.work count
-  pub number : q.line.number ≡ p.line.number
-  pub retries : q.ended_retries ≡ p.ended_retries
-  pub pending : q.pending ≡ p.pending
-  pub mask : q.mask ≡ p.mask
-  pub setting : q.setting ≡ p.setting
-  pub in_range : IsInRange q.line.target
+pub record HasDelayed (count : ℕ) (m o : BenchState) : Type 0 where
+  pub target : target_of o.probe ≡ delayed (target_of m.probe) (65535 * count)
+  pub work : work_of o.probe ≡ grown (work_of m.probe) count
+  pub number : number_of o ≡ number_of m
+  pub retries : ended_retries_of o.probe ≡ ended_retries_of m.probe
+  pub pending : pending_of o ≡ pending_of m
+  pub mask : (transfers_of o).mask ≡ (transfers_of m).mask
+  pub setting : setting_of o ≡ setting_of m
+  pub idle_cycles : idle_cycles_of o ≡ idle_cycles_of m
+  pub in_range : IsInRange (target_of o.probe)
 
 -- CTRL/STAT was read up to so many times, as by a poll of so many turns, which gave this.
 pub record HasLooked (mask requested turns word : ℕ) (m o : BenchState) : Type 0 where
@@ -69,6 +72,7 @@ pub record HasLooked (mask requested turns word : ℕ) (m o : BenchState) : Type
   pub retries : ended_retries_of o.probe ≡ ended_retries_of m.probe
   pub number : number_of o ≤ number_of m + 2 * (polled turns mask requested (target_of m.probe)).reads
   pub setting : setting_of o ≡ setting_of m
+  pub idle_cycles : idle_cycles_of o ≡ idle_cycles_of m
   pub flies : CanFly o
 
 -- CTRL/STAT was read once, and gave this.
@@ -79,12 +83,14 @@ pub record HasRead (value : ℕ) (m o : BenchState) : Type 0 where
   pub retries : ended_retries_of o.probe ≡ ended_retries_of m.probe
   pub number : number_of o ≤ number_of m + 2
   pub setting : setting_of o ≡ setting_of m
+  pub idle_cycles : idle_cycles_of o ≡ idle_cycles_of m
   pub flies : CanFly o
 
--- a read that was not made left the target and the work
+-- a read that was not made left the target, the work and the idle cycles
 pub record IsUnread (m o : BenchState) : Type 0 where
   pub target : target_of o.probe ≡ target_of m.probe
   pub work : work_of o.probe ≡ grown (work_of m.probe) 0
+  pub idle_cycles : idle_cycles_of o ≡ idle_cycles_of m
 
 -- A read that a WAIT ended: DPBANKSEL is not 0, as CTRL/STAT itself never waits.
 pub record HasWaited (m o : BenchState) : Type 0 where

@@ -154,9 +154,9 @@ pub trait Flights {
         requires usable { ended self.old ≡ None }
         requires empty { accesses self.old ≡ [] }
         requires turns { 1 ≤ turns }
-        ensures done { IfOk result (λ matched. StepsTo (λ m o. CanFly m → CanMatch config.retry m → HasDone (Polls mask requested turns) (matched_word matched) m o) (state self.old) (state self.new)) }
-        ensures packets { OnOk result (StepsTo (λ m o. CanFly m → CanMatch config.retry m → SendsFew (portions turns) m o) (state self.old) (state self.new)) }
-        ensures left { IfErr result (λ end. StepsTo (λ m o. CanFly m → CanMatch config.retry m → LeftOff (Polls mask requested turns) end m o) (state self.old) (state self.new)) }
+        ensures done { IfOk result (λ matched. StepsTo (λ m o. CanFly m → CanMatch config.idle config.retry m → HasDone (Polls mask requested turns) (matched_word matched) m o) (state self.old) (state self.new)) }
+        ensures packets { OnOk result (StepsTo (λ m o. CanFly m → CanMatch config.idle config.retry m → SendsFew (portions turns) m o) (state self.old) (state self.new)) }
+        ensures left { IfErr result (λ end. StepsTo (λ m o. CanFly m → CanMatch config.idle config.retry m → LeftOff (Polls mask requested turns) end m o) (state self.old) (state self.new)) }
         ensures none { IfErr result NamesNone }
         ensures response { IfErr result IsCutResponse }
         ensures empty { accesses self.new ≡ [] }

@@ -190,9 +190,9 @@ impl<B: Bench> Wire<B> {
         requires empty { self.old.flight.accesses ≡ [] }
         requires low { 1 ≤ ask.turns }
         requires high { ask.turns ≤ 65536 }
-        ensures done { IfOk result (λ matched. StepsTo (λ m o. CanFly m → CanMatch config.retry m → HasMade (Polls ask.mask ask.value ask.turns) (matched_word matched) m o) (B.state self.old.bench) (B.state self.new.bench)) }
-        ensures packets { OnOk result (StepsTo (λ m o. CanFly m → CanMatch config.retry m → SendsFew 1 m o) (B.state self.old.bench) (B.state self.new.bench)) }
-        ensures left { IfErr result (λ end. StepsTo (λ m o. CanFly m → CanMatch config.retry m → MadeOrNot (Polls ask.mask ask.value ask.turns) end m o) (B.state self.old.bench) (B.state self.new.bench)) }
+        ensures done { IfOk result (λ matched. StepsTo (λ m o. CanFly m → CanMatch config.idle config.retry m → HasMade (Polls ask.mask ask.value ask.turns) (matched_word matched) m o) (B.state self.old.bench) (B.state self.new.bench)) }
+        ensures packets { OnOk result (StepsTo (λ m o. CanFly m → CanMatch config.idle config.retry m → SendsFew 1 m o) (B.state self.old.bench) (B.state self.new.bench)) }
+        ensures left { IfErr result (λ end. StepsTo (λ m o. CanFly m → CanMatch config.idle config.retry m → MadeOrNot (Polls ask.mask ask.value ask.turns) end m o) (B.state self.old.bench) (B.state self.new.bench)) }
         ensures none { IfErr result NamesNone }
         ensures response { IfErr result IsCutResponse }
         ensures limits { self.new.flight.limits ≡ self.old.flight.limits }

@@ -15,7 +15,7 @@ invariant-loop-left g l = record {
   some : 0 < count → 0 < l.left;
   usable : l.self.flight.end ≡ None;
   empty : l.self.flight.accesses ≡ [];
-  on : StepsTo (λ m o. IsInRange (target_of m.probe) → HasDelayed count (transfers_of m) (transfers_of o)) (g.B.Bench.state l.fn.self.bench) (g.B.Bench.state l.self.bench);
+  on : StepsTo (λ m o. IsInRange (target_of m.probe) → HasDelayed count m o) (g.B.Bench.state l.fn.self.bench) (g.B.Bench.state l.self.bench);
   packets : StepsTo (λ m o. IsInRange (target_of m.probe) → SendsFew count m o) (g.B.Bench.state l.fn.self.bench) (g.B.Bench.state l.self.bench);
   limits : l.self.flight.limits ≡ l.fn.self.flight.limits;
   goes : BenchGoesOn (g.B.Bench.reported l.fn.self.bench) (g.B.Bench.reported l.self.bench) (g.B.Bench.state l.fn.self.bench) (g.B.Bench.state l.self.bench);

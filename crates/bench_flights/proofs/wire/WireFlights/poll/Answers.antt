@@ -11,11 +11,11 @@ loop-left-init g c = record {
   is = omega arith;
   usable = c.requires.usable;
   empty = c.requires.empty;
-  on = poll_begins _ c.args.config.retry _ _;
+  on = poll_begins _ c.args.config.idle c.args.config.retry _ _;
   count = 0;
   count_is = omega arith;
   full = λ some. omega arith;
-  packets = portions_begin c.args.config.retry _;
+  packets = portions_begin c.args.config.idle c.args.config.retry _;
   limits = search rules;
   goes = goes_self _ _;
   faults = search rules;
@@ -31,11 +31,11 @@ loop-left-preserved g c =
       is = (let e = i.is in omega (arith, e, few));
       usable = c.in-Ok-false.ensures.ended;
       empty = c.poll_portion.ensures.empty;
-      on = poll_next _ _ _ c.args.config.retry c.args.mask c.args.requested i.made c.min-now.result 0 i.on (word_for _ _ c.args.config.retry c.args.mask c.args.requested c.min-now.result c.in-Ok-false.field-0 false c.in-Ok-false.field-0-test c.in-Ok-false.ensures.done);
+      on = poll_next _ _ _ c.args.config.idle c.args.config.retry c.args.mask c.args.requested i.made c.min-now.result 0 i.on (word_for _ _ c.args.config.idle c.args.config.retry c.args.mask c.args.requested c.min-now.result c.in-Ok-false.field-0 false c.in-Ok-false.field-0-test c.in-Ok-false.ensures.done);
       count = i.count + 1;
       count_is = (let f = i.full c.loop-left-test.true in let n = c.min-now.ensures in let t = c.loop-left-test.true in omega (arith, f, n, t));
       full = λ some. (let f = i.full c.loop-left-test.true in let n = c.min-now.ensures in omega (arith, f, n, some));
-      packets = portions_next _ _ _ c.args.config.retry c.args.mask c.args.requested i.made i.count i.on i.packets c.in-Ok-false.ensures.packets;
+      packets = portions_next _ _ _ c.args.config.idle c.args.config.retry c.args.mask c.args.requested i.made i.count i.on i.packets c.in-Ok-false.ensures.packets;
       limits = search rules;
       goes = goes_then _ _ _ _ _ _ i.goes c.poll_portion.ensures.goes;
       faults = search rules;
@@ -46,27 +46,27 @@ pub returns-in-Ok-true-clause-done : goal.returns-in-Ok-true-clause-done
 returns-in-Ok-true-clause-done g c =
     let i = c.loop-left.invariant in
     let few : c.min-now.result ≤ c.loop-left.left = (let m = c.min-now.ensures in omega (arith, m)) in
-    poll_matches _ _ c.args.config.retry c.args.mask c.args.requested (i.made + c.min-now.result) (c.loop-left.left - c.min-now.result) c.args.turns (let e = i.is in omega (arith, e, few))
-    (poll_next _ _ _ c.args.config.retry c.args.mask c.args.requested i.made c.min-now.result 1 i.on (word_for _ _ c.args.config.retry c.args.mask c.args.requested c.min-now.result c.in-Ok-true.field-0 true c.in-Ok-true.field-0-test c.in-Ok-true.ensures.done))
+    poll_matches _ _ c.args.config.idle c.args.config.retry c.args.mask c.args.requested (i.made + c.min-now.result) (c.loop-left.left - c.min-now.result) c.args.turns (let e = i.is in omega (arith, e, few))
+    (poll_next _ _ _ c.args.config.idle c.args.config.retry c.args.mask c.args.requested i.made c.min-now.result 1 i.on (word_for _ _ c.args.config.idle c.args.config.retry c.args.mask c.args.requested c.min-now.result c.in-Ok-true.field-0 true c.in-Ok-true.field-0-test c.in-Ok-true.ensures.done))
 
 pub returns-in-Err-clause-left : goal.returns-in-Err-clause-left
 returns-in-Err-clause-left g c =
     let i = c.loop-left.invariant in
-    poll_left _ _ _ c.args.config.retry c.args.mask c.args.requested i.made c.min-now.result c.args.turns c.in-Err.end
+    poll_left _ _ _ c.args.config.idle c.args.config.retry c.args.mask c.args.requested i.made c.min-now.result c.args.turns c.in-Err.end
     (let m = c.min-now.ensures in let t = c.loop-left-test.true in omega (arith, m, t)) (let m = c.min-now.ensures in let e = i.is in omega (arith, m, e)) i.on c.in-Err.ensures.left
 
 pub returns-clause-done : goal.returns-clause-done
 returns-clause-done g c =
     let i = c.loop-left.invariant in
-    poll_used _ _ c.args.config.retry c.args.mask c.args.requested i.made c.args.turns (let e = i.is in let t = c.loop-left-test.false in omega (arith, e, t)) i.on
+    poll_used _ _ c.args.config.idle c.args.config.retry c.args.mask c.args.requested i.made c.args.turns (let e = i.is in let t = c.loop-left-test.false in omega (arith, e, t)) i.on
 
 pub returns-in-Ok-true-clause-packets : goal.returns-in-Ok-true-clause-packets
 returns-in-Ok-true-clause-packets g c =
     let i = c.loop-left.invariant in
-    portions_most c.args.config.retry _ _ (i.count + 1) (portions c.args.turns) (let f = i.full c.loop-left-test.true in let n = c.min-now.ensures in let t = c.loop-left-test.true in let e = i.is in omega (arith, f, n, t, e))
-    (portions_next _ _ _ c.args.config.retry c.args.mask c.args.requested i.made i.count i.on i.packets c.in-Ok-true.ensures.packets)
+    portions_most c.args.config.idle c.args.config.retry _ _ (i.count + 1) (portions c.args.turns) (let f = i.full c.loop-left-test.true in let n = c.min-now.ensures in let t = c.loop-left-test.true in let e = i.is in omega (arith, f, n, t, e))
+    (portions_next _ _ _ c.args.config.idle c.args.config.retry c.args.mask c.args.requested i.made i.count i.on i.packets c.in-Ok-true.ensures.packets)
 
 pub returns-clause-packets : goal.returns-clause-packets
 returns-clause-packets g c =
     let i = c.loop-left.invariant in
-    portions_most c.args.config.retry _ _ i.count (portions c.args.turns) (let k = i.count_is in let e = i.is in omega (arith, k, e)) i.packets
+    portions_most c.args.config.idle c.args.config.retry _ _ i.count (portions c.args.turns) (let k = i.count_is in let e = i.is in omega (arith, k, e)) i.packets
