@@ -1,15 +1,17 @@
 -- The size of accesses as the list grows.
-use Rattle.std.proofs.Common.{◌≡◌, leb, ltb, ℕ, ◌+◌, ◌-◌, ◌/◌, ◌≤◌, ◌<◌, ◌&&◌, Bool, true, false, cond, List, [], ◌∷◌, ◌++◌, length, fold, refl, ap, sym, ◌∙◌, arith, suc, subst, length-append, append_assoc}
-use Rattle.std.proofs.lemmas.Bool.{lt-ltb}
+use Rattle.std.proofs.Common.{◌≡◌, leb, ltb, ℕ, ◌+◌, ◌-◌, ◌/◌, ◌≤◌, ◌<◌, ◌&&◌, Bool, true, false, cond, List, [], ◌∷◌, ◌++◌, Some, None, length, fold, refl, ap, sym, ◌∙◌, arith, suc, subst, length-append, append_assoc}
+use Rattle.std.specs.Prelude.{is_some}
+use Rattle.std.proofs.lemmas.Bool.{le-leb, lt-ltb, ltb-true}
 use Rattle.target_machine.specs.declared.access.RegAccess.{RegAccess}
 use Rattle.dap_messages.specs.declared.request.Request.{Request}
 use Rattle.target_machine.specs.Counts.{one_if}
 use Rattle.dap_transfer.specs.CommandEnds.{may_be_free, writes_ap}
 use Rattle.flight_forms.specs.declared.size.FlightSize.{FlightSize}
 use Rattle.flight_forms.specs.declared.size.Tally.{Tally}
-use Rattle.flight_forms.specs.Forms.{all_write_drw, filled, fits_guarded, parts_of, writes_drw}
+use Rattle.flight_forms.specs.Forms.{all_write_drw, filled, fits_block, fits_chain, fits_guarded, fits_transfer, form_of, parts_of, writes_drw}
+use Rattle.flight_forms.specs.declared.form.Form.TheVariants.{Block, Transfer, Chain}
 use Rattle.flight_forms.specs.Packing.{check_when, request_of, requests_for}
-use Rattle.flight_forms.specs.Sizes.{Counts, IsSizeOf, ends_in_ap_write, last_of, no_tally, plus, size_with, tally_fits_guarded, with_access}
+use Rattle.flight_forms.specs.Sizes.{Counts, IsSizeOf, ends_in_ap_write, has_part_more, last_of, no_tally, plus, size_with, tally_fits_guarded, with_access}
 use Rattle.flight_forms.proofs.RequestSizes.{few_for, one_added}
 
 -- ---- one access more
@@ -240,3 +242,36 @@ size_grows accesses s a few h =
       parts = parts.0;
       last = parts.1;
     }
+
+-- ---- room in a chain
+
+joined_or_more : (b : Bool) (n : ℕ) → cond b n (plus n 1) ≤ n + 1
+joined_or_more true n = omega arith
+joined_or_more false n = omega arith
+
+both_true : (x y : Bool) → (x && y) ≡ true → (x ≡ true) × (y ≡ true)
+both_true true y e = (refl, e)
+both_true false y e = absurd (cc)
+
+both_are : (x y : Bool) → x ≡ true → y ≡ true → (x && y) ≡ true
+both_are true y e f = f
+both_are false y e f = absurd (cc)
+
+some_form : (block transfer chain : Bool) → chain ≡ true → is_some (cond block (Some Block) (cond transfer (Some Transfer) (cond chain (Some Chain) None))) ≡ true
+some_form true transfer chain e = refl
+some_form false true chain e = refl
+some_form false false true e = refl
+some_form false false false e = absurd (cc)
+
+-- one access more begins one part more at most
+pub part_holds : (accesses : List RegAccess) (s : FlightSize) (a : RegAccess) → length accesses < 65535 → IsSizeOf accesses s → has_part_more s ≡ true →
+    is_some (form_of s.packet_size s.packet_count (accesses ++ a ∷ [])) ≡ true
+part_holds accesses s a few h more =
+    let grows = size_grows accesses s a few h in
+    let parts = grows.parts in
+    let at_most = joined_or_more (ltb 0 s.parts && tally_fits_guarded s.packet_size (with_access s.last (s.after_write && may_be_free a) a.read)) s.parts in
+    let has = both_true (leb 2 s.packet_count) (ltb s.parts s.packet_count) more in
+    let room : s.parts < s.packet_count = ltb-true s.parts s.packet_count has.1 in
+    let fits : length (parts_of s.packet_size (accesses ++ a ∷ [])) ≤ s.packet_count = omega (arith, parts, at_most, room) in
+    some_form (fits_block s.packet_size (accesses ++ a ∷ [])) (fits_transfer s.packet_size (accesses ++ a ∷ [])) (fits_chain s.packet_size s.packet_count (accesses ++ a ∷ []))
+    (both_are (leb 2 s.packet_count) (leb (length (parts_of s.packet_size (accesses ++ a ∷ []))) s.packet_count) has.0 (le-leb (length (parts_of s.packet_size (accesses ++ a ∷ []))) s.packet_count fits))

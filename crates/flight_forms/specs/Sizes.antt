@@ -75,3 +75,7 @@ size_with s a =
       parts = if joins then s.parts else plus s.parts 1;
       last = if joins then more else with_access no_tally false a.read;
     }
+
+-- a chain holds one part more
+abbrev pub has_part_more : FlightSize → Bool
+has_part_more s = nat_le 2 s.packet_count && nat_lt s.parts s.packet_count

@@ -4,7 +4,7 @@ ghost use Rattle.target_machine.specs.declared.access.RegAccess.{RegAccess};
 ghost use Rattle.target_machine.specs.Counts.{one_if};
 ghost use Rattle.dap_transfer.specs.CommandEnds.{may_be_free};
 ghost use Rattle.flight_forms.specs.Forms.{fits_block, fits_chain, form_of, parts_of, writes_drw};
-ghost use Rattle.flight_forms.specs.Sizes.{IsSizeOf, size_with, tally_fits, tally_fits_guarded, with_access};
+ghost use Rattle.flight_forms.specs.Sizes.{IsSizeOf, has_part_more, size_with, tally_fits, tally_fits_guarded, with_access};
 
 use crate::form::Form;
 use crate::packing::{may_be_free, writes_ap};
@@ -173,6 +173,13 @@ impl FlightSize {
         self.packet_count >= 2 && self.parts <= u32::from(self.packet_count)
     }
 
+    // Whether a chain holds one part more, which is the most that one access more begins.
+    fn has_part_more(self) -> bool
+        ensures { result ≡ has_part_more self }
+    {
+        self.packet_count >= 2 && self.parts < u32::from(self.packet_count)
+    }
+
     /// The first form that holds the accesses: a block, one Transfer, or a chain. `None` where none
     /// does.
     pub fn form(self) -> Option<Form>
@@ -194,6 +201,9 @@ impl FlightSize {
         ensures { (accesses : List RegAccess) → length accesses < 65_535 → IsSizeOf accesses self
             → result ≡ is_some (form_of self.packet_size self.packet_count (accesses ++ next ∷ [])) }
     {
+        if self.has_part_more() {
+            return true;
+        }
         self.with(next).form().is_some()
     }
 }
