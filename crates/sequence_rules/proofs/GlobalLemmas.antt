@@ -86,6 +86,19 @@ module _ {V : Type 0} where
       let not : bytes_eq name (string_bytes e.0) ≡ false = other_name name e.0 k (none_before es e.0 k i w unique.0 at) (sym is) (bytes_eq name (string_bytes e.0)) refl in
       rw not (ap (λ bs. entry_binding e ∷ bs) (place_set name es i k w v unique.1 at is))
 
+  -- and it is there
+  pub place_has : (name : List ℕ) (es : List (String Global × V)) (i : ℕ) (k : String Global) (w : V) → slice_get es i ≡ Some (k, w) → string_bytes k ≡ name → has_in (map entry_binding es) name ≡ true
+  place_has name [] i k w at is = absurd cc
+  place_has name (e ∷ es) zero k w at is =
+      let same : e ≡ (k, w) = cc in
+      let here : bytes_eq name (string_bytes e.0) ≡ true = (bytes_eq-Decides name (string_bytes e.0)).1 (sym is ∙ sym (ap (λ (p : String Global × V). string_bytes p.0) same)) in
+      rw here refl
+  place_has name (e ∷ es) (suc i) k w at is = rw (place_has name es i k w at is) (either (bytes_eq name (string_bytes e.0)))
+    where
+      either : (p : Bool) → cond p true true ≡ true
+      either true = refl
+      either false = refl
+
   -- and nothing changes where its own value is written
   pub same_value : (es : List (String Global × V)) (i : ℕ) (k : String Global) (w : V) → slice_get es i ≡ Some (k, w) → set_value_at es i w ≡ es
   same_value [] i k w at = refl

@@ -4,7 +4,7 @@ use Rattle.std.proofs.lemmas.List.{length-append}
 use Rattle.std.specs.Option.{option_or}
 use Rattle.sequence_rules.specs.declared.bindings.Binding.{Binding}
 use Rattle.sequence_rules.specs.Variables.{bound, has_in, newest_in, set_newest}
-use Rattle.sequence_rules.proofs.VariableLemmas.{newest_none, set_newest_none}
+use Rattle.sequence_rules.proofs.VariableLemmas.{set_newest_none}
 
 or_none : {X : Type 0} (o : Option X) → option_or o None ≡ o
 or_none None = refl
@@ -84,11 +84,23 @@ module _ {V : Type 0} where
   pub set_last : (a b c : List (Binding V)) (n : List ℕ) (v : V) → has_in c n ≡ true → a ++ b ++ set_newest c n v ≡ set_newest (a ++ b ++ c) n v
   set_last a b c n v h = sym (set_later (a ++ b) c n v h)
 
-  pub set_middle : (a b c : List (Binding V)) (n : List ℕ) (v : V) → has_in c n ≡ false → has_in b n ≡ true → a ++ set_newest b n v ++ c ≡ set_newest (a ++ b ++ c) n v
+  set_middle : (a b c : List (Binding V)) (n : List ℕ) (v : V) → has_in c n ≡ false → has_in b n ≡ true → a ++ set_newest b n v ++ c ≡ set_newest (a ++ b ++ c) n v
   set_middle a b c n v none h = sym (set_earlier (a ++ b) c n v none ∙ ap (λ zs. zs ++ c) (set_later a b n v h))
 
-  pub set_first : (a b c : List (Binding V)) (n : List ℕ) (v : V) → has_in c n ≡ false → has_in b n ≡ false → set_newest a n v ++ b ++ c ≡ set_newest (a ++ b ++ c) n v
+  set_first : (a b c : List (Binding V)) (n : List ℕ) (v : V) → has_in c n ≡ false → has_in b n ≡ false → set_newest a n v ++ b ++ c ≡ set_newest (a ++ b ++ c) n v
   set_first a b c n v none none_before = sym (set_earlier (a ++ b) c n v none ∙ ap (λ zs. zs ++ c) (set_earlier a b n v none_before))
+
+  -- the same, where the later parts were gone through first
+  pub set_middle_after : (a b c b' c' : List (Binding V)) (n : List ℕ) (v : V) → has_in c n ≡ false → c' ≡ set_newest c n v → has_in b n ≡ true → b' ≡ set_newest b n v
+      → a ++ b' ++ c' ≡ set_newest (a ++ b ++ c) n v
+  set_middle_after a b c b' c' n v none is h is_set =
+      ap (λ zs. a ++ b' ++ zs) (is ∙ set_newest_none c n v none) ∙ ap (λ zs. a ++ zs ++ c) is_set ∙ set_middle a b c n v none h
+
+  pub set_first_after : (a b c a' b' c' : List (Binding V)) (n : List ℕ) (v : V) → has_in c n ≡ false → c' ≡ set_newest c n v → has_in b n ≡ false → b' ≡ set_newest b n v → a' ≡ set_newest a n v
+      → a' ++ b' ++ c' ≡ set_newest (a ++ b ++ c) n v
+  set_first_after a b c a' b' c' n v none is none_before is_before is_set =
+      ap (λ zs. a' ++ b' ++ zs) (is ∙ set_newest_none c n v none) ∙ ap (λ zs. a' ++ zs ++ c) (is_before ∙ set_newest_none b n v none_before)
+      ∙ ap (λ zs. zs ++ b ++ c) is_set ∙ set_first a b c n v none none_before
 
   pub set_length : (xs : List (Binding V)) (n : List ℕ) (v : V) → length (set_newest xs n v) ≡ length xs
   set_length [] n v = refl
@@ -98,20 +110,6 @@ module _ {V : Type 0} where
       one true q k = ap suc k
       one false true k = refl
       one false false k = refl
-
-same_length : {X : Type 0} (xs ys zs : List X) → length xs ≡ length ys → length (xs ++ zs) ≡ length (ys ++ zs)
-same_length [] [] zs h = refl
-same_length [] (y ∷ ys) zs h = absurd (omega arith)
-same_length (x ∷ xs) [] zs h = absurd (omega arith)
-same_length (x ∷ xs) (y ∷ ys) zs h = ap suc (same_length xs ys zs (omega arith))
-
-before_length : {X : Type 0} (xs ys zs : List X) → length ys ≡ length zs → length (xs ++ ys) ≡ length (xs ++ zs)
-before_length [] ys zs h = h
-before_length (x ∷ xs) ys zs h = ap suc (before_length xs ys zs h)
-
--- there are as many
-pub as_many : {V : Type 0} (a b c next : List (Binding V)) (n : List ℕ) (v : V) → next ≡ set_newest b n v → length (a ++ next ++ c) ≡ length (a ++ b ++ c)
-as_many a b c next n v is = same_length (a ++ next) (a ++ b) c (before_length a next b (ap length is ∙ set_length b n v))
 
 -- ---- the first ones
 

@@ -46,6 +46,16 @@ module _ {V : Type 0} where
 
   -- ---- as a loop from the end comes to them
 
+  pub has_found : (bs : List (Binding V)) (n : ℕ) (name : List ℕ) (e : Binding V) → n ≤ length bs → 0 < n → bytes_eq name (slice_index_or bs (n - 1) e).name ≡ true → has_in bs name ≡ true
+  has_found bs zero name e within some same = absurd (omega arith)
+  has_found bs (suc i) name e within some same =
+      let less : suc i - 1 ≡ i = omega arith in
+      has_at bs i name e (omega arith) (rw less at same)
+
+  pub has_absent : (bs : List (Binding V)) (n : ℕ) (name : List ℕ) → n ≤ 0 → has_in (drop n bs) name ≡ false → has_in bs name ≡ false
+  has_absent bs zero name end none = none
+  has_absent bs (suc i) name end none = absurd (omega arith)
+
   pub newest_found : (bs : List (Binding V)) (n : ℕ) (name : List ℕ) (d e : Binding V) → n ≤ length bs → 0 < n → has_in (drop n bs) name ≡ false → bytes_eq name (slice_index_or bs (n - 1) e).name ≡ true
       → newest_in bs name ≡ Some (slice_index_or bs (n - 1) d).value
   newest_found bs zero name d e within some none same = absurd (omega arith)

@@ -3,6 +3,7 @@
 ghost use Rattle.std.specs.Prelude.{◌≡◌};
 ghost use Rattle.sequence_rules.specs.Variables.{has_in, newest_in, set_newest};
 
+use crate::names::same_name;
 use dap_base::NameText;
 
 /// A variable and its value.
@@ -12,18 +13,6 @@ pub struct Binding<V> {
     pub value: V,
 }
 
-// Whether a variable has the name.
-pub(crate) fn has_in<V>(bindings: &[Binding<V>], name: &str) -> bool
-    ensures { result ≡ has_in bindings.now name.now }
-{
-    for binding in bindings {
-        if name == binding.name.as_str() {
-            return true;
-        }
-    }
-    false
-}
-
 // The value of the newest variable with the name, sought from the last. `None` exactly where none has it.
 pub(crate) fn newest_in<V: Copy>(bindings: &[Binding<V>], name: &str) -> Option<V>
     ensures { result ≡ newest_in bindings.now name.now }
@@ -31,23 +20,25 @@ pub(crate) fn newest_in<V: Copy>(bindings: &[Binding<V>], name: &str) -> Option<
     let mut index = bindings.len();
     while index > 0 {
         index -= 1;
-        if name == bindings[index].name.as_str() {
+        if same_name(name, bindings[index].name.as_str()) {
             return Some(bindings[index].value);
         }
     }
     None
 }
 
-// Gives the newest variable with the name this value. Where none has it, nothing changes.
-pub(crate) fn set_newest<V: Copy>(bindings: &mut [Binding<V>], name: &str, value: V)
-    ensures { bindings.new ≡ set_newest bindings.old name.now value }
+// Gives the newest variable with the name this value; whether there is one. Where none has it, nothing changes.
+pub(crate) fn set_newest<V: Copy>(bindings: &mut [Binding<V>], name: &str, value: V) -> bool
+    ensures found { result ≡ has_in bindings.old name.now }
+    ensures set { bindings.new ≡ set_newest bindings.old name.now value }
 {
     let mut index = bindings.len();
     while index > 0 {
         index -= 1;
-        if name == bindings[index].name.as_str() {
+        if same_name(name, bindings[index].name.as_str()) {
             bindings[index].value = value;
-            return;
+            return true;
         }
     }
+    false
 }

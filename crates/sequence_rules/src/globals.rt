@@ -1,21 +1,14 @@
 //! The variables that all sequences share.
 
 ghost use Rattle.std.specs.Prelude.{◌≡◌, ◌<◌, true, false, [], IfSome, OnOk, OnErr, Some, length, option_map, slice_get, take};
-ghost use Rattle.std.specs.Str.{bytes_eq};
 ghost use Rattle.indexmap.specs.IndexMap.{index_map_len};
 ghost use Rattle.sequence_rules.specs.Shared.{bindings_of, pair_of};
 ghost use Rattle.sequence_rules.specs.Variables.{has_in, newest_in, value_named, set_in, set_newest, with_new};
 
+use crate::names::same_name;
 use dap_base::OutOfMemory;
 use indexmap::IndexMap;
 use std::alloc::Global;
-
-// Whether two names are the same. Names are short: their bytes one after the other take less time than an equality of texts.
-fn is_same(known: &str, name: &str) -> bool
-    ensures { result ≡ bytes_eq known.now name.now }
-{
-    known.as_bytes() == name.as_bytes()
-}
 
 /// Variables with their values, in the order in which they were added. No two have one name, and each is found by its name without
 /// going through the others. Contracts see them by `bindings_of`, as the plain list of this crate's specs.
@@ -66,7 +59,7 @@ impl<V: Copy> Globals<V> {
         ensures { IfSome result (λ value. value_named (bindings_of self.now) name.now ≡ Some value) }
     {
         match self.values.get_index(index) {
-            Some((known, value)) if is_same(known.as_str(), name) => Some(*value),
+            Some((known, value)) if same_name(name, known.as_str()) => Some(*value),
             _ => None,
         }
     }
@@ -104,25 +97,15 @@ impl<V: Copy> Globals<V> {
         }
     }
 
-    /// The value of the variable with the name, as [`Globals::get`] answers it. It takes the least time where the variable is the one at
-    /// `index`, counted from 0.
-    pub fn get_near(&self, index: usize, name: &str) -> Option<V>
-        ensures { result ≡ value_named (bindings_of self.now) name.now }
-    {
-        match self.value_at(index, name) {
-            Some(value) => Some(value),
-            None => self.get_stored(name),
-        }
-    }
-
     // Gives the variable at the index this value, where it has the name; whether it has.
     fn set_at(&mut self, index: usize, name: &str, value: V) -> bool
         requires { index < index_map_len self.old.values }
+        ensures found { result ≡ true → has_in (bindings_of self.old) name.now ≡ true }
         ensures set { result ≡ true → bindings_of self.new ≡ set_in (bindings_of self.old) name.now value }
         ensures same { result ≡ false → bindings_of self.new ≡ bindings_of self.old }
     {
         let (known, stored) = self.values.pair_mut(index);
-        if is_same(known.as_str(), name) {
+        if same_name(name, known.as_str()) {
             *stored = value;
             true
         } else {
@@ -130,13 +113,31 @@ impl<V: Copy> Globals<V> {
         }
     }
 
-    // Gives the variable with the name this value, found without a look at the others.
-    fn set_stored(&mut self, name: &str, value: V)
-        ensures { bindings_of self.new ≡ set_in (bindings_of self.old) name.now value }
+    // Gives the variable with the name this value, found without a look at the others; whether there is one.
+    fn set_stored(&mut self, name: &str, value: V) -> bool
+        ensures found { result ≡ has_in (bindings_of self.old) name.now }
+        ensures set { bindings_of self.new ≡ set_in (bindings_of self.old) name.now value }
     {
-        if let Some(held) = self.values.get_mut(name) {
-            *held = value;
+        match self.values.get_mut(name) {
+            Some(held) => {
+                *held = value;
+                true
+            }
+            None => false,
         }
+    }
+
+    // Gives the variable with the name this value; whether there is one.
+    fn assign(&mut self, name: &str, value: V) -> bool
+        ensures found { result ≡ has_in (bindings_of self.old) name.now }
+        ensures set { bindings_of self.new ≡ set_in (bindings_of self.old) name.now value }
+    {
+        if let Some(last) = self.values.len().checked_sub(1)
+            && self.set_at(last, name, value)
+        {
+            return true;
+        }
+        self.set_stored(name, value)
     }
 
     /// Gives the variable with the name this value. Where none has it, nothing changes. It takes the least time where the variable is the
@@ -144,12 +145,7 @@ impl<V: Copy> Globals<V> {
     pub fn set(&mut self, name: &str, value: V)
         ensures { bindings_of self.new ≡ set_in (bindings_of self.old) name.now value }
     {
-        if let Some(last) = self.values.len().checked_sub(1)
-            && self.set_at(last, name, value)
-        {
-            return;
-        }
-        self.set_stored(name, value);
+        self.assign(name, value);
     }
 
     /// Adds a variable at the end, unless one has the name. `OutOfMemory` where memory is refused; nothing has changed then.
@@ -179,12 +175,15 @@ impl<V: Copy> Globals<V> {
         self.get(name)
     }
 
-    // Gives the newest variable with the name this value, which is the only one. Where none has it, nothing changes.
-    pub(crate) fn set_newest(&mut self, name: &str, value: V)
-        ensures { bindings_of self.new ≡ set_newest (bindings_of self.old) name.now value }
+    // Gives the newest variable with the name this value, which is the only one; whether there is one. Where none has it, nothing changes.
+    pub(crate) fn set_newest(&mut self, name: &str, value: V) -> bool
+        ensures found { result ≡ has_in (bindings_of self.old) name.now }
+        ensures set { bindings_of self.new ≡ set_newest (bindings_of self.old) name.now value }
     {
-        let _entries = self.values.as_slice();
-        self.set(name, value);
+        if self.values.len() == 0 {
+            return false;
+        }
+        self.assign(name, value)
     }
 
     // Drops the variables after the first `len`.

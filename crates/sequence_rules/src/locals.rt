@@ -3,7 +3,7 @@ ghost use Rattle.std.specs.Prelude.{◌≡◌, ◌++◌, false, [], ◌∷◌, O
 ghost use Rattle.sequence_rules.specs.Locals.{locals_of};
 ghost use Rattle.sequence_rules.specs.Variables.{bound, has_in, newest_in, set_newest};
 
-use crate::bindings::{Binding, has_in, newest_in, set_newest};
+use crate::bindings::{Binding, newest_in, set_newest};
 use crate::globals::Globals;
 use crate::parts::Locals;
 use dap_base::{NameText, OutOfMemory};
@@ -70,19 +70,13 @@ impl<V: Copy> Locals<V> {
         ensures set { locals_of self.new ≡ set_newest (locals_of self.old) name.now value }
         ensures same { result ≡ false → locals_of self.new ≡ locals_of self.old }
     {
-        if has_in(&self.hiding, name) {
-            set_newest(&mut self.hiding, name, value);
+        if set_newest(&mut self.hiding, name, value) {
             return true;
         }
-        if self.named.has(name) {
-            self.named.set_newest(name, value);
+        if self.named.set_newest(name, value) {
             return true;
         }
-        if has_in(&self.first, name) {
-            set_newest(&mut self.first, name, value);
-            return true;
-        }
-        false
+        set_newest(&mut self.first, name, value)
     }
 
     /// Adds a variable at the end. `OutOfMemory` where memory is refused; nothing has changed then.

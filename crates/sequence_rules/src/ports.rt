@@ -1,14 +1,5 @@
 //! The predefined variables that calls use.
 
-/// The place of `__dp` among the predefined variables.
-pub const DP_PLACE: usize = 2;
-
-/// The place of `__ap`.
-pub const AP_PLACE: usize = 3;
-
-/// The place of `__errorcontrol`.
-pub const CONTROL_PLACE: usize = 5;
-
 /// The predefined variables that calls use.
 #[derive(Clone, Copy, Debug)]
 pub struct Port {

@@ -9,4 +9,4 @@ pub returns-in-Some : goal.returns-in-Some
 returns-in-Some g c =
     sym (sym c.in-Some.ensures.value
     ∙ value_found (string_bytes c.in-Some.known.now) c.args.self.now.values.entries
-    ∙ ap (value_named (bindings_of c.args.self.now)) (sym c.as_str.ensures.value ∙ (bytes_eq-Decides c.as_str.result.now c.args.name.now).0 (sym c.is_same.ensures ∙ c.if-is_same.true)))
+    ∙ ap (value_named (bindings_of c.args.self.now)) (sym c.as_str.ensures.value ∙ sym ((bytes_eq-Decides c.args.name.now c.as_str.result.now).0 (sym c.same_name.ensures ∙ c.if-same_name.true))))
