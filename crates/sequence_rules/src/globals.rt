@@ -65,6 +65,7 @@ impl<V: Copy> Globals<V> {
     }
 
     // The value of the variable with the name, where it is one of the last eight.
+    #[inline(never)]
     fn last_value(&self, name: &str) -> Option<V>
         ensures { IfSome result (λ value. value_named (bindings_of self.now) name.now ≡ Some value) }
     {
@@ -80,6 +81,7 @@ impl<V: Copy> Globals<V> {
     }
 
     // The value of the variable with the name, found without a look at the others.
+    #[inline(never)]
     fn get_stored(&self, name: &str) -> Option<V>
         ensures { result ≡ value_named (bindings_of self.now) name.now }
     {
@@ -128,6 +130,7 @@ impl<V: Copy> Globals<V> {
     }
 
     // Gives the variable with the name this value; whether there is one.
+    #[inline(never)]
     fn assign(&mut self, name: &str, value: V) -> bool
         ensures found { result ≡ has_in (bindings_of self.old) name.now }
         ensures set { bindings_of self.new ≡ set_in (bindings_of self.old) name.now value }
