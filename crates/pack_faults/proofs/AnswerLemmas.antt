@@ -1,10 +1,11 @@
 -- Sets that are checked one after another, and that a pack has one answer.
-use Rattle.std.proofs.Common.{◌≡◌, ◌∙◌, ◌↔◌, ◌+◌, ◌<◌, Bool, false, cond, ◌||◌, List, [], ◌∷◌, ◌++◌, map, count_by, length, refl, ap, sym, subst, true≢false}
-use Rattle.std.specs.List.{All, list_any}
-use Rattle.std.proofs.lemmas.Option.{slice_get_within}
-use Rattle.std.proofs.lemmas.List.Elements.{All-weaker}
+use Rattle.std.proofs.Common.{◌≡◌, ◌∙◌, ◌↔◌, ℕ, zero, suc, ◌+◌, ◌<◌, Bool, false, cond, ◌||◌, List, [], ◌∷◌, ◌++◌, map, count_by, length, Some, Result, Ok, Err, IfOk, refl, ap, sym, subst, true≢false}
+use Rattle.std.specs.List.{All, list_any, slice_get}
+use Rattle.std.proofs.lemmas.Option.{same_Some, get_or_from_slice_get, slice_get_within}
+use Rattle.std.proofs.lemmas.List.Elements.{All-weaker, All-get_or}
 use Rattle.std.proofs.lemmas.List.{map-append, length-map}
 use Rattle.std.proofs.lemmas.List.Sums.{sum_by-cons}
+use Rattle.dap_base.specs.declared.text.OutOfMemory.{OutOfMemory}
 use Rattle.device_tree.specs.declared.pack.Pack.{Pack}
 use Rattle.sequence_resolve.specs.declared.entry.SeqSet.{SeqSet}
 use Rattle.sequence_resolve.proofs.OneSet.{one_set_along}
@@ -17,6 +18,7 @@ use Rattle.pack_faults.specs.declared.answer.Found.{Found}
 use Rattle.pack_faults.specs.declared.answer.PackFaults.{PackFaults}
 use Rattle.pack_faults.specs.declared.checking.Checking.{Checking}
 use Rattle.pack_faults.specs.declared.known.KnownSet.{KnownSet}
+use Rattle.pack_faults.specs.declared.lined.LinedSet.{LinedSet}
 use Rattle.pack_faults.specs.declared.sets.SetRef.{SetRef}
 use Rattle.pack_faults.specs.declared.sets.DeviceSets.{DeviceSets}
 use Rattle.pack_faults.specs.Sets.{SetAt, sets_of}
@@ -24,9 +26,11 @@ use Rattle.pack_faults.specs.Merged.{same_found, all_found, each_once, with_sets
 use Rattle.pack_faults.specs.Answers.{found_in, Checked, IsChecked, AreChecked, is_unread, is_unfinished, ArePackFaults, IsValidAt, AreValid}
 use Rattle.pack_faults.specs.Steps.{with_each, AreDone}
 use Rattle.pack_faults.specs.Known.{IsKnown}
+use Rattle.pack_faults.specs.Lined.{checked_view, checked_of, IsCheckedAt}
 use Rattle.pack_faults.specs.Shared.{IsFound, AreFine}
 use Rattle.pack_faults.specs.Views.{set_view}
 use Rattle.pack_faults.proofs.SameLemmas.{same_itself}
+use Rattle.pack_faults.proofs.SharedLemmas.{set_along_path}
 use Rattle.pack_faults.proofs.MergeLemmas.{merged_set, has-each_once}
 
 -- ---- one more set
@@ -55,20 +59,66 @@ done_one pack sets s c old new done is phases faults =
 
 -- ---- the sets that were found
 
-pub done_of : (pack : Pack) (f : DeviceSets) (known : List KnownSet) (sets : List SetRef) (checking : Checking) → known ≡ f.known → sets ≡ f.sets → AreFine pack f
-    → ((p : Pack) → All IsKnown known → All (IsFound p known) sets → AreDone p (map set_view sets) checking) → AreDone pack (map set_view f.sets) checking
-done_of pack f known sets checking same_known same_sets fine done =
-    let known_done = subst (λ (ks : List KnownSet). (p : Pack) → All IsKnown ks → All (IsFound p ks) sets → AreDone p (map set_view sets) checking) same_known done in
-    let all_done = subst (λ (ss : List SetRef). (p : Pack) → All IsKnown f.known → All (IsFound p f.known) ss → AreDone p (map set_view ss) checking) same_sets known_done in
-    all_done pack fine.known fine.found
+-- what was found in a known set stands at its number
+lined_at : (known : List KnownSet) (lined : List LinedSet) (n : ℕ) (k : KnownSet) → slice_get known n ≡ Some k → map checked_view lined ≡ map checked_of known
+    → (l : LinedSet) × (slice_get lined n ≡ Some l) × (checked_view l ≡ checked_of k)
+lined_at [] lined n k there e = absurd cc
+lined_at (x ∷ known) [] n k there e = absurd cc
+lined_at (x ∷ known) (l ∷ lined) zero k there e =
+    let first : checked_view l ≡ checked_of x = cc in
+    (l, refl, first ∙ ap checked_of (same_Some x k there))
+lined_at (x ∷ known) (l ∷ lined) (suc n) k there e =
+    let later : map checked_view lined ≡ map checked_of known = cc in
+    lined_at known lined n k there later
 
-pub numbers_within : (pack : Pack) (f : DeviceSets) (known : List KnownSet) (sets : List SetRef) → known ≡ f.known → sets ≡ f.sets → AreFine pack f
+known_at : (known : List KnownSet) (n : ℕ) (k : KnownSet) → All IsKnown known → slice_get known n ≡ Some k → IsKnown k
+known_at known n k all there =
+    subst IsKnown (get_or_from_slice_get known n k k there) (All-get_or IsKnown known n k (slice_get_within known n k there) all)
+
+-- so it is of each of these sets
+all_checked : (pack : Pack) (known : List KnownSet) (lined : List LinedSet) (sets : List SetRef) → map checked_view lined ≡ map checked_of known → All IsKnown known
+    → All (IsFound pack known) sets → All (IsCheckedAt pack lined) sets
+all_checked pack known lined sets views fine found = All-weaker (IsFound pack known) (IsCheckedAt pack lined) at sets found where
+  at : (s : SetRef) → IsFound pack known s → IsCheckedAt pack lined s
+  at s is =
+      let found_at = lined_at known lined s.number is.one is.there views in
+      let of_known : IsChecked pack (set_view s) (checked_of is.one) = record {
+        set = is.one.set;
+        is_set = set_along_path pack (set_view s).place (set_view s).variant (set_view s).pname is.one.set is.is;
+        faults = is.one.found;
+        are = (known_at known s.number is.one fine is.there).faults;
+        is = refl;
+      } in
+      record { one = found_at.0; there = found_at.1; is = subst (IsChecked pack (set_view s)) (sym found_at.2) of_known }
+
+pub numbers_within : (known : List KnownSet) (lined slice : List LinedSet) (sets : List SetRef) → map checked_view lined ≡ map checked_of known → slice ≡ lined
+    → All (λ (s : SetRef). s.number < length known) sets → All (λ (s : SetRef). s.number < length slice) sets
+numbers_within known lined slice sets views is within =
+    let size : length known ≡ length slice =
+    sym (ap length is ∙ sym (length-map lined checked_view) ∙ ap length views ∙ length-map known checked_of) in
+    subst (λ n. All (λ (s : SetRef). s.number < n) sets) size within
+
+pub done_of : (known : List KnownSet) (lined slice : List LinedSet) (sets : List SetRef) (made : Result Checking OutOfMemory) → map checked_view lined ≡ map checked_of known
+    → slice ≡ lined → All IsKnown known → IfOk made (λ checking. (p : Pack) → All (IsCheckedAt p slice) sets → AreDone p (map set_view sets) checking)
+    → IfOk made (λ checking. (p : Pack) → All (IsFound p known) sets → AreDone p (map set_view sets) checking)
+done_of known lined slice sets (Err e) views is fine done = tt
+done_of known lined slice sets (Ok checking) views is fine done = λ p found. done p (subst (λ (ls : List LinedSet). All (IsCheckedAt p ls) sets) (sym is) (all_checked p known lined sets views fine found))
+
+-- the sets that were found
+pub found_within : (pack : Pack) (f : DeviceSets) (known : List KnownSet) (sets : List SetRef) → known ≡ f.known → sets ≡ f.sets → AreFine pack f
     → All (λ (s : SetRef). s.number < length known) sets
-numbers_within pack f known sets same_known same_sets fine =
+found_within pack f known sets same_known same_sets fine =
     let own : All (λ (s : SetRef). s.number < length f.known) f.sets =
     All-weaker (IsFound pack f.known) (λ (s : SetRef). s.number < length f.known) (λ s is. slice_get_within f.known s.number is.one is.there) f.sets fine.found in
     let these : All (λ (s : SetRef). s.number < length f.known) sets = subst (λ (ss : List SetRef). All (λ (s : SetRef). s.number < length f.known) ss) (sym same_sets) own in
     subst (λ (ks : List KnownSet). All (λ (s : SetRef). s.number < length ks) sets) (sym same_known) these
+
+pub done_found : (pack : Pack) (f : DeviceSets) (known : List KnownSet) (sets : List SetRef) (checking : Checking) → known ≡ f.known → sets ≡ f.sets → AreFine pack f
+    → ((p : Pack) → All (IsFound p known) sets → AreDone p (map set_view sets) checking) → AreDone pack (map set_view f.sets) checking
+done_found pack f known sets checking same_known same_sets fine done =
+    let known_done = subst (λ (ks : List KnownSet). (p : Pack) → All (IsFound p ks) sets → AreDone p (map set_view sets) checking) same_known done in
+    let all_done = subst (λ (ss : List SetRef). (p : Pack) → All (IsFound p f.known) ss → AreDone p (map set_view ss) checking) same_sets known_done in
+    all_done pack fine.found
 
 -- ---- counts
 

@@ -11,14 +11,13 @@ use Rattle.std.proofs.lemmas.Map.Text.{is_eq-slice_cmp}
 use Rattle.std.proofs.lemmas.Slice.Eq.{bytes_eq-Decides}
 use Rattle.std.proofs.lemmas.Option.{same_Some}
 use Rattle.device_tree.specs.Same.{same_text}
-use Rattle.sequence_resolve.specs.declared.entry.SeqSet.{SeqSet}
-use Rattle.set_faults.specs.declared.site.Fault.{Fault}
 use Rattle.pack_faults.specs.declared.answer.Found.{Found}
 use Rattle.pack_faults.specs.declared.answer.PackFault.{PackFault}
 use Rattle.pack_faults.specs.declared.keys.FoundKey.{FoundKey}
+use Rattle.pack_faults.specs.declared.lined.LinedFault.{LinedFault}
 use Rattle.pack_faults.specs.Keys.{KeyView, same_view, found_view, key_view, key_cmp, place_in, Knows, noted_at}
 use Rattle.pack_faults.specs.Merged.{same_found}
-use Rattle.pack_faults.specs.Answers.{found_in}
+use Rattle.pack_faults.specs.Lined.{lined_view}
 use Rattle.pack_faults.specs.Steps.{noted, with_found, with_each}
 use Rattle.pack_faults.proofs.SameLemmas.{both, and_true, text_equal, text_itself, number_itself}
 
@@ -68,16 +67,16 @@ eq_then Less b = refl
 eq_then Equal b = refl
 eq_then Greater b = refl
 
-abbrev text_cmp : Bor (List ℕ) → Bor (List ℕ) → Ordering
+abbrev pub text_cmp : Bor (List ℕ) → Bor (List ℕ) → Ordering
 text_cmp x y = slice_cmp nat_cmp x.now y.now
 
-texts_tied : (a b : Option (Bor (List ℕ))) → is_eq (option_cmp text_cmp a b) ≡ same_text (option_map (λ w. w.now) a) (option_map (λ w. w.now) b)
+pub texts_tied : (a b : Option (Bor (List ℕ))) → is_eq (option_cmp text_cmp a b) ≡ same_text (option_map (λ w. w.now) a) (option_map (λ w. w.now) b)
 texts_tied None None = refl
 texts_tied None (Some y) = refl
 texts_tied (Some x) None = refl
 texts_tied (Some x) (Some y) = is_eq-slice_cmp x.now y.now
 
-same_bools : (a b : Bool) → (a ≡ true → b ≡ true) → (b ≡ true → a ≡ true) → a ≡ b
+pub same_bools : (a b : Bool) → (a ≡ true → b ≡ true) → (b ≡ true → a ≡ true) → a ≡ b
 same_bools true b there back = sym (there refl)
 same_bools false true there back = back refl
 same_bools false false there back = refl
@@ -110,7 +109,7 @@ and_of : (a b c d : Bool) → a ≡ c → b ≡ d → (a && b) ≡ (c && d)
 and_of a b c d p q = rw (p, q) refl
 
 -- one field, and those after it
-field : (a b : Ordering) (c d : Bool) → is_eq a ≡ c → is_eq b ≡ d → is_eq (ordering_then a b) ≡ (c && d)
+pub field : (a b : Ordering) (c d : Bool) → is_eq a ≡ c → is_eq b ≡ d → is_eq (ordering_then a b) ≡ (c && d)
 field a b c d p q = eq_then a b ∙ and_of (is_eq a) (is_eq b) c d p q
 
 pub key_tied : (p q : FoundKey) → is_eq (key_cmp p q) ≡ same_view (key_view p) (key_view q)
@@ -123,7 +122,7 @@ key_tied p q =
 
 -- ---- where a fault stands
 
-some_suc : (o : Option ℕ) (i : ℕ) → option_map (λ j. suc j) o ≡ Some i → (j : ℕ) × (o ≡ Some j) × (i ≡ suc j)
+pub some_suc : (o : Option ℕ) (i : ℕ) → option_map (λ j. suc j) o ≡ Some i → (j : ℕ) × (o ≡ Some j) × (i ≡ suc j)
 some_suc None i e = absurd cc
 some_suc (Some j) i e = (j, refl, sym (same_Some (suc j) i e))
 
@@ -131,11 +130,11 @@ none_suc : (o : Option ℕ) → option_map (λ j. suc j) o ≡ None → o ≡ No
 none_suc None e = refl
 none_suc (Some j) e = absurd cc
 
-nowhere : (b : Bool) (o : Option ℕ) → cond b (Some 0) (option_map (λ j. suc j) o) ≡ None → (b ≡ false) × (o ≡ None)
+pub nowhere : (b : Bool) (o : Option ℕ) → cond b (Some 0) (option_map (λ j. suc j) o) ≡ None → (b ≡ false) × (o ≡ None)
 nowhere true o e = absurd cc
 nowhere false o e = (refl, none_suc o e)
 
-within_at : (b : Bool) (o : Option ℕ) (n i : ℕ) → ((j : ℕ) → o ≡ Some j → j < n) → cond b (Some 0) (option_map (λ j. suc j) o) ≡ Some i → i < n + 1
+pub within_at : (b : Bool) (o : Option ℕ) (n i : ℕ) → ((j : ℕ) → o ≡ Some j → j < n) → cond b (Some 0) (option_map (λ j. suc j) o) ≡ Some i → i < n + 1
 within_at true o n i less e = let same : 0 ≡ i = same_Some 0 i e in omega arith
 within_at false None n i less e = absurd cc
 within_at false (Some j) n i less e =
@@ -225,8 +224,8 @@ noted_same faults i n now d sets lt at e =
       get_or-default (x ∷ xs) zero a b less = refl
       get_or-default (x ∷ xs) (suc j) a b less = get_or-default xs j a b (omega arith)
 
-pub each_next : (set : SeqSet) (n : ℕ) (faults : List Fault) (i : ℕ) (f : Fault) (list : List PackFault) → i < length faults → f ≡ get_or faults i f
-    → with_each n (map (found_in set) (drop i faults)) list ≡ with_each n (map (found_in set) (drop (i + 1) faults)) (with_found n (found_in set f) list)
-each_next set n faults i f list lt at =
-    let opened : drop i faults ≡ f ∷ drop (i + 1) faults = rw (add-one, drop-cons faults i f) (ap (λ y. y ∷ drop (suc i) faults) (sym at)) in
-    ap (λ fs. with_each n (map (found_in set) fs) list) opened
+pub each_next : (n : ℕ) (found : List LinedFault) (i : ℕ) (one : LinedFault) (list : List PackFault) → i < length found → one ≡ get_or found i one
+    → with_each n (map lined_view (drop i found)) list ≡ with_each n (map lined_view (drop (i + 1) found)) (with_found n (lined_view one) list)
+each_next n found i one list lt at =
+    let opened : drop i found ≡ one ∷ drop (i + 1) found = rw (add-one, drop-cons found i one) (ap (λ y. y ∷ drop (suc i) found) (sym at)) in
+    ap (λ fs. with_each n (map lined_view fs) list) opened

@@ -58,7 +58,7 @@ part_again parts.While = refl
 same_kind : (x y : FaultKind) → rank x == rank y ≡ true → x ≡ y
 same_kind x y e = sym (kind_again x) ∙ ap kind_at (eqb-true (rank x) (rank y) e) ∙ kind_again y
 
-same_part : (x y : Part) → part_number x == part_number y ≡ true → x ≡ y
+pub same_part : (x y : Part) → part_number x == part_number y ≡ true → x ≡ y
 same_part x y e = sym (part_again x) ∙ ap part_at (eqb-true (part_number x) (part_number y) e) ∙ part_again y
 
 -- ---- texts, places, spots

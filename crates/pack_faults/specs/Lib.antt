@@ -4,6 +4,8 @@ pub mod Merged
 pub mod Answers
 pub mod Equal
 pub mod Known
+pub mod Rests
+pub mod Lined
 pub mod Views
 pub mod Steps
 pub mod Shared

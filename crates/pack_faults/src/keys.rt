@@ -28,7 +28,8 @@ fn rank(kind: FaultKind) -> u8
     kind as u8
 }
 
-fn part_number(part: Part) -> u8
+/// A number for each part.
+pub fn part_number(part: Part) -> u8
     ensures { result ≡ part_number part }
 {
     part as u8

@@ -10,6 +10,7 @@ mod groups;
 mod keys;
 mod known;
 pub mod laws;
+mod lined;
 mod lines;
 mod merging;
 mod pnames;
@@ -21,7 +22,8 @@ mod texts;
 
 pub use answer::{Found, PackFault, PackFaults};
 pub use faults::pack_faults;
-pub use lines::line_of;
+pub use known::KnownSet;
+pub use lines::Lines;
 pub use refusals::requested_sets;
 pub use request::{PackRefusal, Request, SetName};
 pub use sets::{DeviceSets, SetRef};

@@ -1,11 +1,14 @@
 //! The line that a fault stands in.
-ghost use Rattle.std.specs.Prelude.{◌≡◌, ◌==◌, find, option_map};
-ghost use Rattle.std.specs.List.{before_first, after_first};
-ghost use Rattle.std.specs.Option.{option_copied, option_and_then};
+ghost use Rattle.std.specs.Prelude.{◌≡◌, ◌==◌, ◌-◌, true, None, Some, map, option_map, MatchOption};
+ghost use Rattle.std.specs.List.{before_first, after_first, IsDistinct};
+ghost use Rattle.std.specs.Option.{option_copied};
 ghost use Rattle.std.specs.Str.{bytes_eq};
-ghost use Rattle.pack_faults.specs.Lines.{line_after, part_text, text_along, text_in, line_of};
+ghost use Rattle.sequence_resolve.specs.declared.entry.SeqSet.{SeqSet};
+ghost use Rattle.pack_faults.specs.Lines.{part_text, text_along, line_of};
+ghost use Rattle.pack_faults.specs.Rests.{rest_after, rest_of, follows, from_named, AreLast, IsStart, AreLines};
 
-use crate::texts::text_of;
+use crate::keys::part_number;
+use crate::texts::{name_of, same_text};
 use dap_base::NameText;
 use device_tree::{Step, Steps};
 use sequence_resolve::{SeqEntry, SeqSet};
@@ -31,10 +34,10 @@ fn other_lines(text: &str) -> &str
     }
 }
 
-// The line after this many line feeds.
-#[tactic(auto, using(crate::proofs::LineLemmas::next_line, crate::proofs::LineLemmas::last_line))]
-fn line_after(text: &str, line_feeds: u64) -> &str
-    ensures { result.now ≡ line_after line_feeds text.now }
+// The text after this many line feeds; an empty one where it has fewer.
+#[tactic(auto, using(crate::proofs::LineLemmas::next_rest, crate::proofs::LineLemmas::last_rest))]
+fn rest_after(text: &str, line_feeds: u64) -> &str
+    ensures { result.now ≡ rest_after line_feeds text.now }
 {
     let mut rest = text;
     let mut left = line_feeds;
@@ -42,7 +45,7 @@ fn line_after(text: &str, line_feeds: u64) -> &str
         rest = other_lines(rest);
         left -= 1;
     }
-    first_line(rest)
+    rest
 }
 
 // The text of this part of a step.
@@ -71,35 +74,156 @@ fn text_along<'a>(part: Part, path: &[u64], steps: &'a Steps) -> Option<&'a Name
     }
 }
 
-fn entry_named<'a>(entries: &'a [SeqEntry], name: &str) -> Option<&'a SeqEntry>
-    ensures { option_copied result ≡ find (λ e. bytes_eq name.now e.name) entries.now }
+// The sequences from the first of this name on.
+fn from_named<'a>(sequences: &'a [SeqEntry], name: &str) -> Option<&'a [SeqEntry]>
+    ensures { option_map (λ w. w.now) result ≡ from_named name.now sequences.now }
 {
-    entries.iter().find(|entry| name == entry.name.as_str())
+    let mut rest = sequences;
+    while let [first, others @ ..] = rest {
+        if name == first.name.as_str() {
+            return Some(rest);
+        }
+        rest = others;
+    }
+    None
 }
 
-// The text of this part of a step of the set.
-fn text_in<'a>(
-    set: &'a SeqSet,
-    sequence: &Option<NameText>,
-    path: &[u64],
-    part: Part,
-) -> Option<&'a NameText>
-    ensures { option_copied result ≡ text_in set.now sequence.now path.now part }
+// The sequences of the set from the one of this name on, which is sought among the last ones first.
+fn sequences_from<'a>(set: &'a SeqSet, last: &'a [SeqEntry], name: &str) -> Option<&'a [SeqEntry]>
+    requires distinct { IsDistinct bytes_eq (map (λ e. e.name) set.now.entries) }
+    requires last { AreLast set.now last.now }
+    ensures { option_map (λ w. w.now) result ≡ from_named name.now set.now.entries }
 {
-    match sequence {
-        None => Some(&set.debugvars),
-        Some(name) => {
-            let entry = entry_named(set.entries.as_slice(), name.as_str())?;
-            text_along(part, path, entry.steps.as_steps())
-        }
+    match from_named(last, name) {
+        Some(found) => Some(found),
+        None => from_named(set.entries.as_slice(), name),
     }
 }
 
-/// The line of the place, lent without a copy. `None` where the part is no text.
-pub fn line_of<'a>(set: &'a SeqSet, spot: &Spot) -> Option<&'a str>
-    ensures { option_map (λ w. w.now) result ≡ line_of set.now spot.now }
+// How many line feeds of its text come before the place.
+fn feeds_before(spot: &Spot) -> u64
+    ensures { result ≡ spot.now.place.line - 1 }
 {
-    let text = text_in(set, &spot.sequence, spot.path.as_slice(), spot.part)?;
-    let line_feeds = spot.place.line.saturating_sub(1);
-    Some(line_after(text.as_str(), line_feeds))
+    spot.place.line.saturating_sub(1)
+}
+
+fn same_path(path: &[u64], other: &[u64]) -> bool
+    ensures { result ≡ bytes_eq path.now other.now }
+{
+    path == other
+}
+
+// Whether a place is in the text of the last one, in its line or a later one.
+fn follows(last: &Spot, spot: &Spot) -> bool
+    ensures { result ≡ follows last.now spot.now }
+{
+    same_text(name_of(&last.sequence), name_of(&spot.sequence))
+        && same_path(last.path.as_slice(), spot.path.as_slice())
+        && part_number(last.part) == part_number(spot.part)
+        && last.place.line <= spot.place.line
+}
+
+// Where the line of a place begins.
+#[derive(Clone, Copy)]
+struct LineStart<'a> {
+    spot: &'a Spot,
+    // The text from the line on.
+    rest: &'a str,
+    // The sequences from the one of the place on.
+    sequences: &'a [SeqEntry],
+}
+
+// Where the line of a place in the sequence of this name begins. The sequence is sought among the last ones first.
+fn start_in<'a>(
+    set: &'a SeqSet,
+    last: &'a [SeqEntry],
+    name: &str,
+    spot: &'a Spot,
+) -> Option<LineStart<'a>>
+    requires distinct { IsDistinct bytes_eq (map (λ e. e.name) set.now.entries) }
+    requires last { AreLast set.now last.now }
+    requires named { spot.now.sequence ≡ Some name.now }
+    ensures { MatchOption result (rest_of set.now spot.now ≡ None) (IsStart set.now spot.now) }
+{
+    let sequences = sequences_from(set, last, name)?;
+    let steps = sequences.first()?.steps.as_steps();
+    let text = text_along(spot.part, spot.path.as_slice(), steps)?;
+    let rest = rest_after(text.as_str(), feeds_before(spot));
+    Some(LineStart {
+        spot,
+        rest,
+        sequences,
+    })
+}
+
+// Where the line of a place begins.
+fn start_of<'a>(set: &'a SeqSet, last: &'a [SeqEntry], spot: &'a Spot) -> Option<LineStart<'a>>
+    requires distinct { IsDistinct bytes_eq (map (λ e. e.name) set.now.entries) }
+    requires last { AreLast set.now last.now }
+    ensures { MatchOption result (rest_of set.now spot.now ≡ None) (IsStart set.now spot.now) }
+{
+    match &spot.sequence {
+        None => Some(LineStart {
+            spot,
+            rest: rest_after(set.debugvars.as_str(), feeds_before(spot)),
+            sequences: last,
+        }),
+        Some(name) => start_in(set, last, name.as_str(), spot),
+    }
+}
+
+// Where the line of a place begins that follows the last one.
+fn start_after<'a>(last: LineStart<'a>, spot: &'a Spot) -> LineStart<'a>
+    requires { follows last.spot.now spot.now ≡ true }
+    ensures { (set : SeqSet) → IsStart set last.entry.spot.now last.entry → IsStart set spot.now result }
+{
+    let passed = feeds_before(spot) - feeds_before(last.spot);
+    LineStart {
+        spot,
+        rest: rest_after(last.rest, passed),
+        sequences: last.sequences,
+    }
+}
+
+/// The lines of places of a set. The line of a place that follows the last one in its text is sought from there on, and its sequence from
+/// the last one on.
+#[derive(Drop)]
+pub struct Lines<'a> {
+    set: &'a SeqSet,
+    last: Option<LineStart<'a>>,
+}
+
+impl<'a> Lines<'a> {
+    /// Those of this set, of which none was sought. The names of the set must be distinct, as those of a known set are.
+    pub fn new(set: &'a SeqSet) -> Lines<'a>
+        requires { IsDistinct bytes_eq (map (λ e. e.name) set.now.entries) }
+        ensures set { result.set.now ≡ set.now }
+        ensures fine { AreLines result }
+    {
+        Lines { set, last: None }
+    }
+
+    // Where the line of a place begins.
+    fn start_at(&self, spot: &'a Spot) -> Option<LineStart<'a>>
+        requires { AreLines self.now }
+        ensures { MatchOption result (rest_of self.now.set.now spot.now ≡ None) (IsStart self.now.set.now spot.now) }
+    {
+        match self.last {
+            Some(last) if follows(last.spot, spot) => Some(start_after(last, spot)),
+            Some(last) => start_of(self.set, last.sequences, spot),
+            None => start_of(self.set, self.set.entries.as_slice(), spot),
+        }
+    }
+
+    /// The line of the place, lent without a copy. `None` where the part is no text.
+    pub fn line_of(&mut self, spot: &'a Spot) -> Option<&'a str>
+        requires { AreLines self.old }
+        ensures line { option_map (λ w. w.now) result ≡ line_of self.old.set.now spot.now }
+        ensures set { self.new.set.now ≡ self.old.set.now }
+        ensures fine { AreLines self.new }
+    {
+        let start = self.start_at(spot)?;
+        self.last = Some(start);
+        Some(first_line(start.rest))
+    }
 }

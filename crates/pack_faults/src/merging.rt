@@ -4,16 +4,15 @@ ghost use Rattle.std.specs.Ordering.{is_eq};
 ghost use Rattle.std.specs.BTreeMap.{get};
 ghost use Rattle.pack_faults.specs.declared.answer.PackFault.{PackFault};
 ghost use Rattle.pack_faults.specs.declared.keys.FoundKey.{FoundKey};
-ghost use Rattle.pack_faults.specs.Answers.{found_in};
 ghost use Rattle.pack_faults.specs.Keys.{key_cmp, key_view, found_view, noted_at, Knows};
+ghost use Rattle.pack_faults.specs.Lined.{lined_view};
 ghost use Rattle.pack_faults.specs.Steps.{noted, with_found, with_each};
 
 use crate::answer::{Found, PackFault};
 use crate::keys::{FoundKey, key_of};
-use crate::lines::line_of;
+use crate::lined::LinedFault;
 use crate::texts::{copy_of, name_of};
 use dap_base::{ItemList, OutOfMemory};
-use sequence_resolve::SeqSet;
 use sequence_trees::{Spot, StepPath};
 use set_faults::Fault;
 use std::alloc::Global;
@@ -168,17 +167,16 @@ fn add_found<'k>(
 /// Adds the faults of the set with this number.
 pub fn add_faults<'k>(
     alloc: Global,
-    set: &'k SeqSet,
-    found: &'k [Fault],
+    found: &[LinedFault<'k>],
     number: usize,
     faults: &mut Faults<'k>,
 ) -> Result<(), OutOfMemory>
     requires { Knows faults.old.places faults.old.list.items }
-    ensures list { OnOk result (faults.new.list.items ≡ with_each number (map (found_in set.now) found.now) faults.old.list.items) }
+    ensures list { OnOk result (faults.new.list.items ≡ with_each number (map lined_view found.now) faults.old.list.items) }
     ensures knows { OnOk result (Knows faults.new.places faults.new.list.items) }
 {
-    for fault in found {
-        add_found(alloc, fault, line_of(set, &fault.spot), number, faults)?;
+    for one in found {
+        add_found(alloc, one.fault, one.line, number, faults)?;
     }
     Ok(())
 }

@@ -1,2 +1,2 @@
-pub mod MergeLemmas
+pub mod KeyLemmas
 pub mod SetLemmas

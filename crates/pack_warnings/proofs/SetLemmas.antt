@@ -1,21 +1,32 @@
 -- The warnings of sets, one set after another.
-use Rattle.std.proofs.Common.{◌≡◌, ◌∙◌, sym, ap, refl, ℕ, suc, ◌+◌, ◌<◌, List, [], ◌∷◌, ◌++◌, map, take, length, get_or, subst, Result, Ok, Err, IfOk, arith}
+use Rattle.std.proofs.Common.{◌≡◌, ◌∙◌, sym, ap, refl, ℕ, zero, suc, ◌+◌, ◌<◌, Some, List, [], ◌∷◌, ◌++◌, map, take, length, get_or, subst, Result, Ok, Err, IfOk, arith}
+use Rattle.std.specs.List.{All, slice_get}
+use Rattle.std.proofs.lemmas.Option.{same_Some, get_or_from_slice_get, slice_get_within}
+use Rattle.std.proofs.lemmas.List.Elements.{All-weaker, All-get_or}
 use Rattle.std.proofs.lemmas.List.{take_more, map-append, length-map, length-take-le}
+use Rattle.dap_base.specs.declared.text.OutOfMemory.{OutOfMemory}
 use Rattle.device_tree.specs.declared.pack.Pack.{Pack}
 use Rattle.sequence_resolve.specs.declared.entry.SeqSet.{SeqSet}
+use Rattle.sequence_resolve.specs.Resolving.{IsSetAlong}
 use Rattle.sequence_resolve.proofs.OneSet.{one_set_along}
 use Rattle.set_warnings.specs.declared.warning.Warning.{Warning}
 use Rattle.set_warnings.specs.Answers.{AreSetWarnings}
 use Rattle.set_warnings.proofs.SetLemmas as of_sets
 use Rattle.pack_faults.specs.declared.request.PackRefusal.{PackRefusal}
 use Rattle.pack_faults.specs.declared.request.Request.{Request}
+use Rattle.pack_faults.specs.declared.known.KnownSet.{KnownSet}
 use Rattle.pack_faults.specs.declared.sets.SetRef.{SetRef}
 use Rattle.pack_faults.specs.Sets.{SetAt, sets_of}
+use Rattle.pack_faults.specs.Shared.{IsFound}
 use Rattle.pack_faults.specs.Views.{set_view}
+use Rattle.pack_faults.proofs.SharedLemmas.{set_along_path}
 use Rattle.pack_warnings.specs.declared.answer.FoundWarning.{FoundWarning}
 use Rattle.pack_warnings.specs.declared.answer.PackWarning.{PackWarning}
+use Rattle.pack_warnings.specs.declared.lined.WarnedSet.{WarnedSet}
+use Rattle.pack_warnings.specs.declared.lined.LinedSet.{LinedSet}
 use Rattle.pack_warnings.specs.Merged.{with_each, with_sets, merged}
-use Rattle.pack_warnings.specs.Answers.{found_in, AreFound, AreFoundIn, ArePackWarnings, AreMerged, Adds}
+use Rattle.pack_warnings.specs.Answers.{found_in, AreFound, AreFoundIn, ArePackWarnings, AreMerged}
+use Rattle.pack_warnings.specs.Lined.{IsWarned, found_of, found_view, IsWarnedAt, IsFoundAt}
 
 with_sets-append : (number : ℕ) (lists : List (List FoundWarning)) (found : List FoundWarning) (warnings : List PackWarning)
     → with_sets number (lists ++ found ∷ []) warnings ≡ with_each (number + length lists) found (with_sets number lists warnings)
@@ -34,23 +45,110 @@ found-length : (pack : Pack) (sets : List SetAt) (lists : List (List FoundWarnin
 found-length pack [] lists are = ap length are
 found-length pack (t ∷ sets) lists are = ap length are.3 ∙ ap suc (found-length pack sets are.1 are.4)
 
-one_more : (pack : Pack) (sets : List SetAt) (s : SetAt) (number : ℕ) (old new : List PackWarning) → length sets ≡ number
-    → AreMerged pack sets old → Adds pack s number old new → AreMerged pack (sets ++ s ∷ []) new
-one_more pack sets s number old new size done adds =
+one_more : (pack : Pack) (sets : List SetAt) (s : SetAt) (number : ℕ) (found : List FoundWarning) (old new : List PackWarning) → length sets ≡ number
+    → AreMerged pack sets old → AreFound pack s found → new ≡ with_each number found old → AreMerged pack (sets ++ s ∷ []) new
+one_more pack sets s number found old new size done are is =
     let e : number ≡ 0 + length done.lists = omega (arith, size, found-length pack sets done.lists done.are) in
     record {
-      lists = done.lists ++ adds.found ∷ [];
-      are = found-append pack sets s done.lists adds.found done.are adds.are;
-      is = adds.is ∙ ap (λ ws. with_each number adds.found ws) done.is ∙ ap (λ n. with_each n adds.found (merged done.lists)) e ∙ sym (with_sets-append 0 done.lists adds.found []);
+      lists = done.lists ++ found ∷ [];
+      are = found-append pack sets s done.lists found done.are are;
+      is = is ∙ ap (λ ws. with_each number found ws) done.is ∙ ap (λ n. with_each n found (merged done.lists)) e ∙ sym (with_sets-append 0 done.lists found []);
     }
 
-pub merged_more : (pack : Pack) (xs : List SetRef) (i : ℕ) (x : SetRef) (old new : List PackWarning) → i < length xs → x ≡ get_or xs i x
-    → AreMerged pack (map set_view (take i xs)) old → Adds pack (set_view x) i old new → AreMerged pack (map set_view (take (i + 1) xs)) new
-merged_more pack xs i x old new h is done adds =
+pub merged_more : (pack : Pack) (xs : List SetRef) (i : ℕ) (x : SetRef) (found : List FoundWarning) (old new : List PackWarning) → i < length xs → x ≡ get_or xs i x
+    → AreMerged pack (map set_view (take i xs)) old → AreFound pack (set_view x) found → new ≡ with_each i found old → AreMerged pack (map set_view (take (i + 1) xs)) new
+merged_more pack xs i x found old new h at done are is =
     let size : length (map set_view (take i xs)) ≡ i = length-map (take i xs) set_view ∙ length-take-le i xs (omega (arith, h)) in
     let next : map set_view (take (i + 1) xs) ≡ map set_view (take i xs) ++ set_view (get_or xs i x) ∷ [] = ap (map set_view) (take_more xs i x h) ∙ map-append set_view (take i xs) (get_or xs i x ∷ []) in
-    let whole : map set_view (take i xs) ++ set_view x ∷ [] ≡ map set_view (take (i + 1) xs) = ap (λ (y : SetRef). map set_view (take i xs) ++ set_view y ∷ []) is ∙ sym next in
-    subst (λ (sets : List SetAt). AreMerged pack sets new) whole (one_more pack (map set_view (take i xs)) (set_view x) i old new size done adds)
+    let whole : map set_view (take i xs) ++ set_view x ∷ [] ≡ map set_view (take (i + 1) xs) = ap (λ (y : SetRef). map set_view (take i xs) ++ set_view y ∷ []) at ∙ sym next in
+    subst (λ (sets : List SetAt). AreMerged pack sets new) whole (one_more pack (map set_view (take i xs)) (set_view x) i found old new size done are is)
+
+-- ---- the sets that were found
+
+-- a known set stands at its number with its warnings
+warned_at : (known : List KnownSet) (warned : List WarnedSet) (n : ℕ) (k : KnownSet) → slice_get known n ≡ Some k → map (λ s. s.set.now) warned ≡ map (λ k. k.set) known
+    → (w : WarnedSet) × (slice_get warned n ≡ Some w) × (w.set.now ≡ k.set)
+warned_at [] warned n k there sets = absurd cc
+warned_at (x ∷ known) [] n k there sets = absurd cc
+warned_at (x ∷ known) (w ∷ warned) zero k there sets =
+    let set : w.set.now ≡ x.set = cc in
+    (w, refl, set ∙ ap (λ (y : KnownSet). y.set) (same_Some x k there))
+warned_at (x ∷ known) (w ∷ warned) (suc n) k there sets =
+    let later : map (λ (s : WarnedSet). s.set.now) warned ≡ map (λ (k : KnownSet). k.set) known = cc in
+    warned_at known warned n k there later
+
+-- its warnings stand there with their lines
+lined_at : (warned : List WarnedSet) (lined : List LinedSet) (n : ℕ) (w : WarnedSet) → slice_get warned n ≡ Some w → map found_view lined ≡ map found_of warned
+    → (l : LinedSet) × (slice_get lined n ≡ Some l) × (found_view l ≡ found_of w)
+lined_at [] lined n w there views = absurd cc
+lined_at (x ∷ warned) [] n w there views = absurd cc
+lined_at (x ∷ warned) (l ∷ lined) zero w there views =
+    let view : found_view l ≡ found_of x = cc in
+    (l, refl, view ∙ ap found_of (same_Some x w there))
+lined_at (x ∷ warned) (l ∷ lined) (suc n) w there views =
+    let later : map found_view lined ≡ map found_of warned = cc in
+    lined_at warned lined n w there later
+
+is_warned : (warned : List WarnedSet) (n : ℕ) (w : WarnedSet) → All IsWarned warned → slice_get warned n ≡ Some w → IsWarned w
+is_warned warned n w all there =
+    subst IsWarned (get_or_from_slice_get warned n w w there) (All-get_or IsWarned warned n w (slice_get_within warned n w there) all)
+
+all_found : (pack : Pack) (warned : List WarnedSet) (lined : List LinedSet) (sets : List SetRef) → All IsWarned warned → map found_view lined ≡ map found_of warned
+    → All (IsWarnedAt pack warned) sets → All (IsFoundAt pack lined) sets
+all_found pack warned lined sets all views are = All-weaker (IsWarnedAt pack warned) (IsFoundAt pack lined) at sets are where
+  at : (s : SetRef) → IsWarnedAt pack warned s → IsFoundAt pack lined s
+  at s is =
+      let found = lined_at warned lined s.number is.one is.there views in
+      let own : AreFound pack (set_view s) (found_of is.one) = record {
+        set = is.one.set.now;
+        is_set = is.is;
+        warnings = is.one.warnings;
+        are = (is_warned warned s.number is.one all is.there).warnings;
+        is = refl;
+      } in
+      record { one = found.0; there = found.1; is = subst (AreFound pack (set_view s)) (sym found.2) own }
+
+all_warned : (pack : Pack) (known : List KnownSet) (warned : List WarnedSet) (sets : List SetRef) → map (λ s. s.set.now) warned ≡ map (λ k. k.set) known
+    → All (IsFound pack known) sets → All (IsWarnedAt pack warned) sets
+all_warned pack known warned sets same are = All-weaker (IsFound pack known) (IsWarnedAt pack warned) at sets are where
+  at : (s : SetRef) → IsFound pack known s → IsWarnedAt pack warned s
+  at s is =
+      let found = warned_at known warned s.number is.one is.there same in
+      let along = set_along_path pack (set_view s).place (set_view s).variant (set_view s).pname is.one.set is.is in
+      record { one = found.0; there = found.1; is = subst (IsSetAlong pack (set_view s).place (set_view s).variant (set_view s).pname) (sym found.2) along }
+
+-- as many sets as before
+pub lined_within : (warned : List WarnedSet) (lined slice : List LinedSet) (sets : List SetRef) → map found_view lined ≡ map found_of warned → slice ≡ lined
+    → All (λ (s : SetRef). s.number < length warned) sets → All (λ (s : SetRef). s.number < length slice) sets
+lined_within warned lined slice sets views is within =
+    let size : length warned ≡ length slice =
+    sym (ap length is ∙ sym (length-map lined found_view) ∙ ap length views ∙ length-map warned found_of) in
+    subst (λ n. All (λ (s : SetRef). s.number < n) sets) size within
+
+pub warned_within : (known : List KnownSet) (warned slice : List WarnedSet) (sets : List SetRef) → map (λ s. s.set.now) warned ≡ map (λ k. k.set) known → slice ≡ warned
+    → All (λ (s : SetRef). s.number < length known) sets → All (λ (s : SetRef). s.number < length slice) sets
+warned_within known warned slice sets same is within =
+    let size : length known ≡ length slice =
+    sym (ap length is ∙ sym (length-map warned (λ (s : WarnedSet). s.set.now)) ∙ ap length same ∙ length-map known (λ (k : KnownSet). k.set)) in
+    subst (λ n. All (λ (s : SetRef). s.number < n) sets) size within
+
+-- the list of the warnings of warned sets, and of known ones
+pub list_of_warned : (warned : List WarnedSet) (lined slice : List LinedSet) (sets : List SetRef) (items : List PackWarning) (made : Result (List PackWarning) OutOfMemory)
+    → All IsWarned warned → map found_view lined ≡ map found_of warned → slice ≡ lined → IfOk made (λ list. list ≡ items)
+    → ((pack : Pack) → All (IsFoundAt pack slice) sets → AreMerged pack (map set_view sets) items)
+    → IfOk made (λ list. (pack : Pack) → All (IsWarnedAt pack warned) sets → AreMerged pack (map set_view sets) list)
+list_of_warned warned lined slice sets items (Err e) all views is same merged = tt
+list_of_warned warned lined slice sets items (Ok list) all views is same merged = λ pack are.
+    subst (λ (ws : List PackWarning). AreMerged pack (map set_view sets) ws) (sym same)
+    (merged pack (subst (λ (ls : List LinedSet). All (IsFoundAt pack ls) sets) (sym is) (all_found pack warned lined sets all views are)))
+
+pub list_of_known : (known : List KnownSet) (warned slice : List WarnedSet) (sets : List SetRef) (made : Result (List PackWarning) OutOfMemory)
+    → map (λ s. s.set.now) warned ≡ map (λ k. k.set) known → slice ≡ warned
+    → IfOk made (λ list. (pack : Pack) → All (IsWarnedAt pack slice) sets → AreMerged pack (map set_view sets) list)
+    → IfOk made (λ list. (pack : Pack) → All (IsFound pack known) sets → AreMerged pack (map set_view sets) list)
+list_of_known known warned slice sets (Err e) same is merged = tt
+list_of_known known warned slice sets (Ok list) same is merged = λ pack are.
+    merged pack (subst (λ (ws : List WarnedSet). All (IsWarnedAt pack ws) sets) (sym is) (all_warned pack known warned sets same are))
 
 -- ---- one list
 

@@ -1,5 +1,5 @@
 -- All warnings of a pack.
-use Rattle.std.specs.Prelude.{◌≡◌, ℕ, List, [], ◌∷◌, map}
+use Rattle.std.specs.Prelude.{◌≡◌, List, [], ◌∷◌, map}
 use Rattle.device_tree.specs.declared.pack.Pack.{Pack}
 use Rattle.sequence_resolve.specs.declared.entry.SeqSet.{SeqSet}
 use Rattle.sequence_resolve.specs.Resolving.{IsSetAlong}
@@ -10,7 +10,7 @@ use Rattle.pack_faults.specs.Sets.{SetAt, sets_of}
 use Rattle.pack_faults.specs.Lines.{line_of}
 use Rattle.pack_warnings.specs.declared.answer.FoundWarning.{FoundWarning}
 use Rattle.pack_warnings.specs.declared.answer.PackWarning.{PackWarning}
-use Rattle.pack_warnings.specs.Merged.{with_each, merged}
+use Rattle.pack_warnings.specs.Merged.{merged}
 
 -- a warning of a set, with its line
 abbrev pub found_in : SeqSet → Warning → FoundWarning
@@ -43,9 +43,3 @@ pub record AreMerged (pack : Pack) (sets : List SetAt) (warnings : List PackWarn
   pub lists : List (List FoundWarning)
   pub are : AreFoundIn pack sets lists
   pub is : warnings ≡ merged lists
-
--- the warnings, and those of one more set, which has this number
-pub record Adds (pack : Pack) (s : SetAt) (number : ℕ) (old new : List PackWarning) : Type 0 where
-  pub found : List FoundWarning
-  pub are : AreFound pack s found
-  pub is : new ≡ with_each number found old

@@ -1,2 +1,4 @@
 pub mod Merged
 pub mod Answers
+pub mod Keys
+pub mod Lined

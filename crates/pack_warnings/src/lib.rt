@@ -2,9 +2,10 @@
 #![tactic(auto)]
 
 mod answer;
+mod keys;
 pub mod laws;
+mod lined;
 mod merging;
-mod same;
 mod texts;
 mod warnings;
 

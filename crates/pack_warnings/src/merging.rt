@@ -1,18 +1,43 @@
 //! The warnings of one set after another, each once.
-ghost use Rattle.std.specs.Prelude.{◌≡◌, ◌<◌, ◌∷◌, ◌++◌, [], IfOk, OnOk, IfSome, option_map, map, position, length};
+ghost use Rattle.std.specs.Prelude.{◌≡◌, ◌<◌, ◌∷◌, ◌++◌, [], None, Some, IfOk, OnOk, option_map, map, length, if◌then◌else◌};
+ghost use Rattle.std.specs.Ordering.{is_eq};
+ghost use Rattle.std.specs.BTreeMap.{get};
 ghost use Rattle.pack_faults.specs.Steps.{noted};
-ghost use Rattle.pack_warnings.specs.Merged.{same_warning, with_warning, with_each};
-ghost use Rattle.pack_warnings.specs.Answers.{found_in};
+ghost use Rattle.pack_warnings.specs.declared.answer.PackWarning.{PackWarning};
+ghost use Rattle.pack_warnings.specs.declared.keys.WarningKey.{WarningKey};
+ghost use Rattle.pack_warnings.specs.Keys.{key_cmp, key_view, found_view, noted_at, Knows};
+ghost use Rattle.pack_warnings.specs.Lined.{lined_view};
+ghost use Rattle.pack_warnings.specs.Merged.{with_warning, with_each};
 
 use crate::answer::{FoundWarning, PackWarning};
-use crate::same::is_same;
+use crate::keys::{WarningKey, key_of};
+use crate::lined::LinedWarning;
 use crate::texts::{copy_of, copy_path, name_of};
 use dap_base::{ItemList, OutOfMemory};
-use pack_faults::line_of;
-use sequence_resolve::SeqSet;
 use sequence_trees::Spot;
 use set_warnings::Warning;
 use std::alloc::Global;
+use std::collections::BTreeMap;
+
+/// Warnings that were found, each once, and the place of each in the list.
+#[derive(Drop)]
+pub struct Warnings<'k> {
+    pub list: Vec<PackWarning>,
+    pub places: BTreeMap<WarningKey<'k>, usize>,
+}
+
+impl<'k> Warnings<'k> {
+    /// No warnings.
+    pub fn new(alloc: Global) -> Warnings<'k>
+        ensures list { result.list.items ≡ [] }
+        ensures knows { Knows result.places result.list.items }
+    {
+        Warnings {
+            list: Vec::new(alloc),
+            places: BTreeMap::new(alloc),
+        }
+    }
+}
 
 fn copy_warning(alloc: Global, warning: &Warning) -> Result<Warning, OutOfMemory>
     ensures { IfOk result (λ copy. copy ≡ warning.now) }
@@ -30,16 +55,6 @@ fn copy_warning(alloc: Global, warning: &Warning) -> Result<Warning, OutOfMemory
     })
 }
 
-// Where it stands among those that were found.
-fn place_of(warnings: &[PackWarning], warning: &Warning, line: Option<&str>) -> Option<usize>
-    ensures place { result ≡ position (λ p. same_warning (record { warning = warning.now; line = option_map (λ w. w.now) line.entry }) p.found) warnings.now }
-    ensures within { IfSome result (λ place. place < length warnings.now) }
-{
-    warnings
-        .iter()
-        .position(|p| is_same(warning, line, &p.found))
-}
-
 // Adds the number of a set unless it is the last.
 fn note(sets: &mut ItemList<usize>, number: usize) -> Result<(), OutOfMemory>
     ensures { OnOk result (sets.new ≡ noted number sets.old) }
@@ -50,15 +65,44 @@ fn note(sets: &mut ItemList<usize>, number: usize) -> Result<(), OutOfMemory>
     }
 }
 
-// Adds the first of its kind.
+// Adds the number of a set at this place of the list.
+fn note_at(list: &mut Vec<PackWarning>, place: usize, number: usize) -> Result<(), OutOfMemory>
+    requires { place < length list.old.items }
+    ensures { OnOk result ((other : PackWarning) → list.new.items ≡ noted_at number list.old.items place other) }
+{
+    note(&mut list[place].sets, number)
+}
+
+fn place_of<'k>(places: &BTreeMap<WarningKey<'k>, usize>, key: &WarningKey<'k>) -> Option<usize>
+    ensures { result ≡ get key_cmp places.now key.now }
+{
+    places.get(key).copied()
+}
+
+// Notes the place of a key.
+fn note_place<'k>(
+    places: &mut BTreeMap<WarningKey<'k>, usize>,
+    key: WarningKey<'k>,
+    place: usize,
+) -> Result<(), OutOfMemory>
+    ensures { OnOk result ((other : WarningKey) → get key_cmp places.new other
+        ≡ (if is_eq (key_cmp key.entry other) then Some place else get key_cmp places.old other)) }
+{
+    if places.insert(key, place).is_err() {
+        return Err(OutOfMemory);
+    }
+    Ok(())
+}
+
+// Adds the first of its kind to the list.
 fn push_found(
     alloc: Global,
     warning: &Warning,
     line: Option<&str>,
     number: usize,
-    warnings: &mut Vec<PackWarning>,
+    list: &mut Vec<PackWarning>,
 ) -> Result<(), OutOfMemory>
-    ensures { OnOk result (warnings.new.items ≡ warnings.old.items
+    ensures { OnOk result (list.new.items ≡ list.old.items
         ++ record { found = record { warning = warning.now; line = option_map (λ w. w.now) line.entry }; sets = number ∷ [] } ∷ []) }
 {
     let found = FoundWarning {
@@ -67,58 +111,75 @@ fn push_found(
     };
     let mut sets = ItemList::new(alloc);
     sets.push(number)?;
-    warnings
-        .push(PackWarning { found, sets })
+    list.push(PackWarning { found, sets })
         .map_err(|_| OutOfMemory)
 }
 
-// Adds a warning of the set with this number.
-fn add_found(
+// Adds the first of its kind, which has this key.
+fn add_first<'k>(
     alloc: Global,
-    warning: &Warning,
-    line: Option<&str>,
+    warning: &'k Warning,
+    line: Option<&'k str>,
+    key: WarningKey<'k>,
     number: usize,
-    warnings: &mut Vec<PackWarning>,
+    warnings: &mut Warnings<'k>,
 ) -> Result<(), OutOfMemory>
-    ensures { OnOk result (warnings.new.items ≡ with_warning number (record { warning = warning.now; line = option_map (λ w. w.now) line.entry }) warnings.old.items) }
+    requires key { key_view key ≡ found_view (record { warning = warning.now; line = option_map (λ w. w.now) line }) }
+    requires first { get key_cmp warnings.old.places key ≡ None }
+    requires knows { Knows warnings.old.places warnings.old.list.items }
+    ensures list { OnOk result (warnings.new.list.items
+        ≡ with_warning number (record { warning = warning.now; line = option_map (λ w. w.now) line.entry }) warnings.old.list.items) }
+    ensures knows { OnOk result (Knows warnings.new.places warnings.new.list.items) }
 {
-    match place_of(warnings.as_slice(), warning, line) {
-        Some(place) => note(&mut warnings[place].sets, number),
-        None => push_found(alloc, warning, line, number, warnings),
+    let place = warnings.list.len();
+    note_place(&mut warnings.places, key, place)?;
+    push_found(alloc, warning, line, number, &mut warnings.list)
+}
+
+// Adds a warning of the set with this number.
+fn add_found<'k>(
+    alloc: Global,
+    warning: &'k Warning,
+    line: Option<&'k str>,
+    number: usize,
+    warnings: &mut Warnings<'k>,
+) -> Result<(), OutOfMemory>
+    requires { Knows warnings.old.places warnings.old.list.items }
+    ensures list { OnOk result (warnings.new.list.items
+        ≡ with_warning number (record { warning = warning.now; line = option_map (λ w. w.now) line.entry }) warnings.old.list.items) }
+    ensures knows { OnOk result (Knows warnings.new.places warnings.new.list.items) }
+{
+    let key = key_of(warning, line);
+    match place_of(&warnings.places, &key) {
+        Some(place) => note_at(&mut warnings.list, place, number),
+        None => add_first(alloc, warning, line, key, number, warnings),
     }
 }
 
 /// Adds the warnings of the set with this number.
-pub fn add_warnings(
+pub fn add_warnings<'k>(
     alloc: Global,
-    set: &SeqSet,
-    found: &[Warning],
+    found: &[LinedWarning<'k>],
     number: usize,
-    warnings: &mut Vec<PackWarning>,
+    warnings: &mut Warnings<'k>,
 ) -> Result<(), OutOfMemory>
-    ensures { OnOk result (warnings.new.items ≡ with_each number (map (found_in set.now) found.now) warnings.old.items) }
+    requires { Knows warnings.old.places warnings.old.list.items }
+    ensures list { OnOk result (warnings.new.list.items ≡ with_each number (map lined_view found.now) warnings.old.list.items) }
+    ensures knows { OnOk result (Knows warnings.new.places warnings.new.list.items) }
 {
-    for warning in found {
-        add_found(
-            alloc,
-            warning,
-            line_of(set, &warning.spot),
-            number,
-            warnings,
-        )?;
+    for one in found {
+        add_found(alloc, one.warning, one.line, number, warnings)?;
     }
     Ok(())
 }
 
 /// The warnings as a list.
-pub fn list_of(
-    alloc: Global,
-    warnings: Vec<PackWarning>,
-) -> Result<ItemList<PackWarning>, OutOfMemory>
-    ensures { IfOk result (λ list. list ≡ warnings.items) }
+pub fn list_of(alloc: Global, warnings: Warnings) -> Result<ItemList<PackWarning>, OutOfMemory>
+    ensures { IfOk result (λ list. list ≡ warnings.entry.list.items) }
 {
-    let mut list = ItemList::with_room(alloc, warnings.len())?;
-    for warning in warnings {
+    let found = warnings.list;
+    let mut list = ItemList::with_room(alloc, found.len())?;
+    for warning in found {
         list.push(warning)?;
     }
     Ok(list)

@@ -15,16 +15,6 @@ pub fn name_of(name: &Option<NameText>) -> Option<&str>
     }
 }
 
-/// The name as a text.
-pub fn text_of(name: Option<&NameText>) -> Option<&str>
-    ensures { option_map (λ w. w.now) result ≡ option_map (λ w. w.now) name.entry }
-{
-    match name {
-        Some(name) => Some(name.as_str()),
-        None => None,
-    }
-}
-
 /// A copy of the text.
 pub fn copy_of(alloc: Global, text: Option<&str>) -> Result<Option<NameText>, OutOfMemory>
     ensures { IfOk result (λ copy. copy ≡ option_map (λ w. w.now) text.entry) }

@@ -1,55 +1,67 @@
 //! All warnings of a pack.
-ghost use Rattle.std.specs.Prelude.{◌≡◌, ◌⊎◌, IfOk, IfErr, OnOk, Some, map};
-ghost use Rattle.std.specs.List.{IsDistinct};
-ghost use Rattle.std.specs.Str.{bytes_eq};
-ghost use Rattle.sequence_resolve.specs.Resolving.{IsSetAlong};
+ghost use Rattle.std.specs.Prelude.{◌≡◌, ◌⊎◌, ◌<◌, IfOk, IfErr, Some, map, length};
+ghost use Rattle.std.specs.List.{All};
+ghost use Rattle.device_tree.specs.declared.pack.Pack.{Pack};
 ghost use Rattle.pack_faults.specs.declared.request.PackRefusal.TheVariants as refusals;
+ghost use Rattle.pack_faults.specs.Known.{IsKnown};
 ghost use Rattle.pack_faults.specs.Sets.{refusal};
+ghost use Rattle.pack_faults.specs.Shared.{IsFound};
 ghost use Rattle.pack_faults.specs.Views.{set_view};
-ghost use Rattle.pack_warnings.specs.Answers.{ArePackWarnings, AreMerged, Adds};
+ghost use Rattle.pack_warnings.specs.Answers.{ArePackWarnings, AreMerged};
+ghost use Rattle.pack_warnings.specs.Lined.{IsWarned, IsWarnedAt, IsFoundAt};
 
 use crate::answer::PackWarning;
-use crate::merging::{add_warnings, list_of};
-use crate::texts::text_of;
+use crate::lined::{LinedSet, WarnedSet, lined_sets, warned_sets};
+use crate::merging::{Warnings, add_warnings, list_of};
 use dap_base::{ItemList, OutOfMemory};
 use device_tree::Pack;
-use pack_faults::{PackRefusal, Request, SetRef, requested_sets};
-use sequence_resolve::{SeqSet, set_along};
-use set_warnings::set_warnings;
+use pack_faults::{KnownSet, PackRefusal, Request, SetRef, requested_sets};
 use std::alloc::Global;
 
-// The set of this device, variant and processor.
-fn set_of(alloc: Global, pack: &Pack, at: &SetRef) -> Result<SeqSet, OutOfMemory>
-    ensures set { IfOk result (IsSetAlong pack.now (set_view at.now).place (set_view at.now).variant (set_view at.now).pname) }
-    ensures distinct { IfOk result (λ set. IsDistinct bytes_eq (map (λ e. e.name) set.entries)) }
-{
-    set_along(alloc, pack, &at.place, at.variant, text_of(at.pname))
-}
-
-// Adds the warnings of one more set, which has this number.
-fn add_set(
+// The warnings of these sets. Those that were found in each stand at its number.
+fn warnings_in<'w>(
     alloc: Global,
-    pack: &Pack,
-    at: &SetRef,
-    number: usize,
-    warnings: &mut Vec<PackWarning>,
-) -> Result<(), OutOfMemory>
-    ensures { OnOk result (Adds pack.now (set_view at.now) number warnings.old.items warnings.new.items) }
+    found: &[LinedSet<'w>],
+    sets: &[SetRef],
+) -> Result<Warnings<'w>, OutOfMemory>
+    requires { All (λ s. s.number < length found.now) sets.now }
+    ensures { IfOk result (λ warnings. (pack : Pack) → All (IsFoundAt pack found.now) sets.now → AreMerged pack (map set_view sets.now) warnings.list.items) }
 {
-    let set = set_of(alloc, pack, at)?;
-    let found = set_warnings(alloc, &set)?;
-    add_warnings(alloc, &set, found.as_slice(), number, warnings)
-}
-
-// The warnings of these sets.
-fn warnings_in(alloc: Global, pack: &Pack, sets: &[SetRef]) -> Result<Vec<PackWarning>, OutOfMemory>
-    ensures { IfOk result (λ warnings. AreMerged pack.now (map set_view sets.now) warnings.items) }
-{
-    let mut warnings = Vec::new(alloc);
+    let mut warnings = Warnings::new(alloc);
     for (number, at) in sets.iter().enumerate() {
-        add_set(alloc, pack, at, number, &mut warnings)?;
+        let warned = &found[at.number];
+        add_warnings(alloc, warned.warnings.as_slice(), number, &mut warnings)?;
     }
     Ok(warnings)
+}
+
+// The same as a list, from the warnings of the sets that were checked. Each of these sets is one of those, by its number.
+fn list_from(
+    alloc: Global,
+    warned: &[WarnedSet],
+    sets: &[SetRef],
+) -> Result<ItemList<PackWarning>, OutOfMemory>
+    requires warned { All IsWarned warned.now }
+    requires within { All (λ s. s.number < length warned.now) sets.now }
+    ensures { IfOk result (λ list. (pack : Pack) → All (IsWarnedAt pack warned.now) sets.now → AreMerged pack (map set_view sets.now) list) }
+{
+    let lined = lined_sets(alloc, warned)?;
+    let warnings = warnings_in(alloc, lined.as_slice(), sets)?;
+    list_of(alloc, warnings)
+}
+
+// The warnings of these sets, each of which is one of those that were checked, by its number.
+fn warnings_of_sets(
+    alloc: Global,
+    known: &[KnownSet],
+    sets: &[SetRef],
+) -> Result<ItemList<PackWarning>, OutOfMemory>
+    requires known { All IsKnown known.now }
+    requires within { All (λ s. s.number < length known.now) sets.now }
+    ensures { IfOk result (λ list. (pack : Pack) → All (IsFound pack known.now) sets.now → AreMerged pack (map set_view sets.now) list) }
+{
+    let warned = warned_sets(alloc, known)?;
+    list_from(alloc, warned.as_slice(), sets)
 }
 
 fn list_in(
@@ -61,8 +73,7 @@ fn list_in(
     ensures answer_fault { IfErr result (λ e. (e ≡ refusals.OutOfMemory) ⊎ (refusal pack.now request.now ≡ Some e)) }
 {
     let found = requested_sets(alloc, pack, request)?;
-    let warnings = warnings_in(alloc, pack, found.sets.as_slice())?;
-    Ok(list_of(alloc, warnings)?)
+    Ok(warnings_of_sets(alloc, found.known.as_slice(), found.sets.as_slice())?)
 }
 
 /// All warnings of the sets of a pack that are requested, as `pack_faults::pack_faults` takes them. The order is that of the

@@ -1,7 +1,13 @@
 use Rattle.std.proofs.Common.{◌≡◌, drop, map}
-use Rattle.pack_warnings.specs.Answers.{found_in}
+use Rattle.pack_warnings.specs.Lined.{lined_view}
+use Rattle.pack_warnings.specs.Keys.{Knows}
 use Rattle.pack_warnings.specs.Merged.{with_each}
 use Rattle.pack_warnings.proofs.merging.add_warnings.Given as goal
 
-abbrev pub invariant-loop-warning : goal.invariant-loop-warning
-invariant-loop-warning l = with_each l.number (map (found_in l.set) (drop l.warning-index l.found)) l.warnings.items ≡ with_each l.number (map (found_in l.set) l.found) l.fn.warnings.items
+abbrev pub invariant-loop-one : goal.invariant-loop-one
+invariant-loop-one l = record {
+  list :
+      with_each l.number (map lined_view (drop l.one-index l.found)) l.warnings.list.items
+      ≡ with_each l.number (map lined_view l.found) l.fn.warnings.list.items;
+  knows : Knows l.warnings.places l.warnings.list.items;
+}

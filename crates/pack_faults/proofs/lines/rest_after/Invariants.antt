@@ -1,11 +1,11 @@
 use Rattle.std.proofs.Common.{◌≡◌}
 use denote.Shadow.{shadow}
 use denote.Text.{Utf8}
-use Rattle.pack_faults.specs.Lines.{line_after}
-use Rattle.pack_faults.proofs.lines.line_after.Given as goal
+use Rattle.pack_faults.specs.Rests.{rest_after}
+use Rattle.pack_faults.proofs.lines.rest_after.Given as goal
 
 abbrev pub invariant-loop-left : goal.invariant-loop-left
-invariant-loop-left l = (line_after l.left l.rest ≡ line_after l.fn.line_feeds l.fn.text) × shadow (Utf8 l.rest)
+invariant-loop-left l = (rest_after l.left l.rest ≡ rest_after l.fn.line_feeds l.fn.text) × shadow (Utf8 l.rest)
 
 abbrev pub decreases-loop-left : goal.decreases-loop-left
 decreases-loop-left l = l.left

@@ -1,0 +1,51 @@
+//! What distinguishes warnings, as a key of a map.
+ghost use Rattle.std.specs.Prelude.{◌≡◌, option_map};
+ghost use Rattle.pack_faults.specs.Merged.{part_number};
+ghost use Rattle.pack_warnings.specs.Keys.{key_view, found_view};
+ghost use Rattle.pack_warnings.specs.Merged.{kind_number};
+
+use crate::texts::name_of;
+use sequence_trees::Part;
+use set_warnings::{Warning, WarningKind};
+
+/// A warning and its line, lent: two keys are equal exactly where the warnings are the same. The numbers come first, so that few
+/// texts are compared.
+#[derive(PartialEq, Eq, PartialOrd, Ord, Drop)]
+pub struct WarningKey<'k> {
+    kind: u8,
+    line: u64,
+    column: u64,
+    part: u8,
+    sequence: Option<&'k str>,
+    path: &'k [u64],
+    name: Option<&'k str>,
+    text: Option<&'k str>,
+}
+
+fn kind_number(kind: WarningKind) -> u8
+    ensures { result ≡ kind_number kind }
+{
+    kind as u8
+}
+
+fn part_number(part: Part) -> u8
+    ensures { result ≡ part_number part }
+{
+    part as u8
+}
+
+/// The key of a warning in this line.
+pub fn key_of<'k>(warning: &'k Warning, line: Option<&'k str>) -> WarningKey<'k>
+    ensures { key_view result ≡ found_view (record { warning = warning.now; line = option_map (λ w. w.now) line.entry }) }
+{
+    WarningKey {
+        kind: kind_number(warning.kind),
+        line: warning.spot.place.line,
+        column: warning.spot.place.column,
+        part: part_number(warning.spot.part),
+        sequence: name_of(&warning.spot.sequence),
+        path: warning.spot.path.as_slice(),
+        name: name_of(&warning.name),
+        text: line,
+    }
+}
