@@ -1,5 +1,5 @@
 -- What is so between two calls, and in the middle of one.
-use Rattle.std.proofs.Common.{◌≡◌, ◌⊎◌, inl, inr, ◌∙◌, ℕ, suc, ◌+◌, ◌<◌, ◌≤◌, Bool, true, false, cond, List, [], ◌∷◌, ◌++◌, length, take, get_or, Option, Some, None, refl, sym, ap, subst, arith, append-nil}
+use Rattle.std.proofs.Common.{◌≡◌, ◌⊎◌, inl, inr, ◌∙◌, ℕ, ◌+◌, ◌<◌, ◌≤◌, Bool, true, false, cond, List, [], ◌∷◌, ◌++◌, length, take, get_or, Option, Some, None, refl, sym, ap, subst, arith, append-nil}
 use Rattle.std.proofs.Math.Seq.{take-length}
 use Rattle.std.proofs.lemmas.Bool.{cases_lt}
 use Rattle.std.proofs.lemmas.List.{get_or-take, get_or_past, length-take-le}
@@ -10,7 +10,7 @@ use Rattle.probe_core.specs.Bench.{Reported as BenchReported}
 use Rattle.probe_core.specs.Probe.{target_of}
 use Rattle.target_calls.specs.Asks.{is_settled}
 use Rattle.target_calls.specs.Journal.{Entry, Passes, actions_in}
-use Rattle.target_calls.specs.World.{AtLeast, World, done_now, end_result, next_world, results, stop, stops_here}
+use Rattle.target_calls.specs.World.{AtLeast, results, stop}
 use Rattle.target_calls.specs.declared.calls.Ask.{Ask}
 use Rattle.access_regs.specs.Entries.{kept_by}
 use Rattle.access_regs.specs.Journal.{issued, making}
@@ -26,7 +26,7 @@ use Rattle.access_calls.specs.declared.stop.Stop.TheVariants as stops
 use Rattle.access_calls.specs.declared.stop.StopCause.{StopCause}
 use Rattle.access_calls.specs.declared.stop.StopCause.TheVariants.{Faulted, NoAnswer}
 use Rattle.flight_laws.specs.Ending.{IsEnded, StopsBy}
-use Rattle.flight_laws.proofs.EndLemmas.{begun_came}
+use Rattle.flight_laws.proofs.EndLemmas.{begun_came, results_few}
 use Rattle.packed_access.specs.Begun.{HasBegun, HasEnded, HasIssued, IsIssuing, IsOpenAt, IsSince, StopsThere}
 use Rattle.packed_access.specs.Logs.{LogState, all_confirmed, all_taken, reported_by, result_at}
 use Rattle.packed_access.specs.Stands.{is_begun}
@@ -126,14 +126,6 @@ stops_flushed p bench state log sent got kept accesses m0 n lines s h none some 
     not_settled stops.OutOfMemory some = tt
 
 -- ---- results
-
-results_few : (w : World) (calls : List Ask) → length (results w calls) ≤ length calls
-results_few w [] = omega arith
-results_few w (ask ∷ calls) = by_here (stops_here w ask) (results_few (next_world w ask) calls)
-  where
-    by_here : (b : Bool) → length (results (next_world w ask) calls) ≤ length calls → length (cond b [] (end_result (done_now w ask).end ∷ results (next_world w ask) calls)) ≤ suc (length calls)
-    by_here true le = omega arith
-    by_here false le = omega (arith, le)
 
 -- a result that is known is that of its call, in each world that is left; and there is none past the calls
 pub known_result : (p : Planner) (bench : BenchReported) (state : Option BenchState) (log : LogState) (sent got : List ℕ) (kept : Kept) (accesses : List RegAccess) (m0 : BenchState) (n : Option ℕ) (index : ℕ) → HasBegun p bench state log sent got kept accesses m0 →

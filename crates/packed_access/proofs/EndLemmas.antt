@@ -69,7 +69,7 @@ module _ (p : Planner) (bench : BenchReported) (state : Option BenchState) (sent
     few : r.accesses ≤ length log.entries
     few =
         let part_is = broke.performed in
-        let most = broke.flies.made.most in
+        let most = broke.flies.does.made.most in
         let l = flight_length h.flying accesses h.sending.on.flight in
         let n = h.count in
         omega (arith, accesses_are, part_is, most, l, n)
@@ -103,7 +103,7 @@ module _ (p : Planner) (bench : BenchReported) (state : Option BenchState) (sent
       subst (λ (n : ℕ). IsEnded p (stop.BenchFault n log.confirmed) (reported_by bench state (record log { end = Some (stop.BenchFault n log.confirmed) }) sent got) (take log.known log.results) m0 o) h.count
       (flight_fails p log.confirmed log.came h.flying rest accesses (take log.known log.results) m0 m o broke.part
       (reported_by bench state (record log { end = Some (stop.BenchFault (log.confirmed + length h.flying) log.confirmed) }) sent got)
-      h.sending broke.either broke.never held (record { end = refl; came = refl }))
+      h.sending broke.either broke.idle_cycles broke.never held (record { end = refl; came = refl }))
 
 -- ---- any end
 

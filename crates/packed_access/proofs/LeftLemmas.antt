@@ -48,18 +48,20 @@ fewer_broken limits entries many confirmed fewer b m le both h = record {
   begun = h.begun;
   count_is = h.count_is;
   no_more = h.no_more;
+  up_to = h.up_to;
   low = (let l = h.low in omega (arith, l, le));
   high = h.high;
   within = h.within;
   together = both;
   good = h.good;
+  idle_cycles = h.idle_cycles;
   target = h.target;
 }
 
 fewer_stand : (limits : Limits) (asks : List Ask) (came : ℕ) (entries : List Entry) (many confirmed fewer : ℕ) (b : Beginning) (m : BenchState) → fewer ≤ confirmed → AreTogether limits (drop fewer (take many entries)) → IfSome (slice_get entries fewer) (IsAfter came)
     → IsBenchFault limits asks came entries many confirmed b m → IsBenchFault limits asks came entries many fewer b m
 unfolding fewer_broken
-fewer_stand limits asks came entries many confirmed fewer b m le both later h = record { broken = fewer_broken limits entries many confirmed fewer b m le both h.broken; later = later; own = h.own }
+fewer_stand limits asks came entries many confirmed fewer b m le both later h = record { broken = fewer_broken limits entries many confirmed fewer b m le both h.broken; asked = h.asked; later = later; own = h.own }
 
 fewer_confirmed : (p : Planner) (bench : BenchReported) (state : Option BenchState) (sent got : List ℕ) (log : LogState) (many confirmed fewer : ℕ) (came : List ℕ) (m0 o : BenchState) → fewer ≤ confirmed → AreTogether bench.limits (drop fewer (take many (issued p (target_of m0.probe) log.calls))) →
     IfSome (slice_get (issued p (target_of m0.probe) log.calls) fewer) (IsAfter log.came) →
@@ -105,7 +107,7 @@ module _ (p : Planner) (bench : BenchReported) (state : Option BenchState) (sent
     }
 
     pub poll_cut : EndsCut p r b log.came (take log.known log.results) m0 o
-    poll_cut = poll_ends p log.confirmed log.came e rest (take log.known log.results) m0 m o w.work r b rest_is (w.work_is counts) w.less w.target (w.retries (let f = rest_is.on.few in let r = rest_is.on.retries in omega (arith, f, r))) w.over w.number w.pending cause
+    poll_cut = poll_ends p log.confirmed log.came e rest (take log.known log.results) m0 m o w.work r b rest_is (w.work_is counts) w.less w.target w.idle_cycles (w.retries (let f = rest_is.on.few in let r = rest_is.on.retries in omega (arith, f, r))) w.over w.number w.pending cause
         (let n = none.0 in omega (arith, accesses_are, n)) (let n = none.1 in omega (arith, confirmed_are, n)) cut_off
 
   -- the bench failed
@@ -115,7 +117,7 @@ module _ (p : Planner) (bench : BenchReported) (state : Option BenchState) (sent
   pub less_done : DidLess e.action m o → IsEnded p (stop.BenchFault (log.confirmed + 1) log.confirmed) (reported_by bench state (record (with_entry log (kept_of e)) { end = Some (stop.BenchFault (log.confirmed + 1) log.confirmed) }) sent got) (take log.known log.results) m0 o
   less_done d = action_fails p log.confirmed log.came e rest (take log.known log.results) m0 m o d.work
       (reported_by bench state (record (with_entry log (kept_of e)) { end = Some (stop.BenchFault (log.confirmed + 1) log.confirmed) }) sent got)
-      rest_is (d.work_is counts) d.less d.target (record { end = refl; came = refl })
+      rest_is (d.work_is counts) d.less d.target d.idle_cycles (record { end = refl; came = refl })
 
   unforgiven : is_fault (acted (target_of m.probe) e.action).outcome ≡ false → is_unforgiven (target_of m.probe) e ≡ false
   unforgiven good = and_first (is_fault (acted (target_of m.probe) e.action).outcome) (not e.forgiving) good
@@ -144,7 +146,7 @@ module _ (p : Planner) (bench : BenchReported) (state : Option BenchState) (sent
       (subst (λ (n : ℕ). IsEnded p (stop.BenchFault n (log.confirmed + 1)) (reported_by bench state (record (with_entry log (kept_of e)) { end = Some (stop.BenchFault n (log.confirmed + 1)) }) sent got) (take log.known log.results) m0 o) more
       (flight_fails p (log.confirmed + 1) log.came [] rest [] (take log.known log.results) m0 o o nothing
       (reported_by bench state (record (with_entry log (kept_of e)) { end = Some (stop.BenchFault ((log.confirmed + 1) + 0) (log.confirmed + 1)) }) sent got)
-      sent_is (inl refl) never_good (omega arith) (record { end = refl; came = refl })))
+      sent_is (inl refl) refl never_good (omega arith) (record { end = refl; came = refl })))
 
 -- ---- any end
 

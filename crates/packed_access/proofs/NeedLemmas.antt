@@ -44,8 +44,8 @@ issuing_needs p log accesses rest m0 m needs fence room h = record {
 }
 
 cut_needs : (cause : StopCause) (entries : List Entry) (r : Report) (a : AccessView) (needs fence : ℕ) (b : Beginning) (m : BenchState) → IsCutBy cause entries r a b m → IsCutBy cause entries r (record a { asks = record a.asks { needs = needs; fence = fence } }) b m
-cut_needs Faulted entries r a needs fence b m h = record { performed = h.performed; first = h.first; confirmed = h.confirmed; up_to = h.up_to; numbers = h.numbers; retries = h.retries }
-cut_needs NoAnswer entries r a needs fence b m h = record { performed = h.performed; confirmed = h.confirmed; up_to = h.up_to; numbers = h.numbers; retries = h.retries; over = h.over; number = h.number }
+cut_needs Faulted entries r a needs fence b m h = record { performed = h.performed; first = h.first; confirmed = h.confirmed; up_to = h.up_to; numbers = h.numbers; retries = h.retries; idle_cycles = h.idle_cycles }
+cut_needs NoAnswer entries r a needs fence b m h = record { performed = h.performed; confirmed = h.confirmed; up_to = h.up_to; numbers = h.numbers; retries = h.retries; idle_cycles = h.idle_cycles; over = h.over; number = h.number }
 
 stands_needs : (s : Stop) (entries : List Entry) (a : AccessView) (needs fence : ℕ) (b : Beginning) (m : BenchState) → StandsAt (Some s) entries a b m → StandsAt (Some s) entries (record a { asks = record a.asks { needs = needs; fence = fence } }) b m
 stands_needs (stops.Cut r) entries a needs fence b m h = record { stands = cut_needs r.cause entries r a needs fence b m h.stands; own = h.own; memory = h.memory }

@@ -54,6 +54,7 @@ issuing_at p config m o b h =
           retries = ended;
           few = (let r = b.retries in omega (arith, r, ended));
           setting = ap (λ (e : ExecutorState). e.transfers.setting) h.executor;
+          idle_cycles = ap (λ (e : ExecutorState). e.idle) h.executor;
           number = (let n = ap (λ (e : ExecutorState). e.transfers.line.number) h.executor in omega (arith, n));
         };
         confirmed_is = refl;

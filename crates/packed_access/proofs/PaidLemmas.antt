@@ -182,13 +182,13 @@ sparing_refused p limits bench state log new sent got kept accesses m0 h is = re
 -- ---- where the access begins
 
 pub sparing_begins : (p : Planner) (config : Config) (x y : Option BenchState) (limits : Limits) (bench : BenchReported) (log : LogState) (sent got : List ℕ) (kept : Kept) (accesses : List RegAccess) → log ≡ nothing_logged → StepsTo (λ m o. MayBegin m → HasBegun p bench y log sent got kept accesses (opened_bench config m)) x y →
-    StepsTo (λ m o. MayBegin m → HasPaid p limits bench.limits y log 0 (opened_bench config m)) x y → StepsTo (λ m o. MayBegin m → HasBegunSet config.retry p limits bench y log sent got kept accesses (opened_bench config m)) x y
+    StepsTo (λ m o. MayBegin m → HasPaid p limits bench.limits y log 0 (opened_bench config m)) x y → StepsTo (λ m o. MayBegin m → HasBegunSet config.idle config.retry p limits bench y log sent got kept accesses (opened_bench config m)) x y
 sparing_begins p config x y limits bench log sent got kept accesses none h part_is = by_states x y h part_is
   where
     zero_left : left_of log ≡ 0
     zero_left = ap left_of none
 
-    by_states : (a b : Option BenchState) → StepsTo (λ m o. MayBegin m → HasBegun p bench y log sent got kept accesses (opened_bench config m)) a b → StepsTo (λ m o. MayBegin m → HasPaid p limits bench.limits y log 0 (opened_bench config m)) a b → StepsTo (λ m o. MayBegin m → HasBegunSet config.retry p limits bench y log sent got kept accesses (opened_bench config m)) a b
+    by_states : (a b : Option BenchState) → StepsTo (λ m o. MayBegin m → HasBegun p bench y log sent got kept accesses (opened_bench config m)) a b → StepsTo (λ m o. MayBegin m → HasPaid p limits bench.limits y log 0 (opened_bench config m)) a b → StepsTo (λ m o. MayBegin m → HasBegunSet config.idle config.retry p limits bench y log sent got kept accesses (opened_bench config m)) a b
     by_states None None h part_is = tt
     by_states None (Some o) h part_is = absurd h
     by_states (Some m) None h part_is = absurd h
@@ -198,5 +198,5 @@ sparing_begins p config x y limits bench log sent got kept accesses none h part_
         paid = λ open_. subst (λ (n : ℕ). HasPaid p limits bench.limits y log n (opened_bench config m)) (sym zero_left) (part_is may);
         needed = λ open_. subst (λ (l : LogState). AreNeeded p (target_of m.probe) (asks_of l)) (sym none) (record { so = omega arith });
       };
-      set = refl;
+      set = record { idle_is = refl; retry_is = refl };
     }

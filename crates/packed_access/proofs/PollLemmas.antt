@@ -6,8 +6,7 @@ use Rattle.std.proofs.lemmas.Nat.{and_assoc}
 use Rattle.std.specs.Prelude.{bit_and, is_some, slice_get}
 use Rattle.target_machine.specs.Attempt.{Attempt, attempt, bank}
 use Rattle.dap_transfer.specs.State.{Setting}
-use Rattle.access_calls.specs.Standing.{setting_of}
-use Rattle.bench_flights.specs.Flown.{CanMatch}
+use Rattle.bench_flights.specs.Flown.{CanMatch, IsSetTo}
 use Rattle.target_machine.specs.declared.access.Outcome.{Outcome}
 use Rattle.target_machine.specs.declared.access.Outcome.TheVariants.{Value, Done, Fault}
 use Rattle.target_machine.specs.Plain.{Action, Polled, Polls, call_done, dp_read_of, looked, polled, result_of}
@@ -180,14 +179,14 @@ fact_with None y Q P A h s f = absurd h
 fact_with (Some m) None Q P A h s f = absurd s
 fact_with (Some m) (Some o) Q P A h s f = f m o h s
 
-module _ (p : Planner) (x y : Option BenchState) (log : LogState) (kept : Kept) (calls : List Ask) (ask : Ask) (mask requested turns retry : ℕ) (m0 : BenchState) (h : HasPoll p x log kept calls ask mask requested turns retry m0) (zero_is : Bool) where
+module _ (p : Planner) (x y : Option BenchState) (log : LogState) (kept : Kept) (calls : List Ask) (ask : Ask) (mask requested turns idle retry : ℕ) (m0 : BenchState) (h : HasPoll p x log kept calls ask mask requested turns idle retry m0) (zero_is : Bool) where
   -- what is so where DPBANKSEL is 0 is so
-  pub poll_steps : (zero_is ≡ true → bank_zero kept ≡ true) → (R : BenchState → BenchState → Type 0) → StepsTo (λ m o. CanFly m → (zero_is ≡ true → CanMatch retry m) → R m o) x y → StepsTo (λ m o. CanFly m → R m o) x y
+  pub poll_steps : (zero_is ≡ true → bank_zero kept ≡ true) → (R : BenchState → BenchState → Type 0) → StepsTo (λ m o. CanFly m → (zero_is ≡ true → CanMatch idle retry m) → R m o) x y → StepsTo (λ m o. CanFly m → R m o) x y
   poll_steps by R s =
-      step_with x y (λ m. IsIssuing p log [] (entry_of calls (Polls mask requested turns) ∷ []) m0 m) (λ m o. CanFly m → (zero_is ≡ true → CanMatch retry m) → R m o) (λ m o. CanFly m → R m o) h.issued.so s
+      step_with x y (λ m. IsIssuing p log [] (entry_of calls (Polls mask requested turns) ∷ []) m0 m) (λ m o. CanFly m → (zero_is ≡ true → CanMatch idle retry m) → R m o) (λ m o. CanFly m → R m o) h.issued.so s
       (λ m o i part_is fly. part_is fly (λ is. record {
         bank_zero = bank_there p log kept calls ask mask requested turns m0 m i h.are h.call h.unmarked h.kept_is (by is);
-        retry_is = ap (λ (s : Setting). s.retry) i.sending.on.setting ∙ h.set;
+        set = record { idle_is = i.sending.on.idle_cycles ∙ h.set.idle_is; retry_is = ap (λ (s : Setting). s.retry) i.sending.on.setting ∙ h.set.retry_is };
       }))
 
   pub poll_points : zero_is ≡ bank_zero kept → (points : ℕ) → StepsTo (λ m o. CanFly m → points ≡ 1 + cond zero_is (portions turns) (polled turns mask requested (target_of m.probe)).reads) x y → points ≡ poll_cost kept (target_by p (target_of m0.probe) calls) mask requested turns
@@ -217,9 +216,9 @@ poll_needs p t calls ask mask requested turns found points count needs fence log
 -- ---- between two calls
 
 -- all that was asked before is sent
-pub asked_poll : (p : Planner) (x y : Option BenchState) (log mid : LogState) (accesses : List RegAccess) (kept kept' : Kept) (calls : List Ask) (ask : Ask) (mask requested turns retry : ℕ) (m0 : BenchState) → (setting_of m0).retry ≡ retry → ask.call ≡ Access (unit.Poll mask requested turns) → HasAsked p x log accesses kept calls ask m0 →
-    HasIssued p y mid [] (own_entries p (target_of m0.probe) calls kept ask) m0 → mid.calls ≡ log.calls → kept' ≡ kept → HasPoll p y mid kept' calls ask mask requested turns retry m0
-asked_poll p x y log mid accesses kept kept' calls ask mask requested turns retry m0 set call h there same kept_is = record {
+pub asked_poll : (p : Planner) (x y : Option BenchState) (log mid : LogState) (accesses : List RegAccess) (kept kept' : Kept) (calls : List Ask) (ask : Ask) (mask requested turns idle retry : ℕ) (m0 : BenchState) → IsSetTo idle retry m0 → ask.call ≡ Access (unit.Poll mask requested turns) → HasAsked p x log accesses kept calls ask m0 →
+    HasIssued p y mid [] (own_entries p (target_of m0.probe) calls kept ask) m0 → mid.calls ≡ log.calls → kept' ≡ kept → HasPoll p y mid kept' calls ask mask requested turns idle retry m0
+asked_poll p x y log mid accesses kept kept' calls ask mask requested turns idle retry m0 set call h there same kept_is = record {
   are = same ∙ h.are;
   call = call;
   unmarked = h.unmarked;
@@ -229,9 +228,9 @@ asked_poll p x y log mid accesses kept kept' calls ask mask requested turns retr
 }
 
 -- the poll is made
-pub begun_polled : (p : Planner) (bench : BenchReported) (x y : Option BenchState) (log new : LogState) (sent got : List ℕ) (kept kept' : Kept) (accesses : List RegAccess) (calls : List Ask) (ask : Ask) (mask requested turns retry : ℕ) (m0 : BenchState) → HasPoll p x log kept calls ask mask requested turns retry m0 →
+pub begun_polled : (p : Planner) (bench : BenchReported) (x y : Option BenchState) (log new : LogState) (sent got : List ℕ) (kept kept' : Kept) (accesses : List RegAccess) (calls : List Ask) (ask : Ask) (mask requested turns idle retry : ℕ) (m0 : BenchState) → HasPoll p x log kept calls ask mask requested turns idle retry m0 →
     HasIssued p y new [] [] m0 → new.calls ≡ log.calls → new.end ≡ None → new.whole ≡ length new.calls → kept' ≡ kept → accesses ≡ [] → HasBegun p bench y new sent got kept' accesses m0
-begun_polled p bench x y log new sent got kept kept' accesses calls ask mask requested turns retry m0 h there same none whole kept_is empty =
+begun_polled p bench x y log new sent got kept kept' accesses calls ask mask requested turns idle retry m0 h there same none whole kept_is empty =
     subst (λ (xs : List RegAccess). HasBegun p bench y new sent got kept' xs m0) (sym empty)
     (issued_begun p bench y new sent got kept' [] m0 there none whole
     (ap (kept_by p (target_of m0.probe)) (same ∙ h.are) ∙ (journal_grows p (target_of m0.probe) calls ask h.unmarked).1

@@ -261,15 +261,15 @@ has_commanded p x y limits given limits' given' log new accesses rest call point
     has_cost p x y limits given limits' given' log new accesses rest points (command_cost call) m0 i h (command_some call) (steps_map _ _ (λ m o f flies. f flies.in_range) x y sent) calls more same there
 
 -- a poll by value matches
-pub polled_few : (x y : Option BenchState) (retry : ℕ) (zero_is : Bool) (turns points : ℕ) → zero_is ≡ true → points ≡ 1 + portions turns → StepsTo (λ m o. CanFly m → CanMatch retry m → SendsFew (portions turns) m o) x y →
-    StepsTo (λ m o. CanFly m → (zero_is ≡ true → CanMatch retry m) → SendsFew (points - 1) m o) x y
-polled_few x y retry zero_is turns points zeroed is h =
+pub polled_few : (x y : Option BenchState) (idle retry : ℕ) (zero_is : Bool) (turns points : ℕ) → zero_is ≡ true → points ≡ 1 + portions turns → StepsTo (λ m o. CanFly m → CanMatch idle retry m → SendsFew (portions turns) m o) x y →
+    StepsTo (λ m o. CanFly m → (zero_is ≡ true → CanMatch idle retry m) → SendsFew (points - 1) m o) x y
+polled_few x y idle retry zero_is turns points zeroed is h =
     let less : portions turns ≡ points - 1 = omega (arith, is) in
     steps_map _ _ (λ m o f flies zeros. subst (λ (n : ℕ). SendsFew n m o) less (f flies (zeros zeroed))) x y h
 
-pub polled_by_matches : (P : BenchState → BenchState → Type 0) (x y : Option BenchState) (retry : ℕ) (zero_is : Bool) → zero_is ≡ true → StepsTo (λ m o. CanFly m → CanMatch retry m → P m o) x y →
-    StepsTo (λ m o. CanFly m → (zero_is ≡ true → CanMatch retry m) → P m o) x y
-polled_by_matches P x y retry zero_is zeroed h = steps_map _ _ (λ m o f flies zeros. f flies (zeros zeroed)) x y h
+pub polled_by_matches : (P : BenchState → BenchState → Type 0) (x y : Option BenchState) (idle retry : ℕ) (zero_is : Bool) → zero_is ≡ true → StepsTo (λ m o. CanFly m → CanMatch idle retry m → P m o) x y →
+    StepsTo (λ m o. CanFly m → (zero_is ≡ true → CanMatch idle retry m) → P m o) x y
+polled_by_matches P x y idle retry zero_is zeroed h = steps_map _ _ (λ m o f flies zeros. f flies (zeros zeroed)) x y h
 
 -- ---- units that are made alone
 

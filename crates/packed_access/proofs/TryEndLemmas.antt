@@ -1,5 +1,5 @@
 -- How a flight of a unit that forgives a fault ends the access.
-use Rattle.std.proofs.Common.{◌≡◌, ◌⊎◌, inl, inr, ◌∙◌, ℕ, ◌+◌, ◌-◌, ◌^◌, ◌<◌, ◌≤◌, Bool, true, false, eqb, List, [], ◌∷◌, ◌++◌, length, slice_get, take, drop, IfSome, Option, Some, refl, sym, ap, subst, arith, append_assoc, length-append}
+use Rattle.std.proofs.Common.{◌≡◌, ◌⊎◌, inl, inr, ◌∙◌, ℕ, ◌+◌, ◌-◌, ◌^◌, ◌<◌, ◌≤◌, Bool, true, false, eqb, List, [], ◌∷◌, ◌++◌, length, slice_get, take, drop, IfSome, Option, None, Some, refl, sym, ap, subst, arith, append_assoc, length-append}
 use Rattle.target_machine.specs.Plain.{Action, Commands, forgives}
 use Rattle.target_machine.specs.State.{Agree, TargetState}
 use Rattle.target_machine.specs.declared.access.RegAccess.{RegAccess}
@@ -10,7 +10,7 @@ use Rattle.probe_core.specs.Bench.{BenchState}
 use Rattle.probe_core.specs.Bench.{Reported as BenchReported}
 use Rattle.probe_core.specs.Probe.{target_of, work_of}
 use Rattle.target_calls.specs.Journal.{Entry, Passes, target_after}
-use Rattle.target_calls.specs.Weights.{performed}
+use Rattle.target_calls.specs.Weights.{performed, weight_in}
 use Rattle.target_calls.specs.World.{results}
 use Rattle.access_regs.specs.Journal.{issued}
 use Rattle.access_regs.proofs.Seams.{passes_both}
@@ -19,7 +19,7 @@ use Rattle.access_calls.specs.Growing.{IsAfter}
 use Rattle.access_calls.specs.Issued.{AreKeptOf}
 use Rattle.access_calls.specs.Numbers.{HasNumbers}
 use Rattle.access_calls.specs.Reported.{AccessView, began, world_from}
-use Rattle.access_calls.specs.Standing.{AreTogether, HasPerformed, IsPart, flight_accesses}
+use Rattle.access_calls.specs.Standing.{AreTogether, HasPerformed, IsPart, flight_accesses, idle_cycles_of}
 use Rattle.access_calls.specs.declared.issued.Issued.{Issued}
 use Rattle.access_calls.specs.declared.stop.Report.{Report}
 use Rattle.access_calls.specs.declared.stop.Stop.{Stop}
@@ -32,9 +32,9 @@ use Rattle.batch_packer.specs.declared.ends.FlightEnd.TheVariants as ends
 use Rattle.flight_laws.specs.Ending.{EndsCut, IsCutOff, IsEnded, IsStrictAt, response_of_cause}
 use Rattle.batch_packer.specs.Flying.{Flies}
 use Rattle.flight_laws.specs.Sending.{IsSending}
-use Rattle.flight_laws.proofs.CutLemmas.{front_length, front_target, has_at, has_part, passes_but_last, split as cut_split, take_front}
+use Rattle.flight_laws.proofs.CutLemmas.{front_length, front_target, has_at, has_part, passes_but_last, split as cut_split, take_front, work_up_to}
 use Rattle.flight_laws.proofs.ActionLemmas.{all_performed, between, forgiving_passes}
-use Rattle.flight_laws.proofs.EndLemmas.{bench_fault, flight_ends, flight_fails, later_at}
+use Rattle.flight_laws.proofs.EndLemmas.{bench_fault, calls_have_come, flight_ends, flight_fails, later_at}
 use Rattle.flight_laws.proofs.FlightLemmas.{flight_length}
 use Rattle.bench_flights.specs.Clearing.{ClearedOff, is_fault_end}
 use Rattle.bench_flights.specs.Flown.{BrokeOff, DidLess, HasDone, IsCutResponse, MayHaveFlown, WasCut}
@@ -72,7 +72,7 @@ module _ (p : Planner) (forgive : Bool) (bench : BenchReported) (state : Option 
     b = reported_by bench state (record log1 { end = Some (stop.Cut r); came = lines; lines = lines; skipped = skipped }) sent got
 
     few : r.accesses ≤ length entries
-    few = (let part_is = broke.performed in let most = broke.flies.made.most in let l = flight_length flying accesses s.on.flight in omega (arith, accesses_are, part_is, most, l, count))
+    few = (let part_is = broke.performed in let most = broke.flies.does.made.most in let l = flight_length flying accesses s.on.flight in omega (arith, accesses_are, part_is, most, l, count))
 
     cut_off : IsCutOff p r b m0
     cut_off = record {
@@ -90,7 +90,7 @@ module _ (p : Planner) (forgive : Bool) (bench : BenchReported) (state : Option 
       subst (λ (n : ℕ). IsEnded p (stop.BenchFault n log.confirmed) (reported_by bench state (record log1 { end = Some (stop.BenchFault n log.confirmed) }) sent got) (take log.known log.results) m0 o) count
       (flight_fails p log.confirmed log.came flying more accesses (take log.known log.results) m0 m o broke.part
       (reported_by bench state (record log1 { end = Some (stop.BenchFault (log.confirmed + length flying) log.confirmed) }) sent got)
-      s broke.either broke.never held (record { end = refl; came = refl }))
+      s broke.either broke.idle_cycles broke.never held (record { end = refl; came = refl }))
 
   pub not_forgiven : length accesses ≤ flight_accesses bench.limits → (end : FlightEnd) (z : Stop) (new : LogState) → BrokeOff end accesses m o → (is_fault_end end ≡ false) ⊎ AreStrict flying → IsCutResponse end → IsStopped end log1 new z → IsBrokenOff p z (reported_by bench state new sent got) new log.calls m0 o
   not_forgiven held (ends.Cut cut) (stop.Cut r) new broke not either is =
@@ -156,20 +156,26 @@ module _ (p : Planner) (forgive : Bool) (bench : BenchReported) (state : Option 
       (let l = length-append s.made fly in let c = s.confirmed_is in omega (arith, l, c, sure_is))
       (passes_both (target_of m0.probe) s.made fly s.on.passes forgiven) (λ k low cut. s.lines k (omega (arith, low, sure_is)) cut)
 
+  asked_came : log.came ≤ length log.calls
+  asked_came = calls_have_come p log.calls log.confirmed log.came fly (ab ∷ []) (leads ++ last ∷ []) (take log.known log.results) m0 m s
+
   -- so far it was performed
-  performed_ends : (many sure : ℕ) → many ≡ log.confirmed + length fly + 1 → sure ≡ log.confirmed + length fly → (count : ℕ) → log.confirmed + length fly ≤ count → count ≤ log.confirmed + length fly + 1 → ((w : Option ℕ) → HasPerformed journal count (began m0 w) q) → (entries : List Issued) →
+  performed_ends : (many sure : ℕ) → many ≡ log.confirmed + length fly + 1 → sure ≡ log.confirmed + length fly → (count : ℕ) → log.confirmed + length fly ≤ count → count ≤ log.confirmed + length fly + 1 → ((w : Option ℕ) → HasPerformed journal count (began m0 w) q) →
+      work_of q.probe - work_of m0.probe ≤ weight_in (target_of m0.probe) (take count journal) → idle_cycles_of q ≡ idle_cycles_of m0 → (entries : List Issued) →
       IsEnded p (stop.BenchFault many sure) (reported_by bench state (record log { entries = entries; confirmed = sure; end = Some (stop.BenchFault many sure) }) sent got) (take log.known log.results) m0 q
-  performed_ends many sure is sure_is count low high part_is entries = record {
-    stands = λ w left. bench_fault p bench.limits log.calls log.came many sure w m0 q s.fresh s.askable (later_still sure sure_is) (record {
+  performed_ends many sure is sure_is count low high part_is up_to idle entries = record {
+    stands = λ w left. bench_fault p bench.limits log.calls log.came many sure w m0 q s.fresh s.askable asked_came (later_still sure sure_is) (record {
       count = count;
       begun = count;
       count_is = (part_is w).count_is;
       no_more = (part_is w).no_more;
+      up_to = up_to;
       low = omega (arith, low, sure_is);
       high = (omega (arith, high, is));
       within = (let l = long in omega (arith, l, is));
       together = alone many sure is sure_is;
       good = all_good count high;
+      idle_cycles = idle;
       target = inl (refl, (part_is w).target);
     });
     results_are = λ w left. ap (λ (k : ℕ). take k (results (world_from m0 w) log.calls)) s.length_is ∙ s.results_are w left.so;
@@ -184,15 +190,31 @@ module _ (p : Planner) (forgive : Bool) (bench : BenchReported) (state : Option 
       let c = cleared p forgive log asked k t made leads last for_end rest more m0 m h n few bounded o part flies answer forgives_it q word d in
       has_at journal c.made [] (log.confirmed + length fly + 1) w m0 q c.on.are c.on.weighty c.confirmed_is c.on.work c.on.target
 
+  whole_work : (word : ℕ) → HasDone (Commands forgives) word o q → work_of q.probe - work_of m0.probe ≤ weight_in (target_of m0.probe) (take (log.confirmed + length fly + 1) journal)
+  whole_work word d =
+      let c = cleared p forgive log asked k t made leads last for_end rest more m0 m h n few bounded o part flies answer forgives_it q word d in
+      (let w = c.on.work in let f = ap (weight_in (target_of m0.probe)) (take_front (log.confirmed + length fly + 1) journal c.made [] c.on.are c.confirmed_is) in omega (arith, w, f))
+
+  whole_idle : (word : ℕ) → HasDone (Commands forgives) word o q → idle_cycles_of q ≡ idle_cycles_of m0
+  whole_idle word d = (cleared p forgive log asked k t made leads last for_end rest more m0 m h n few bounded o part flies answer forgives_it q word d).on.idle_cycles
+
+  none_work : DidLess (Commands forgives) o q → work_of q.probe ≡ work_of o.probe
+  none_work d = (let a = d.work_is (abort_room p forgive log asked k t made leads last for_end rest more m0 m h n few bounded o part flies) in let b : d.work < 1 = d.less in omega (arith, a, b))
+
+  none_up_to : DidLess (Commands forgives) o q → work_of q.probe - work_of m0.probe ≤ weight_in (target_of m0.probe) (take (length s.made + part.performed) journal)
+  none_up_to d =
+      let u = work_up_to journal s.made fly (ab ∷ []) (leads ++ last ∷ []) None m0 m o part s.on flies.does (length s.made + part.performed) (omega arith) in
+      let w = none_work d in omega (arith, u, w)
+
   none_done : DidLess (Commands forgives) o q → (w : Option ℕ) → HasPerformed journal (length s.made + part.performed) (began m0 w) q
   none_done d w =
-      let part_is = has_part journal s.made fly (ab ∷ []) (leads ++ last ∷ []) w m0 m o part s.on flies in
-      let work : work_of q.probe ≡ work_of o.probe = (let a = d.work_is (abort_room p forgive log asked k t made leads last for_end rest more m0 m h n few bounded o part flies) in let b : d.work < 1 = d.less in omega (arith, a, b)) in
+      let part_is = has_part journal s.made fly (ab ∷ []) (leads ++ last ∷ []) w m0 m o part s.on flies.does in
+      let work : work_of q.probe ≡ work_of o.probe = none_work d in
       record {
         count_is = part_is.count_is ∙ ap (λ (x : ℕ). performed (target_of m0.probe) journal (x - work_of m0.probe)) (sym work);
         no_more = (let n = part_is.no_more in omega (arith, n, work));
         within = part_is.within;
-        target = agrees d.target;
+        target = agrees d.work d.target;
       }
     where
       front : List Entry
@@ -200,21 +222,21 @@ module _ (p : Planner) (forgive : Bool) (bench : BenchReported) (state : Option 
 
       front_is : take (length s.made + part.performed) journal ≡ s.made ++ take part.performed fly
       front_is = take_front (length s.made + part.performed) journal (s.made ++ take part.performed fly) (drop part.performed fly ++ ab ∷ [])
-          (cut_split journal s.made fly (ab ∷ []) (leads ++ last ∷ []) w m0 m o part s.on) (front_length journal s.made fly (ab ∷ []) (leads ++ last ∷ []) w m0 m o part s.on flies)
+          (cut_split journal s.made fly (ab ∷ []) (leads ++ last ∷ []) w m0 m o part s.on) (front_length journal s.made fly (ab ∷ []) (leads ++ last ∷ []) w m0 m o part s.on flies.does)
 
       there : target_of o.probe ≡ target_after (target_of m0.probe) (take (length s.made + part.performed) journal)
-      there = front_target journal s.made fly (ab ∷ []) (leads ++ last ∷ []) w m0 m o part s.on flies ∙ ap (target_after (target_of m0.probe)) (sym front_is)
+      there = front_target journal s.made fly (ab ∷ []) (leads ++ last ∷ []) w m0 m o part s.on flies.does ∙ ap (target_after (target_of m0.probe)) (sym front_is)
 
-      agrees : Agree (target_of q.probe) (target_of o.probe) ⊎ IsPart (Commands forgives) (target_of o.probe) (target_of q.probe) → Agree (target_of q.probe) (target_after (target_of m0.probe) (take (length s.made + part.performed) journal))
-      agrees (inl same) = subst (Agree (target_of q.probe)) there same
-      agrees (inr part) = absurd part
+      agrees : (work : ℕ) → ((work ≡ 0) × Agree (target_of q.probe) (target_of o.probe)) ⊎ IsPart (Commands forgives) (target_of o.probe) (target_of q.probe) → Agree (target_of q.probe) (target_after (target_of m0.probe) (take (length s.made + part.performed) journal))
+      agrees work (inl (none, same)) = subst (Agree (target_of q.probe)) there same
+      agrees work (inr part) = absurd part
 
   pub not_cleared : (entries : List Issued) → length entries ≡ log.confirmed + length fly + 1 → (sure : ℕ) → sure ≡ log.confirmed + length fly → (end : FlightEnd) (z : Stop) (new : LogState) → ClearedOff end o q → IsStopped end (record log { entries = entries; confirmed = sure }) new z → IsBrokenOff p z (reported_by bench state new sent got) new log.calls m0 q
   not_cleared entries count sure sure_is (ends.Cut cut) z new left is = absurd left
   not_cleared entries count sure sure_is ends.ReplyBad z new left is = absurd left
   not_cleared entries count sure sure_is ends.BenchFault z new left is =
       let low : log.confirmed + length fly ≤ length s.made + part.performed = (let c = s.confirmed_is in let all = all_there in omega (arith, c, all)) in
-      let high : length s.made + part.performed ≤ log.confirmed + length fly + 1 = (let c = s.confirmed_is in let most = flies.made.most in let l = same_length in omega (arith, c, most, l)) in
+      let high : length s.made + part.performed ≤ log.confirmed + length fly + 1 = (let c = s.confirmed_is in let most = flies.does.made.most in let l = same_length in omega (arith, c, most, l)) in
       let here : IsEnded p (stop.BenchFault (length entries) sure) (reported_by bench state (record log { entries = entries; confirmed = sure; end = Some (stop.BenchFault (length entries) sure) }) sent got) (take log.known log.results) m0 q =
       by_left left low high in
       let at_s : IsBrokenOff p (stop.BenchFault (length entries) sure) (reported_by bench state (record log { entries = entries; confirmed = sure; end = Some (stop.BenchFault (length entries) sure) }) sent got) (record log { entries = entries; confirmed = sure; end = Some (stop.BenchFault (length entries) sure) }) log.calls m0 q =
@@ -225,5 +247,5 @@ module _ (p : Planner) (forgive : Bool) (bench : BenchReported) (state : Option 
     where
       by_left : HasDone (Commands forgives) 0 o q ⊎ DidLess (Commands forgives) o q → log.confirmed + length fly ≤ length s.made + part.performed → length s.made + part.performed ≤ log.confirmed + length fly + 1 →
           IsEnded p (stop.BenchFault (length entries) sure) (reported_by bench state (record log { entries = entries; confirmed = sure; end = Some (stop.BenchFault (length entries) sure) }) sent got) (take log.known log.results) m0 q
-      by_left (inl d) low high = performed_ends (length entries) sure count sure_is (log.confirmed + length fly + 1) (omega arith) (omega arith) (whole_done 0 d) entries
-      by_left (inr d) low high = performed_ends (length entries) sure count sure_is (length s.made + part.performed) low high (none_done d) entries
+      by_left (inl d) low high = performed_ends (length entries) sure count sure_is (log.confirmed + length fly + 1) (omega arith) (omega arith) (whole_done 0 d) (whole_work 0 d) (whole_idle 0 d) entries
+      by_left (inr d) low high = performed_ends (length entries) sure count sure_is (length s.made + part.performed) low high (none_done d) (none_up_to d) (d.idle_cycles ∙ flies.idle_cycles ∙ s.on.idle_cycles) entries

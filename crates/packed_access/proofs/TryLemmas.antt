@@ -80,6 +80,7 @@ flying_is p forgive log accesses flying more m0 m h flight few bounded =
         retries = s.on.retries;
         few = s.on.few;
         setting = s.on.setting;
+        idle_cycles = s.on.idle_cycles;
         number = s.on.number;
       };
       confirmed_is = s.confirmed_is;
@@ -173,13 +174,13 @@ module _ (p : Planner) (forgive : Bool) (log : LogState) (asked : AccessUnit) (k
 
   module _ (values : List (Option ℕ)) (o : BenchState) (c : HasCome xs values m o) (came : log.came ≡ log.whole) where
     confirmed_all : c.part.confirmed ≡ length xs
-    confirmed_all = c.flies.made.whole c.good
+    confirmed_all = c.flies.does.made.whole c.good
 
     performed_all : c.part.performed ≡ length xs
-    performed_all = (let f = confirmed_all in let near = c.flies.made.near in let most = c.flies.made.most in omega (arith, f, near, most))
+    performed_all = (let f = confirmed_all in let near = c.flies.does.made.near in let most = c.flies.does.made.most in omega (arith, f, near, most))
 
     none_all : NoneFault (target_of m.probe) xs
-    none_all = none_clear (target_of m.probe) xs (subst (AreClear (target_of m.probe)) (take_all c.part.confirmed xs (let f = confirmed_all in omega (arith, f))) c.flies.made.clear)
+    none_all = none_clear (target_of m.probe) xs (subst (AreClear (target_of m.probe)) (take_all c.part.confirmed xs (let f = confirmed_all in omega (arith, f))) c.flies.does.made.clear)
 
     fine : is_fault (acted (after t (making (made ++ leads))) (Makes last)).outcome ≡ false
     fine = ap (λ (u : TargetState). is_fault (acted u (Makes last)).outcome) (sym at_last) ∙ none_last (target_of m.probe) leads last none_all
@@ -188,11 +189,11 @@ module _ (p : Planner) (forgive : Bool) (log : LogState) (asked : AccessUnit) (k
     sent = whole_sends p log.calls log.confirmed log.came flying later xs (take log.known log.results) m0 m o c.part sending c.flies c.good
 
     grown : work_of o.probe ≡ work_of m.probe + c.part.performed
-    grown = work_is (issued p (target_of m0.probe) log.calls) sending.made flying later xs None m0 m o c.part sending.on c.flies
+    grown = work_is (issued p (target_of m0.probe) log.calls) sending.made flying later xs None m0 m o c.part sending.on c.flies.does
 
     target_now : target_of o.probe ≡ after t (making (made ++ xs))
     target_now =
-        c.flies.made.target ∙ ap (one_at_a_time (target_of m.probe)) (take_all c.part.performed xs (let part_is = performed_all in omega (arith, part_is))) ∙ sym (makes_after (target_of m.probe) xs)
+        c.flies.does.made.target ∙ ap (one_at_a_time (target_of m.probe)) (take_all c.part.performed xs (let part_is = performed_all in omega (arith, part_is))) ∙ sym (makes_after (target_of m.probe) xs)
         ∙ ap (λ (u : TargetState). after u (making xs)) h.target ∙ sym (after_making t made xs)
 
     pub flight_came : IsTrying p forgive (all_confirmed (record log { entries = log.entries ++ map kept_of flying })) asked k t (made ++ xs) more m0 o
@@ -244,10 +245,10 @@ module _ (p : Planner) (forgive : Bool) (log : LogState) (asked : AccessUnit) (k
 
   module _ (o : BenchState) (part : Part) (flies : Flies xs part m o) where
     fault_grown : work_of o.probe ≡ work_of m.probe + part.performed
-    fault_grown = work_is (issued p (target_of m0.probe) log.calls) sending.made flying later xs None m0 m o part sending.on flies
+    fault_grown = work_is (issued p (target_of m0.probe) log.calls) sending.made flying later xs None m0 m o part sending.on flies.does
 
     pub work_few : work_of o.probe ≤ work_of m.probe + length xs
-    work_few = (let g = fault_grown in let most = flies.made.most in omega (arith, g, most))
+    work_few = (let g = fault_grown in let most = flies.does.made.most in omega (arith, g, most))
 
     -- there is room for the write of ABORT
     pub abort_room : work_of o.probe + 1 < 2 ^ 64
@@ -255,7 +256,7 @@ module _ (p : Planner) (forgive : Bool) (log : LogState) (asked : AccessUnit) (k
 
   module _ (o : BenchState) (part : Part) (flies : Flies xs part m o) (answer : part.response ≡ Fault) (forgives_it : forgive ≡ true) where
     short : part.confirmed < length xs
-    short = flies.made.short (λ good. absurd (let x : ◌≡◌ {A = Response} Good Fault = sym good ∙ answer in cc))
+    short = flies.does.made.short (λ good. absurd (let x : ◌≡◌ {A = Response} Good Fault = sym good ∙ answer in cc))
 
     -- none but the last faults, and one does
     bad : is_fault (acted (after t (making (made ++ leads))) (Makes last)).outcome ≡ true
@@ -265,12 +266,12 @@ module _ (p : Planner) (forgive : Bool) (log : LogState) (asked : AccessUnit) (k
         by_fault true e = e
         by_fault false e =
             let journal : List Entry = issued p (target_of m0.probe) log.calls in
-            let x : Cutting part.confirmed flying = cut journal sending.made flying later xs None m0 m o part sending.on flies answer short in
+            let x : Cutting part.confirmed flying = cut journal sending.made flying later xs None m0 m o part sending.on flies.does answer short in
             let all : NoneFault (target_of m.probe) xs = none_with (target_of m.probe) leads last none_there (ap (λ (u : TargetState). is_fault (acted u (Makes last)).outcome) at_last ∙ e) in
             let good : is_fault (acted (after (target_of m.probe) (actions_in x.front)) x.entry.action).outcome ≡ false = none_at (target_of m.probe) x.front x.entry x.back xs all (ap actions_in (sym x.is) ∙ flight) in
             let there : after (target_of m0.probe) (actions_in (sending.made ++ x.front)) ≡ after (target_of m.probe) (actions_in x.front) =
             after_split (target_of m0.probe) sending.made x.front ∙ ap (λ (u : TargetState). after u (actions_in x.front)) (sym sending.on.target) in
-            let faulted : is_fault (acted (after (target_of m0.probe) (actions_in (sending.made ++ x.front))) x.entry.action).outcome ≡ true = faults journal sending.made flying later xs None m0 m o part sending.on flies answer short in
+            let faulted : is_fault (acted (after (target_of m0.probe) (actions_in (sending.made ++ x.front))) x.entry.action).outcome ≡ true = faults journal sending.made flying later xs None m0 m o part sending.on flies.does answer short in
             absurd (clash (is_fault (acted (after (target_of m.probe) (actions_in x.front)) x.entry.action).outcome) (ap (λ (u : TargetState). is_fault (acted u x.entry.action).outcome) (sym there) ∙ faulted) good)
 
     abbrev pub abort : Entry

@@ -167,8 +167,8 @@ module _ (p : Planner) (log : LogState) (accesses : List RegAccess) (rest : List
   work_few : work_of o.probe + 0 ≤ 2 ^ 63 + most_weight * length log.entries
   work_few =
       let f = h.few in
-      let most = c.flies.made.most in
-      let w = c.flies.work in
+      let most = c.flies.does.made.most in
+      let w = c.flies.does.work in
       let r = room_grown (work_of m.probe) c.part.performed (omega (arith, f, most, bounded)) in
       omega (arith, f, most, w, r)
 

@@ -15,7 +15,8 @@ use Rattle.access_regs.specs.Costs.{cost_by}
 use Rattle.access_regs.specs.Journal.{is_alone, issued}
 use Rattle.access_regs.specs.Kept.{Kept}
 use Rattle.access_calls.specs.Bounds.{capacity}
-use Rattle.access_calls.specs.Standing.{WhereObservable, setting_of}
+use Rattle.access_calls.specs.Standing.{WhereObservable}
+use Rattle.bench_flights.specs.Flown.{IsSetTo}
 use Rattle.batch_packer.specs.Flying.{CanFly}
 use Rattle.bench_flights.specs.Flown.{SendsFew}
 use Rattle.packed_access.specs.Begun.{HasBegun}
@@ -80,11 +81,11 @@ pub record HasBegunSparing (p : Planner) (limits : Limits) (bench : BenchReporte
   pub paid : log.end ≡ None → HasPaid p limits bench.limits state log (left_of log) m0
   pub needed : log.end ≡ None → AreNeeded p (target_of m0.probe) (asks_of log)
 
--- So it is, and the access began with this retry number, which polls set again.
-pub record HasBegunSet (retry : ℕ) (p : Planner) (limits : Limits) (bench : BenchReported) (state : Option BenchState) (log : LogState) (sent got : List ℕ) (kept : Kept)
+-- So it is, and the access began with these idle cycles and this retry number, which polls set again.
+pub record HasBegunSet (idle retry : ℕ) (p : Planner) (limits : Limits) (bench : BenchReported) (state : Option BenchState) (log : LogState) (sent got : List ℕ) (kept : Kept)
     (accesses : List RegAccess) (m0 : BenchState) : Type 0 where
   pub sparing : HasBegunSparing p limits bench state log sent got kept accesses m0
-  pub set : (setting_of m0).retry ≡ retry
+  pub set : IsSetTo idle retry m0
 
 -- a flight of a unit that is made alone: it came, and another may follow; or it faulted, and ABORT was written
 abbrev pub WentFew : Option ℕ → BenchState → BenchState → Type 0

@@ -7,7 +7,7 @@ ghost use Rattle.probe_core.specs.Bench.{BenchState};
 ghost use Rattle.access_calls.specs.Answers.{HasSlot, IsSmallWhere, NoMemory};
 ghost use Rattle.access_calls.specs.GoesOn.{GoesOn};
 ghost use Rattle.access_calls.specs.Left.{IsLeft};
-ghost use Rattle.access_calls.specs.Standing.{setting_of};
+ghost use Rattle.bench_flights.specs.Flown.{IsSetTo};
 ghost use Rattle.packed_access.specs.Settling.{CanSettle};
 ghost use Rattle.packed_access.specs.Begun.{HasAsked, HasBegun, HasEnded, StopsThere};
 ghost use Rattle.packed_access.specs.Sparing.{HasPaid};
@@ -103,18 +103,18 @@ impl<F: Flights> Sender<F> {
         requires whole { self.old.log.whole + 1 ≡ length self.old.log.calls }
         requires room { length self.old.log.entries + most_entries ≤ self.old.log.room }
         requires bounded { length self.old.log.entries + most_entries ≤ most_entries * length self.old.log.calls }
-        ensures on { (m0 : BenchState) (calls : List Ask) (ask : Ask) → (setting_of m0).retry ≡ config.retry → ask ≡ unit_ask unit.now forgive → HasAsked F.planner (F.state self.old.flights) self.old.log (F.accesses self.old.flights) self.old.managed calls ask m0
+        ensures on { (m0 : BenchState) (calls : List Ask) (ask : Ask) → IsSetTo config.idle config.retry m0 → ask ≡ unit_ask unit.now forgive → HasAsked F.planner (F.state self.old.flights) self.old.log (F.accesses self.old.flights) self.old.managed calls ask m0
             → OnOk result (HasBegun F.planner (F.reported self.new.flights) (F.state self.new.flights) self.new.log (F.packet self.new.flights) (F.reply self.new.flights) self.new.managed (F.accesses self.new.flights) m0) }
-        ensures spare { (m0 : BenchState) (calls : List Ask) (ask : Ask) (left : ℕ) → (setting_of m0).retry ≡ config.retry → ask ≡ unit_ask unit.now forgive → HasAsked F.planner (F.state self.old.flights) self.old.log (F.accesses self.old.flights) self.old.managed calls ask m0
+        ensures spare { (m0 : BenchState) (calls : List Ask) (ask : Ask) (left : ℕ) → IsSetTo config.idle config.retry m0 → ask ≡ unit_ask unit.now forgive → HasAsked F.planner (F.state self.old.flights) self.old.log (F.accesses self.old.flights) self.old.managed calls ask m0
             → HasPaid F.planner (F.limits self.old.flights) (F.reported self.old.flights).limits (F.state self.old.flights) self.old.log left m0
             → OnOk result (HasPaid F.planner (F.limits self.new.flights) (F.reported self.new.flights).limits (F.state self.new.flights) self.new.log left m0) }
-        ensures small { (m0 : BenchState) (calls : List Ask) (ask : Ask) → (setting_of m0).retry ≡ config.retry → ask ≡ unit_ask unit.now forgive → HasAsked F.planner (F.state self.old.flights) self.old.log (F.accesses self.old.flights) self.old.managed calls ask m0
+        ensures small { (m0 : BenchState) (calls : List Ask) (ask : Ask) → IsSetTo config.idle config.retry m0 → ask ≡ unit_ask unit.now forgive → HasAsked F.planner (F.state self.old.flights) self.old.log (F.accesses self.old.flights) self.old.managed calls ask m0
             → IfOk result (λ small. small ≡ small_now (start_world (target_of m0.probe) None) calls ask) }
-        ensures needs { (m0 : BenchState) (calls : List Ask) (ask : Ask) → (setting_of m0).retry ≡ config.retry → ask ≡ unit_ask unit.now forgive → HasAsked F.planner (F.state self.old.flights) self.old.log (F.accesses self.old.flights) self.old.managed calls ask m0
+        ensures needs { (m0 : BenchState) (calls : List Ask) (ask : Ask) → IsSetTo config.idle config.retry m0 → ask ≡ unit_ask unit.now forgive → HasAsked F.planner (F.state self.old.flights) self.old.log (F.accesses self.old.flights) self.old.managed calls ask m0
             → OnOk result (asks_of self.new.log ≡ asked (cost_by F.planner (target_of m0.probe) calls ask) ask (record { calls = calls; needs = self.old.log.needs; fence = self.old.log.fence })) }
-        ensures broke { (m0 : BenchState) (calls : List Ask) (ask : Ask) → (setting_of m0).retry ≡ config.retry → ask ≡ unit_ask unit.now forgive → HasAsked F.planner (F.state self.old.flights) self.old.log (F.accesses self.old.flights) self.old.managed calls ask m0
+        ensures broke { (m0 : BenchState) (calls : List Ask) (ask : Ask) → IsSetTo config.idle config.retry m0 → ask ≡ unit_ask unit.now forgive → HasAsked F.planner (F.state self.old.flights) self.old.log (F.accesses self.old.flights) self.old.managed calls ask m0
             → IfErr result (λ s. HasEnded F.planner s (reported_by (F.reported self.new.flights) (F.state self.new.flights) self.new.log (F.packet self.new.flights) (F.reply self.new.flights)) self.new.log m0) }
-        ensures stops { (m0 : BenchState) (calls : List Ask) (ask : Ask) (answered : Option ℕ) → (setting_of m0).retry ≡ config.retry → ask ≡ unit_ask unit.now forgive → HasAsked F.planner (F.state self.old.flights) self.old.log (F.accesses self.old.flights) self.old.managed calls ask m0
+        ensures stops { (m0 : BenchState) (calls : List Ask) (ask : Ask) (answered : Option ℕ) → IsSetTo config.idle config.retry m0 → ask ≡ unit_ask unit.now forgive → HasAsked F.planner (F.state self.old.flights) self.old.log (F.accesses self.old.flights) self.old.managed calls ask m0
             → IsLeft (reported_by (F.reported self.new.flights) (F.state self.new.flights) self.new.log (F.packet self.new.flights) (F.reply self.new.flights)) answered
             → IfErr result (StopsThere m0 answered self.old.log.calls self.new.log.lines) }
         ensures goes { GoesOn (reported_by (F.reported self.old.flights) (F.state self.old.flights) self.old.log (F.packet self.old.flights) (F.reply self.old.flights))
@@ -157,7 +157,7 @@ impl<F: Flights> Access for PackedAccess<F> {
 
     ghost identity = { λ s. F.identity s.sender.flights };
 
-    ghost begun = { λ s m. HasBegunSet s.config.retry F.planner (F.limits s.sender.flights) (F.reported s.sender.flights) (F.state s.sender.flights) s.sender.log (F.packet s.sender.flights) (F.reply s.sender.flights) s.sender.managed (F.accesses s.sender.flights) m };
+    ghost begun = { λ s m. HasBegunSet s.config.idle s.config.retry F.planner (F.limits s.sender.flights) (F.reported s.sender.flights) (F.state s.sender.flights) s.sender.log (F.packet s.sender.flights) (F.reply s.sender.flights) s.sender.managed (F.accesses s.sender.flights) m };
 
     ghost journal = { issued F.planner };
 

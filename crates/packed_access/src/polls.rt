@@ -47,11 +47,11 @@ fn make_poll<F: Flights>(
     requires usable { F.ended flights.old ≡ None }
     requires empty { F.accesses flights.old ≡ [] }
     requires turns { 1 ≤ turns }
-    ensures done { IfOk result (λ found. StepsTo (λ m o. CanFly m → (zero ≡ true → CanMatch config.retry m) → HasDone (Polls mask requested turns) (matched_word found.matched) m o) (F.state flights.old) (F.state flights.new)) }
-    ensures packets { IfOk result (λ found. StepsTo (λ m o. CanFly m → (zero ≡ true → CanMatch config.retry m) → SendsFew (found.points - 1) m o) (F.state flights.old) (F.state flights.new)) }
+    ensures done { IfOk result (λ found. StepsTo (λ m o. CanFly m → (zero ≡ true → CanMatch config.idle config.retry m) → HasDone (Polls mask requested turns) (matched_word found.matched) m o) (F.state flights.old) (F.state flights.new)) }
+    ensures packets { IfOk result (λ found. StepsTo (λ m o. CanFly m → (zero ≡ true → CanMatch config.idle config.retry m) → SendsFew (found.points - 1) m o) (F.state flights.old) (F.state flights.new)) }
     ensures some { IfOk result (λ found. 1 ≤ found.points) }
     ensures points { IfOk result (λ found. StepsTo (λ m o. CanFly m → found.points ≡ 1 + (if zero then portions turns else (polled turns mask requested (target_of m.probe)).reads)) (F.state flights.old) (F.state flights.new)) }
-    ensures left { IfErr result (λ end. StepsTo (λ m o. CanFly m → (zero ≡ true → CanMatch config.retry m) → LeftOff (Polls mask requested turns) end m o) (F.state flights.old) (F.state flights.new)) }
+    ensures left { IfErr result (λ end. StepsTo (λ m o. CanFly m → (zero ≡ true → CanMatch config.idle config.retry m) → LeftOff (Polls mask requested turns) end m o) (F.state flights.old) (F.state flights.new)) }
     ensures none { IfErr result NamesNone }
     ensures response { IfErr result IsCutResponse }
     ensures empty { F.accesses flights.new ≡ [] }
@@ -105,16 +105,16 @@ impl<F: Flights> Sender<F> {
         requires last { self.old.log.came + 1 ≡ length self.old.log.calls }
         requires room { length self.old.log.entries < self.old.log.room }
         requires bounded { length self.old.log.entries < most_entries * length self.old.log.calls }
-        ensures on { (m0 : BenchState) (calls : List Ask) (ask : Ask) → HasPoll F.planner (F.state self.old.flights) self.old.log self.old.managed calls ask mask requested turns config.retry m0
+        ensures on { (m0 : BenchState) (calls : List Ask) (ask : Ask) → HasPoll F.planner (F.state self.old.flights) self.old.log self.old.managed calls ask mask requested turns config.idle config.retry m0
             → OnOk result (HasIssued F.planner (F.state self.new.flights) self.new.log [] [] m0) }
-        ensures spare { (m0 : BenchState) (calls : List Ask) (ask : Ask) (paid : ℕ) → HasPoll F.planner (F.state self.old.flights) self.old.log self.old.managed calls ask mask requested turns config.retry m0
+        ensures spare { (m0 : BenchState) (calls : List Ask) (ask : Ask) (paid : ℕ) → HasPoll F.planner (F.state self.old.flights) self.old.log self.old.managed calls ask mask requested turns config.idle config.retry m0
             → HasSpared F.planner (F.limits self.old.flights) (F.reported self.old.flights).limits (F.state self.old.flights) self.old.log (paid + 1) m0
             → IfOk result (λ points. HasSpared F.planner (F.limits self.new.flights) (F.reported self.new.flights).limits (F.state self.new.flights) self.new.log (paid + points) m0) }
-        ensures points { F.planner ≡ Managed → (m0 : BenchState) (calls : List Ask) (ask : Ask) → HasPoll F.planner (F.state self.old.flights) self.old.log self.old.managed calls ask mask requested turns config.retry m0
+        ensures points { F.planner ≡ Managed → (m0 : BenchState) (calls : List Ask) (ask : Ask) → HasPoll F.planner (F.state self.old.flights) self.old.log self.old.managed calls ask mask requested turns config.idle config.retry m0
             → IfOk result (λ points. points ≡ poll_cost self.old.managed (target_by F.planner (target_of m0.probe) calls) mask requested turns) }
-        ensures broke { (m0 : BenchState) (calls : List Ask) (ask : Ask) → HasPoll F.planner (F.state self.old.flights) self.old.log self.old.managed calls ask mask requested turns config.retry m0
+        ensures broke { (m0 : BenchState) (calls : List Ask) (ask : Ask) → HasPoll F.planner (F.state self.old.flights) self.old.log self.old.managed calls ask mask requested turns config.idle config.retry m0
             → IfErr result (λ s. HasEnded F.planner s (reported_by (F.reported self.new.flights) (F.state self.new.flights) self.new.log (F.packet self.new.flights) (F.reply self.new.flights)) self.new.log m0) }
-        ensures stops { (m0 : BenchState) (calls : List Ask) (ask : Ask) (answered : Option ℕ) → HasPoll F.planner (F.state self.old.flights) self.old.log self.old.managed calls ask mask requested turns config.retry m0
+        ensures stops { (m0 : BenchState) (calls : List Ask) (ask : Ask) (answered : Option ℕ) → HasPoll F.planner (F.state self.old.flights) self.old.log self.old.managed calls ask mask requested turns config.idle config.retry m0
             → IsLeft (reported_by (F.reported self.new.flights) (F.state self.new.flights) self.new.log (F.packet self.new.flights) (F.reply self.new.flights)) answered
             → IfErr result (StopsThere m0 answered self.old.log.calls self.new.log.lines) }
         ensures goes { GoesOn (reported_by (F.reported self.old.flights) (F.state self.old.flights) self.old.log (F.packet self.old.flights) (F.reply self.old.flights))

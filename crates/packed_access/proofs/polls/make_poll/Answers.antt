@@ -3,7 +3,7 @@ use Rattle.packed_access.proofs.SparingLemmas.{polled_by_matches, polled_few}
 use Rattle.packed_access.proofs.polls.make_poll.Goals as goal
 
 pub returns-in-Ok-clause-packets : goal.returns-in-Ok-clause-packets
-returns-in-Ok-clause-packets g c = polled_few _ _ c.args.config.retry c.args.zero c.args.turns (1 + (c.args.turns + 65535) / 65536) c.if-zero.true refl c.in-Ok.ensures.packets
+returns-in-Ok-clause-packets g c = polled_few _ _ c.args.config.idle c.args.config.retry c.args.zero c.args.turns (1 + (c.args.turns + 65535) / 65536) c.if-zero.true refl c.in-Ok.ensures.packets
 
 pub returns-in-Ok-clause-done : goal.returns-in-Ok-clause-done
-returns-in-Ok-clause-done g c = polled_by_matches _ _ _ c.args.config.retry c.args.zero c.if-zero.true c.in-Ok.ensures.done
+returns-in-Ok-clause-done g c = polled_by_matches _ _ _ c.args.config.idle c.args.config.retry c.args.zero c.if-zero.true c.in-Ok.ensures.done

@@ -17,10 +17,10 @@ returns-in-Ok-poll_last-clause-on g c = λ m0 calls ask set call h.
     let mid = c.send.new.self in
     let new = c.poll_last.new.self in
     let same : mid.log.calls ≡ old.log.calls = ap (λ (l : LogState). l.calls) c.in-Ok.ensures.log in
-    let poll = asked_poll g.F.Flights.planner _ _ old.log mid.log _ old.managed mid.managed calls ask c.args.mask c.args.requested c.args.turns c.args.config.retry m0 set call h (c.in-Ok.ensures.on m0 _ h.issued) same c.send.ensures.managed in
+    let poll = asked_poll g.F.Flights.planner _ _ old.log mid.log _ old.managed mid.managed calls ask c.args.mask c.args.requested c.args.turns c.args.config.idle c.args.config.retry m0 set call h (c.in-Ok.ensures.on m0 _ h.issued) same c.send.ensures.managed in
     let same' : new.log.calls ≡ mid.log.calls = search rules in
     begun_needs g.F.Flights.planner _ _ new.log c.need.new.self _ _ _ _ _ _ m0
-    (begun_polled g.F.Flights.planner _ _ _ mid.log new.log _ _ mid.managed new.managed _ calls ask c.args.mask c.args.requested c.args.turns c.args.config.retry m0 poll (c.in-Ok-poll_last.ensures.on m0 calls ask poll) same' c.in-Ok-poll_last.ensures.open c.in-Ok-poll_last.ensures.whole c.poll_last.ensures.managed c.in-Ok-poll_last.ensures.empty)
+    (begun_polled g.F.Flights.planner _ _ _ mid.log new.log _ _ mid.managed new.managed _ calls ask c.args.mask c.args.requested c.args.turns c.args.config.idle c.args.config.retry m0 poll (c.in-Ok-poll_last.ensures.on m0 calls ask poll) same' c.in-Ok-poll_last.ensures.open c.in-Ok-poll_last.ensures.whole c.poll_last.ensures.managed c.in-Ok-poll_last.ensures.empty)
     refl refl (needs_new new.log _ c.count_points.result c.count-count.result c.need.ensures.answer)
 
 pub returns-in-Ok-poll_last-clause-spare : goal.returns-in-Ok-poll_last-clause-spare
@@ -29,7 +29,7 @@ returns-in-Ok-poll_last-clause-spare g c = λ m0 calls ask left set call h s.
     let mid = c.send.new.self in
     let new = c.poll_last.new.self in
     let same : mid.log.calls ≡ old.log.calls = ap (λ (l : LogState). l.calls) c.in-Ok.ensures.log in
-    let poll = asked_poll g.F.Flights.planner _ _ old.log mid.log _ old.managed mid.managed calls ask c.args.mask c.args.requested c.args.turns c.args.config.retry m0 set call h (c.in-Ok.ensures.on m0 _ h.issued) same c.send.ensures.managed in
+    let poll = asked_poll g.F.Flights.planner _ _ old.log mid.log _ old.managed mid.managed calls ask c.args.mask c.args.requested c.args.turns c.args.config.idle c.args.config.retry m0 set call h (c.in-Ok.ensures.on m0 _ h.issued) same c.send.ensures.managed in
     let needs : new.log.needs ≡ old.log.needs = ap (λ (a : Asks). a.needs) c.poll_last.ensures.asks ∙ ap (λ (l : LogState). l.needs) c.in-Ok.ensures.log in
     has_paid g.F.Flights.planner _ _ _ new.log c.need.new.self old.log.needs s.paid c.count_points.result c.count-count.result left m0
     (counted_spared g.F.Flights.planner _ _ _ new.log s.paid c.in-Ok-poll_last.points c.count_points.result m0 (c.in-Ok-poll_last.ensures.spare m0 calls ask s.paid poll (c.in-Ok.ensures.spare m0 _ s.paid h.issued s.spared)) c.count_points.ensures) s.covers needs c.need.ensures.answer
@@ -46,7 +46,7 @@ returns-in-Ok-poll_last-clause-needs g c = λ m0 calls ask set call h.
     let mid = c.send.new.self in
     let new = c.poll_last.new.self in
     let same : mid.log.calls ≡ old.log.calls = ap (λ (l : LogState). l.calls) c.in-Ok.ensures.log in
-    let poll = asked_poll g.F.Flights.planner _ _ old.log mid.log _ old.managed mid.managed calls ask c.args.mask c.args.requested c.args.turns c.args.config.retry m0 set call h (c.in-Ok.ensures.on m0 _ h.issued) same c.send.ensures.managed in
+    let poll = asked_poll g.F.Flights.planner _ _ old.log mid.log _ old.managed mid.managed calls ask c.args.mask c.args.requested c.args.turns c.args.config.idle c.args.config.retry m0 set call h (c.in-Ok.ensures.on m0 _ h.issued) same c.send.ensures.managed in
     let same' : new.log.calls ≡ mid.log.calls = search rules in
     let asks : asks_of new.log ≡ record { calls = calls ++ ask ∷ []; needs = old.log.needs; fence = old.log.fence } =
     c.poll_last.ensures.asks ∙ ap asks_of c.in-Ok.ensures.log ∙ ap (λ (l : List Ask). record { calls = l; needs = old.log.needs; fence = old.log.fence }) h.are in
