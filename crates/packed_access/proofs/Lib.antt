@@ -9,6 +9,7 @@ pub mod WholeLemmas
 pub mod EndLemmas
 pub mod AskLemmas
 pub mod GoesLemmas
+pub mod FrameLemmas
 pub mod BegunLemmas
 pub mod FinishLemmas
 pub mod PollLemmas

@@ -14,3 +14,5 @@ pub mod Blocks
 pub mod NextWrites
 pub mod Grows
 pub mod Tails
+pub mod Views
+pub mod Frame

@@ -1,27 +1,25 @@
 //! The calls of the access.
-ghost use Rattle.std.specs.Prelude.{◌&&◌, ◌<◌, ◌≡◌, ◌≤◌, ◌+◌, ◌*◌, ℕ, List, Option, None, Some, length, IfErr, IfOk, OnOk};
+ghost use Rattle.std.specs.Prelude.{◌&&◌, ◌<◌, ◌≡◌, ℕ, List, Option, None, IfErr, IfOk, OnOk};
 ghost use Rattle.target_machine.specs.Plain.{may_forgive};
 ghost use Rattle.target_machine.specs.Sound.{IsSound};
 ghost use Rattle.target_machine.specs.declared.unit.Call.TheVariants.{Access};
 ghost use Rattle.probe_core.specs.Bench.{BenchState};
-ghost use Rattle.access_calls.specs.Answers.{HasSlot, IsSmallWhere, NoMemory};
-ghost use Rattle.access_calls.specs.GoesOn.{GoesOn};
+ghost use Rattle.access_calls.specs.Answers.{HasSlot, IsSmallWhere};
 ghost use Rattle.access_calls.specs.Left.{IsLeft};
 ghost use Rattle.bench_flights.specs.Flown.{IsSetTo};
-ghost use Rattle.packed_access.specs.Settling.{CanSettle};
-ghost use Rattle.packed_access.specs.Begun.{HasAsked, HasBegun, HasEnded, StopsThere};
-ghost use Rattle.packed_access.specs.Sparing.{HasPaid};
-ghost use Rattle.packed_access.specs.Logs.{asks_of, most_entries, reported_by};
-ghost use Rattle.packed_access.specs.Settling.{CanSettle};
+ghost use Rattle.packed_access.specs.Begun.{StopsThere};
+ghost use Rattle.packed_access.specs.Logs.{most_entries};
 ghost use Rattle.target_calls.specs.World.{small_now, start_world};
 ghost use Rattle.target_calls.specs.declared.calls.Ask.{Ask};
-ghost use Rattle.target_calls.specs.NeedPoints.{asked};
 ghost use Rattle.target_calls.specs.Asks.{IsProbeInRange, IsUnitInRange, is_wide, unit_ask};
 ghost use Rattle.probe_core.specs.Probe.{target_of};
-ghost use Rattle.access_regs.specs.Costs.{command_cost, cost_by};
+ghost use Rattle.access_regs.specs.Costs.{command_cost};
 ghost use Rattle.access_regs.specs.Journal.{is_alone};
+ghost use Rattle.packed_access.specs.Frame.{AsksWhole, CanIssue, EndsBy, Keeps};
+ghost use Rattle.packed_access.specs.Views.{HasNeeds, IsAsked, IsAtEnd, IsBegun, IsPaid, access_view};
 
 use crate::access::PackedAccess;
+use crate::seen::Seen;
 use crate::sender::{Sender, count_points};
 use access_calls::{Access, Stop};
 use bench_flights::Flights;
@@ -98,35 +96,25 @@ impl<F: Flights> Sender<F> {
         unit: &Unit,
         forgive: bool,
     ) -> Result<bool, Stop>
-        requires open { self.old.log.end ≡ None }
+        requires ready { CanIssue most_entries (⟦<Self as Seen>⟧.view self.old) }
         requires sound { IsSound unit.now }
-        requires whole { self.old.log.whole + 1 ≡ length self.old.log.calls }
-        requires room { length self.old.log.entries + most_entries ≤ self.old.log.room }
-        requires bounded { length self.old.log.entries + most_entries ≤ most_entries * length self.old.log.calls }
-        ensures on { (m0 : BenchState) (calls : List Ask) (ask : Ask) → IsSetTo config.idle config.retry m0 → ask ≡ unit_ask unit.now forgive → HasAsked F.planner (F.state self.old.flights) self.old.log (F.accesses self.old.flights) self.old.managed calls ask m0
-            → OnOk result (HasBegun F.planner (F.reported self.new.flights) (F.state self.new.flights) self.new.log (F.packet self.new.flights) (F.reply self.new.flights) self.new.managed (F.accesses self.new.flights) m0) }
-        ensures spare { (m0 : BenchState) (calls : List Ask) (ask : Ask) (left : ℕ) → IsSetTo config.idle config.retry m0 → ask ≡ unit_ask unit.now forgive → HasAsked F.planner (F.state self.old.flights) self.old.log (F.accesses self.old.flights) self.old.managed calls ask m0
-            → HasPaid F.planner (F.limits self.old.flights) (F.reported self.old.flights).limits (F.state self.old.flights) self.old.log left m0
-            → OnOk result (HasPaid F.planner (F.limits self.new.flights) (F.reported self.new.flights).limits (F.state self.new.flights) self.new.log left m0) }
-        ensures small { (m0 : BenchState) (calls : List Ask) (ask : Ask) → IsSetTo config.idle config.retry m0 → ask ≡ unit_ask unit.now forgive → HasAsked F.planner (F.state self.old.flights) self.old.log (F.accesses self.old.flights) self.old.managed calls ask m0
-            → IfOk result (λ small. small ≡ small_now (start_world (target_of m0.probe) None) calls ask) }
-        ensures needs { (m0 : BenchState) (calls : List Ask) (ask : Ask) → IsSetTo config.idle config.retry m0 → ask ≡ unit_ask unit.now forgive → HasAsked F.planner (F.state self.old.flights) self.old.log (F.accesses self.old.flights) self.old.managed calls ask m0
-            → OnOk result (asks_of self.new.log ≡ asked (cost_by F.planner (target_of m0.probe) calls ask) ask (record { calls = calls; needs = self.old.log.needs; fence = self.old.log.fence })) }
-        ensures broke { (m0 : BenchState) (calls : List Ask) (ask : Ask) → IsSetTo config.idle config.retry m0 → ask ≡ unit_ask unit.now forgive → HasAsked F.planner (F.state self.old.flights) self.old.log (F.accesses self.old.flights) self.old.managed calls ask m0
-            → IfErr result (λ s. HasEnded F.planner s (reported_by (F.reported self.new.flights) (F.state self.new.flights) self.new.log (F.packet self.new.flights) (F.reply self.new.flights)) self.new.log m0) }
-        ensures stops { (m0 : BenchState) (calls : List Ask) (ask : Ask) (answered : Option ℕ) → IsSetTo config.idle config.retry m0 → ask ≡ unit_ask unit.now forgive → HasAsked F.planner (F.state self.old.flights) self.old.log (F.accesses self.old.flights) self.old.managed calls ask m0
-            → IsLeft (reported_by (F.reported self.new.flights) (F.state self.new.flights) self.new.log (F.packet self.new.flights) (F.reply self.new.flights)) answered
-            → IfErr result (StopsThere m0 answered self.old.log.calls self.new.log.lines) }
-        ensures goes { GoesOn (reported_by (F.reported self.old.flights) (F.state self.old.flights) self.old.log (F.packet self.old.flights) (F.reply self.old.flights))
-            (reported_by (F.reported self.new.flights) (F.state self.new.flights) self.new.log (F.packet self.new.flights) (F.reply self.new.flights)) }
-        ensures calls { self.new.log.calls ≡ self.old.log.calls }
-        ensures whole { OnOk result (self.new.log.whole ≡ length self.new.log.calls) }
-        ensures open { OnOk result (self.new.log.end ≡ None) }
+        ensures on { (m0 : BenchState) (calls : List Ask) (ask : Ask) → IsSetTo config.idle config.retry m0 → ask ≡ unit_ask unit.now forgive
+            → IsAsked (⟦<Self as Seen>⟧.view self.old) calls ask m0 → OnOk result (IsBegun (⟦<Self as Seen>⟧.view self.new) m0) }
+        ensures spare { (m0 : BenchState) (calls : List Ask) (ask : Ask) (left : ℕ) → IsSetTo config.idle config.retry m0 → ask ≡ unit_ask unit.now forgive
+            → IsAsked (⟦<Self as Seen>⟧.view self.old) calls ask m0 → IsPaid (⟦<Self as Seen>⟧.view self.old) left m0 → OnOk result (IsPaid (⟦<Self as Seen>⟧.view self.new) left m0) }
+        ensures small { (m0 : BenchState) (calls : List Ask) (ask : Ask) → IsSetTo config.idle config.retry m0 → ask ≡ unit_ask unit.now forgive
+            → IsAsked (⟦<Self as Seen>⟧.view self.old) calls ask m0 → IfOk result (λ small. small ≡ small_now (start_world (target_of m0.probe) None) calls ask) }
+        ensures needs { (m0 : BenchState) (calls : List Ask) (ask : Ask) → IsSetTo config.idle config.retry m0 → ask ≡ unit_ask unit.now forgive
+            → IsAsked (⟦<Self as Seen>⟧.view self.old) calls ask m0 → OnOk result (HasNeeds (⟦<Self as Seen>⟧.view self.old) (⟦<Self as Seen>⟧.view self.new) calls ask m0) }
+        ensures broke { (m0 : BenchState) (calls : List Ask) (ask : Ask) → IsSetTo config.idle config.retry m0 → ask ≡ unit_ask unit.now forgive
+            → IsAsked (⟦<Self as Seen>⟧.view self.old) calls ask m0 → IfErr result (IsAtEnd (⟦<Self as Seen>⟧.view self.new) m0) }
+        ensures stops { (m0 : BenchState) (calls : List Ask) (ask : Ask) (answered : Option ℕ) → IsSetTo config.idle config.retry m0
+            → ask ≡ unit_ask unit.now forgive → IsAsked (⟦<Self as Seen>⟧.view self.old) calls ask m0
+            → IsLeft (access_view (⟦<Self as Seen>⟧.view self.new)) answered → IfErr result (StopsThere m0 answered self.old.log.calls self.new.log.lines) }
+        ensures keeps { Keeps (⟦<Self as Seen>⟧.view self.old) (⟦<Self as Seen>⟧.view self.new) }
+        ensures ends { EndsBy result (⟦<Self as Seen>⟧.view self.new) }
+        ensures asks { AsksWhole result (⟦<Self as Seen>⟧.view self.new) }
         ensures fenced { OnOk result (self.new.log.known < self.new.log.fence → self.old.log.known < self.old.log.fence) }
-        ensures ended { IfErr result (λ s. self.new.log.end ≡ Some s) }
-        ensures settles { OnOk result (CanSettle self.new.log self.new.managed) }
-        ensures memory { IfErr result NoMemory }
-        ensures identity { F.identity self.new.flights ≡ F.identity self.old.flights }
     {
         match *unit {
             Unit::Poll { mask, value, turns } => match self.ask_poll(config, mask, value, turns) {

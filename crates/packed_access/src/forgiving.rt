@@ -1,5 +1,5 @@
 //! Units that are made alone: each access made as by the unit alone, in flights of which only the last access may fault.
-ghost use Rattle.std.specs.Prelude.{◌≡◌, ◌<◌, ◌≤◌, ◌+◌, ◌-◌, ◌*◌, ◌/◌, ◌%◌, [], ℕ, List, Option, None, Some, false, true, length, IfErr, IfOk, OnOk};
+ghost use Rattle.std.specs.Prelude.{◌≡◌, ◌<◌, ◌≤◌, ◌+◌, [], ℕ, List, Option, None, false, true, length, IfErr, IfOk, OnOk};
 ghost use Rattle.std.specs.List.{list_any};
 ghost use Rattle.target_machine.specs.Lists.{after};
 ghost use Rattle.target_machine.specs.Plain.{Action, may_forgive, memory_actions};
@@ -7,32 +7,28 @@ ghost use Rattle.target_machine.specs.Sound.{IsSound, IsSoundMemory};
 ghost use Rattle.target_machine.specs.State.{TargetState};
 ghost use Rattle.target_machine.specs.declared.access.RegAccess.{RegAccess};
 ghost use Rattle.target_machine.specs.declared.unit.Unit.TheVariants as unit;
-ghost use Rattle.flight_forms.specs.Packing.{IsTaken};
 ghost use Rattle.probe_core.specs.Bench.{BenchState, StepsTo};
-ghost use Rattle.access_calls.specs.Answers.{NoMemory};
-ghost use Rattle.access_calls.specs.GoesOn.{GoesOn};
 ghost use Rattle.access_calls.specs.Left.{IsLeft};
-ghost use Rattle.packed_access.specs.Settling.{CanSettle};
-ghost use Rattle.packed_access.specs.Begun.{HasAsked, HasBegun, HasEnded, StopsThere};
-ghost use Rattle.packed_access.specs.Forgiving.{CameTo, HasBroken, HasTried, IsDoneBy, closed};
+ghost use Rattle.packed_access.specs.Begun.{StopsThere};
+ghost use Rattle.packed_access.specs.Forgiving.{CameTo, IsDoneBy, closed};
 ghost use Rattle.bench_flights.specs.Flown.{SendsFew};
-ghost use Rattle.packed_access.specs.Sparing.{HasPaid};
 ghost use Rattle.batch_packer.specs.Flying.{CanFly};
-ghost use Rattle.packed_access.specs.Logs.{IsFurther, IsSoundState, asks_of, most_entries, reported_by};
+ghost use Rattle.packed_access.specs.Logs.{IsSoundState, most_entries};
 ghost use Rattle.target_calls.specs.World.{small_now, start_world};
 ghost use Rattle.target_calls.specs.declared.calls.Ask.{Ask};
-ghost use Rattle.target_calls.specs.NeedPoints.{asked};
 ghost use Rattle.target_calls.specs.Asks.{unit_ask};
 ghost use Rattle.probe_core.specs.Probe.{target_of};
 ghost use Rattle.target_machine.specs.declared.unit.Call.TheVariants.{Access};
-ghost use Rattle.access_regs.specs.Costs.{cost_by};
 ghost use Rattle.access_regs.specs.Journal.{is_alone, is_end, making};
 ghost use Rattle.access_regs.specs.Kept.{Kept, known, selected};
 ghost use Rattle.access_regs.specs.Plan.{needs_cfg, select_value};
 ghost use Rattle.access_regs.specs.declared.planner.Planner.TheVariants.{Managed};
+ghost use Rattle.packed_access.specs.Frame.{AsksWhole, CanIssue, CanTry, EndsBy, Keeps, Tries};
+ghost use Rattle.packed_access.specs.Views.{HasNeeds, IsAsked, IsAtEnd, IsBegun, IsBroken, IsPaid, IsTried, access_view};
 
 use crate::log::CallLog;
 use crate::planned::port_of;
+use crate::seen::Seen;
 use crate::sender::{Sender, count_points};
 use access_calls::Stop;
 use bench_flights::Flights;
@@ -98,37 +94,25 @@ impl<F: Flights> Sender<F> {
         value: u32,
         forgive: bool,
     ) -> Result<Option<u32>, Stop>
-        requires open { self.old.log.end ≡ None }
-        requires whole { self.old.log.whole + 1 ≡ length self.old.log.calls }
-        requires came { self.old.log.came ≡ self.old.log.whole }
-        requires empty { F.accesses self.old.flights ≡ [] }
-        requires space { (next : RegAccess) → IsTaken next → F.has_room self.old.flights next ≡ true }
-        requires room { length self.old.log.entries + 8 ≤ self.old.log.room }
-        requires bounded { length self.old.log.entries + 8 ≤ most_entries * length self.old.log.calls }
+        requires ready { CanTry 8 (⟦<Self as Seen>⟧.view self.old) }
         requires calm { self.old.managed.unsettled ≡ None }
         requires sound { IsSoundMemory size read address value }
         ensures on { (m0 : BenchState) (k : Kept) (t : TargetState) (made : List RegAccess) (rest : List Action)
-            → HasTried F.planner forgive (F.state self.old.flights) self.old.log (unit.Memory size read ap address value) k t made rest m0 → list_any (is_end (unit.Memory size read ap address value)) (making made) ≡ false
+            → IsTried (⟦<Self as Seen>⟧.view self.old) forgive (unit.Memory size read ap address value) k t made rest m0
+            → list_any (is_end (unit.Memory size read ap address value)) (making made) ≡ false
             → rest ≡ memory_actions (after t (making made)) large size read ap address value
             → IfOk result (λ w. CameTo F.planner forgive w (F.state self.new.flights) self.new.log (unit.Memory size read ap address value) k t m0) }
         ensures broke { (m0 : BenchState) (k : Kept) (t : TargetState) (made : List RegAccess) (rest : List Action)
-            → HasTried F.planner forgive (F.state self.old.flights) self.old.log (unit.Memory size read ap address value) k t made rest m0 → list_any (is_end (unit.Memory size read ap address value)) (making made) ≡ false
+            → IsTried (⟦<Self as Seen>⟧.view self.old) forgive (unit.Memory size read ap address value) k t made rest m0
+            → list_any (is_end (unit.Memory size read ap address value)) (making made) ≡ false
             → rest ≡ memory_actions (after t (making made)) large size read ap address value
-            → IfErr result (λ s. HasBroken F.planner s (reported_by (F.reported self.new.flights) (F.state self.new.flights) self.new.log (F.packet self.new.flights) (F.reply self.new.flights)) self.new.log self.old.log.calls m0) }
-        ensures goes { GoesOn (reported_by (F.reported self.old.flights) (F.state self.old.flights) self.old.log (F.packet self.old.flights) (F.reply self.old.flights))
-            (reported_by (F.reported self.new.flights) (F.state self.new.flights) self.new.log (F.packet self.new.flights) (F.reply self.new.flights)) }
+            → IfErr result (IsBroken (⟦<Self as Seen>⟧.view self.new) self.old.log.calls m0) }
         ensures packets { F.planner ≡ Managed → OnOk result (StepsTo (λ m o. CanFly m → SendsFew 3 m o) (F.state self.old.flights) (F.state self.new.flights)) }
-        ensures later { OnOk result (self.old.log.confirmed ≤ self.new.log.confirmed) }
-        ensures limits { F.limits self.new.flights ≡ F.limits self.old.flights }
-        ensures further { OnOk result (IsFurther self.old.log self.new.log) }
-        ensures came { OnOk result (self.new.log.came ≡ self.new.log.whole) }
-        ensures empty { OnOk result (F.accesses self.new.flights ≡ []) }
-        ensures ended { IfErr result (λ s. self.new.log.end ≡ Some s) }
-        ensures asks { asks_of self.new.log ≡ asks_of self.old.log }
-        ensures memory { IfErr result NoMemory }
+        ensures keeps { Keeps (⟦<Self as Seen>⟧.view self.old) (⟦<Self as Seen>⟧.view self.new) }
+        ensures ends { EndsBy result (⟦<Self as Seen>⟧.view self.new) }
+        ensures tries { Tries result (⟦<Self as Seen>⟧.view self.old) (⟦<Self as Seen>⟧.view self.new) }
         ensures entries { OnOk result (length self.new.log.entries ≤ length self.old.log.entries + 8) }
         ensures managed { self.new.managed ≡ selected self.old.managed (select_value ap 0) }
-        ensures identity { F.identity self.new.flights ≡ F.identity self.old.flights }
     {
         let csw = match self.try_port(ap, 0, access_ap(true, CSW, 0), false, forgive) {
             Ok(Some(csw)) => csw,
@@ -169,37 +153,24 @@ impl<F: Flights> Sender<F> {
         value: u32,
         forgive: bool,
     ) -> Result<Attempt, Stop>
-        requires open { self.old.log.end ≡ None }
-        requires whole { self.old.log.whole + 1 ≡ length self.old.log.calls }
-        requires came { self.old.log.came ≡ self.old.log.whole }
-        requires empty { F.accesses self.old.flights ≡ [] }
-        requires space { (next : RegAccess) → IsTaken next → F.has_room self.old.flights next ≡ true }
-        requires room { length self.old.log.entries + 11 ≤ self.old.log.room }
-        requires bounded { length self.old.log.entries + 11 ≤ most_entries * length self.old.log.calls }
+        requires ready { CanTry 11 (⟦<Self as Seen>⟧.view self.old) }
         requires calm { self.old.managed.unsettled ≡ None }
         requires sound { IsSoundMemory size read address value }
         requires wide { needs_cfg self.old.managed (unit.Memory size read ap address value) ≡ true }
         ensures on { (m0 : BenchState) (t : TargetState) (rest : List Action) → length self.old.managed.ports ≡ 256
-            → HasTried F.planner forgive (F.state self.old.flights) self.old.log (unit.Memory size read ap address value) self.old.managed t [] rest m0
-            → IfOk result (λ r. IsDoneBy F.planner forgive r.small r.word r.reads self.new.managed (F.state self.new.flights) self.new.log (unit.Memory size read ap address value) self.old.managed t m0) }
+            → IsTried (⟦<Self as Seen>⟧.view self.old) forgive (unit.Memory size read ap address value) self.old.managed t [] rest m0
+            → IfOk result (λ r. IsDoneBy F.planner forgive r.small r.word r.reads self.new.managed (F.state self.new.flights) self.new.log
+            (unit.Memory size read ap address value) self.old.managed t m0) }
         ensures broke { (m0 : BenchState) (t : TargetState) (rest : List Action) → length self.old.managed.ports ≡ 256
-            → HasTried F.planner forgive (F.state self.old.flights) self.old.log (unit.Memory size read ap address value) self.old.managed t [] rest m0
-            → IfErr result (λ s. HasBroken F.planner s (reported_by (F.reported self.new.flights) (F.state self.new.flights) self.new.log (F.packet self.new.flights) (F.reply self.new.flights)) self.new.log self.old.log.calls m0) }
+            → IsTried (⟦<Self as Seen>⟧.view self.old) forgive (unit.Memory size read ap address value) self.old.managed t [] rest m0
+            → IfErr result (IsBroken (⟦<Self as Seen>⟧.view self.new) self.old.log.calls m0) }
         ensures reads { IfOk result (λ r. r.reads ≤ 2) }
-        ensures goes { GoesOn (reported_by (F.reported self.old.flights) (F.state self.old.flights) self.old.log (F.packet self.old.flights) (F.reply self.old.flights))
-            (reported_by (F.reported self.new.flights) (F.state self.new.flights) self.new.log (F.packet self.new.flights) (F.reply self.new.flights)) }
         ensures packets { F.planner ≡ Managed → OnOk result (StepsTo (λ m o. CanFly m → SendsFew 4 m o) (F.state self.old.flights) (F.state self.new.flights)) }
-        ensures later { OnOk result (self.old.log.confirmed ≤ self.new.log.confirmed) }
-        ensures limits { F.limits self.new.flights ≡ F.limits self.old.flights }
-        ensures further { OnOk result (IsFurther self.old.log self.new.log) }
-        ensures came { OnOk result (self.new.log.came ≡ self.new.log.whole) }
-        ensures empty { OnOk result (F.accesses self.new.flights ≡ []) }
-        ensures ended { IfErr result (λ s. self.new.log.end ≡ Some s) }
-        ensures asks { asks_of self.new.log ≡ asks_of self.old.log }
-        ensures memory { IfErr result NoMemory }
+        ensures keeps { Keeps (⟦<Self as Seen>⟧.view self.old) (⟦<Self as Seen>⟧.view self.new) }
+        ensures ends { EndsBy result (⟦<Self as Seen>⟧.view self.new) }
+        ensures tries { Tries result (⟦<Self as Seen>⟧.view self.old) (⟦<Self as Seen>⟧.view self.new) }
         ensures entries { OnOk result (length self.new.log.entries ≤ length self.old.log.entries + 11) }
         ensures calm { self.new.managed.unsettled ≡ None }
-        ensures identity { F.identity self.new.flights ≡ F.identity self.old.flights }
     {
         let cfg = match self.try_port(ap, CFG / 16, access_ap(true, CFG % 16, 0), false, forgive) {
             Ok(Some(cfg)) => cfg,
@@ -221,36 +192,22 @@ impl<F: Flights> Sender<F> {
 
     // Makes the accesses of a unit.
     fn try_unit(&mut self, unit: &Unit, forgive: bool) -> Result<Attempt, Stop>
-        requires open { self.old.log.end ≡ None }
-        requires whole { self.old.log.whole + 1 ≡ length self.old.log.calls }
-        requires came { self.old.log.came ≡ self.old.log.whole }
-        requires empty { F.accesses self.old.flights ≡ [] }
-        requires space { (next : RegAccess) → IsTaken next → F.has_room self.old.flights next ≡ true }
-        requires room { length self.old.log.entries + 11 ≤ self.old.log.room }
-        requires bounded { length self.old.log.entries + 11 ≤ most_entries * length self.old.log.calls }
+        requires ready { CanTry 11 (⟦<Self as Seen>⟧.view self.old) }
         requires calm { self.old.managed.unsettled ≡ None }
         requires sound { IsSound unit.now }
         ensures on { (m0 : BenchState) (t : TargetState) (rest : List Action) → may_forgive (Access unit.now) ≡ true → length self.old.managed.ports ≡ 256
-            → HasTried F.planner forgive (F.state self.old.flights) self.old.log unit.now self.old.managed t [] rest m0
+            → IsTried (⟦<Self as Seen>⟧.view self.old) forgive unit.now self.old.managed t [] rest m0
             → IfOk result (λ r. IsDoneBy F.planner forgive r.small r.word r.reads self.new.managed (F.state self.new.flights) self.new.log unit.now self.old.managed t m0) }
         ensures broke { (m0 : BenchState) (t : TargetState) (rest : List Action) → length self.old.managed.ports ≡ 256
-            → HasTried F.planner forgive (F.state self.old.flights) self.old.log unit.now self.old.managed t [] rest m0
-            → IfErr result (λ s. HasBroken F.planner s (reported_by (F.reported self.new.flights) (F.state self.new.flights) self.new.log (F.packet self.new.flights) (F.reply self.new.flights)) self.new.log self.old.log.calls m0) }
+            → IsTried (⟦<Self as Seen>⟧.view self.old) forgive unit.now self.old.managed t [] rest m0
+            → IfErr result (IsBroken (⟦<Self as Seen>⟧.view self.new) self.old.log.calls m0) }
         ensures reads { IfOk result (λ r. r.reads ≤ 2) }
-        ensures goes { GoesOn (reported_by (F.reported self.old.flights) (F.state self.old.flights) self.old.log (F.packet self.old.flights) (F.reply self.old.flights))
-            (reported_by (F.reported self.new.flights) (F.state self.new.flights) self.new.log (F.packet self.new.flights) (F.reply self.new.flights)) }
         ensures packets { F.planner ≡ Managed → OnOk result (StepsTo (λ m o. CanFly m → SendsFew 4 m o) (F.state self.old.flights) (F.state self.new.flights)) }
-        ensures later { OnOk result (self.old.log.confirmed ≤ self.new.log.confirmed) }
-        ensures limits { F.limits self.new.flights ≡ F.limits self.old.flights }
-        ensures further { OnOk result (IsFurther self.old.log self.new.log) }
-        ensures came { OnOk result (self.new.log.came ≡ self.new.log.whole) }
-        ensures empty { OnOk result (F.accesses self.new.flights ≡ []) }
-        ensures ended { IfErr result (λ s. self.new.log.end ≡ Some s) }
-        ensures asks { asks_of self.new.log ≡ asks_of self.old.log }
-        ensures memory { IfErr result NoMemory }
+        ensures keeps { Keeps (⟦<Self as Seen>⟧.view self.old) (⟦<Self as Seen>⟧.view self.new) }
+        ensures ends { EndsBy result (⟦<Self as Seen>⟧.view self.new) }
+        ensures tries { Tries result (⟦<Self as Seen>⟧.view self.old) (⟦<Self as Seen>⟧.view self.new) }
         ensures entries { OnOk result (length self.new.log.entries ≤ length self.old.log.entries + 11) }
         ensures calm { self.new.managed.unsettled ≡ None }
-        ensures identity { F.identity self.new.flights ≡ F.identity self.old.flights }
     {
         match *unit {
             Unit::Memory {
@@ -287,37 +244,26 @@ impl<F: Flights> Sender<F> {
 
     // Asks a unit that is made alone, and forgives a fault or not. Answers whether its access port has no large addresses.
     pub(crate) fn ask_alone(&mut self, unit: &Unit, forgive: bool) -> Result<bool, Stop>
-        requires open { self.old.log.end ≡ None }
+        requires ready { CanIssue most_entries (⟦<Self as Seen>⟧.view self.old) }
         requires sound { IsSound unit.now }
         requires may { may_forgive (Access unit.now) ≡ true }
         requires alone { is_alone F.planner forgive ≡ true }
-        requires whole { self.old.log.whole + 1 ≡ length self.old.log.calls }
-        requires room { length self.old.log.entries + most_entries ≤ self.old.log.room }
-        requires bounded { length self.old.log.entries + most_entries ≤ most_entries * length self.old.log.calls }
-        ensures on { (m0 : BenchState) (calls : List Ask) (ask : Ask) → ask ≡ unit_ask unit.now forgive → HasAsked F.planner (F.state self.old.flights) self.old.log (F.accesses self.old.flights) self.old.managed calls ask m0
-            → OnOk result (HasBegun F.planner (F.reported self.new.flights) (F.state self.new.flights) self.new.log (F.packet self.new.flights) (F.reply self.new.flights) self.new.managed (F.accesses self.new.flights) m0) }
-        ensures spare { (m0 : BenchState) (calls : List Ask) (ask : Ask) (left : ℕ) → ask ≡ unit_ask unit.now forgive → HasAsked F.planner (F.state self.old.flights) self.old.log (F.accesses self.old.flights) self.old.managed calls ask m0
-            → HasPaid F.planner (F.limits self.old.flights) (F.reported self.old.flights).limits (F.state self.old.flights) self.old.log left m0
-            → OnOk result (HasPaid F.planner (F.limits self.new.flights) (F.reported self.new.flights).limits (F.state self.new.flights) self.new.log left m0) }
-        ensures small { (m0 : BenchState) (calls : List Ask) (ask : Ask) → ask ≡ unit_ask unit.now forgive → HasAsked F.planner (F.state self.old.flights) self.old.log (F.accesses self.old.flights) self.old.managed calls ask m0
+        ensures on { (m0 : BenchState) (calls : List Ask) (ask : Ask) → ask ≡ unit_ask unit.now forgive → IsAsked (⟦<Self as Seen>⟧.view self.old) calls ask m0
+            → OnOk result (IsBegun (⟦<Self as Seen>⟧.view self.new) m0) }
+        ensures spare { (m0 : BenchState) (calls : List Ask) (ask : Ask) (left : ℕ) → ask ≡ unit_ask unit.now forgive → IsAsked (⟦<Self as Seen>⟧.view self.old) calls ask m0
+            → IsPaid (⟦<Self as Seen>⟧.view self.old) left m0 → OnOk result (IsPaid (⟦<Self as Seen>⟧.view self.new) left m0) }
+        ensures small { (m0 : BenchState) (calls : List Ask) (ask : Ask) → ask ≡ unit_ask unit.now forgive → IsAsked (⟦<Self as Seen>⟧.view self.old) calls ask m0
             → IfOk result (λ small. small ≡ small_now (start_world (target_of m0.probe) None) calls ask) }
-        ensures needs { (m0 : BenchState) (calls : List Ask) (ask : Ask) → ask ≡ unit_ask unit.now forgive → HasAsked F.planner (F.state self.old.flights) self.old.log (F.accesses self.old.flights) self.old.managed calls ask m0
-            → OnOk result (asks_of self.new.log ≡ asked (cost_by F.planner (target_of m0.probe) calls ask) ask (record { calls = calls; needs = self.old.log.needs; fence = self.old.log.fence })) }
-        ensures broke { (m0 : BenchState) (calls : List Ask) (ask : Ask) → ask ≡ unit_ask unit.now forgive → HasAsked F.planner (F.state self.old.flights) self.old.log (F.accesses self.old.flights) self.old.managed calls ask m0
-            → IfErr result (λ s. HasEnded F.planner s (reported_by (F.reported self.new.flights) (F.state self.new.flights) self.new.log (F.packet self.new.flights) (F.reply self.new.flights)) self.new.log m0) }
-        ensures stops { (m0 : BenchState) (calls : List Ask) (ask : Ask) (answered : Option ℕ) → ask ≡ unit_ask unit.now forgive → HasAsked F.planner (F.state self.old.flights) self.old.log (F.accesses self.old.flights) self.old.managed calls ask m0
-            → IsLeft (reported_by (F.reported self.new.flights) (F.state self.new.flights) self.new.log (F.packet self.new.flights) (F.reply self.new.flights)) answered
-            → IfErr result (StopsThere m0 answered self.old.log.calls self.new.log.lines) }
-        ensures goes { GoesOn (reported_by (F.reported self.old.flights) (F.state self.old.flights) self.old.log (F.packet self.old.flights) (F.reply self.old.flights))
-            (reported_by (F.reported self.new.flights) (F.state self.new.flights) self.new.log (F.packet self.new.flights) (F.reply self.new.flights)) }
-        ensures calls { self.new.log.calls ≡ self.old.log.calls }
-        ensures whole { OnOk result (self.new.log.whole ≡ length self.new.log.calls) }
-        ensures open { OnOk result (self.new.log.end ≡ None) }
+        ensures needs { (m0 : BenchState) (calls : List Ask) (ask : Ask) → ask ≡ unit_ask unit.now forgive → IsAsked (⟦<Self as Seen>⟧.view self.old) calls ask m0
+            → OnOk result (HasNeeds (⟦<Self as Seen>⟧.view self.old) (⟦<Self as Seen>⟧.view self.new) calls ask m0) }
+        ensures broke { (m0 : BenchState) (calls : List Ask) (ask : Ask) → ask ≡ unit_ask unit.now forgive → IsAsked (⟦<Self as Seen>⟧.view self.old) calls ask m0
+            → IfErr result (IsAtEnd (⟦<Self as Seen>⟧.view self.new) m0) }
+        ensures stops { (m0 : BenchState) (calls : List Ask) (ask : Ask) (answered : Option ℕ) → ask ≡ unit_ask unit.now forgive → IsAsked (⟦<Self as Seen>⟧.view self.old) calls ask m0
+            → IsLeft (access_view (⟦<Self as Seen>⟧.view self.new)) answered → IfErr result (StopsThere m0 answered self.old.log.calls self.new.log.lines) }
+        ensures keeps { Keeps (⟦<Self as Seen>⟧.view self.old) (⟦<Self as Seen>⟧.view self.new) }
+        ensures ends { EndsBy result (⟦<Self as Seen>⟧.view self.new) }
+        ensures asks { AsksWhole result (⟦<Self as Seen>⟧.view self.new) }
         ensures fenced { OnOk result (self.new.log.known < self.new.log.fence → self.old.log.known < self.old.log.fence) }
-        ensures ended { IfErr result (λ s. self.new.log.end ≡ Some s) }
-        ensures settles { OnOk result (CanSettle self.new.log self.new.managed) }
-        ensures memory { IfErr result NoMemory }
-        ensures identity { F.identity self.new.flights ≡ F.identity self.old.flights }
     {
         let count = self.log.count();
         // there is something to settle only after an earlier call

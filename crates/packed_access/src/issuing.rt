@@ -1,5 +1,5 @@
 //! How the accesses of calls come into flights, and flights are sent.
-ghost use Rattle.std.specs.Prelude.{◌≡◌, ◌<◌, ◌≤◌, ◌+◌, ◌-◌, ◌*◌, ◌++◌, ◌∷◌, [], ℕ, List, Option, None, Some, false, true, length, slice_get, IfErr, IfOk, OnOk};
+ghost use Rattle.std.specs.Prelude.{◌≡◌, ◌<◌, ◌≤◌, ◌+◌, ◌-◌, ◌++◌, ◌∷◌, [], ℕ, List, Option, None, false, length, slice_get, IfErr, IfOk, OnOk};
 ghost use Rattle.std.specs.List.{AllByRecursion};
 ghost use Rattle.target_machine.specs.Plain.{Commands, Makes, acted, given};
 ghost use Rattle.target_machine.specs.declared.access.RegAccess.{RegAccess};
@@ -14,21 +14,22 @@ ghost use Rattle.target_calls.specs.declared.calls.Ask.{Ask};
 ghost use Rattle.flight_forms.specs.Packing.{IsTaken};
 ghost use Rattle.probe_core.specs.Bench.{BenchState};
 ghost use Rattle.target_calls.specs.Journal.{Entry, target_after};
-ghost use Rattle.access_calls.specs.Answers.{AtCut, NoMemory};
+ghost use Rattle.access_calls.specs.Answers.{AtCut};
 ghost use Rattle.bench_flights.specs.Full.{IsFull};
-ghost use Rattle.packed_access.specs.Sparing.{HasSpared};
-ghost use Rattle.access_calls.specs.GoesOn.{GoesOn};
 ghost use Rattle.access_calls.specs.Issued.{kept_of, lines_before_kept};
 ghost use Rattle.access_calls.specs.Left.{IsLeft};
 ghost use Rattle.access_regs.specs.Plan.{settle, settled};
 ghost use Rattle.access_regs.specs.Plans.{accesses_of};
 ghost use Rattle.target_calls.specs.declared.journal.Part.TheVariants.{Ends, Leads, Settles};
 ghost use Rattle.access_regs.specs.declared.planner.Planner.TheVariants.{Managed};
-ghost use Rattle.packed_access.specs.Begun.{HasEnded, HasIssued, StopsThere, entries_of, target_issued};
+ghost use Rattle.packed_access.specs.Begun.{StopsThere, entries_of, target_issued};
 ghost use Rattle.packed_access.specs.Actions.{entry_of, log_done};
-ghost use Rattle.packed_access.specs.Logs.{IsFurther, IsOfCall, IsSoundState, all_confirmed, all_taken, asks_of, ended_by, most_entries, reported_by, result_for};
+ghost use Rattle.packed_access.specs.Logs.{IsOfCall, IsSoundState, all_confirmed, all_taken, asks_of, ended_by, result_for};
+ghost use Rattle.packed_access.specs.Frame.{CanAdd, EndsBy, Further, Keeps};
+ghost use Rattle.packed_access.specs.Views.{HasSpace, IsAtEnd, IsSparing, IsToIssue, IsToIssueNext, access_view};
 
 use crate::log::CallLog;
+use crate::seen::Seen;
 use crate::sender::Sender;
 use access_calls::Stop;
 use access_regs::Plan;
@@ -62,32 +63,29 @@ impl<F: Flights> Sender<F> {
     // Sends the flight, and takes its values. At an error the access has ended.
     pub(crate) fn send(&mut self) -> Result<(), Stop>
         requires open { self.old.log.end ≡ None }
-        ensures on { (m0 : BenchState) (rest : List Entry) → HasIssued F.planner (F.state self.old.flights) self.old.log (F.accesses self.old.flights) rest m0
-            → OnOk result (HasIssued F.planner (F.state self.new.flights) self.new.log [] rest m0) }
-        ensures broke { (m0 : BenchState) (rest : List Entry) → HasIssued F.planner (F.state self.old.flights) self.old.log (F.accesses self.old.flights) rest m0
-            → IfErr result (λ s. HasEnded F.planner s (reported_by (F.reported self.new.flights) (F.state self.new.flights) self.new.log (F.packet self.new.flights) (F.reply self.new.flights)) self.new.log m0) }
-        ensures stops { (m0 : BenchState) (rest : List Entry) (answered : Option ℕ) → HasIssued F.planner (F.state self.old.flights) self.old.log (F.accesses self.old.flights) rest m0
-            → IsLeft (reported_by (F.reported self.new.flights) (F.state self.new.flights) self.new.log (F.packet self.new.flights) (F.reply self.new.flights)) answered
-            → IfErr result (StopsThere m0 answered self.old.log.calls self.new.log.lines) }
-        ensures last { (m0 : BenchState) (rest front : List Entry) (e : Entry) (more : List Entry) → HasIssued F.planner (F.state self.old.flights) self.old.log (F.accesses self.old.flights) rest m0
-            → issued F.planner (target_of m0.probe) self.old.log.calls ≡ front ++ e ∷ more → length front + 1 ≡ length self.old.log.entries → self.old.log.confirmed < length self.old.log.entries
-            → OnOk result (unwrap_or (slot_at (F.values self.new.flights) (length self.old.log.entries - self.old.log.confirmed - 1)) 0 ≡ given (acted (target_after (target_of m0.probe) front) e.action).outcome) }
-        ensures goes { GoesOn (reported_by (F.reported self.old.flights) (F.state self.old.flights) self.old.log (F.packet self.old.flights) (F.reply self.old.flights))
-            (reported_by (F.reported self.new.flights) (F.state self.new.flights) self.new.log (F.packet self.new.flights) (F.reply self.new.flights)) }
-        ensures spare { (m0 : BenchState) (rest : List Entry) (points : ℕ) → HasIssued F.planner (F.state self.old.flights) self.old.log (F.accesses self.old.flights) rest m0
-            → HasSpared F.planner (F.limits self.old.flights) (F.reported self.old.flights).limits (F.state self.old.flights) self.old.log points m0
-            → OnOk result (HasSpared F.planner (F.limits self.new.flights) (F.reported self.new.flights).limits (F.state self.new.flights) self.new.log (points + 1) m0) }
-        ensures full { (m0 : BenchState) (e : Entry) (rest : List Entry) (next : RegAccess) (points : ℕ) → HasIssued F.planner (F.state self.old.flights) self.old.log (F.accesses self.old.flights) (e ∷ rest) m0 → e.action ≡ Makes next
-            → HasSpared F.planner (F.limits self.old.flights) (F.reported self.old.flights).limits (F.state self.old.flights) self.old.log points m0 → (F.planner ≡ Managed → IsFull (F.limits self.old.flights) (F.accesses self.old.flights) next)
-            → OnOk result (HasSpared F.planner (F.limits self.new.flights) (F.reported self.new.flights).limits (F.state self.new.flights) self.new.log points m0) }
+        ensures on { (m0 : BenchState) (rest : List Entry) → IsToIssue (⟦<Self as Seen>⟧.view self.old) rest m0 → OnOk result (IsToIssueNext (⟦<Self as Seen>⟧.view self.new) rest m0) }
+        ensures broke { (m0 : BenchState) (rest : List Entry) → IsToIssue (⟦<Self as Seen>⟧.view self.old) rest m0 → IfErr result (IsAtEnd (⟦<Self as Seen>⟧.view self.new) m0) }
+        ensures stops { (m0 : BenchState) (rest : List Entry) (answered : Option ℕ) → IsToIssue (⟦<Self as Seen>⟧.view self.old) rest m0
+            → IsLeft (access_view (⟦<Self as Seen>⟧.view self.new)) answered → IfErr result (StopsThere m0 answered self.old.log.calls self.new.log.lines) }
+        ensures last { (m0 : BenchState) (rest front : List Entry) (e : Entry) (more : List Entry) → IsToIssue (⟦<Self as Seen>⟧.view self.old) rest m0
+            → issued F.planner (target_of m0.probe) self.old.log.calls ≡ front ++ e ∷ more → length front + 1 ≡ length self.old.log.entries
+            → self.old.log.confirmed < length self.old.log.entries
+            → OnOk result (unwrap_or (slot_at (F.values self.new.flights) (length self.old.log.entries - self.old.log.confirmed - 1)) 0
+            ≡ given (acted (target_after (target_of m0.probe) front) e.action).outcome) }
+        ensures spare { (m0 : BenchState) (rest : List Entry) (points : ℕ) → IsToIssue (⟦<Self as Seen>⟧.view self.old) rest m0
+            → IsSparing (⟦<Self as Seen>⟧.view self.old) points m0 → OnOk result (IsSparing (⟦<Self as Seen>⟧.view self.new) (points + 1) m0) }
+        ensures full { (m0 : BenchState) (e : Entry) (rest : List Entry) (next : RegAccess) (points : ℕ) → IsToIssue (⟦<Self as Seen>⟧.view self.old) (e ∷ rest) m0
+            → e.action ≡ Makes next → IsSparing (⟦<Self as Seen>⟧.view self.old) points m0
+            → (F.planner ≡ Managed → IsFull (F.limits self.old.flights) (F.accesses self.old.flights) next)
+            → OnOk result (IsSparing (⟦<Self as Seen>⟧.view self.new) points m0) }
+        ensures keeps { Keeps (⟦<Self as Seen>⟧.view self.old) (⟦<Self as Seen>⟧.view self.new) }
+        ensures ends { EndsBy result (⟦<Self as Seen>⟧.view self.new) }
         ensures log { OnOk result (self.new.log ≡ all_confirmed (all_taken (F.values self.new.flights) self.old.log)) }
         ensures ended { IfErr result (λ s. self.new.log ≡ ended_by s self.old.log self.new.log) }
         ensures empty { F.accesses self.new.flights ≡ [] }
-        ensures room { OnOk result ((next : RegAccess) → IsTaken next → F.has_room self.new.flights next ≡ true) }
+        ensures space { OnOk result (HasSpace (⟦<Self as Seen>⟧.view self.new)) }
         ensures some { IfErr result (λ s. AtCut s (λ r. 0 < length (F.accesses self.old.flights))) }
-        ensures memory { IfErr result NoMemory }
         ensures managed { self.new.managed ≡ self.old.managed }
-        ensures identity { F.identity self.new.flights ≡ F.identity self.old.flights }
     {
         match self.flights.send() {
             Ok(()) => {
@@ -101,35 +99,26 @@ impl<F: Flights> Sender<F> {
 
     // Issues one access of the last call or of a settling; the flight is sent first where it has no room. At an
     // error the access has ended.
-    #[tactic(auto, using(access_calls::proofs::KeepLemmas::goes_trans, crate::proofs::GoesLemmas::goes_still))]
+    #[tactic(auto, using(crate::proofs::FrameLemmas::keeps_on, crate::proofs::FrameLemmas::keeps_still))]
     pub(crate) fn issue(&mut self, unit: u32, part: Part, access: RegAccess) -> Result<(), Stop>
-        requires open { self.old.log.end ≡ None }
+        requires ready { CanAdd 1 (⟦<Self as Seen>⟧.view self.old) }
         requires taken { IsTaken access }
         requires unit { IsOfCall (length self.old.log.calls) (record { unit = unit; part = part }) }
         requires later { self.old.log.whole ≤ lines_before_kept (record { unit = unit; part = part }) }
-        requires room { length self.old.log.entries < self.old.log.room }
-        requires bounded { length self.old.log.entries < most_entries * length self.old.log.calls }
-        ensures on { (m0 : BenchState) (e : Entry) (rest : List Entry) → HasIssued F.planner (F.state self.old.flights) self.old.log (F.accesses self.old.flights) (e ∷ rest) m0
+        ensures on { (m0 : BenchState) (e : Entry) (rest : List Entry) → IsToIssue (⟦<Self as Seen>⟧.view self.old) (e ∷ rest) m0
             → e.action ≡ Makes access → e.forgiving ≡ false → kept_of e ≡ record { unit = unit; part = part }
-            → OnOk result (HasIssued F.planner (F.state self.new.flights) self.new.log (F.accesses self.new.flights) rest m0) }
-        ensures spare { (m0 : BenchState) (e : Entry) (rest : List Entry) (points : ℕ) → HasIssued F.planner (F.state self.old.flights) self.old.log (F.accesses self.old.flights) (e ∷ rest) m0 → e.action ≡ Makes access
-            → HasSpared F.planner (F.limits self.old.flights) (F.reported self.old.flights).limits (F.state self.old.flights) self.old.log points m0
-            → OnOk result (HasSpared F.planner (F.limits self.new.flights) (F.reported self.new.flights).limits (F.state self.new.flights) self.new.log points m0) }
-        ensures broke { (m0 : BenchState) (rest : List Entry) → HasIssued F.planner (F.state self.old.flights) self.old.log (F.accesses self.old.flights) rest m0
-            → IfErr result (λ s. HasEnded F.planner s (reported_by (F.reported self.new.flights) (F.state self.new.flights) self.new.log (F.packet self.new.flights) (F.reply self.new.flights)) self.new.log m0) }
-        ensures stops { (m0 : BenchState) (rest : List Entry) (answered : Option ℕ) → HasIssued F.planner (F.state self.old.flights) self.old.log (F.accesses self.old.flights) rest m0
-            → IsLeft (reported_by (F.reported self.new.flights) (F.state self.new.flights) self.new.log (F.packet self.new.flights) (F.reply self.new.flights)) answered
-            → IfErr result (StopsThere m0 answered self.old.log.calls self.new.log.lines) }
-        ensures goes { GoesOn (reported_by (F.reported self.old.flights) (F.state self.old.flights) self.old.log (F.packet self.old.flights) (F.reply self.old.flights))
-            (reported_by (F.reported self.new.flights) (F.state self.new.flights) self.new.log (F.packet self.new.flights) (F.reply self.new.flights)) }
+            → OnOk result (IsToIssue (⟦<Self as Seen>⟧.view self.new) rest m0) }
+        ensures spare { (m0 : BenchState) (e : Entry) (rest : List Entry) (points : ℕ) → IsToIssue (⟦<Self as Seen>⟧.view self.old) (e ∷ rest) m0
+            → e.action ≡ Makes access → IsSparing (⟦<Self as Seen>⟧.view self.old) points m0 → OnOk result (IsSparing (⟦<Self as Seen>⟧.view self.new) points m0) }
+        ensures broke { (m0 : BenchState) (rest : List Entry) → IsToIssue (⟦<Self as Seen>⟧.view self.old) rest m0 → IfErr result (IsAtEnd (⟦<Self as Seen>⟧.view self.new) m0) }
+        ensures stops { (m0 : BenchState) (rest : List Entry) (answered : Option ℕ) → IsToIssue (⟦<Self as Seen>⟧.view self.old) rest m0
+            → IsLeft (access_view (⟦<Self as Seen>⟧.view self.new)) answered → IfErr result (StopsThere m0 answered self.old.log.calls self.new.log.lines) }
+        ensures keeps { Keeps (⟦<Self as Seen>⟧.view self.old) (⟦<Self as Seen>⟧.view self.new) }
+        ensures ends { EndsBy result (⟦<Self as Seen>⟧.view self.new) }
+        ensures further { Further result (⟦<Self as Seen>⟧.view self.old) (⟦<Self as Seen>⟧.view self.new) }
         ensures entries { OnOk result (self.new.log.entries ≡ self.old.log.entries ++ record { unit = unit; part = part } ∷ []) }
-        ensures further { OnOk result (IsFurther self.old.log self.new.log) }
         ensures pending { OnOk result (self.new.log.confirmed < length self.new.log.entries) }
-        ensures ended { IfErr result (λ s. self.new.log.end ≡ Some s) }
-        ensures asks { asks_of self.new.log ≡ asks_of self.old.log }
-        ensures memory { IfErr result NoMemory }
         ensures managed { self.new.managed ≡ self.old.managed }
-        ensures identity { F.identity self.new.flights ≡ F.identity self.old.flights }
     {
         if !self.flights.room(access) {
             match self.send() {
@@ -150,32 +139,24 @@ impl<F: Flights> Sender<F> {
         part: Part,
         accesses: &[RegAccess],
     ) -> Result<(), Stop>
-        requires open { self.old.log.end ≡ None }
+        requires ready { CanAdd (length accesses.now) (⟦<Self as Seen>⟧.view self.old) }
         requires taken { AllByRecursion IsTaken accesses.now }
         requires unit { 0 < length accesses.now → IsOfCall (length self.old.log.calls) (record { unit = unit; part = part }) }
         requires later { 0 < length accesses.now → self.old.log.whole ≤ lines_before_kept (record { unit = unit; part = part }) }
-        requires room { length self.old.log.entries + length accesses.now ≤ self.old.log.room }
-        requires bounded { length self.old.log.entries + length accesses.now ≤ most_entries * length self.old.log.calls }
-        ensures on { (m0 : BenchState) (rest : List Entry) → HasIssued F.planner (F.state self.old.flights) self.old.log (F.accesses self.old.flights) (entries_of unit part accesses.now ++ rest) m0
-            → OnOk result (HasIssued F.planner (F.state self.new.flights) self.new.log (F.accesses self.new.flights) rest m0) }
-        ensures spare { (m0 : BenchState) (rest : List Entry) (points : ℕ) → HasIssued F.planner (F.state self.old.flights) self.old.log (F.accesses self.old.flights) (entries_of unit part accesses.now ++ rest) m0
-            → HasSpared F.planner (F.limits self.old.flights) (F.reported self.old.flights).limits (F.state self.old.flights) self.old.log points m0
-            → OnOk result (HasSpared F.planner (F.limits self.new.flights) (F.reported self.new.flights).limits (F.state self.new.flights) self.new.log points m0) }
-        ensures broke { (m0 : BenchState) (rest : List Entry) → HasIssued F.planner (F.state self.old.flights) self.old.log (F.accesses self.old.flights) (entries_of unit part accesses.now ++ rest) m0
-            → IfErr result (λ s. HasEnded F.planner s (reported_by (F.reported self.new.flights) (F.state self.new.flights) self.new.log (F.packet self.new.flights) (F.reply self.new.flights)) self.new.log m0) }
-        ensures stops { (m0 : BenchState) (rest : List Entry) (answered : Option ℕ) → HasIssued F.planner (F.state self.old.flights) self.old.log (F.accesses self.old.flights) (entries_of unit part accesses.now ++ rest) m0
-            → IsLeft (reported_by (F.reported self.new.flights) (F.state self.new.flights) self.new.log (F.packet self.new.flights) (F.reply self.new.flights)) answered
-            → IfErr result (StopsThere m0 answered self.old.log.calls self.new.log.lines) }
-        ensures goes { GoesOn (reported_by (F.reported self.old.flights) (F.state self.old.flights) self.old.log (F.packet self.old.flights) (F.reply self.old.flights))
-            (reported_by (F.reported self.new.flights) (F.state self.new.flights) self.new.log (F.packet self.new.flights) (F.reply self.new.flights)) }
+        ensures on { (m0 : BenchState) (rest : List Entry) → IsToIssue (⟦<Self as Seen>⟧.view self.old) (entries_of unit part accesses.now ++ rest) m0
+            → OnOk result (IsToIssue (⟦<Self as Seen>⟧.view self.new) rest m0) }
+        ensures spare { (m0 : BenchState) (rest : List Entry) (points : ℕ) → IsToIssue (⟦<Self as Seen>⟧.view self.old) (entries_of unit part accesses.now ++ rest) m0
+            → IsSparing (⟦<Self as Seen>⟧.view self.old) points m0 → OnOk result (IsSparing (⟦<Self as Seen>⟧.view self.new) points m0) }
+        ensures broke { (m0 : BenchState) (rest : List Entry) → IsToIssue (⟦<Self as Seen>⟧.view self.old) (entries_of unit part accesses.now ++ rest) m0
+            → IfErr result (IsAtEnd (⟦<Self as Seen>⟧.view self.new) m0) }
+        ensures stops { (m0 : BenchState) (rest : List Entry) (answered : Option ℕ) → IsToIssue (⟦<Self as Seen>⟧.view self.old) (entries_of unit part accesses.now ++ rest) m0
+            → IsLeft (access_view (⟦<Self as Seen>⟧.view self.new)) answered → IfErr result (StopsThere m0 answered self.old.log.calls self.new.log.lines) }
+        ensures keeps { Keeps (⟦<Self as Seen>⟧.view self.old) (⟦<Self as Seen>⟧.view self.new) }
+        ensures ends { EndsBy result (⟦<Self as Seen>⟧.view self.new) }
+        ensures further { Further result (⟦<Self as Seen>⟧.view self.old) (⟦<Self as Seen>⟧.view self.new) }
         ensures entries { OnOk result (length self.new.log.entries ≡ length self.old.log.entries + length accesses.now) }
-        ensures further { OnOk result (IsFurther self.old.log self.new.log) }
         ensures pending { OnOk result (0 < length accesses.now → self.new.log.confirmed < length self.new.log.entries) }
-        ensures ended { IfErr result (λ s. self.new.log.end ≡ Some s) }
-        ensures asks { asks_of self.new.log ≡ asks_of self.old.log }
-        ensures memory { IfErr result NoMemory }
         ensures managed { self.new.managed ≡ self.old.managed }
-        ensures identity { F.identity self.new.flights ≡ F.identity self.old.flights }
     {
         for access in accesses {
             match self.issue(unit, part, *access) {
@@ -187,39 +168,31 @@ impl<F: Flights> Sender<F> {
     }
 
     // Issues a read of the last call and what comes before it, sends, and answers the value of the read.
-    #[tactic(auto, using(access_calls::proofs::KeepLemmas::goes_trans))]
+    #[tactic(auto, using(crate::proofs::FrameLemmas::keeps_on))]
     pub(crate) fn read_by(&mut self, unit: u32, accesses: &[RegAccess]) -> Result<u32, Stop>
-        requires open { self.old.log.end ≡ None }
+        requires ready { CanAdd (length accesses.now) (⟦<Self as Seen>⟧.view self.old) }
         requires some { 0 < length accesses.now }
         requires taken { AllByRecursion IsTaken accesses.now }
         requires unit { IsOfCall (length self.old.log.calls) (record { unit = unit; part = Leads }) }
         requires later { self.old.log.whole ≤ lines_before_kept (record { unit = unit; part = Leads }) }
-        requires room { length self.old.log.entries + length accesses.now ≤ self.old.log.room }
-        requires bounded { length self.old.log.entries + length accesses.now ≤ most_entries * length self.old.log.calls }
-        ensures on { (m0 : BenchState) (rest : List Entry) → HasIssued F.planner (F.state self.old.flights) self.old.log (F.accesses self.old.flights) (entries_of unit Leads accesses.now ++ rest) m0
-            → OnOk result (HasIssued F.planner (F.state self.new.flights) self.new.log [] rest m0) }
-        ensures spare { (m0 : BenchState) (rest : List Entry) (points : ℕ) → HasIssued F.planner (F.state self.old.flights) self.old.log (F.accesses self.old.flights) (entries_of unit Leads accesses.now ++ rest) m0
-            → HasSpared F.planner (F.limits self.old.flights) (F.reported self.old.flights).limits (F.state self.old.flights) self.old.log points m0
-            → OnOk result (HasSpared F.planner (F.limits self.new.flights) (F.reported self.new.flights).limits (F.state self.new.flights) self.new.log (points + 1) m0) }
+        ensures on { (m0 : BenchState) (rest : List Entry) → IsToIssue (⟦<Self as Seen>⟧.view self.old) (entries_of unit Leads accesses.now ++ rest) m0
+            → OnOk result (IsToIssueNext (⟦<Self as Seen>⟧.view self.new) rest m0) }
+        ensures spare { (m0 : BenchState) (rest : List Entry) (points : ℕ) → IsToIssue (⟦<Self as Seen>⟧.view self.old) (entries_of unit Leads accesses.now ++ rest) m0
+            → IsSparing (⟦<Self as Seen>⟧.view self.old) points m0 → OnOk result (IsSparing (⟦<Self as Seen>⟧.view self.new) (points + 1) m0) }
         ensures value { (m0 : BenchState) (lead : List RegAccess) (a : RegAccess) (rest : List Entry) → accesses.now ≡ lead ++ a ∷ []
-            → HasIssued F.planner (F.state self.old.flights) self.old.log (F.accesses self.old.flights) (entries_of unit Leads accesses.now ++ rest) m0
+            → IsToIssue (⟦<Self as Seen>⟧.view self.old) (entries_of unit Leads accesses.now ++ rest) m0
             → IfOk result (λ v. v ≡ gives (target_issued F.planner self.old.log m0) accesses.now) }
-        ensures broke { (m0 : BenchState) (rest : List Entry) → HasIssued F.planner (F.state self.old.flights) self.old.log (F.accesses self.old.flights) (entries_of unit Leads accesses.now ++ rest) m0
-            → IfErr result (λ s. HasEnded F.planner s (reported_by (F.reported self.new.flights) (F.state self.new.flights) self.new.log (F.packet self.new.flights) (F.reply self.new.flights)) self.new.log m0) }
-        ensures stops { (m0 : BenchState) (rest : List Entry) (answered : Option ℕ) → HasIssued F.planner (F.state self.old.flights) self.old.log (F.accesses self.old.flights) (entries_of unit Leads accesses.now ++ rest) m0
-            → IsLeft (reported_by (F.reported self.new.flights) (F.state self.new.flights) self.new.log (F.packet self.new.flights) (F.reply self.new.flights)) answered
-            → IfErr result (StopsThere m0 answered self.old.log.calls self.new.log.lines) }
-        ensures goes { GoesOn (reported_by (F.reported self.old.flights) (F.state self.old.flights) self.old.log (F.packet self.old.flights) (F.reply self.old.flights))
-            (reported_by (F.reported self.new.flights) (F.state self.new.flights) self.new.log (F.packet self.new.flights) (F.reply self.new.flights)) }
+        ensures broke { (m0 : BenchState) (rest : List Entry) → IsToIssue (⟦<Self as Seen>⟧.view self.old) (entries_of unit Leads accesses.now ++ rest) m0
+            → IfErr result (IsAtEnd (⟦<Self as Seen>⟧.view self.new) m0) }
+        ensures stops { (m0 : BenchState) (rest : List Entry) (answered : Option ℕ) → IsToIssue (⟦<Self as Seen>⟧.view self.old) (entries_of unit Leads accesses.now ++ rest) m0
+            → IsLeft (access_view (⟦<Self as Seen>⟧.view self.new)) answered → IfErr result (StopsThere m0 answered self.old.log.calls self.new.log.lines) }
+        ensures keeps { Keeps (⟦<Self as Seen>⟧.view self.old) (⟦<Self as Seen>⟧.view self.new) }
+        ensures ends { EndsBy result (⟦<Self as Seen>⟧.view self.new) }
+        ensures further { Further result (⟦<Self as Seen>⟧.view self.old) (⟦<Self as Seen>⟧.view self.new) }
         ensures entries { OnOk result (length self.new.log.entries ≡ length self.old.log.entries + length accesses.now) }
-        ensures further { OnOk result (IsFurther self.old.log self.new.log) }
         ensures came { OnOk result (self.new.log.known ≡ self.new.log.whole) }
         ensures empty { OnOk result (F.accesses self.new.flights ≡ []) }
-        ensures ended { IfErr result (λ s. self.new.log.end ≡ Some s) }
-        ensures asks { asks_of self.new.log ≡ asks_of self.old.log }
-        ensures memory { IfErr result NoMemory }
         ensures managed { self.new.managed ≡ self.old.managed }
-        ensures identity { F.identity self.new.flights ≡ F.identity self.old.flights }
     {
         match self.issue_all(unit, Part::Leads, accesses) {
             Ok(()) => {}
@@ -235,30 +208,22 @@ impl<F: Flights> Sender<F> {
     // Settles the unsettled access port, where there is one, as entries of this unit.
     #[tactic(auto, using(crate::proofs::PlanLemmas::settle_taken, crate::proofs::PlanLemmas::settle_few))]
     pub(crate) fn settle(&mut self, unit: u32) -> Result<(), Stop>
-        requires open { self.old.log.end ≡ None }
+        requires ready { CanAdd (length (settle self.old.managed)) (⟦<Self as Seen>⟧.view self.old) }
         requires unit { 0 < length (settle self.old.managed) → IsOfCall (length self.old.log.calls) (record { unit = unit; part = Settles }) }
         requires later { 0 < length (settle self.old.managed) → self.old.log.whole ≤ unit }
-        requires room { length self.old.log.entries + length (settle self.old.managed) ≤ self.old.log.room }
-        requires bounded { length self.old.log.entries + length (settle self.old.managed) ≤ most_entries * length self.old.log.calls }
-        ensures on { (m0 : BenchState) (rest : List Entry) → HasIssued F.planner (F.state self.old.flights) self.old.log (F.accesses self.old.flights) (entries_of unit Settles (settle self.old.managed) ++ rest) m0
-            → OnOk result (HasIssued F.planner (F.state self.new.flights) self.new.log (F.accesses self.new.flights) rest m0) }
-        ensures spare { (m0 : BenchState) (rest : List Entry) (points : ℕ) → HasIssued F.planner (F.state self.old.flights) self.old.log (F.accesses self.old.flights) (entries_of unit Settles (settle self.old.managed) ++ rest) m0
-            → HasSpared F.planner (F.limits self.old.flights) (F.reported self.old.flights).limits (F.state self.old.flights) self.old.log points m0
-            → OnOk result (HasSpared F.planner (F.limits self.new.flights) (F.reported self.new.flights).limits (F.state self.new.flights) self.new.log points m0) }
-        ensures broke { (m0 : BenchState) (rest : List Entry) → HasIssued F.planner (F.state self.old.flights) self.old.log (F.accesses self.old.flights) (entries_of unit Settles (settle self.old.managed) ++ rest) m0
-            → IfErr result (λ s. HasEnded F.planner s (reported_by (F.reported self.new.flights) (F.state self.new.flights) self.new.log (F.packet self.new.flights) (F.reply self.new.flights)) self.new.log m0) }
-        ensures stops { (m0 : BenchState) (rest : List Entry) (answered : Option ℕ) → HasIssued F.planner (F.state self.old.flights) self.old.log (F.accesses self.old.flights) (entries_of unit Settles (settle self.old.managed) ++ rest) m0
-            → IsLeft (reported_by (F.reported self.new.flights) (F.state self.new.flights) self.new.log (F.packet self.new.flights) (F.reply self.new.flights)) answered
-            → IfErr result (StopsThere m0 answered self.old.log.calls self.new.log.lines) }
-        ensures goes { GoesOn (reported_by (F.reported self.old.flights) (F.state self.old.flights) self.old.log (F.packet self.old.flights) (F.reply self.old.flights))
-            (reported_by (F.reported self.new.flights) (F.state self.new.flights) self.new.log (F.packet self.new.flights) (F.reply self.new.flights)) }
+        ensures on { (m0 : BenchState) (rest : List Entry) → IsToIssue (⟦<Self as Seen>⟧.view self.old) (entries_of unit Settles (settle self.old.managed) ++ rest) m0
+            → OnOk result (IsToIssue (⟦<Self as Seen>⟧.view self.new) rest m0) }
+        ensures spare { (m0 : BenchState) (rest : List Entry) (points : ℕ) → IsToIssue (⟦<Self as Seen>⟧.view self.old) (entries_of unit Settles (settle self.old.managed) ++ rest) m0
+            → IsSparing (⟦<Self as Seen>⟧.view self.old) points m0 → OnOk result (IsSparing (⟦<Self as Seen>⟧.view self.new) points m0) }
+        ensures broke { (m0 : BenchState) (rest : List Entry) → IsToIssue (⟦<Self as Seen>⟧.view self.old) (entries_of unit Settles (settle self.old.managed) ++ rest) m0
+            → IfErr result (IsAtEnd (⟦<Self as Seen>⟧.view self.new) m0) }
+        ensures stops { (m0 : BenchState) (rest : List Entry) (answered : Option ℕ) → IsToIssue (⟦<Self as Seen>⟧.view self.old) (entries_of unit Settles (settle self.old.managed) ++ rest) m0
+            → IsLeft (access_view (⟦<Self as Seen>⟧.view self.new)) answered → IfErr result (StopsThere m0 answered self.old.log.calls self.new.log.lines) }
+        ensures keeps { Keeps (⟦<Self as Seen>⟧.view self.old) (⟦<Self as Seen>⟧.view self.new) }
+        ensures ends { EndsBy result (⟦<Self as Seen>⟧.view self.new) }
+        ensures further { Further result (⟦<Self as Seen>⟧.view self.old) (⟦<Self as Seen>⟧.view self.new) }
         ensures entries { OnOk result (length self.new.log.entries ≡ length self.old.log.entries + length (settle self.old.managed)) }
-        ensures further { OnOk result (IsFurther self.old.log self.new.log) }
-        ensures ended { IfErr result (λ s. self.new.log.end ≡ Some s) }
-        ensures asks { asks_of self.new.log ≡ asks_of self.old.log }
-        ensures memory { IfErr result NoMemory }
         ensures managed { self.new.managed ≡ settled self.old.managed }
-        ensures identity { F.identity self.new.flights ≡ F.identity self.old.flights }
     {
         let plan = self.managed.settle();
         self.managed.settled();
@@ -266,33 +231,29 @@ impl<F: Flights> Sender<F> {
     }
 
     // Makes the last call, which is a command of the probe, where all calls before it came.
-    #[tactic(auto, using(access_calls::proofs::KeepLemmas::goes_trans, crate::proofs::GoesLemmas::goes_still))]
+    #[tactic(auto, using(crate::proofs::FrameLemmas::keeps_on, crate::proofs::FrameLemmas::keeps_still))]
     pub(crate) fn make_last(&mut self, call: ProbeCall) -> Result<u32, Stop>
-        requires open { self.old.log.end ≡ None }
+        requires ready { CanAdd 1 (⟦<Self as Seen>⟧.view self.old) }
         requires sound { IsSoundProbe call }
         requires rest { F.accesses self.old.flights ≡ [] }
         requires last { self.old.log.came + 1 ≡ length self.old.log.calls }
-        requires room { length self.old.log.entries < self.old.log.room }
-        requires bounded { length self.old.log.entries < most_entries * length self.old.log.calls }
-        ensures on { (m0 : BenchState) (calls : List Ask) → self.old.log.calls ≡ calls ++ probe_ask call ∷ [] → HasIssued F.planner (F.state self.old.flights) self.old.log [] (entry_of calls (Commands call) ∷ []) m0
-            → OnOk result (HasIssued F.planner (F.state self.new.flights) self.new.log [] [] m0) }
-        ensures spare { (m0 : BenchState) (calls : List Ask) (points : ℕ) → self.old.log.calls ≡ calls ++ probe_ask call ∷ [] → HasIssued F.planner (F.state self.old.flights) self.old.log [] (entry_of calls (Commands call) ∷ []) m0
-            → HasSpared F.planner (F.limits self.old.flights) (F.reported self.old.flights).limits (F.state self.old.flights) self.old.log (points + 1) m0
-            → OnOk result (HasSpared F.planner (F.limits self.new.flights) (F.reported self.new.flights).limits (F.state self.new.flights) self.new.log (points + command_cost call) m0) }
-        ensures broke { (m0 : BenchState) (calls : List Ask) → self.old.log.calls ≡ calls ++ probe_ask call ∷ [] → HasIssued F.planner (F.state self.old.flights) self.old.log [] (entry_of calls (Commands call) ∷ []) m0
-            → IfErr result (λ s. HasEnded F.planner s (reported_by (F.reported self.new.flights) (F.state self.new.flights) self.new.log (F.packet self.new.flights) (F.reply self.new.flights)) self.new.log m0) }
-        ensures stops { (m0 : BenchState) (calls : List Ask) (answered : Option ℕ) → self.old.log.calls ≡ calls ++ probe_ask call ∷ [] → HasIssued F.planner (F.state self.old.flights) self.old.log [] (entry_of calls (Commands call) ∷ []) m0
-            → IsLeft (reported_by (F.reported self.new.flights) (F.state self.new.flights) self.new.log (F.packet self.new.flights) (F.reply self.new.flights)) answered
-            → IfErr result (StopsThere m0 answered self.old.log.calls self.new.log.lines) }
-        ensures goes { GoesOn (reported_by (F.reported self.old.flights) (F.state self.old.flights) self.old.log (F.packet self.old.flights) (F.reply self.old.flights))
-            (reported_by (F.reported self.new.flights) (F.state self.new.flights) self.new.log (F.packet self.new.flights) (F.reply self.new.flights)) }
-        ensures log { IfOk result (λ word. self.new.log ≡ log_done self.old.log (record { unit = length self.old.log.calls; part = Ends }) (self.old.log.came) (result_for (slice_get self.old.log.calls self.old.log.came) word)) }
+        ensures on { (m0 : BenchState) (calls : List Ask) → self.old.log.calls ≡ calls ++ probe_ask call ∷ []
+            → IsToIssueNext (⟦<Self as Seen>⟧.view self.old) (entry_of calls (Commands call) ∷ []) m0 → OnOk result (IsToIssueNext (⟦<Self as Seen>⟧.view self.new) [] m0) }
+        ensures spare { (m0 : BenchState) (calls : List Ask) (points : ℕ) → self.old.log.calls ≡ calls ++ probe_ask call ∷ []
+            → IsToIssueNext (⟦<Self as Seen>⟧.view self.old) (entry_of calls (Commands call) ∷ []) m0
+            → IsSparing (⟦<Self as Seen>⟧.view self.old) (points + 1) m0 → OnOk result (IsSparing (⟦<Self as Seen>⟧.view self.new) (points + command_cost call) m0) }
+        ensures broke { (m0 : BenchState) (calls : List Ask) → self.old.log.calls ≡ calls ++ probe_ask call ∷ []
+            → IsToIssueNext (⟦<Self as Seen>⟧.view self.old) (entry_of calls (Commands call) ∷ []) m0 → IfErr result (IsAtEnd (⟦<Self as Seen>⟧.view self.new) m0) }
+        ensures stops { (m0 : BenchState) (calls : List Ask) (answered : Option ℕ) → self.old.log.calls ≡ calls ++ probe_ask call ∷ []
+            → IsToIssueNext (⟦<Self as Seen>⟧.view self.old) (entry_of calls (Commands call) ∷ []) m0
+            → IsLeft (access_view (⟦<Self as Seen>⟧.view self.new)) answered → IfErr result (StopsThere m0 answered self.old.log.calls self.new.log.lines) }
+        ensures keeps { Keeps (⟦<Self as Seen>⟧.view self.old) (⟦<Self as Seen>⟧.view self.new) }
+        ensures ends { EndsBy result (⟦<Self as Seen>⟧.view self.new) }
+        ensures log { IfOk result (λ word. self.new.log ≡ log_done self.old.log (record { unit = length self.old.log.calls; part = Ends }) (self.old.log.came)
+            (result_for (slice_get self.old.log.calls self.old.log.came) word)) }
         ensures empty { OnOk result (F.accesses self.new.flights ≡ []) }
-        ensures ended { IfErr result (λ s. self.new.log.end ≡ Some s) }
         ensures asks { asks_of self.new.log ≡ asks_of self.old.log }
-        ensures memory { IfErr result NoMemory }
         ensures managed { self.new.managed ≡ self.old.managed }
-        ensures identity { F.identity self.new.flights ≡ F.identity self.old.flights }
     {
         let unit = self.log.count();
         self.log.issue(unit, Part::Ends);

@@ -13,6 +13,7 @@ mod over_bench;
 mod planned;
 mod polls;
 mod results;
+mod seen;
 mod sender;
 mod tails;
 mod trying;

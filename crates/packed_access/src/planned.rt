@@ -1,5 +1,5 @@
 //! Units that forgive nothing.
-ghost use Rattle.std.specs.Prelude.{◌≡◌, ◌<◌, ◌≤◌, ◌+◌, ◌-◌, ◌*◌, ◌++◌, ◌∷◌, [], ℕ, List, Option, None, Some, true, length, IfErr, IfOk, OnOk};
+ghost use Rattle.std.specs.Prelude.{◌≡◌, ◌<◌, ◌≤◌, ◌+◌, ◌-◌, ◌++◌, ◌∷◌, [], ℕ, List, Option, true, length, IfErr, IfOk, OnOk};
 ghost use Rattle.dap_base.specs.Bits.{has_bit};
 ghost use Rattle.target_machine.specs.Registers.{cfg_la};
 ghost use Rattle.target_machine.specs.Sound.{IsSound};
@@ -10,22 +10,18 @@ ghost use Rattle.target_calls.specs.NeedPoints.{capped_sum};
 ghost use Rattle.target_machine.specs.Counts.{one_if};
 ghost use Rattle.access_regs.specs.Journal.{by_csw, gives, port_of};
 ghost use Rattle.access_regs.specs.Plan.{cfg_plan, first_plan, last_access, leads, learned, learned_cfg, made, needs_cfg, needs_csw};
-ghost use Rattle.access_calls.specs.Answers.{NoMemory};
-ghost use Rattle.access_calls.specs.GoesOn.{GoesOn};
 ghost use Rattle.access_calls.specs.Left.{IsLeft};
 ghost use Rattle.bench_flights.specs.Flown.{IsSetTo};
-ghost use Rattle.packed_access.specs.Begun.{HasAsked, HasBegun, HasEnded, HasIssued, IsNoPoll, StopsThere, entries_of, steps_left, target_issued};
-ghost use Rattle.packed_access.specs.Logs.{IsFurther, asks_of, most_entries, reported_by, with_needs};
-ghost use Rattle.packed_access.specs.Settling.{CanSettle};
-ghost use Rattle.packed_access.specs.Sparing.{HasPaid, HasSpared};
+ghost use Rattle.packed_access.specs.Begun.{IsNoPoll, StopsThere, entries_of, steps_left, target_issued};
+ghost use Rattle.packed_access.specs.Logs.{asks_of, most_entries, with_needs};
 ghost use Rattle.target_calls.specs.declared.calls.Ask.{Ask};
-ghost use Rattle.target_calls.specs.NeedPoints.{asked};
-ghost use Rattle.probe_core.specs.Probe.{target_of};
 ghost use Rattle.target_machine.specs.declared.unit.Call.TheVariants.{Access};
-ghost use Rattle.access_regs.specs.Costs.{cost_by};
 ghost use Rattle.target_machine.specs.declared.unit.Unit.TheVariants as unit;
+ghost use Rattle.packed_access.specs.Frame.{AsksWhole, CanIssue, EndsBy, Further, IssuesFew, Keeps};
+ghost use Rattle.packed_access.specs.Views.{HasNeeds, IsAsked, IsAtEnd, IsBegun, IsPaid, IsSparing, IsToIssue, IsToIssueNext, access_view};
 
 use crate::issuing::list_accesses;
+use crate::seen::Seen;
 use crate::sender::{Sender, count_points};
 use access_calls::Stop;
 use bench_flights::Flights;
@@ -45,47 +41,36 @@ pub(crate) fn port_of(unit: &Unit) -> u8
 
 impl<F: Flights> Sender<F> {
     // Reads CFG of the unit's access port, and answers whether the port has large addresses.
-    #[tactic(auto, using(access_calls::proofs::KeepLemmas::goes_trans, crate::proofs::PlanLemmas::cfg_taken, crate::proofs::PlanLemmas::cfg_some, crate::proofs::PlanLemmas::cfg_few))]
+    #[tactic(auto, using(crate::proofs::FrameLemmas::keeps_on, crate::proofs::PlanLemmas::cfg_taken, crate::proofs::PlanLemmas::cfg_some, crate::proofs::PlanLemmas::cfg_few))]
     pub(crate) fn read_cfg(&mut self, unit: &Unit) -> Result<bool, Stop>
         requires unknown { needs_cfg self.old.managed unit.now ≡ true }
-        requires open { self.old.log.end ≡ None }
-        requires whole { self.old.log.whole + 1 ≡ length self.old.log.calls }
-        requires room { length self.old.log.entries + 2 ≤ self.old.log.room }
-        requires bounded { length self.old.log.entries + 2 ≤ most_entries * length self.old.log.calls }
-        ensures on { (m0 : BenchState) (rest : List Entry) → HasIssued F.planner (F.state self.old.flights) self.old.log (F.accesses self.old.flights)
-            (entries_of (length self.old.log.calls) Leads (cfg_plan self.old.managed (port_of unit.now)) ++ rest) m0
-            → OnOk result (HasIssued F.planner (F.state self.new.flights) self.new.log [] rest m0) }
-        ensures spare { (m0 : BenchState) (rest : List Entry) (left : ℕ) → HasIssued F.planner (F.state self.old.flights) self.old.log (F.accesses self.old.flights)
-            (entries_of (length self.old.log.calls) Leads (cfg_plan self.old.managed (port_of unit.now)) ++ rest) m0
-            → HasPaid F.planner (F.limits self.old.flights) (F.reported self.old.flights).limits (F.state self.old.flights) self.old.log left m0
-            → OnOk result (HasPaid F.planner (F.limits self.new.flights) (F.reported self.new.flights).limits (F.state self.new.flights) self.new.log left m0) }
-        ensures kept { (m0 : BenchState) (rest : List Entry) → HasIssued F.planner (F.state self.old.flights) self.old.log (F.accesses self.old.flights)
-            (entries_of (length self.old.log.calls) Leads (cfg_plan self.old.managed (port_of unit.now)) ++ rest) m0
-            → OnOk result (self.new.managed ≡ learned_cfg self.old.managed (port_of unit.now) (gives (target_issued F.planner self.old.log m0) (cfg_plan self.old.managed (port_of unit.now)))) }
-        ensures large { (m0 : BenchState) (rest : List Entry) → HasIssued F.planner (F.state self.old.flights) self.old.log (F.accesses self.old.flights)
-            (entries_of (length self.old.log.calls) Leads (cfg_plan self.old.managed (port_of unit.now)) ++ rest) m0
+        requires ready { CanIssue 2 (⟦<Self as Seen>⟧.view self.old) }
+        ensures on { (m0 : BenchState) (rest : List Entry)
+            → IsToIssue (⟦<Self as Seen>⟧.view self.old) (entries_of (length self.old.log.calls) Leads (cfg_plan self.old.managed (port_of unit.now)) ++ rest) m0
+            → OnOk result (IsToIssueNext (⟦<Self as Seen>⟧.view self.new) rest m0) }
+        ensures spare { (m0 : BenchState) (rest : List Entry) (left : ℕ)
+            → IsToIssue (⟦<Self as Seen>⟧.view self.old) (entries_of (length self.old.log.calls) Leads (cfg_plan self.old.managed (port_of unit.now)) ++ rest) m0
+            → IsPaid (⟦<Self as Seen>⟧.view self.old) left m0 → OnOk result (IsPaid (⟦<Self as Seen>⟧.view self.new) left m0) }
+        ensures kept { (m0 : BenchState) (rest : List Entry)
+            → IsToIssue (⟦<Self as Seen>⟧.view self.old) (entries_of (length self.old.log.calls) Leads (cfg_plan self.old.managed (port_of unit.now)) ++ rest) m0
+            → OnOk result (self.new.managed ≡ learned_cfg self.old.managed (port_of unit.now)
+            (gives (target_issued F.planner self.old.log m0) (cfg_plan self.old.managed (port_of unit.now)))) }
+        ensures large { (m0 : BenchState) (rest : List Entry)
+            → IsToIssue (⟦<Self as Seen>⟧.view self.old) (entries_of (length self.old.log.calls) Leads (cfg_plan self.old.managed (port_of unit.now)) ++ rest) m0
             → IfOk result (λ large. large ≡ has_bit (gives (target_issued F.planner self.old.log m0) (cfg_plan self.old.managed (port_of unit.now))) cfg_la) }
-        ensures broke { (m0 : BenchState) (rest : List Entry) → HasIssued F.planner (F.state self.old.flights) self.old.log (F.accesses self.old.flights)
-            (entries_of (length self.old.log.calls) Leads (cfg_plan self.old.managed (port_of unit.now)) ++ rest) m0
-            → IfErr result (λ s. HasEnded F.planner s (reported_by (F.reported self.new.flights) (F.state self.new.flights) self.new.log (F.packet self.new.flights) (F.reply self.new.flights)) self.new.log m0) }
-        ensures stops { (m0 : BenchState) (rest : List Entry) (answered : Option ℕ) → HasIssued F.planner (F.state self.old.flights) self.old.log (F.accesses self.old.flights)
-            (entries_of (length self.old.log.calls) Leads (cfg_plan self.old.managed (port_of unit.now)) ++ rest) m0
-            → IsLeft (reported_by (F.reported self.new.flights) (F.state self.new.flights) self.new.log (F.packet self.new.flights) (F.reply self.new.flights)) answered
-            → IfErr result (StopsThere m0 answered self.old.log.calls self.new.log.lines) }
-        ensures goes { GoesOn (reported_by (F.reported self.old.flights) (F.state self.old.flights) self.old.log (F.packet self.old.flights) (F.reply self.old.flights))
-            (reported_by (F.reported self.new.flights) (F.state self.new.flights) self.new.log (F.packet self.new.flights) (F.reply self.new.flights)) }
+        ensures broke { (m0 : BenchState) (rest : List Entry)
+            → IsToIssue (⟦<Self as Seen>⟧.view self.old) (entries_of (length self.old.log.calls) Leads (cfg_plan self.old.managed (port_of unit.now)) ++ rest) m0
+            → IfErr result (IsAtEnd (⟦<Self as Seen>⟧.view self.new) m0) }
+        ensures stops { (m0 : BenchState) (rest : List Entry) (answered : Option ℕ)
+            → IsToIssue (⟦<Self as Seen>⟧.view self.old) (entries_of (length self.old.log.calls) Leads (cfg_plan self.old.managed (port_of unit.now)) ++ rest) m0
+            → IsLeft (access_view (⟦<Self as Seen>⟧.view self.new)) answered → IfErr result (StopsThere m0 answered self.old.log.calls self.new.log.lines) }
+        ensures keeps { Keeps (⟦<Self as Seen>⟧.view self.old) (⟦<Self as Seen>⟧.view self.new) }
+        ensures ends { EndsBy result (⟦<Self as Seen>⟧.view self.new) }
+        ensures issues { IssuesFew result 2 (⟦<Self as Seen>⟧.view self.old) (⟦<Self as Seen>⟧.view self.new) }
         ensures empty { OnOk result (F.accesses self.new.flights ≡ []) }
-        ensures entries { OnOk result (length self.new.log.entries ≤ length self.old.log.entries + 2) }
-        ensures whole_same { OnOk result (self.new.log.whole ≡ self.old.log.whole) }
         ensures places { OnOk result (self.new.log.places ≡ self.old.log.places) }
-        ensures room_same { OnOk result (self.new.log.room ≡ self.old.log.room) }
-        ensures open { OnOk result (self.new.log.end ≡ None) }
-        ensures asks { OnOk result (asks_of (self.new.log) ≡ record { calls = self.old.log.calls; needs = capped_sum self.old.log.needs 1; fence = length self.old.log.calls - 1 }) }
-        ensures calls { self.new.log.calls ≡ self.old.log.calls }
+        ensures asks { OnOk result (asks_of self.new.log ≡ record { calls = self.old.log.calls; needs = capped_sum self.old.log.needs 1; fence = length self.old.log.calls - 1 }) }
         ensures fenced { OnOk result (self.new.log.fence ≤ self.new.log.known) }
-        ensures ended { IfErr result (λ s. self.new.log.end ≡ Some s) }
-        ensures memory { IfErr result NoMemory }
-        ensures identity { F.identity self.new.flights ≡ F.identity self.old.flights }
     {
         let plan = self.managed.cfg_plan(unit);
         let number = self.log.count();
@@ -99,44 +84,33 @@ impl<F: Flights> Sender<F> {
     }
 
     // Reads CSW of the unit's access port, which is not known.
-    #[tactic(auto, using(access_calls::proofs::KeepLemmas::goes_trans, crate::proofs::PlanLemmas::first_taken, crate::proofs::PlanLemmas::first_some, crate::proofs::PlanLemmas::first_few))]
+    #[tactic(auto, using(crate::proofs::FrameLemmas::keeps_on, crate::proofs::PlanLemmas::first_taken, crate::proofs::PlanLemmas::first_some, crate::proofs::PlanLemmas::first_few))]
     fn read_csw(&mut self, unit: &Unit) -> Result<(), Stop>
         requires unknown { needs_csw self.old.managed unit.now ≡ true }
-        requires open { self.old.log.end ≡ None }
-        requires whole { self.old.log.whole + 1 ≡ length self.old.log.calls }
-        requires room { length self.old.log.entries + 2 ≤ self.old.log.room }
-        requires bounded { length self.old.log.entries + 2 ≤ most_entries * length self.old.log.calls }
-        ensures on { (m0 : BenchState) (rest : List Entry) → HasIssued F.planner (F.state self.old.flights) self.old.log (F.accesses self.old.flights)
-            (entries_of (length self.old.log.calls) Leads (first_plan self.old.managed (port_of unit.now)) ++ rest) m0
-            → OnOk result (HasIssued F.planner (F.state self.new.flights) self.new.log [] rest m0) }
-        ensures spare { (m0 : BenchState) (rest : List Entry) (left : ℕ) → HasIssued F.planner (F.state self.old.flights) self.old.log (F.accesses self.old.flights)
-            (entries_of (length self.old.log.calls) Leads (first_plan self.old.managed (port_of unit.now)) ++ rest) m0
-            → HasPaid F.planner (F.limits self.old.flights) (F.reported self.old.flights).limits (F.state self.old.flights) self.old.log left m0
-            → OnOk result (HasPaid F.planner (F.limits self.new.flights) (F.reported self.new.flights).limits (F.state self.new.flights) self.new.log left m0) }
-        ensures kept { (m0 : BenchState) (rest : List Entry) → HasIssued F.planner (F.state self.old.flights) self.old.log (F.accesses self.old.flights)
-            (entries_of (length self.old.log.calls) Leads (first_plan self.old.managed (port_of unit.now)) ++ rest) m0
-            → OnOk result (self.new.managed ≡ learned self.old.managed (port_of unit.now) (gives (target_issued F.planner self.old.log m0) (first_plan self.old.managed (port_of unit.now)))) }
-        ensures broke { (m0 : BenchState) (rest : List Entry) → HasIssued F.planner (F.state self.old.flights) self.old.log (F.accesses self.old.flights)
-            (entries_of (length self.old.log.calls) Leads (first_plan self.old.managed (port_of unit.now)) ++ rest) m0
-            → IfErr result (λ s. HasEnded F.planner s (reported_by (F.reported self.new.flights) (F.state self.new.flights) self.new.log (F.packet self.new.flights) (F.reply self.new.flights)) self.new.log m0) }
-        ensures stops { (m0 : BenchState) (rest : List Entry) (answered : Option ℕ) → HasIssued F.planner (F.state self.old.flights) self.old.log (F.accesses self.old.flights)
-            (entries_of (length self.old.log.calls) Leads (first_plan self.old.managed (port_of unit.now)) ++ rest) m0
-            → IsLeft (reported_by (F.reported self.new.flights) (F.state self.new.flights) self.new.log (F.packet self.new.flights) (F.reply self.new.flights)) answered
-            → IfErr result (StopsThere m0 answered self.old.log.calls self.new.log.lines) }
-        ensures goes { GoesOn (reported_by (F.reported self.old.flights) (F.state self.old.flights) self.old.log (F.packet self.old.flights) (F.reply self.old.flights))
-            (reported_by (F.reported self.new.flights) (F.state self.new.flights) self.new.log (F.packet self.new.flights) (F.reply self.new.flights)) }
+        requires ready { CanIssue 2 (⟦<Self as Seen>⟧.view self.old) }
+        ensures on { (m0 : BenchState) (rest : List Entry)
+            → IsToIssue (⟦<Self as Seen>⟧.view self.old) (entries_of (length self.old.log.calls) Leads (first_plan self.old.managed (port_of unit.now)) ++ rest) m0
+            → OnOk result (IsToIssueNext (⟦<Self as Seen>⟧.view self.new) rest m0) }
+        ensures spare { (m0 : BenchState) (rest : List Entry) (left : ℕ)
+            → IsToIssue (⟦<Self as Seen>⟧.view self.old) (entries_of (length self.old.log.calls) Leads (first_plan self.old.managed (port_of unit.now)) ++ rest) m0
+            → IsPaid (⟦<Self as Seen>⟧.view self.old) left m0 → OnOk result (IsPaid (⟦<Self as Seen>⟧.view self.new) left m0) }
+        ensures kept { (m0 : BenchState) (rest : List Entry)
+            → IsToIssue (⟦<Self as Seen>⟧.view self.old) (entries_of (length self.old.log.calls) Leads (first_plan self.old.managed (port_of unit.now)) ++ rest) m0
+            → OnOk result (self.new.managed ≡ learned self.old.managed (port_of unit.now)
+            (gives (target_issued F.planner self.old.log m0) (first_plan self.old.managed (port_of unit.now)))) }
+        ensures broke { (m0 : BenchState) (rest : List Entry)
+            → IsToIssue (⟦<Self as Seen>⟧.view self.old) (entries_of (length self.old.log.calls) Leads (first_plan self.old.managed (port_of unit.now)) ++ rest) m0
+            → IfErr result (IsAtEnd (⟦<Self as Seen>⟧.view self.new) m0) }
+        ensures stops { (m0 : BenchState) (rest : List Entry) (answered : Option ℕ)
+            → IsToIssue (⟦<Self as Seen>⟧.view self.old) (entries_of (length self.old.log.calls) Leads (first_plan self.old.managed (port_of unit.now)) ++ rest) m0
+            → IsLeft (access_view (⟦<Self as Seen>⟧.view self.new)) answered → IfErr result (StopsThere m0 answered self.old.log.calls self.new.log.lines) }
+        ensures keeps { Keeps (⟦<Self as Seen>⟧.view self.old) (⟦<Self as Seen>⟧.view self.new) }
+        ensures ends { EndsBy result (⟦<Self as Seen>⟧.view self.new) }
+        ensures issues { IssuesFew result 2 (⟦<Self as Seen>⟧.view self.old) (⟦<Self as Seen>⟧.view self.new) }
         ensures empty { OnOk result (F.accesses self.new.flights ≡ []) }
-        ensures entries { OnOk result (length self.new.log.entries ≤ length self.old.log.entries + 2) }
-        ensures whole_same { OnOk result (self.new.log.whole ≡ self.old.log.whole) }
         ensures places { OnOk result (self.new.log.places ≡ self.old.log.places) }
-        ensures room_same { OnOk result (self.new.log.room ≡ self.old.log.room) }
-        ensures open { OnOk result (self.new.log.end ≡ None) }
-        ensures asks { OnOk result (asks_of (self.new.log) ≡ record { calls = self.old.log.calls; needs = capped_sum self.old.log.needs 1; fence = length self.old.log.calls - 1 }) }
-        ensures calls { self.new.log.calls ≡ self.old.log.calls }
+        ensures asks { OnOk result (asks_of self.new.log ≡ record { calls = self.old.log.calls; needs = capped_sum self.old.log.needs 1; fence = length self.old.log.calls - 1 }) }
         ensures fenced { OnOk result (self.new.log.fence ≤ self.new.log.known) }
-        ensures ended { IfErr result (λ s. self.new.log.end ≡ Some s) }
-        ensures memory { IfErr result NoMemory }
-        ensures identity { F.identity self.new.flights ≡ F.identity self.old.flights }
     {
         let plan = self.managed.first_plan(unit);
         let number = self.log.count();
@@ -151,37 +125,32 @@ impl<F: Flights> Sender<F> {
     }
 
     // Issues the plan of the last call's unit, which is no poll.
-    #[tactic(auto, using(access_calls::proofs::KeepLemmas::goes_trans, crate::proofs::PlanLemmas::plan_taken, crate::proofs::PlanLemmas::leads_few, crate::proofs::PlanLemmas::plan_parts))]
+    #[tactic(auto, using(crate::proofs::FrameLemmas::keeps_on, crate::proofs::PlanLemmas::plan_taken, crate::proofs::PlanLemmas::leads_few, crate::proofs::PlanLemmas::plan_parts))]
     fn issue_unit(&mut self, unit: &Unit) -> Result<(), Stop>
-        requires open { self.old.log.end ≡ None }
+        requires ready { CanIssue 5 (⟦<Self as Seen>⟧.view self.old) }
         requires sound { IsSound unit.now }
-        requires whole { self.old.log.whole + 1 ≡ length self.old.log.calls }
-        requires room { length self.old.log.entries + 5 ≤ self.old.log.room }
-        requires bounded { length self.old.log.entries + 5 ≤ most_entries * length self.old.log.calls }
-        ensures on { (m0 : BenchState) (rest : List Entry) → HasIssued F.planner (F.state self.old.flights) self.old.log (F.accesses self.old.flights)
-            (entries_of (length self.old.log.calls) Leads (leads self.old.managed unit.now) ++ (entries_of (length self.old.log.calls) Ends (last_access unit.now ∷ []) ++ rest)) m0
-            → OnOk result (HasIssued F.planner (F.state self.new.flights) self.new.log (F.accesses self.new.flights) rest m0) }
-        ensures spare { (m0 : BenchState) (rest : List Entry) (points : ℕ) → HasIssued F.planner (F.state self.old.flights) self.old.log (F.accesses self.old.flights)
-            (entries_of (length self.old.log.calls) Leads (leads self.old.managed unit.now) ++ (entries_of (length self.old.log.calls) Ends (last_access unit.now ∷ []) ++ rest)) m0
-            → HasSpared F.planner (F.limits self.old.flights) (F.reported self.old.flights).limits (F.state self.old.flights) self.old.log points m0
-            → OnOk result (HasSpared F.planner (F.limits self.new.flights) (F.reported self.new.flights).limits (F.state self.new.flights) self.new.log points m0) }
-        ensures broke { (m0 : BenchState) (rest : List Entry) → HasIssued F.planner (F.state self.old.flights) self.old.log (F.accesses self.old.flights)
-            (entries_of (length self.old.log.calls) Leads (leads self.old.managed unit.now) ++ (entries_of (length self.old.log.calls) Ends (last_access unit.now ∷ []) ++ rest)) m0
-            → IfErr result (λ s. HasEnded F.planner s (reported_by (F.reported self.new.flights) (F.state self.new.flights) self.new.log (F.packet self.new.flights) (F.reply self.new.flights)) self.new.log m0) }
-        ensures stops { (m0 : BenchState) (rest : List Entry) (answered : Option ℕ) → HasIssued F.planner (F.state self.old.flights) self.old.log (F.accesses self.old.flights)
-            (entries_of (length self.old.log.calls) Leads (leads self.old.managed unit.now) ++ (entries_of (length self.old.log.calls) Ends (last_access unit.now ∷ []) ++ rest)) m0
-            → IsLeft (reported_by (F.reported self.new.flights) (F.state self.new.flights) self.new.log (F.packet self.new.flights) (F.reply self.new.flights)) answered
-            → IfErr result (StopsThere m0 answered self.old.log.calls self.new.log.lines) }
-        ensures goes { GoesOn (reported_by (F.reported self.old.flights) (F.state self.old.flights) self.old.log (F.packet self.old.flights) (F.reply self.old.flights))
-            (reported_by (F.reported self.new.flights) (F.state self.new.flights) self.new.log (F.packet self.new.flights) (F.reply self.new.flights)) }
+        ensures on { (m0 : BenchState) (rest : List Entry)
+            → IsToIssue (⟦<Self as Seen>⟧.view self.old) (entries_of (length self.old.log.calls) Leads (leads self.old.managed unit.now)
+            ++ (entries_of (length self.old.log.calls) Ends (last_access unit.now ∷ []) ++ rest)) m0
+            → OnOk result (IsToIssue (⟦<Self as Seen>⟧.view self.new) rest m0) }
+        ensures spare { (m0 : BenchState) (rest : List Entry) (points : ℕ)
+            → IsToIssue (⟦<Self as Seen>⟧.view self.old) (entries_of (length self.old.log.calls) Leads (leads self.old.managed unit.now)
+            ++ (entries_of (length self.old.log.calls) Ends (last_access unit.now ∷ []) ++ rest)) m0
+            → IsSparing (⟦<Self as Seen>⟧.view self.old) points m0 → OnOk result (IsSparing (⟦<Self as Seen>⟧.view self.new) points m0) }
+        ensures broke { (m0 : BenchState) (rest : List Entry)
+            → IsToIssue (⟦<Self as Seen>⟧.view self.old) (entries_of (length self.old.log.calls) Leads (leads self.old.managed unit.now)
+            ++ (entries_of (length self.old.log.calls) Ends (last_access unit.now ∷ []) ++ rest)) m0
+            → IfErr result (IsAtEnd (⟦<Self as Seen>⟧.view self.new) m0) }
+        ensures stops { (m0 : BenchState) (rest : List Entry) (answered : Option ℕ)
+            → IsToIssue (⟦<Self as Seen>⟧.view self.old) (entries_of (length self.old.log.calls) Leads (leads self.old.managed unit.now)
+            ++ (entries_of (length self.old.log.calls) Ends (last_access unit.now ∷ []) ++ rest)) m0
+            → IsLeft (access_view (⟦<Self as Seen>⟧.view self.new)) answered → IfErr result (StopsThere m0 answered self.old.log.calls self.new.log.lines) }
+        ensures keeps { Keeps (⟦<Self as Seen>⟧.view self.old) (⟦<Self as Seen>⟧.view self.new) }
+        ensures ends { EndsBy result (⟦<Self as Seen>⟧.view self.new) }
+        ensures further { Further result (⟦<Self as Seen>⟧.view self.old) (⟦<Self as Seen>⟧.view self.new) }
         ensures entries { OnOk result (length self.new.log.entries ≤ length self.old.log.entries + 5) }
-        ensures further { OnOk result (IsFurther self.old.log self.new.log) }
         ensures pending { OnOk result (self.new.log.confirmed < length self.new.log.entries) }
-        ensures ended { IfErr result (λ s. self.new.log.end ≡ Some s) }
-        ensures asks { asks_of self.new.log ≡ asks_of self.old.log }
-        ensures memory { IfErr result NoMemory }
         ensures managed { self.new.managed ≡ made self.old.managed unit.now }
-        ensures identity { F.identity self.new.flights ≡ F.identity self.old.flights }
     {
         let plan = self.managed.plan(unit);
         self.managed.made(unit);
@@ -196,44 +165,30 @@ impl<F: Flights> Sender<F> {
     }
 
     // Issues the last call's unit, which is no poll, with a read of CSW before it where that is not known.
-    #[tactic(auto, using(access_calls::proofs::KeepLemmas::goes_trans))]
+    #[tactic(auto, using(crate::proofs::FrameLemmas::keeps_on))]
     pub(crate) fn issue_by_csw(&mut self, unit: &Unit) -> Result<(), Stop>
-        requires open { self.old.log.end ≡ None }
+        requires ready { CanIssue 7 (⟦<Self as Seen>⟧.view self.old) }
         requires sound { IsSound unit.now }
         requires no_poll { IsNoPoll unit.now }
-        requires whole { self.old.log.whole + 1 ≡ length self.old.log.calls }
-        requires room { length self.old.log.entries + 7 ≤ self.old.log.room }
-        requires bounded { length self.old.log.entries + 7 ≤ most_entries * length self.old.log.calls }
-        ensures on { (m0 : BenchState) → HasIssued F.planner (F.state self.old.flights) self.old.log (F.accesses self.old.flights)
-            (steps_left self.old.log (by_csw (target_issued F.planner self.old.log m0) self.old.managed unit.now).steps) m0
-            → OnOk result (HasIssued F.planner (F.state self.new.flights) self.new.log (F.accesses self.new.flights) [] m0) }
-        ensures spare { (m0 : BenchState) (left : ℕ) → HasIssued F.planner (F.state self.old.flights) self.old.log (F.accesses self.old.flights)
-            (steps_left self.old.log (by_csw (target_issued F.planner self.old.log m0) self.old.managed unit.now).steps) m0
-            → HasPaid F.planner (F.limits self.old.flights) (F.reported self.old.flights).limits (F.state self.old.flights) self.old.log left m0
-            → OnOk result (HasPaid F.planner (F.limits self.new.flights) (F.reported self.new.flights).limits (F.state self.new.flights) self.new.log left m0) }
-        ensures kept { (m0 : BenchState) → HasIssued F.planner (F.state self.old.flights) self.old.log (F.accesses self.old.flights)
-            (steps_left self.old.log (by_csw (target_issued F.planner self.old.log m0) self.old.managed unit.now).steps) m0
+        ensures on { (m0 : BenchState) → IsToIssue (⟦<Self as Seen>⟧.view self.old) (steps_left self.old.log (by_csw (target_issued F.planner self.old.log m0) self.old.managed unit.now).steps) m0
+            → OnOk result (IsToIssue (⟦<Self as Seen>⟧.view self.new) [] m0) }
+        ensures spare { (m0 : BenchState) (left : ℕ)
+            → IsToIssue (⟦<Self as Seen>⟧.view self.old) (steps_left self.old.log (by_csw (target_issued F.planner self.old.log m0) self.old.managed unit.now).steps) m0
+            → IsPaid (⟦<Self as Seen>⟧.view self.old) left m0 → OnOk result (IsPaid (⟦<Self as Seen>⟧.view self.new) left m0) }
+        ensures kept { (m0 : BenchState) → IsToIssue (⟦<Self as Seen>⟧.view self.old) (steps_left self.old.log (by_csw (target_issued F.planner self.old.log m0) self.old.managed unit.now).steps) m0
             → OnOk result (self.new.managed ≡ (by_csw (target_issued F.planner self.old.log m0) self.old.managed unit.now).kept) }
-        ensures broke { (m0 : BenchState) → HasIssued F.planner (F.state self.old.flights) self.old.log (F.accesses self.old.flights)
-            (steps_left self.old.log (by_csw (target_issued F.planner self.old.log m0) self.old.managed unit.now).steps) m0
-            → IfErr result (λ s. HasEnded F.planner s (reported_by (F.reported self.new.flights) (F.state self.new.flights) self.new.log (F.packet self.new.flights) (F.reply self.new.flights)) self.new.log m0) }
-        ensures stops { (m0 : BenchState) (answered : Option ℕ) → HasIssued F.planner (F.state self.old.flights) self.old.log (F.accesses self.old.flights)
-            (steps_left self.old.log (by_csw (target_issued F.planner self.old.log m0) self.old.managed unit.now).steps) m0
-            → IsLeft (reported_by (F.reported self.new.flights) (F.state self.new.flights) self.new.log (F.packet self.new.flights) (F.reply self.new.flights)) answered
-            → IfErr result (StopsThere m0 answered self.old.log.calls self.new.log.lines) }
-        ensures goes { GoesOn (reported_by (F.reported self.old.flights) (F.state self.old.flights) self.old.log (F.packet self.old.flights) (F.reply self.old.flights))
-            (reported_by (F.reported self.new.flights) (F.state self.new.flights) self.new.log (F.packet self.new.flights) (F.reply self.new.flights)) }
-        ensures entries { OnOk result (length self.new.log.entries ≤ length self.old.log.entries + 7) }
-        ensures room_same { OnOk result (self.new.log.room ≡ self.old.log.room) }
-        ensures whole_same { OnOk result (self.new.log.whole ≡ self.old.log.whole) }
-        ensures open { OnOk result (self.new.log.end ≡ None) }
+        ensures broke { (m0 : BenchState) → IsToIssue (⟦<Self as Seen>⟧.view self.old) (steps_left self.old.log (by_csw (target_issued F.planner self.old.log m0) self.old.managed unit.now).steps) m0
+            → IfErr result (IsAtEnd (⟦<Self as Seen>⟧.view self.new) m0) }
+        ensures stops { (m0 : BenchState) (answered : Option ℕ)
+            → IsToIssue (⟦<Self as Seen>⟧.view self.old) (steps_left self.old.log (by_csw (target_issued F.planner self.old.log m0) self.old.managed unit.now).steps) m0
+            → IsLeft (access_view (⟦<Self as Seen>⟧.view self.new)) answered → IfErr result (StopsThere m0 answered self.old.log.calls self.new.log.lines) }
+        ensures keeps { Keeps (⟦<Self as Seen>⟧.view self.old) (⟦<Self as Seen>⟧.view self.new) }
+        ensures ends { EndsBy result (⟦<Self as Seen>⟧.view self.new) }
+        ensures issues { IssuesFew result 7 (⟦<Self as Seen>⟧.view self.old) (⟦<Self as Seen>⟧.view self.new) }
         ensures pending { OnOk result (self.new.log.confirmed < length self.new.log.entries) }
-        ensures asks { OnOk result (asks_of self.new.log ≡ asks_of (with_needs self.old.log (one_if (needs_csw self.old.managed unit.now)) (length self.old.log.calls - 1))) }
-        ensures calls { self.new.log.calls ≡ self.old.log.calls }
+        ensures asks { OnOk result (asks_of self.new.log
+            ≡ asks_of (with_needs self.old.log (one_if (needs_csw self.old.managed unit.now)) (length self.old.log.calls - 1))) }
         ensures fenced { OnOk result (self.new.log.known < self.new.log.fence → self.old.log.known < self.old.log.fence) }
-        ensures ended { IfErr result (λ s. self.new.log.end ≡ Some s) }
-        ensures memory { IfErr result NoMemory }
-        ensures identity { F.identity self.new.flights ≡ F.identity self.old.flights }
     {
         if !self.managed.needs_csw(unit) {
             return self.issue_unit(unit);
@@ -245,7 +200,7 @@ impl<F: Flights> Sender<F> {
     }
 
     // Asks a poll.
-    #[tactic(auto, using(access_calls::proofs::KeepLemmas::goes_trans, crate::proofs::GoesLemmas::goes_still))]
+    #[tactic(auto, using(crate::proofs::FrameLemmas::keeps_on, crate::proofs::FrameLemmas::keeps_still))]
     pub(crate) fn ask_poll(
         &mut self,
         config: Config,
@@ -253,33 +208,25 @@ impl<F: Flights> Sender<F> {
         requested: u32,
         turns: u32,
     ) -> Result<(), Stop>
-        requires open { self.old.log.end ≡ None }
+        requires ready { CanIssue most_entries (⟦<Self as Seen>⟧.view self.old) }
         requires sound { IsSound (unit.Poll mask requested turns) }
-        requires whole { self.old.log.whole + 1 ≡ length self.old.log.calls }
-        requires room { length self.old.log.entries + most_entries ≤ self.old.log.room }
-        requires bounded { length self.old.log.entries + most_entries ≤ most_entries * length self.old.log.calls }
-        ensures on { (m0 : BenchState) (calls : List Ask) (ask : Ask) → IsSetTo config.idle config.retry m0 → ask.call ≡ Access (unit.Poll mask requested turns) → HasAsked F.planner (F.state self.old.flights) self.old.log (F.accesses self.old.flights) self.old.managed calls ask m0
-            → OnOk result (HasBegun F.planner (F.reported self.new.flights) (F.state self.new.flights) self.new.log (F.packet self.new.flights) (F.reply self.new.flights) self.new.managed (F.accesses self.new.flights) m0) }
-        ensures spare { (m0 : BenchState) (calls : List Ask) (ask : Ask) (left : ℕ) → IsSetTo config.idle config.retry m0 → ask.call ≡ Access (unit.Poll mask requested turns) → HasAsked F.planner (F.state self.old.flights) self.old.log (F.accesses self.old.flights) self.old.managed calls ask m0
-            → HasPaid F.planner (F.limits self.old.flights) (F.reported self.old.flights).limits (F.state self.old.flights) self.old.log left m0
-            → OnOk result (HasPaid F.planner (F.limits self.new.flights) (F.reported self.new.flights).limits (F.state self.new.flights) self.new.log left m0) }
-        ensures needs { (m0 : BenchState) (calls : List Ask) (ask : Ask) → IsSetTo config.idle config.retry m0 → ask.call ≡ Access (unit.Poll mask requested turns) → HasAsked F.planner (F.state self.old.flights) self.old.log (F.accesses self.old.flights) self.old.managed calls ask m0
-            → OnOk result (asks_of self.new.log ≡ asked (cost_by F.planner (target_of m0.probe) calls ask) ask (record { calls = calls; needs = self.old.log.needs; fence = self.old.log.fence })) }
-        ensures broke { (m0 : BenchState) (calls : List Ask) (ask : Ask) → IsSetTo config.idle config.retry m0 → ask.call ≡ Access (unit.Poll mask requested turns) → HasAsked F.planner (F.state self.old.flights) self.old.log (F.accesses self.old.flights) self.old.managed calls ask m0
-            → IfErr result (λ s. HasEnded F.planner s (reported_by (F.reported self.new.flights) (F.state self.new.flights) self.new.log (F.packet self.new.flights) (F.reply self.new.flights)) self.new.log m0) }
-        ensures stops { (m0 : BenchState) (calls : List Ask) (ask : Ask) (answered : Option ℕ) → IsSetTo config.idle config.retry m0 → ask.call ≡ Access (unit.Poll mask requested turns) → HasAsked F.planner (F.state self.old.flights) self.old.log (F.accesses self.old.flights) self.old.managed calls ask m0
-            → IsLeft (reported_by (F.reported self.new.flights) (F.state self.new.flights) self.new.log (F.packet self.new.flights) (F.reply self.new.flights)) answered
-            → IfErr result (StopsThere m0 answered self.old.log.calls self.new.log.lines) }
-        ensures goes { GoesOn (reported_by (F.reported self.old.flights) (F.state self.old.flights) self.old.log (F.packet self.old.flights) (F.reply self.old.flights))
-            (reported_by (F.reported self.new.flights) (F.state self.new.flights) self.new.log (F.packet self.new.flights) (F.reply self.new.flights)) }
-        ensures calls { self.new.log.calls ≡ self.old.log.calls }
-        ensures whole { OnOk result (self.new.log.whole ≡ length self.new.log.calls) }
-        ensures open { OnOk result (self.new.log.end ≡ None) }
+        ensures on { (m0 : BenchState) (calls : List Ask) (ask : Ask) → IsSetTo config.idle config.retry m0
+            → ask.call ≡ Access (unit.Poll mask requested turns) → IsAsked (⟦<Self as Seen>⟧.view self.old) calls ask m0 → OnOk result (IsBegun (⟦<Self as Seen>⟧.view self.new) m0) }
+        ensures spare { (m0 : BenchState) (calls : List Ask) (ask : Ask) (left : ℕ) → IsSetTo config.idle config.retry m0
+            → ask.call ≡ Access (unit.Poll mask requested turns) → IsAsked (⟦<Self as Seen>⟧.view self.old) calls ask m0
+            → IsPaid (⟦<Self as Seen>⟧.view self.old) left m0 → OnOk result (IsPaid (⟦<Self as Seen>⟧.view self.new) left m0) }
+        ensures needs { (m0 : BenchState) (calls : List Ask) (ask : Ask) → IsSetTo config.idle config.retry m0
+            → ask.call ≡ Access (unit.Poll mask requested turns) → IsAsked (⟦<Self as Seen>⟧.view self.old) calls ask m0
+            → OnOk result (HasNeeds (⟦<Self as Seen>⟧.view self.old) (⟦<Self as Seen>⟧.view self.new) calls ask m0) }
+        ensures broke { (m0 : BenchState) (calls : List Ask) (ask : Ask) → IsSetTo config.idle config.retry m0
+            → ask.call ≡ Access (unit.Poll mask requested turns) → IsAsked (⟦<Self as Seen>⟧.view self.old) calls ask m0 → IfErr result (IsAtEnd (⟦<Self as Seen>⟧.view self.new) m0) }
+        ensures stops { (m0 : BenchState) (calls : List Ask) (ask : Ask) (answered : Option ℕ) → IsSetTo config.idle config.retry m0
+            → ask.call ≡ Access (unit.Poll mask requested turns) → IsAsked (⟦<Self as Seen>⟧.view self.old) calls ask m0
+            → IsLeft (access_view (⟦<Self as Seen>⟧.view self.new)) answered → IfErr result (StopsThere m0 answered self.old.log.calls self.new.log.lines) }
+        ensures keeps { Keeps (⟦<Self as Seen>⟧.view self.old) (⟦<Self as Seen>⟧.view self.new) }
+        ensures ends { EndsBy result (⟦<Self as Seen>⟧.view self.new) }
+        ensures asks { AsksWhole result (⟦<Self as Seen>⟧.view self.new) }
         ensures fenced { OnOk result (self.new.log.known < self.new.log.fence → self.old.log.known < self.old.log.fence) }
-        ensures ended { IfErr result (λ s. self.new.log.end ≡ Some s) }
-        ensures settles { OnOk result (CanSettle self.new.log self.new.managed) }
-        ensures memory { IfErr result NoMemory }
-        ensures identity { F.identity self.new.flights ≡ F.identity self.old.flights }
     {
         match self.send() {
             Ok(()) => {}

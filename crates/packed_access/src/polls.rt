@@ -1,5 +1,5 @@
 //! Polls of CTRL/STAT.
-ghost use Rattle.std.specs.Prelude.{◌≡◌, ◌<◌, ◌≤◌, ◌+◌, ◌-◌, ◌*◌, [], ℕ, List, Option, None, Some, true, length, if◌then◌else◌, IfErr, IfOk, OnOk};
+ghost use Rattle.std.specs.Prelude.{◌≡◌, ◌<◌, ◌≤◌, ◌+◌, ◌-◌, [], ℕ, List, Option, None, true, length, if◌then◌else◌, IfErr, IfOk, OnOk};
 ghost use Rattle.target_machine.specs.Plain.{Polls, polled};
 ghost use Rattle.target_machine.specs.Sound.{IsSound};
 ghost use Rattle.target_machine.specs.declared.unit.Unit.TheVariants as unit;
@@ -10,16 +10,16 @@ ghost use Rattle.access_regs.specs.Costs.{poll_cost, portions};
 ghost use Rattle.access_regs.specs.Entries.{target_by};
 ghost use Rattle.access_regs.specs.Plan.{bank_zero};
 ghost use Rattle.access_regs.specs.declared.planner.Planner.TheVariants.{Managed};
-ghost use Rattle.access_calls.specs.Answers.{NoMemory};
-ghost use Rattle.access_calls.specs.GoesOn.{GoesOn};
 ghost use Rattle.access_calls.specs.Left.{IsLeft};
 ghost use Rattle.batch_packer.specs.Flying.{CanFly};
-ghost use Rattle.packed_access.specs.Begun.{HasEnded, HasIssued, StopsThere};
+ghost use Rattle.packed_access.specs.Begun.{StopsThere};
 ghost use Rattle.bench_flights.specs.Flown.{BenchGoesOn, CanMatch, HasDone, HasEndCause, IsCutResponse, LeftOff, NamesNone, SendsFew, matched_word};
-ghost use Rattle.packed_access.specs.Logs.{asks_of, most_entries, reported_by};
+ghost use Rattle.packed_access.specs.Logs.{asks_of};
 ghost use Rattle.packed_access.specs.Polls.{HasPoll};
-ghost use Rattle.packed_access.specs.Sparing.{HasSpared};
+ghost use Rattle.packed_access.specs.Frame.{CanAdd, EndsBy, Keeps};
+ghost use Rattle.packed_access.specs.Views.{IsAtEnd, IsSparing, IsToIssueNext, access_view};
 
+use crate::seen::Seen;
 use crate::sender::Sender;
 use access_calls::Stop;
 use batch_packer::FlightEnd;
@@ -91,7 +91,7 @@ impl<F: Flights> Sender<F> {
     }
 
     // Makes the last call, which is a poll, where all calls before it came. Answers how many need points it makes.
-    #[tactic(auto, using(access_calls::proofs::KeepLemmas::goes_trans, crate::proofs::GoesLemmas::goes_still))]
+    #[tactic(auto, using(crate::proofs::FrameLemmas::keeps_on, crate::proofs::FrameLemmas::keeps_still))]
     pub(crate) fn poll_last(
         &mut self,
         config: Config,
@@ -99,37 +99,34 @@ impl<F: Flights> Sender<F> {
         requested: u32,
         turns: u32,
     ) -> Result<u64, Stop>
-        requires open { self.old.log.end ≡ None }
+        requires ready { CanAdd 1 (⟦<Self as Seen>⟧.view self.old) }
         requires sound { IsSound (unit.Poll mask requested turns) }
         requires rest { F.accesses self.old.flights ≡ [] }
         requires last { self.old.log.came + 1 ≡ length self.old.log.calls }
-        requires room { length self.old.log.entries < self.old.log.room }
-        requires bounded { length self.old.log.entries < most_entries * length self.old.log.calls }
-        ensures on { (m0 : BenchState) (calls : List Ask) (ask : Ask) → HasPoll F.planner (F.state self.old.flights) self.old.log self.old.managed calls ask mask requested turns config.idle config.retry m0
-            → OnOk result (HasIssued F.planner (F.state self.new.flights) self.new.log [] [] m0) }
-        ensures spare { (m0 : BenchState) (calls : List Ask) (ask : Ask) (paid : ℕ) → HasPoll F.planner (F.state self.old.flights) self.old.log self.old.managed calls ask mask requested turns config.idle config.retry m0
-            → HasSpared F.planner (F.limits self.old.flights) (F.reported self.old.flights).limits (F.state self.old.flights) self.old.log (paid + 1) m0
-            → IfOk result (λ points. HasSpared F.planner (F.limits self.new.flights) (F.reported self.new.flights).limits (F.state self.new.flights) self.new.log (paid + points) m0) }
-        ensures points { F.planner ≡ Managed → (m0 : BenchState) (calls : List Ask) (ask : Ask) → HasPoll F.planner (F.state self.old.flights) self.old.log self.old.managed calls ask mask requested turns config.idle config.retry m0
+        ensures on { (m0 : BenchState) (calls : List Ask) (ask : Ask)
+            → HasPoll F.planner (F.state self.old.flights) self.old.log self.old.managed calls ask mask requested turns config.idle config.retry m0
+            → OnOk result (IsToIssueNext (⟦<Self as Seen>⟧.view self.new) [] m0) }
+        ensures spare { (m0 : BenchState) (calls : List Ask) (ask : Ask) (paid : ℕ)
+            → HasPoll F.planner (F.state self.old.flights) self.old.log self.old.managed calls ask mask requested turns config.idle config.retry m0
+            → IsSparing (⟦<Self as Seen>⟧.view self.old) (paid + 1) m0 → IfOk result (λ points. IsSparing (⟦<Self as Seen>⟧.view self.new) (paid + points) m0) }
+        ensures points { F.planner ≡ Managed → (m0 : BenchState) (calls : List Ask) (ask : Ask)
+            → HasPoll F.planner (F.state self.old.flights) self.old.log self.old.managed calls ask mask requested turns config.idle config.retry m0
             → IfOk result (λ points. points ≡ poll_cost self.old.managed (target_by F.planner (target_of m0.probe) calls) mask requested turns) }
-        ensures broke { (m0 : BenchState) (calls : List Ask) (ask : Ask) → HasPoll F.planner (F.state self.old.flights) self.old.log self.old.managed calls ask mask requested turns config.idle config.retry m0
-            → IfErr result (λ s. HasEnded F.planner s (reported_by (F.reported self.new.flights) (F.state self.new.flights) self.new.log (F.packet self.new.flights) (F.reply self.new.flights)) self.new.log m0) }
-        ensures stops { (m0 : BenchState) (calls : List Ask) (ask : Ask) (answered : Option ℕ) → HasPoll F.planner (F.state self.old.flights) self.old.log self.old.managed calls ask mask requested turns config.idle config.retry m0
-            → IsLeft (reported_by (F.reported self.new.flights) (F.state self.new.flights) self.new.log (F.packet self.new.flights) (F.reply self.new.flights)) answered
-            → IfErr result (StopsThere m0 answered self.old.log.calls self.new.log.lines) }
-        ensures goes { GoesOn (reported_by (F.reported self.old.flights) (F.state self.old.flights) self.old.log (F.packet self.old.flights) (F.reply self.old.flights))
-            (reported_by (F.reported self.new.flights) (F.state self.new.flights) self.new.log (F.packet self.new.flights) (F.reply self.new.flights)) }
+        ensures broke { (m0 : BenchState) (calls : List Ask) (ask : Ask)
+            → HasPoll F.planner (F.state self.old.flights) self.old.log self.old.managed calls ask mask requested turns config.idle config.retry m0
+            → IfErr result (IsAtEnd (⟦<Self as Seen>⟧.view self.new) m0) }
+        ensures stops { (m0 : BenchState) (calls : List Ask) (ask : Ask) (answered : Option ℕ)
+            → HasPoll F.planner (F.state self.old.flights) self.old.log self.old.managed calls ask mask requested turns config.idle config.retry m0
+            → IsLeft (access_view (⟦<Self as Seen>⟧.view self.new)) answered → IfErr result (StopsThere m0 answered self.old.log.calls self.new.log.lines) }
+        ensures keeps { Keeps (⟦<Self as Seen>⟧.view self.old) (⟦<Self as Seen>⟧.view self.new) }
+        ensures ends { EndsBy result (⟦<Self as Seen>⟧.view self.new) }
         ensures known { OnOk result (self.new.log.known ≡ length self.new.log.calls) }
         ensures whole { OnOk result (self.new.log.whole ≡ length self.new.log.calls) }
-        ensures open { OnOk result (self.new.log.end ≡ None) }
         ensures entries { OnOk result (length self.new.log.entries ≡ length self.old.log.entries + 1) }
         ensures room_same { OnOk result (self.new.log.room ≡ self.old.log.room) }
         ensures empty { OnOk result (F.accesses self.new.flights ≡ []) }
-        ensures ended { IfErr result (λ s. self.new.log.end ≡ Some s) }
         ensures asks { asks_of self.new.log ≡ asks_of self.old.log }
-        ensures memory { IfErr result NoMemory }
         ensures managed { self.new.managed ≡ self.old.managed }
-        ensures identity { F.identity self.new.flights ≡ F.identity self.old.flights }
     {
         let unit = self.log.count();
         let zero = self.polls_by_matches();

@@ -1,5 +1,5 @@
 //! Flights of a unit that forgives a fault, of which only the last access may fault.
-ghost use Rattle.std.specs.Prelude.{if◌then◌else◌, ◌≡◌, ◌<◌, ◌≤◌, ◌+◌, ◌-◌, ◌*◌, ◌++◌, ◌∷◌, [], Bool, List, Option, None, Some, true, length, IfErr, IfOk, IfSome, OnOk};
+ghost use Rattle.std.specs.Prelude.{if◌then◌else◌, ◌≡◌, ◌<◌, ◌≤◌, ◌+◌, ◌++◌, ◌∷◌, [], Bool, List, None, true, length, IfErr, IfOk, IfSome, OnOk};
 ghost use Rattle.std.specs.List.{AllByRecursion};
 ghost use Rattle.target_machine.specs.Plain.{Action, select_of};
 ghost use Rattle.target_machine.specs.State.{TargetState};
@@ -7,19 +7,19 @@ ghost use Rattle.target_machine.specs.declared.access.RegAccess.{RegAccess};
 ghost use Rattle.target_machine.specs.declared.unit.Unit.{Unit as AccessUnit};
 ghost use Rattle.flight_forms.specs.Packing.{IsTaken};
 ghost use Rattle.probe_core.specs.Bench.{BenchState, StepsTo};
-ghost use Rattle.access_calls.specs.Answers.{NoMemory};
-ghost use Rattle.access_calls.specs.GoesOn.{GoesOn};
 ghost use Rattle.access_calls.specs.Issued.{lines_before_kept};
 ghost use Rattle.bench_flights.specs.Clearing.{IsOneTransfer};
-ghost use Rattle.packed_access.specs.Forgiving.{HasBroken, HasTried, IsNext, LeadsCame, WentTo, with_accesses};
+ghost use Rattle.packed_access.specs.Forgiving.{IsNext, LeadsCame, WentTo, with_accesses};
 ghost use Rattle.packed_access.specs.Sparing.{WentFew};
 ghost use Rattle.batch_packer.specs.Flying.{CanFly};
-ghost use Rattle.packed_access.specs.Logs.{IsFurther, IsOfCall, asks_of, most_entries, reported_by};
-ghost use Rattle.target_calls.specs.declared.journal.Part.TheVariants.{Leads};
+ghost use Rattle.packed_access.specs.Logs.{IsOfCall};
 ghost use Rattle.access_regs.specs.Kept.{Kept, selected};
 ghost use Rattle.access_regs.specs.Plan.{select_value};
 ghost use Rattle.access_regs.specs.declared.planner.Planner.TheVariants.{Managed};
+ghost use Rattle.packed_access.specs.Frame.{CanAdd, CanTry, EndsBy, Keeps, Tries};
+ghost use Rattle.packed_access.specs.Views.{HasSpace, IsBroken, IsTried};
 
+use crate::seen::Seen;
 use crate::sender::Sender;
 use access_calls::Stop;
 use bench_flights::Flights;
@@ -31,15 +31,13 @@ use target_machine::{ProbeCall, RegAccess};
 impl<F: Flights> Sender<F> {
     // Pushes accesses of the last call, for which there is room, as the same to their unit.
     fn push_all(&mut self, unit: u32, part: Part, accesses: &[RegAccess])
-        requires open { self.old.log.end ≡ None }
+        requires ready { CanAdd (length accesses.now) (⟦<Self as Seen>⟧.view self.old) }
         requires taken { AllByRecursion IsTaken accesses.now }
         requires few { length (F.accesses self.old.flights) + length accesses.now ≤ 4 }
         requires managed { 0 < length accesses.now → F.planner ≡ Managed }
-        requires space { (next : RegAccess) → IsTaken next → F.has_room self.old.flights next ≡ true }
+        requires space { HasSpace (⟦<Self as Seen>⟧.view self.old) }
         requires unit { IsOfCall (length self.old.log.calls) (record { unit = unit; part = part }) }
         requires later { self.old.log.came ≤ lines_before_kept (record { unit = unit; part = part }) }
-        requires room { length self.old.log.entries + length accesses.now ≤ self.old.log.room }
-        requires bounded { length self.old.log.entries + length accesses.now ≤ most_entries * length self.old.log.calls }
         ensures accesses { F.accesses self.new.flights ≡ F.accesses self.old.flights ++ accesses.now }
         ensures log { self.new.log ≡ with_accesses self.old.log unit part accesses.now }
         ensures space { (next : RegAccess) → IsTaken next → length (F.accesses self.new.flights) < 4 → F.has_room self.new.flights next ≡ true }
@@ -65,39 +63,25 @@ impl<F: Flights> Sender<F> {
         ends: bool,
         forgive: bool,
     ) -> Result<Option<u32>, Stop>
-        requires open { self.old.log.end ≡ None }
-        requires whole { self.old.log.whole + 1 ≡ length self.old.log.calls }
-        requires came { self.old.log.came ≡ self.old.log.whole }
-        requires empty { F.accesses self.old.flights ≡ [] }
-        requires space { (next : RegAccess) → IsTaken next → F.has_room self.old.flights next ≡ true }
-        requires room { length self.old.log.entries + (length leads.now + 2) ≤ self.old.log.room }
-        requires bounded { length self.old.log.entries + (length leads.now + 2) ≤ most_entries * length self.old.log.calls }
+        requires ready { CanTry (length leads.now + 2) (⟦<Self as Seen>⟧.view self.old) }
         requires managed { 0 < length leads.now → F.planner ≡ Managed }
         requires one { IsOneTransfer (leads.now ++ last ∷ []) }
         requires taken { AllByRecursion IsTaken leads.now }
         requires last { IsTaken last }
         ensures on { (m0 : BenchState) (asked : AccessUnit) (k : Kept) (t : TargetState) (made : List RegAccess) (rest more : List Action)
-            → HasTried F.planner forgive (F.state self.old.flights) self.old.log asked k t made rest m0 → IsNext asked t made leads.now last ends rest more
+            → IsTried (⟦<Self as Seen>⟧.view self.old) forgive asked k t made rest m0 → IsNext asked t made leads.now last ends rest more
             → IfOk result (λ w. WentTo F.planner forgive w (F.state self.new.flights) self.new.log asked k t made leads.now last more m0) }
         ensures broke { (m0 : BenchState) (asked : AccessUnit) (k : Kept) (t : TargetState) (made : List RegAccess) (rest more : List Action)
-            → HasTried F.planner forgive (F.state self.old.flights) self.old.log asked k t made rest m0 → IsNext asked t made leads.now last ends rest more
-            → IfErr result (λ s. HasBroken F.planner s (reported_by (F.reported self.new.flights) (F.state self.new.flights) self.new.log (F.packet self.new.flights) (F.reply self.new.flights)) self.new.log self.old.log.calls m0) }
-        ensures goes { GoesOn (reported_by (F.reported self.old.flights) (F.state self.old.flights) self.old.log (F.packet self.old.flights) (F.reply self.old.flights))
-            (reported_by (F.reported self.new.flights) (F.state self.new.flights) self.new.log (F.packet self.new.flights) (F.reply self.new.flights)) }
+            → IsTried (⟦<Self as Seen>⟧.view self.old) forgive asked k t made rest m0 → IsNext asked t made leads.now last ends rest more
+            → IfErr result (IsBroken (⟦<Self as Seen>⟧.view self.new) self.old.log.calls m0) }
+        ensures keeps { Keeps (⟦<Self as Seen>⟧.view self.old) (⟦<Self as Seen>⟧.view self.new) }
+        ensures ends { EndsBy result (⟦<Self as Seen>⟧.view self.new) }
+        ensures tries { Tries result (⟦<Self as Seen>⟧.view self.old) (⟦<Self as Seen>⟧.view self.new) }
         ensures packets { F.planner ≡ Managed → IfOk result (λ w. StepsTo (λ m o. CanFly m → WentFew w m o) (F.state self.old.flights) (F.state self.new.flights)) }
-        ensures later { OnOk result (self.old.log.confirmed ≤ self.new.log.confirmed) }
-        ensures limits { F.limits self.new.flights ≡ F.limits self.old.flights }
-        ensures further { OnOk result (IsFurther self.old.log self.new.log) }
-        ensures came { OnOk result (self.new.log.came ≡ self.new.log.whole) }
-        ensures empty { OnOk result (F.accesses self.new.flights ≡ []) }
-        ensures space { IfOk result (λ w. IfSome w (λ _. (next : RegAccess) → IsTaken next → F.has_room self.new.flights next ≡ true)) }
-        ensures ended { IfErr result (λ s. self.new.log.end ≡ Some s) }
-        ensures asks { asks_of self.new.log ≡ asks_of self.old.log }
-        ensures memory { IfErr result NoMemory }
+        ensures space { IfOk result (λ w. IfSome w (λ _. HasSpace (⟦<Self as Seen>⟧.view self.new))) }
         ensures entries { OnOk result (length self.new.log.entries ≤ length self.old.log.entries + (length leads.now + 2)) }
         ensures unskipped { IfOk result (λ w. IfSome w (λ _. length self.new.log.entries ≤ length self.old.log.entries + (length leads.now + 1))) }
         ensures managed { self.new.managed ≡ self.old.managed }
-        ensures identity { F.identity self.new.flights ≡ F.identity self.old.flights }
     {
         let unit = self.log.count();
         let place = leads.len() as u32;
@@ -131,34 +115,20 @@ impl<F: Flights> Sender<F> {
     // Makes accesses that lead to the one that the last call's unit is for, each in a flight of its own. Answers whether
     // they came: none of them faults.
     fn try_leads(&mut self, leads: &[RegAccess], forgive: bool) -> Result<bool, Stop>
-        requires open { self.old.log.end ≡ None }
-        requires whole { self.old.log.whole + 1 ≡ length self.old.log.calls }
-        requires came { self.old.log.came ≡ self.old.log.whole }
-        requires empty { F.accesses self.old.flights ≡ [] }
-        requires space { (next : RegAccess) → IsTaken next → F.has_room self.old.flights next ≡ true }
-        requires room { length self.old.log.entries + (length leads.now + 2) ≤ self.old.log.room }
-        requires bounded { length self.old.log.entries + (length leads.now + 2) ≤ most_entries * length self.old.log.calls }
+        requires ready { CanTry (length leads.now + 2) (⟦<Self as Seen>⟧.view self.old) }
         requires taken { AllByRecursion IsTaken leads.now }
         ensures on { (m0 : BenchState) (asked : AccessUnit) (k : Kept) (t : TargetState) (made : List RegAccess) (last : RegAccess) (ends : Bool) (rest more : List Action)
-            → HasTried F.planner forgive (F.state self.old.flights) self.old.log asked k t made rest m0 → IsNext asked t made leads.now last ends rest more
+            → IsTried (⟦<Self as Seen>⟧.view self.old) forgive asked k t made rest m0 → IsNext asked t made leads.now last ends rest more
             → IfOk result (λ came. LeadsCame came F.planner forgive (F.state self.new.flights) self.new.log asked k t made leads.now last more m0) }
         ensures broke { (m0 : BenchState) (asked : AccessUnit) (k : Kept) (t : TargetState) (made : List RegAccess) (last : RegAccess) (ends : Bool) (rest more : List Action)
-            → HasTried F.planner forgive (F.state self.old.flights) self.old.log asked k t made rest m0 → IsNext asked t made leads.now last ends rest more
-            → IfErr result (λ s. HasBroken F.planner s (reported_by (F.reported self.new.flights) (F.state self.new.flights) self.new.log (F.packet self.new.flights) (F.reply self.new.flights)) self.new.log self.old.log.calls m0) }
-        ensures goes { GoesOn (reported_by (F.reported self.old.flights) (F.state self.old.flights) self.old.log (F.packet self.old.flights) (F.reply self.old.flights))
-            (reported_by (F.reported self.new.flights) (F.state self.new.flights) self.new.log (F.packet self.new.flights) (F.reply self.new.flights)) }
-        ensures later { OnOk result (self.old.log.confirmed ≤ self.new.log.confirmed) }
-        ensures limits { F.limits self.new.flights ≡ F.limits self.old.flights }
-        ensures further { OnOk result (IsFurther self.old.log self.new.log) }
-        ensures came { OnOk result (self.new.log.came ≡ self.new.log.whole) }
-        ensures empty { OnOk result (F.accesses self.new.flights ≡ []) }
-        ensures space { IfOk result (λ came. came ≡ true → (next : RegAccess) → IsTaken next → F.has_room self.new.flights next ≡ true) }
-        ensures ended { IfErr result (λ s. self.new.log.end ≡ Some s) }
-        ensures asks { asks_of self.new.log ≡ asks_of self.old.log }
-        ensures memory { IfErr result NoMemory }
+            → IsTried (⟦<Self as Seen>⟧.view self.old) forgive asked k t made rest m0 → IsNext asked t made leads.now last ends rest more
+            → IfErr result (IsBroken (⟦<Self as Seen>⟧.view self.new) self.old.log.calls m0) }
+        ensures keeps { Keeps (⟦<Self as Seen>⟧.view self.old) (⟦<Self as Seen>⟧.view self.new) }
+        ensures ends { EndsBy result (⟦<Self as Seen>⟧.view self.new) }
+        ensures tries { Tries result (⟦<Self as Seen>⟧.view self.old) (⟦<Self as Seen>⟧.view self.new) }
+        ensures space { IfOk result (λ came. came ≡ true → HasSpace (⟦<Self as Seen>⟧.view self.new)) }
         ensures entries { IfOk result (λ came. length self.new.log.entries ≤ length self.old.log.entries + (length leads.now + (if came then 0 else 1))) }
         ensures managed { self.new.managed ≡ self.old.managed }
-        ensures identity { F.identity self.new.flights ≡ F.identity self.old.flights }
     {
         for lead in leads {
             match self.try_together(&[], *lead, false, forgive) {
@@ -178,37 +148,23 @@ impl<F: Flights> Sender<F> {
         ends: bool,
         forgive: bool,
     ) -> Result<Option<u32>, Stop>
-        requires open { self.old.log.end ≡ None }
-        requires whole { self.old.log.whole + 1 ≡ length self.old.log.calls }
-        requires came { self.old.log.came ≡ self.old.log.whole }
-        requires empty { F.accesses self.old.flights ≡ [] }
-        requires space { (next : RegAccess) → IsTaken next → F.has_room self.old.flights next ≡ true }
-        requires room { length self.old.log.entries + 5 ≤ self.old.log.room }
-        requires bounded { length self.old.log.entries + 5 ≤ most_entries * length self.old.log.calls }
+        requires ready { CanTry 5 (⟦<Self as Seen>⟧.view self.old) }
         requires one { IsOneTransfer (leads.now ++ last ∷ []) }
         requires taken { AllByRecursion IsTaken leads.now }
         requires last { IsTaken last }
         ensures on { (m0 : BenchState) (asked : AccessUnit) (k : Kept) (t : TargetState) (made : List RegAccess) (rest more : List Action)
-            → HasTried F.planner forgive (F.state self.old.flights) self.old.log asked k t made rest m0 → IsNext asked t made leads.now last ends rest more
+            → IsTried (⟦<Self as Seen>⟧.view self.old) forgive asked k t made rest m0 → IsNext asked t made leads.now last ends rest more
             → IfOk result (λ w. WentTo F.planner forgive w (F.state self.new.flights) self.new.log asked k t made leads.now last more m0) }
         ensures broke { (m0 : BenchState) (asked : AccessUnit) (k : Kept) (t : TargetState) (made : List RegAccess) (rest more : List Action)
-            → HasTried F.planner forgive (F.state self.old.flights) self.old.log asked k t made rest m0 → IsNext asked t made leads.now last ends rest more
-            → IfErr result (λ s. HasBroken F.planner s (reported_by (F.reported self.new.flights) (F.state self.new.flights) self.new.log (F.packet self.new.flights) (F.reply self.new.flights)) self.new.log self.old.log.calls m0) }
-        ensures goes { GoesOn (reported_by (F.reported self.old.flights) (F.state self.old.flights) self.old.log (F.packet self.old.flights) (F.reply self.old.flights))
-            (reported_by (F.reported self.new.flights) (F.state self.new.flights) self.new.log (F.packet self.new.flights) (F.reply self.new.flights)) }
+            → IsTried (⟦<Self as Seen>⟧.view self.old) forgive asked k t made rest m0 → IsNext asked t made leads.now last ends rest more
+            → IfErr result (IsBroken (⟦<Self as Seen>⟧.view self.new) self.old.log.calls m0) }
+        ensures keeps { Keeps (⟦<Self as Seen>⟧.view self.old) (⟦<Self as Seen>⟧.view self.new) }
+        ensures ends { EndsBy result (⟦<Self as Seen>⟧.view self.new) }
+        ensures tries { Tries result (⟦<Self as Seen>⟧.view self.old) (⟦<Self as Seen>⟧.view self.new) }
         ensures packets { F.planner ≡ Managed → IfOk result (λ w. StepsTo (λ m o. CanFly m → WentFew w m o) (F.state self.old.flights) (F.state self.new.flights)) }
-        ensures later { OnOk result (self.old.log.confirmed ≤ self.new.log.confirmed) }
-        ensures limits { F.limits self.new.flights ≡ F.limits self.old.flights }
-        ensures further { OnOk result (IsFurther self.old.log self.new.log) }
-        ensures came { OnOk result (self.new.log.came ≡ self.new.log.whole) }
-        ensures empty { OnOk result (F.accesses self.new.flights ≡ []) }
-        ensures space { IfOk result (λ w. IfSome w (λ _. (next : RegAccess) → IsTaken next → F.has_room self.new.flights next ≡ true)) }
-        ensures ended { IfErr result (λ s. self.new.log.end ≡ Some s) }
-        ensures asks { asks_of self.new.log ≡ asks_of self.old.log }
-        ensures memory { IfErr result NoMemory }
+        ensures space { IfOk result (λ w. IfSome w (λ _. HasSpace (⟦<Self as Seen>⟧.view self.new))) }
         ensures entries { OnOk result (length self.new.log.entries ≤ length self.old.log.entries + (length leads.now + 2)) }
         ensures managed { self.new.managed ≡ self.old.managed }
-        ensures identity { F.identity self.new.flights ≡ F.identity self.old.flights }
     {
         if !F::plans_alone() {
             return self.try_together(leads, last, ends, forgive);
@@ -229,37 +185,23 @@ impl<F: Flights> Sender<F> {
         ends: bool,
         forgive: bool,
     ) -> Result<Option<u32>, Stop>
-        requires open { self.old.log.end ≡ None }
-        requires whole { self.old.log.whole + 1 ≡ length self.old.log.calls }
-        requires came { self.old.log.came ≡ self.old.log.whole }
-        requires empty { F.accesses self.old.flights ≡ [] }
-        requires space { (next : RegAccess) → IsTaken next → F.has_room self.old.flights next ≡ true }
-        requires room { length self.old.log.entries + 5 ≤ self.old.log.room }
-        requires bounded { length self.old.log.entries + 5 ≤ most_entries * length self.old.log.calls }
+        requires ready { CanTry 5 (⟦<Self as Seen>⟧.view self.old) }
         requires calm { self.old.managed.unsettled ≡ None }
         requires bank { bank < 16 }
         requires taken { IsTaken access }
         ensures on { (m0 : BenchState) (asked : AccessUnit) (k : Kept) (t : TargetState) (made : List RegAccess) (rest more : List Action)
-            → HasTried F.planner forgive (F.state self.old.flights) self.old.log asked k t made rest m0 → IsNext asked t made (select_of ap bank ∷ []) access ends rest more
+            → IsTried (⟦<Self as Seen>⟧.view self.old) forgive asked k t made rest m0 → IsNext asked t made (select_of ap bank ∷ []) access ends rest more
             → IfOk result (λ w. WentTo F.planner forgive w (F.state self.new.flights) self.new.log asked k t made (select_of ap bank ∷ []) access more m0) }
         ensures broke { (m0 : BenchState) (asked : AccessUnit) (k : Kept) (t : TargetState) (made : List RegAccess) (rest more : List Action)
-            → HasTried F.planner forgive (F.state self.old.flights) self.old.log asked k t made rest m0 → IsNext asked t made (select_of ap bank ∷ []) access ends rest more
-            → IfErr result (λ s. HasBroken F.planner s (reported_by (F.reported self.new.flights) (F.state self.new.flights) self.new.log (F.packet self.new.flights) (F.reply self.new.flights)) self.new.log self.old.log.calls m0) }
-        ensures space { IfOk result (λ w. IfSome w (λ _. (next : RegAccess) → IsTaken next → F.has_room self.new.flights next ≡ true)) }
-        ensures goes { GoesOn (reported_by (F.reported self.old.flights) (F.state self.old.flights) self.old.log (F.packet self.old.flights) (F.reply self.old.flights))
-            (reported_by (F.reported self.new.flights) (F.state self.new.flights) self.new.log (F.packet self.new.flights) (F.reply self.new.flights)) }
+            → IsTried (⟦<Self as Seen>⟧.view self.old) forgive asked k t made rest m0 → IsNext asked t made (select_of ap bank ∷ []) access ends rest more
+            → IfErr result (IsBroken (⟦<Self as Seen>⟧.view self.new) self.old.log.calls m0) }
+        ensures keeps { Keeps (⟦<Self as Seen>⟧.view self.old) (⟦<Self as Seen>⟧.view self.new) }
+        ensures ends { EndsBy result (⟦<Self as Seen>⟧.view self.new) }
+        ensures tries { Tries result (⟦<Self as Seen>⟧.view self.old) (⟦<Self as Seen>⟧.view self.new) }
         ensures packets { F.planner ≡ Managed → IfOk result (λ w. StepsTo (λ m o. CanFly m → WentFew w m o) (F.state self.old.flights) (F.state self.new.flights)) }
-        ensures later { OnOk result (self.old.log.confirmed ≤ self.new.log.confirmed) }
-        ensures limits { F.limits self.new.flights ≡ F.limits self.old.flights }
-        ensures further { OnOk result (IsFurther self.old.log self.new.log) }
-        ensures came { OnOk result (self.new.log.came ≡ self.new.log.whole) }
-        ensures empty { OnOk result (F.accesses self.new.flights ≡ []) }
-        ensures ended { IfErr result (λ s. self.new.log.end ≡ Some s) }
-        ensures asks { asks_of self.new.log ≡ asks_of self.old.log }
-        ensures memory { IfErr result NoMemory }
+        ensures space { IfOk result (λ w. IfSome w (λ _. HasSpace (⟦<Self as Seen>⟧.view self.new))) }
         ensures entries { OnOk result (length self.new.log.entries ≤ length self.old.log.entries + 3) }
         ensures managed { self.new.managed ≡ selected self.old.managed (select_value ap bank) }
-        ensures identity { F.identity self.new.flights ≡ F.identity self.old.flights }
     {
         let write = select(ap, bank);
         self.managed.selected(write.value);

@@ -1,4 +1,4 @@
-use Rattle.std.proofs.Common.{◌≡◌, ◌∙◌, ◌+◌, ◌<◌, ◌≤◌, ◌++◌, ◌∷◌, [], true, List, length, None, arith, refl, sym, ap, subst, length-append}
+use Rattle.std.proofs.Common.{◌≡◌, ◌∙◌, ◌+◌, ◌<◌, ◌++◌, ◌∷◌, [], List, length, None, arith, refl, sym, ap, subst, length-append}
 use Rattle.target_machine.specs.Plain.{call_actions}
 use Rattle.target_machine.specs.declared.unit.Call.TheVariants.{Access}
 use Rattle.probe_core.specs.Probe.{target_of}
@@ -50,7 +50,7 @@ returns-in-Err-send-clause-stops g c = λ m0 calls ask answered same h left.
     let u_is : 0 < length calls → c.max.result ≡ length calls = λ some. (let a = c.max.ensures in let b = c.count-count.ensures in let l = ap length h.are ∙ length-append calls (ask ∷ []) in omega (arith, a, b, l, some)) in
     let there = begin_settling g.F.Flights.planner c.args.forgive _ old.log _ old.managed calls ask c.args.unit.now m0 c.max.result h same c.requires.alone c.requires.may u_is in
     let there2 = c.in-Ok.ensures.on m0 _ there in
-    subst (λ (l : List Ask). StopsThere m0 answered l c.send.new.self.log.lines c.in-Err-send.stop) c.in-Ok.ensures.further.calls (c.in-Err-send.ensures.stops m0 _ answered there2 left)
+    subst (λ (l : List Ask). StopsThere m0 answered l c.send.new.self.log.lines c.in-Err-send.stop) c.in-Ok.ensures.further.so.calls (c.in-Err-send.ensures.stops m0 _ answered there2 left)
 
 pub returns-in-Err-try_unit-clause-broke : goal.returns-in-Err-try_unit-clause-broke
 returns-in-Err-try_unit-clause-broke g c = λ m0 calls ask same h.
@@ -62,10 +62,10 @@ returns-in-Err-try_unit-clause-broke g c = λ m0 calls ask same h.
     let t0 = target_of m0.probe in
     let may = c.requires.may in
     let there3 = c.in-Ok-send.ensures.on m0 _ there2 in
-    let calls3 : sent.log.calls ≡ calls ++ unit_ask c.args.unit.now c.args.forgive ∷ [] = ap (λ (l : LogState). l.calls) c.in-Ok-send.ensures.log ∙ c.in-Ok.ensures.further.calls ∙ h.are ∙ ap (λ (a : Ask). calls ++ a ∷ []) same in
+    let calls3 : sent.log.calls ≡ calls ++ unit_ask c.args.unit.now c.args.forgive ∷ [] = ap (λ (l : LogState). l.calls) c.in-Ok-send.ensures.log ∙ c.in-Ok.ensures.further.so.calls ∙ h.are ∙ ap (λ (a : Ask). calls ++ a ∷ []) same in
     let managed3 : sent.managed ≡ settled old.managed = c.send.ensures.managed ∙ c.settle.ensures.managed in
-    let whole3 : sent.log.whole ≡ length calls = (let w = ap (λ (l : LogState). l.whole) c.in-Ok-send.ensures.log in let f = c.in-Ok.ensures.further.whole in let o = c.requires.whole in let l = ap length h.are ∙ length-append calls (ask ∷ []) in omega (arith, w, f, o, l)) in
-    let came3 : sent.log.came ≡ length calls = (let w = ap (λ (l : LogState). l.came) c.in-Ok-send.ensures.log in let f = c.in-Ok.ensures.further.whole in let o = c.requires.whole in let l = ap length h.are ∙ length-append calls (ask ∷ []) in omega (arith, w, f, o, l)) in
+    let whole3 : sent.log.whole ≡ length calls = (let w = ap (λ (l : LogState). l.whole) c.in-Ok-send.ensures.log in let f = c.in-Ok.ensures.further.so.whole in let o = c.requires.ready.whole in let l = ap length h.are ∙ length-append calls (ask ∷ []) in omega (arith, w, f, o, l)) in
+    let came3 : sent.log.came ≡ length calls = (let w = ap (λ (l : LogState). l.came) c.in-Ok-send.ensures.log in let f = c.in-Ok.ensures.further.so.whole in let o = c.requires.ready.whole in let l = ap length h.are ∙ length-append calls (ask ∷ []) in omega (arith, w, f, o, l)) in
     let b = is_before g.F.Flights.planner _ sent.log calls (unit_ask c.args.unit.now c.args.forgive) _ m0 there3 calls3 came3 in
     let tried = subst (λ (q : Kept). HasTried g.F.Flights.planner c.args.forgive (g.F.Flights.state sent.flights) sent.log c.args.unit.now q (target_settled g.F.Flights.planner (target_of m0.probe) calls old.managed) [] (call_actions (target_settled g.F.Flights.planner (target_of m0.probe) calls old.managed) (large_of (settled old.managed) c.args.unit.now) (Access c.args.unit.now)) m0) (sym managed3)
     (begin_trying g.F.Flights.planner c.args.forgive _ sent.log old.managed calls c.args.unit.now m0 h.kept_is c.requires.alone may calls3 there3) in
@@ -82,15 +82,15 @@ returns-in-Err-try_unit-clause-stops g c = λ m0 calls ask answered same h left.
     let t0 = target_of m0.probe in
     let may = c.requires.may in
     let there3 = c.in-Ok-send.ensures.on m0 _ there2 in
-    let calls3 : sent.log.calls ≡ calls ++ unit_ask c.args.unit.now c.args.forgive ∷ [] = ap (λ (l : LogState). l.calls) c.in-Ok-send.ensures.log ∙ c.in-Ok.ensures.further.calls ∙ h.are ∙ ap (λ (a : Ask). calls ++ a ∷ []) same in
+    let calls3 : sent.log.calls ≡ calls ++ unit_ask c.args.unit.now c.args.forgive ∷ [] = ap (λ (l : LogState). l.calls) c.in-Ok-send.ensures.log ∙ c.in-Ok.ensures.further.so.calls ∙ h.are ∙ ap (λ (a : Ask). calls ++ a ∷ []) same in
     let managed3 : sent.managed ≡ settled old.managed = c.send.ensures.managed ∙ c.settle.ensures.managed in
-    let whole3 : sent.log.whole ≡ length calls = (let w = ap (λ (l : LogState). l.whole) c.in-Ok-send.ensures.log in let f = c.in-Ok.ensures.further.whole in let o = c.requires.whole in let l = ap length h.are ∙ length-append calls (ask ∷ []) in omega (arith, w, f, o, l)) in
-    let came3 : sent.log.came ≡ length calls = (let w = ap (λ (l : LogState). l.came) c.in-Ok-send.ensures.log in let f = c.in-Ok.ensures.further.whole in let o = c.requires.whole in let l = ap length h.are ∙ length-append calls (ask ∷ []) in omega (arith, w, f, o, l)) in
+    let whole3 : sent.log.whole ≡ length calls = (let w = ap (λ (l : LogState). l.whole) c.in-Ok-send.ensures.log in let f = c.in-Ok.ensures.further.so.whole in let o = c.requires.ready.whole in let l = ap length h.are ∙ length-append calls (ask ∷ []) in omega (arith, w, f, o, l)) in
+    let came3 : sent.log.came ≡ length calls = (let w = ap (λ (l : LogState). l.came) c.in-Ok-send.ensures.log in let f = c.in-Ok.ensures.further.so.whole in let o = c.requires.ready.whole in let l = ap length h.are ∙ length-append calls (ask ∷ []) in omega (arith, w, f, o, l)) in
     let b = is_before g.F.Flights.planner _ sent.log calls (unit_ask c.args.unit.now c.args.forgive) _ m0 there3 calls3 came3 in
     let tried = subst (λ (q : Kept). HasTried g.F.Flights.planner c.args.forgive (g.F.Flights.state sent.flights) sent.log c.args.unit.now q (target_settled g.F.Flights.planner (target_of m0.probe) calls old.managed) [] (call_actions (target_settled g.F.Flights.planner (target_of m0.probe) calls old.managed) (large_of (settled old.managed) c.args.unit.now) (Access c.args.unit.now)) m0) (sym managed3)
     (begin_trying g.F.Flights.planner c.args.forgive _ sent.log old.managed calls c.args.unit.now m0 h.kept_is c.requires.alone may calls3 there3) in
     let table : length sent.managed.ports ≡ 256 = subst (λ (q : Kept). length q.ports ≡ 256) (sym managed3) (settled_table g.F.Flights.planner (target_of m0.probe) old.managed calls (unit_ask c.args.unit.now c.args.forgive) h.kept_is b) in
-    let calls_same : sent.log.calls ≡ old.log.calls = ap (λ (l : LogState). l.calls) c.in-Ok-send.ensures.log ∙ c.in-Ok.ensures.further.calls in
+    let calls_same : sent.log.calls ≡ old.log.calls = ap (λ (l : LogState). l.calls) c.in-Ok-send.ensures.log ∙ c.in-Ok.ensures.further.so.calls in
     subst (λ (l : List Ask). StopsThere m0 answered l c.try_unit.new.self.log.lines c.in-Err-try_unit.stop) calls_same ((c.in-Err-try_unit.ensures.broke m0 _ _ table tried).stops answered left)
 
 pub returns-in-Ok-try_unit-clause-on : goal.returns-in-Ok-try_unit-clause-on
@@ -103,10 +103,10 @@ returns-in-Ok-try_unit-clause-on g c = λ m0 calls ask same h.
     let t0 = target_of m0.probe in
     let may = c.requires.may in
     let there3 = c.in-Ok-send.ensures.on m0 _ there2 in
-    let calls3 : sent.log.calls ≡ calls ++ unit_ask c.args.unit.now c.args.forgive ∷ [] = ap (λ (l : LogState). l.calls) c.in-Ok-send.ensures.log ∙ c.in-Ok.ensures.further.calls ∙ h.are ∙ ap (λ (a : Ask). calls ++ a ∷ []) same in
+    let calls3 : sent.log.calls ≡ calls ++ unit_ask c.args.unit.now c.args.forgive ∷ [] = ap (λ (l : LogState). l.calls) c.in-Ok-send.ensures.log ∙ c.in-Ok.ensures.further.so.calls ∙ h.are ∙ ap (λ (a : Ask). calls ++ a ∷ []) same in
     let managed3 : sent.managed ≡ settled old.managed = c.send.ensures.managed ∙ c.settle.ensures.managed in
-    let whole3 : sent.log.whole ≡ length calls = (let w = ap (λ (l : LogState). l.whole) c.in-Ok-send.ensures.log in let f = c.in-Ok.ensures.further.whole in let o = c.requires.whole in let l = ap length h.are ∙ length-append calls (ask ∷ []) in omega (arith, w, f, o, l)) in
-    let came3 : sent.log.came ≡ length calls = (let w = ap (λ (l : LogState). l.came) c.in-Ok-send.ensures.log in let f = c.in-Ok.ensures.further.whole in let o = c.requires.whole in let l = ap length h.are ∙ length-append calls (ask ∷ []) in omega (arith, w, f, o, l)) in
+    let whole3 : sent.log.whole ≡ length calls = (let w = ap (λ (l : LogState). l.whole) c.in-Ok-send.ensures.log in let f = c.in-Ok.ensures.further.so.whole in let o = c.requires.ready.whole in let l = ap length h.are ∙ length-append calls (ask ∷ []) in omega (arith, w, f, o, l)) in
+    let came3 : sent.log.came ≡ length calls = (let w = ap (λ (l : LogState). l.came) c.in-Ok-send.ensures.log in let f = c.in-Ok.ensures.further.so.whole in let o = c.requires.ready.whole in let l = ap length h.are ∙ length-append calls (ask ∷ []) in omega (arith, w, f, o, l)) in
     let b = is_before g.F.Flights.planner _ sent.log calls (unit_ask c.args.unit.now c.args.forgive) _ m0 there3 calls3 came3 in
     let tried = subst (λ (q : Kept). HasTried g.F.Flights.planner c.args.forgive (g.F.Flights.state sent.flights) sent.log c.args.unit.now q (target_settled g.F.Flights.planner (target_of m0.probe) calls old.managed) [] (call_actions (target_settled g.F.Flights.planner (target_of m0.probe) calls old.managed) (large_of (settled old.managed) c.args.unit.now) (Access c.args.unit.now)) m0) (sym managed3)
     (begin_trying g.F.Flights.planner c.args.forgive _ sent.log old.managed calls c.args.unit.now m0 h.kept_is c.requires.alone may calls3 there3) in
@@ -116,16 +116,16 @@ returns-in-Ok-try_unit-clause-on g c = λ m0 calls ask same h.
     let done = subst (λ (q : Kept). IsDoneBy g.F.Flights.planner c.args.forgive c.in-Ok-try_unit.tried.small c.in-Ok-try_unit.tried.word c.in-Ok-try_unit.tried.reads unit_done.managed (g.F.Flights.state unit_done.flights) unit_done.log c.args.unit.now q (target_settled g.F.Flights.planner (target_of m0.probe) calls old.managed) m0) managed3
     (c.in-Ok-try_unit.ensures.on m0 _ _ may table tried) in
     let outcome = unit_outcome g.F.Flights.planner c.args.forgive _ unit_done.log old.managed calls c.args.unit.now c.in-Ok-try_unit.tried.small c.in-Ok-try_unit.tried.word c.in-Ok-try_unit.tried.reads unit_done.managed m0 h.kept_is c.requires.alone may b done in
-    let calls4 : unit_done.log.calls ≡ calls ++ unit_ask c.args.unit.now c.args.forgive ∷ [] = c.in-Ok-try_unit.ensures.further.calls ∙ calls3 in
+    let calls4 : unit_done.log.calls ≡ calls ++ unit_ask c.args.unit.now c.args.forgive ∷ [] = c.in-Ok-try_unit.ensures.tries.further.calls ∙ calls3 in
     let new_calls : c.close_call.new.log.calls ≡ unit_done.log.calls = ap (λ (l : LogState). l.calls) c.close_call.ensures.answer ∙ ap (λ (a : Asks). a.calls) (closed_asks c.in-Ok-try_unit.tried.word unit_done.log) in
-    let came4 : unit_done.log.came ≡ length calls = c.in-Ok-try_unit.ensures.came ∙ c.in-Ok-try_unit.ensures.further.whole ∙ whole3 in
+    let came4 : unit_done.log.came ≡ length calls = c.in-Ok-try_unit.ensures.tries.came ∙ c.in-Ok-try_unit.ensures.tries.further.whole ∙ whole3 in
     let issuing = has_closed g.F.Flights.planner c.in-Ok-try_unit.tried.word _ unit_done.log c.close_call.new.log calls (unit_ask c.args.unit.now c.args.forgive) m0 outcome.issuing calls4 refl came4 outcome.results_are outcome.skips_are unit_done.sound.results_long unit_done.sound.few c.close_call.ensures.answer in
     let kept : c.forget.new.self ≡ forget unit_done.managed _ = c.forget.ensures ∙ ap (forget unit_done.managed) c.port_of.ensures in
-    let end : c.close_call.new.log.end ≡ None = ap (λ (l : LogState). l.end) c.close_call.ensures.answer ∙ closed_end c.in-Ok-try_unit.tried.word unit_done.log ∙ c.in-Ok-try_unit.ensures.further.end in
+    let end : c.close_call.new.log.end ≡ None = ap (λ (l : LogState). l.end) c.close_call.ensures.answer ∙ closed_end c.in-Ok-try_unit.tried.word unit_done.log ∙ c.in-Ok-try_unit.ensures.tries.further.end in
     let whole : c.close_call.new.log.whole ≡ length c.close_call.new.log.calls = ap (λ (l : LogState). l.whole) c.close_call.ensures.answer ∙ (closed_whole c.in-Ok-try_unit.tried.word unit_done.log).0 ∙ ap length (sym new_calls) in
     let came : c.close_call.new.log.came ≡ length c.close_call.new.log.calls = ap (λ (l : LogState). l.came) c.close_call.ensures.answer ∙ (closed_whole c.in-Ok-try_unit.tried.word unit_done.log).1 ∙ ap length (sym new_calls) in
     begun_needs g.F.Flights.planner _ _ c.close_call.new.log c.need.new.self _ _ _ _ _ _ m0
-    (unit_begun g.F.Flights.planner c.args.forgive _ _ c.close_call.new.log _ _ _ _ calls c.args.unit.now m0 issuing end whole came (new_calls ∙ calls4) (unit_kept g.F.Flights.planner c.args.forgive (target_of m0.probe) old.managed calls c.args.unit.now unit_done.managed h.kept_is c.requires.alone may done.kept_is ∙ sym kept) c.in-Ok-try_unit.ensures.empty)
+    (unit_begun g.F.Flights.planner c.args.forgive _ _ c.close_call.new.log _ _ _ _ calls c.args.unit.now m0 issuing end whole came (new_calls ∙ calls4) (unit_kept g.F.Flights.planner c.args.forgive (target_of m0.probe) old.managed calls c.args.unit.now unit_done.managed h.kept_is c.requires.alone may done.kept_is ∙ sym kept) c.in-Ok-try_unit.ensures.tries.empty)
     refl refl (needs_new c.close_call.new.log c.need.new.self _ _ c.need.ensures.answer)
 
 pub returns-in-Ok-try_unit-clause-small : goal.returns-in-Ok-try_unit-clause-small
@@ -138,10 +138,10 @@ returns-in-Ok-try_unit-clause-small g c = λ m0 calls ask same h.
     let t0 = target_of m0.probe in
     let may = c.requires.may in
     let there3 = c.in-Ok-send.ensures.on m0 _ there2 in
-    let calls3 : sent.log.calls ≡ calls ++ unit_ask c.args.unit.now c.args.forgive ∷ [] = ap (λ (l : LogState). l.calls) c.in-Ok-send.ensures.log ∙ c.in-Ok.ensures.further.calls ∙ h.are ∙ ap (λ (a : Ask). calls ++ a ∷ []) same in
+    let calls3 : sent.log.calls ≡ calls ++ unit_ask c.args.unit.now c.args.forgive ∷ [] = ap (λ (l : LogState). l.calls) c.in-Ok-send.ensures.log ∙ c.in-Ok.ensures.further.so.calls ∙ h.are ∙ ap (λ (a : Ask). calls ++ a ∷ []) same in
     let managed3 : sent.managed ≡ settled old.managed = c.send.ensures.managed ∙ c.settle.ensures.managed in
-    let whole3 : sent.log.whole ≡ length calls = (let w = ap (λ (l : LogState). l.whole) c.in-Ok-send.ensures.log in let f = c.in-Ok.ensures.further.whole in let o = c.requires.whole in let l = ap length h.are ∙ length-append calls (ask ∷ []) in omega (arith, w, f, o, l)) in
-    let came3 : sent.log.came ≡ length calls = (let w = ap (λ (l : LogState). l.came) c.in-Ok-send.ensures.log in let f = c.in-Ok.ensures.further.whole in let o = c.requires.whole in let l = ap length h.are ∙ length-append calls (ask ∷ []) in omega (arith, w, f, o, l)) in
+    let whole3 : sent.log.whole ≡ length calls = (let w = ap (λ (l : LogState). l.whole) c.in-Ok-send.ensures.log in let f = c.in-Ok.ensures.further.so.whole in let o = c.requires.ready.whole in let l = ap length h.are ∙ length-append calls (ask ∷ []) in omega (arith, w, f, o, l)) in
+    let came3 : sent.log.came ≡ length calls = (let w = ap (λ (l : LogState). l.came) c.in-Ok-send.ensures.log in let f = c.in-Ok.ensures.further.so.whole in let o = c.requires.ready.whole in let l = ap length h.are ∙ length-append calls (ask ∷ []) in omega (arith, w, f, o, l)) in
     let b = is_before g.F.Flights.planner _ sent.log calls (unit_ask c.args.unit.now c.args.forgive) _ m0 there3 calls3 came3 in
     let tried = subst (λ (q : Kept). HasTried g.F.Flights.planner c.args.forgive (g.F.Flights.state sent.flights) sent.log c.args.unit.now q (target_settled g.F.Flights.planner (target_of m0.probe) calls old.managed) [] (call_actions (target_settled g.F.Flights.planner (target_of m0.probe) calls old.managed) (large_of (settled old.managed) c.args.unit.now) (Access c.args.unit.now)) m0) (sym managed3)
     (begin_trying g.F.Flights.planner c.args.forgive _ sent.log old.managed calls c.args.unit.now m0 h.kept_is c.requires.alone may calls3 there3) in
@@ -163,10 +163,10 @@ returns-in-Ok-try_unit-clause-needs g c = λ m0 calls ask same h.
     let t0 = target_of m0.probe in
     let may = c.requires.may in
     let there3 = c.in-Ok-send.ensures.on m0 _ there2 in
-    let calls3 : sent.log.calls ≡ calls ++ unit_ask c.args.unit.now c.args.forgive ∷ [] = ap (λ (l : LogState). l.calls) c.in-Ok-send.ensures.log ∙ c.in-Ok.ensures.further.calls ∙ h.are ∙ ap (λ (a : Ask). calls ++ a ∷ []) same in
+    let calls3 : sent.log.calls ≡ calls ++ unit_ask c.args.unit.now c.args.forgive ∷ [] = ap (λ (l : LogState). l.calls) c.in-Ok-send.ensures.log ∙ c.in-Ok.ensures.further.so.calls ∙ h.are ∙ ap (λ (a : Ask). calls ++ a ∷ []) same in
     let managed3 : sent.managed ≡ settled old.managed = c.send.ensures.managed ∙ c.settle.ensures.managed in
-    let whole3 : sent.log.whole ≡ length calls = (let w = ap (λ (l : LogState). l.whole) c.in-Ok-send.ensures.log in let f = c.in-Ok.ensures.further.whole in let o = c.requires.whole in let l = ap length h.are ∙ length-append calls (ask ∷ []) in omega (arith, w, f, o, l)) in
-    let came3 : sent.log.came ≡ length calls = (let w = ap (λ (l : LogState). l.came) c.in-Ok-send.ensures.log in let f = c.in-Ok.ensures.further.whole in let o = c.requires.whole in let l = ap length h.are ∙ length-append calls (ask ∷ []) in omega (arith, w, f, o, l)) in
+    let whole3 : sent.log.whole ≡ length calls = (let w = ap (λ (l : LogState). l.whole) c.in-Ok-send.ensures.log in let f = c.in-Ok.ensures.further.so.whole in let o = c.requires.ready.whole in let l = ap length h.are ∙ length-append calls (ask ∷ []) in omega (arith, w, f, o, l)) in
+    let came3 : sent.log.came ≡ length calls = (let w = ap (λ (l : LogState). l.came) c.in-Ok-send.ensures.log in let f = c.in-Ok.ensures.further.so.whole in let o = c.requires.ready.whole in let l = ap length h.are ∙ length-append calls (ask ∷ []) in omega (arith, w, f, o, l)) in
     let b = is_before g.F.Flights.planner _ sent.log calls (unit_ask c.args.unit.now c.args.forgive) _ m0 there3 calls3 came3 in
     let tried = subst (λ (q : Kept). HasTried g.F.Flights.planner c.args.forgive (g.F.Flights.state sent.flights) sent.log c.args.unit.now q (target_settled g.F.Flights.planner (target_of m0.probe) calls old.managed) [] (call_actions (target_settled g.F.Flights.planner (target_of m0.probe) calls old.managed) (large_of (settled old.managed) c.args.unit.now) (Access c.args.unit.now)) m0) (sym managed3)
     (begin_trying g.F.Flights.planner c.args.forgive _ sent.log old.managed calls c.args.unit.now m0 h.kept_is c.requires.alone may calls3 there3) in
@@ -175,10 +175,10 @@ returns-in-Ok-try_unit-clause-needs g c = λ m0 calls ask same h.
     let word = c.in-Ok-try_unit.tried.word in
     let done = subst (λ (q : Kept). IsDoneBy g.F.Flights.planner c.args.forgive c.in-Ok-try_unit.tried.small c.in-Ok-try_unit.tried.word c.in-Ok-try_unit.tried.reads unit_done.managed (g.F.Flights.state unit_done.flights) unit_done.log c.args.unit.now q (target_settled g.F.Flights.planner (target_of m0.probe) calls old.managed) m0) managed3
     (c.in-Ok-try_unit.ensures.on m0 _ _ may table tried) in
-    let calls4 : unit_done.log.calls ≡ calls ++ unit_ask c.args.unit.now c.args.forgive ∷ [] = c.in-Ok-try_unit.ensures.further.calls ∙ calls3 in
+    let calls4 : unit_done.log.calls ≡ calls ++ unit_ask c.args.unit.now c.args.forgive ∷ [] = c.in-Ok-try_unit.ensures.tries.further.calls ∙ calls3 in
     let new_calls : c.close_call.new.log.calls ≡ unit_done.log.calls = ap (λ (l : LogState). l.calls) c.close_call.ensures.answer ∙ ap (λ (a : Asks). a.calls) (closed_asks c.in-Ok-try_unit.tried.word unit_done.log) in
     let asks : asks_of c.close_call.new.log ≡ record { calls = calls ++ unit_ask c.args.unit.now c.args.forgive ∷ []; needs = old.log.needs; fence = old.log.fence } =
-    ap asks_of c.close_call.ensures.answer ∙ closed_asks c.in-Ok-try_unit.tried.word unit_done.log ∙ c.try_unit.ensures.asks ∙ ap asks_of c.in-Ok-send.ensures.log ∙ c.settle.ensures.asks
+    ap asks_of c.close_call.ensures.answer ∙ closed_asks c.in-Ok-try_unit.tried.word unit_done.log ∙ c.try_unit.ensures.tries.asks ∙ ap asks_of c.in-Ok-send.ensures.log ∙ c.settle.ensures.further.asks
     ∙ (λ j. record { calls = (h.are ∙ ap (λ (a : Ask). calls ++ a ∷ []) same) j; needs = old.log.needs; fence = old.log.fence }) in
     let count : c.count-count.result ≡ length c.close_call.new.log.calls = c.count-count.ensures ∙ ap length (h.are ∙ ap (λ (a : Ask). calls ++ a ∷ []) same ∙ sym (new_calls ∙ calls4)) in
     subst (λ (a : Ask). asks_of c.need.new.self ≡ asked (cost_by g.F.Flights.planner (target_of m0.probe) calls a) a (record { calls = calls; needs = old.log.needs; fence = old.log.fence })) (sym same)
@@ -195,22 +195,28 @@ returns-in-Ok-try_unit-clause-spare g c = λ m0 calls ask left same h s.
     let unit_done = c.try_unit.new.self in
     let word = c.in-Ok-try_unit.tried.word in
     let spared = c.in-Ok-send.ensures.spare m0 _ s.paid there2 (c.in-Ok.ensures.spare m0 _ s.paid there s.spared) in
-    let tried = has_grown g.F.Flights.planner _ _ _ _ _ _ sent.log unit_done.log _ _ (s.paid + 1) 4 m0 there3 spared c.in-Ok-try_unit.ensures.packets c.in-Ok-try_unit.ensures.further.calls c.in-Ok-try_unit.ensures.later c.try_unit.ensures.limits c.try_unit.ensures.goes.limits in
+    let tried = has_grown g.F.Flights.planner _ _ _ _ _ _ sent.log unit_done.log _ _ (s.paid + 1) 4 m0 there3 spared c.in-Ok-try_unit.ensures.packets c.in-Ok-try_unit.ensures.tries.further.calls c.in-Ok-try_unit.ensures.tries.later c.try_unit.ensures.keeps.same_limits c.try_unit.ensures.keeps.goes.limits in
     let closed_all = spared_closed g.F.Flights.planner _ _ _ c.in-Ok-try_unit.tried.word unit_done.log c.close_call.new.log ((s.paid + 1) + 4) (s.paid + (5 + c.in-Ok-try_unit.tried.reads)) m0 tried c.close_call.ensures.answer unit_done.sound.confirmed_within (omega arith) in
-    let needs : c.close_call.new.log.needs ≡ old.log.needs = ap (λ (l : LogState). l.needs) c.close_call.ensures.answer ∙ ap (λ (a : Asks). a.needs) (closed_asks c.in-Ok-try_unit.tried.word unit_done.log) ∙ c.in-Ok-try_unit.ensures.further.needs ∙ ap (λ (l : LogState). l.needs) c.in-Ok-send.ensures.log ∙ c.in-Ok.ensures.further.needs in
+    let needs : c.close_call.new.log.needs ≡ old.log.needs = ap (λ (l : LogState). l.needs) c.close_call.ensures.answer ∙ ap (λ (a : Asks). a.needs) (closed_asks c.in-Ok-try_unit.tried.word unit_done.log) ∙ c.in-Ok-try_unit.ensures.tries.further.needs ∙ ap (λ (l : LogState). l.needs) c.in-Ok-send.ensures.log ∙ c.in-Ok.ensures.further.so.needs in
     has_paid g.F.Flights.planner _ _ _ c.close_call.new.log c.need.new.self old.log.needs s.paid c.count_points.result _ left m0 (counted_spared g.F.Flights.planner _ _ _ c.close_call.new.log s.paid (5 + c.in-Ok-try_unit.tried.reads) c.count_points.result m0 closed_all c.count_points.ensures) s.covers needs c.need.ensures.answer
 
-pub returns-in-Ok-try_unit-clause-goes : goal.returns-in-Ok-try_unit-clause-goes
-returns-in-Ok-try_unit-clause-goes g c =
+pub returns-in-Ok-try_unit-clause-keeps : goal.returns-in-Ok-try_unit-clause-keeps
+returns-in-Ok-try_unit-clause-keeps g c =
     let unit_done = c.try_unit.new.self in
     let word = c.in-Ok-try_unit.tried.word in
     let noted : c.need.new.self ≡ record c.close_call.new.log { needs = c.need.new.self.needs; fence = c.need.new.self.fence; room = c.need.new.self.room } = needs_new c.close_call.new.log c.need.new.self _ _ c.need.ensures.answer in
-    let end : c.need.new.self.end ≡ None = ap (λ (l : LogState). l.end) noted ∙ ap (λ (l : LogState). l.end) c.close_call.ensures.answer ∙ closed_end c.in-Ok-try_unit.tried.word unit_done.log ∙ c.in-Ok-try_unit.ensures.further.end in
+    let end : c.need.new.self.end ≡ None = ap (λ (l : LogState). l.end) noted ∙ ap (λ (l : LogState). l.end) c.close_call.ensures.answer ∙ closed_end c.in-Ok-try_unit.tried.word unit_done.log ∙ c.in-Ok-try_unit.ensures.tries.further.end in
     let came : c.need.new.self.came ≡ length unit_done.log.calls = ap (λ (l : LogState). l.came) noted ∙ ap (λ (l : LogState). l.came) c.close_call.ensures.answer ∙ (closed_whole c.in-Ok-try_unit.tried.word unit_done.log).1 in
     let known : c.need.new.self.known ≡ length unit_done.log.calls = ap (λ (l : LogState). l.known) noted ∙ ap (λ (l : LogState). l.known) c.close_call.ensures.answer ∙ closed_known c.in-Ok-try_unit.tried.word unit_done.log in
-    goes_trans _ _ _ c.settle.ensures.goes (goes_trans _ _ _ c.send.ensures.goes (goes_trans _ _ _ c.try_unit.ensures.goes
-    (goes_later _ _ unit_done.log c.need.new.self _ _ _ _ c.in-Ok-try_unit.ensures.further.end end
-    (let w = unit_done.sound.came_within in omega (arith, w, came)) (let w = unit_done.sound.known_within in omega (arith, w, known)))))
+    let calls : c.need.new.self.calls ≡ unit_done.log.calls = ap (λ (l : LogState). l.calls) noted ∙ ap (λ (l : LogState). l.calls) c.close_call.ensures.answer ∙ ap (λ (a : Asks). a.calls) (closed_asks word unit_done.log) in
+    record {
+      same_bench = c.try_unit.ensures.keeps.same_bench ∙ c.send.ensures.keeps.same_bench ∙ c.settle.ensures.keeps.same_bench;
+      same_limits = c.try_unit.ensures.keeps.same_limits ∙ c.send.ensures.keeps.same_limits ∙ c.settle.ensures.keeps.same_limits;
+      calls = calls ∙ c.try_unit.ensures.keeps.calls ∙ c.send.ensures.keeps.calls ∙ c.settle.ensures.keeps.calls;
+      goes = goes_trans _ _ _ c.settle.ensures.keeps.goes (goes_trans _ _ _ c.send.ensures.keeps.goes (goes_trans _ _ _ c.try_unit.ensures.keeps.goes
+          (goes_later _ _ unit_done.log c.need.new.self _ _ _ _ c.in-Ok-try_unit.ensures.tries.further.end end
+          (let w = unit_done.sound.came_within in omega (arith, w, came)) (let w = unit_done.sound.known_within in omega (arith, w, known)))));
+    }
 
 pub returns-in-Ok-try_unit-clause-fenced : goal.returns-in-Ok-try_unit-clause-fenced
 returns-in-Ok-try_unit-clause-fenced g c =

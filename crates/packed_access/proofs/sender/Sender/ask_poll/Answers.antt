@@ -20,7 +20,7 @@ returns-in-Ok-poll_last-clause-on g c = λ m0 calls ask set call h.
     let poll = asked_poll g.F.Flights.planner _ _ old.log mid.log _ old.managed mid.managed calls ask c.args.mask c.args.requested c.args.turns c.args.config.idle c.args.config.retry m0 set call h (c.in-Ok.ensures.on m0 _ h.issued) same c.send.ensures.managed in
     let same' : new.log.calls ≡ mid.log.calls = search rules in
     begun_needs g.F.Flights.planner _ _ new.log c.need.new.self _ _ _ _ _ _ m0
-    (begun_polled g.F.Flights.planner _ _ _ mid.log new.log _ _ mid.managed new.managed _ calls ask c.args.mask c.args.requested c.args.turns c.args.config.idle c.args.config.retry m0 poll (c.in-Ok-poll_last.ensures.on m0 calls ask poll) same' c.in-Ok-poll_last.ensures.open c.in-Ok-poll_last.ensures.whole c.poll_last.ensures.managed c.in-Ok-poll_last.ensures.empty)
+    (begun_polled g.F.Flights.planner _ _ _ mid.log new.log _ _ mid.managed new.managed _ calls ask c.args.mask c.args.requested c.args.turns c.args.config.idle c.args.config.retry m0 poll (c.in-Ok-poll_last.ensures.on m0 calls ask poll) same' c.in-Ok-poll_last.ensures.ends.no_end c.in-Ok-poll_last.ensures.whole c.poll_last.ensures.managed c.in-Ok-poll_last.ensures.empty)
     refl refl (needs_new new.log _ c.count_points.result c.count-count.result c.need.ensures.answer)
 
 pub returns-in-Ok-poll_last-clause-spare : goal.returns-in-Ok-poll_last-clause-spare

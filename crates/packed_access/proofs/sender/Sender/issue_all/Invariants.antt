@@ -3,7 +3,7 @@ use Rattle.probe_core.specs.Bench.{BenchState}
 use Rattle.target_calls.specs.Journal.{Entry}
 use Rattle.access_calls.specs.GoesOn.{GoesOn}
 use Rattle.packed_access.specs.Begun.{HasIssued, entries_of}
-use Rattle.packed_access.specs.Logs.{IsFurther, asks_of, reported_by}
+use Rattle.packed_access.specs.Logs.{IsFurther, reported_by}
 use Rattle.packed_access.specs.Sparing.{HasSpared}
 use Rattle.packed_access.proofs.sender.Sender.issue_all.Given as goal
 
@@ -20,5 +20,6 @@ invariant-loop-access g l = record {
   further : IsFurther l.fn.self.log l.self.log;
   pending : 0 < l.access-index → l.self.log.confirmed < length l.self.log.entries;
   managed : l.self.managed ≡ l.fn.self.managed;
+  limits : g.F.Flights.limits l.self.flights ≡ g.F.Flights.limits l.fn.self.flights;
   identity : g.F.Flights.identity l.self.flights ≡ g.F.Flights.identity l.fn.self.flights;
 }

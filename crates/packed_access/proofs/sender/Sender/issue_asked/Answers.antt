@@ -1,4 +1,4 @@
-use Rattle.std.proofs.Common.{◌≡◌, ◌∙◌, Bool, false, None, rules, sym, ap}
+use Rattle.std.proofs.Common.{◌≡◌, ◌∙◌, false, None, sym, ap}
 use Rattle.target_calls.specs.Asks.{is_forgiving, is_wide}
 use Rattle.target_calls.specs.World.{small_now, start_world}
 use Rattle.probe_core.specs.Probe.{target_of}
@@ -25,13 +25,8 @@ returns-else-makes_alone g c =
       needs = λ m0 calls ask set is h. e.needs m0 calls ask (ap (λ (a : Ask). a.call) is) (ap is_forgiving is ∙ mild) h;
       broke = λ m0 calls ask set is h. e.broke m0 calls ask (ap (λ (a : Ask). a.call) is) (ap is_forgiving is ∙ mild) h;
       stops = λ m0 calls ask answered set is h left. e.stops m0 calls ask answered (ap (λ (a : Ask). a.call) is) (ap is_forgiving is ∙ mild) h left;
-      goes = e.goes;
-      calls = e.calls;
-      whole = e.whole;
-      «open» = e.open;
+      keeps = e.keeps;
+      ends = e.ends;
+      asks = e.asks;
       fenced = e.fenced;
-      ended = e.ended;
-      settles = e.settles;
-      memory = e.memory;
-      identity = e.identity;
     }

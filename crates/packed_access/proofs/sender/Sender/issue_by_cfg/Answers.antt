@@ -12,19 +12,19 @@ pub returns-in-Err-read_cfg-clause-broke : goal.returns-in-Err-read_cfg-clause-b
 returns-in-Err-read_cfg-clause-broke g c = λ m0 h.
     let old = c.args.self.now in
     let needs : needs_cfg old.managed c.args.unit.now ≡ true = search rules in
-    c.in-Err-read_cfg.ensures.broke m0 _ (cfg_left g.F.Flights.planner _ old.log _ (target_issued g.F.Flights.planner old.log m0) old.managed c.args.unit.now m0 c.requires.whole needs h)
+    c.in-Err-read_cfg.ensures.broke m0 _ (cfg_left g.F.Flights.planner _ old.log _ (target_issued g.F.Flights.planner old.log m0) old.managed c.args.unit.now m0 c.requires.ready.whole needs h)
 
 pub returns-in-Err-read_cfg-clause-stops : goal.returns-in-Err-read_cfg-clause-stops
 returns-in-Err-read_cfg-clause-stops g c = λ m0 answered h left.
     let old = c.args.self.now in
     let needs : needs_cfg old.managed c.args.unit.now ≡ true = search rules in
-    c.in-Err-read_cfg.ensures.stops m0 _ answered (cfg_left g.F.Flights.planner _ old.log _ (target_issued g.F.Flights.planner old.log m0) old.managed c.args.unit.now m0 c.requires.whole needs h) left
+    c.in-Err-read_cfg.ensures.stops m0 _ answered (cfg_left g.F.Flights.planner _ old.log _ (target_issued g.F.Flights.planner old.log m0) old.managed c.args.unit.now m0 c.requires.ready.whole needs h) left
 
 pub returns-then-not-large-clause-on : goal.returns-then-not-large-clause-on
 returns-then-not-large-clause-on g c = λ m0 h.
     let old = c.args.self.now in
     let needs : needs_cfg old.managed c.args.unit.now ≡ true = search rules in
-    let first = cfg_left g.F.Flights.planner _ old.log _ (target_issued g.F.Flights.planner old.log m0) old.managed c.args.unit.now m0 c.requires.whole needs h in
+    let first = cfg_left g.F.Flights.planner _ old.log _ (target_issued g.F.Flights.planner old.log m0) old.managed c.args.unit.now m0 c.requires.ready.whole needs h in
     let bit : has_bit (gives (target_issued g.F.Flights.planner old.log m0) (cfg_plan old.managed (port_of c.args.unit.now))) 2 ≡ false = sym (c.in-Ok-read_cfg.ensures.large m0 _ first) ∙ c.if-not-large.true in
     none_left g.F.Flights.planner _ old.log c.read_cfg.new.self.log _ (target_issued g.F.Flights.planner old.log m0) old.managed c.args.unit.now m0 bit c.in-Ok-read_cfg.ensures.empty (c.in-Ok-read_cfg.ensures.on m0 _ first)
 
@@ -32,7 +32,7 @@ pub returns-then-not-large-clause-kept : goal.returns-then-not-large-clause-kept
 returns-then-not-large-clause-kept g c = λ m0 h.
     let old = c.args.self.now in
     let needs : needs_cfg old.managed c.args.unit.now ≡ true = search rules in
-    let first = cfg_left g.F.Flights.planner _ old.log _ (target_issued g.F.Flights.planner old.log m0) old.managed c.args.unit.now m0 c.requires.whole needs h in
+    let first = cfg_left g.F.Flights.planner _ old.log _ (target_issued g.F.Flights.planner old.log m0) old.managed c.args.unit.now m0 c.requires.ready.whole needs h in
     let bit : has_bit (gives (target_issued g.F.Flights.planner old.log m0) (cfg_plan old.managed (port_of c.args.unit.now))) 2 ≡ false = sym (c.in-Ok-read_cfg.ensures.large m0 _ first) ∙ c.if-not-large.true in
     none_kept (target_issued g.F.Flights.planner old.log m0) old.managed _ c.args.unit.now needs bit (c.in-Ok-read_cfg.ensures.kept m0 _ first)
 
@@ -41,18 +41,18 @@ returns-then-not-large-clause-small g c = λ m0 calls ask are h.
     let old = c.args.self.now in
     let mid = c.read_cfg.new.self in
     let needs : needs_cfg old.managed c.args.unit.now ≡ true = search rules in
-    let first = cfg_left g.F.Flights.planner _ old.log _ (target_issued g.F.Flights.planner old.log m0) old.managed c.args.unit.now m0 c.requires.whole needs h in
+    let first = cfg_left g.F.Flights.planner _ old.log _ (target_issued g.F.Flights.planner old.log m0) old.managed c.args.unit.now m0 c.requires.ready.whole needs h in
     let there = c.in-Ok-read_cfg.ensures.on m0 _ first in
-    let whole : mid.log.whole + 1 ≡ length mid.log.calls = (let w = c.requires.whole in let s = c.in-Ok-read_cfg.ensures.whole_same in let k = ap length c.in-Ok-read_cfg.ensures.calls in omega (arith, w, s, k)) in
+    let whole : mid.log.whole + 1 ≡ length mid.log.calls = (let w = c.requires.ready.whole in let s = c.in-Ok-read_cfg.ensures.issues.whole in let k = ap length c.in-Ok-read_cfg.ensures.keeps.calls in omega (arith, w, s, k)) in
     shown_by _ calls (target_issued g.F.Flights.planner old.log m0) old.managed c.args.unit.now false needs (sym c.if-not-large.true ∙ c.in-Ok-read_cfg.ensures.large m0 _ first)
-    (came_good g.F.Flights.planner _ _ old.log mid.log _ _ _ (cfg_plan old.managed (port_of c.args.unit.now)) _ m0 first there c.in-Ok-read_cfg.ensures.calls)
-    (rest_whole g.F.Flights.planner _ mid.log _ calls ask m0 there (c.in-Ok-read_cfg.ensures.calls ∙ are) whole)
+    (came_good g.F.Flights.planner _ _ old.log mid.log _ _ _ (cfg_plan old.managed (port_of c.args.unit.now)) _ m0 first there c.in-Ok-read_cfg.ensures.keeps.calls)
+    (rest_whole g.F.Flights.planner _ mid.log _ calls ask m0 there (c.in-Ok-read_cfg.ensures.keeps.calls ∙ are) whole)
 
 pub returns-then-not-large-clause-asks : goal.returns-then-not-large-clause-asks
 returns-then-not-large-clause-asks g c = λ m0 h.
     let old = c.args.self.now in
     let needs : needs_cfg old.managed c.args.unit.now ≡ true = search rules in
-    let first = cfg_left g.F.Flights.planner _ old.log _ (target_issued g.F.Flights.planner old.log m0) old.managed c.args.unit.now m0 c.requires.whole needs h in
+    let first = cfg_left g.F.Flights.planner _ old.log _ (target_issued g.F.Flights.planner old.log m0) old.managed c.args.unit.now m0 c.requires.ready.whole needs h in
     let bit : has_bit (gives (target_issued g.F.Flights.planner old.log m0) (cfg_plan old.managed (port_of c.args.unit.now))) 2 ≡ false = sym (c.in-Ok-read_cfg.ensures.large m0 _ first) ∙ c.if-not-large.true in
     c.in-Ok-read_cfg.ensures.asks ∙ ap (λ (n : ℕ). asks_of (with_needs old.log n (length old.log.calls - 1))) (sym (reads_small (target_issued g.F.Flights.planner old.log m0) old.managed c.args.unit.now needs bit))
 
@@ -61,9 +61,9 @@ returns-in-Ok-issue_by_csw-clause-on g c = λ m0 h.
     let old = c.args.self.now in
     let mid = c.read_cfg.new.self in
     let needs : needs_cfg old.managed c.args.unit.now ≡ true = search rules in
-    let first = cfg_left g.F.Flights.planner _ old.log _ (target_issued g.F.Flights.planner old.log m0) old.managed c.args.unit.now m0 c.requires.whole needs h in
+    let first = cfg_left g.F.Flights.planner _ old.log _ (target_issued g.F.Flights.planner old.log m0) old.managed c.args.unit.now m0 c.requires.ready.whole needs h in
     let bit : has_bit (gives (target_issued g.F.Flights.planner old.log m0) (cfg_plan old.managed (port_of c.args.unit.now))) 2 ≡ true = sym (c.in-Ok-read_cfg.ensures.large m0 _ first) ∙ c.if-not-large.false in
-    let l = large_left g.F.Flights.planner _ _ old.log mid.log _ _ old.managed mid.managed c.args.unit.now m0 needs bit first (c.in-Ok-read_cfg.ensures.on m0 _ first) c.in-Ok-read_cfg.ensures.calls c.in-Ok-read_cfg.ensures.empty (c.in-Ok-read_cfg.ensures.kept m0 _ first) in
+    let l = large_left g.F.Flights.planner _ _ old.log mid.log _ _ old.managed mid.managed c.args.unit.now m0 needs bit first (c.in-Ok-read_cfg.ensures.on m0 _ first) c.in-Ok-read_cfg.ensures.keeps.calls c.in-Ok-read_cfg.ensures.empty (c.in-Ok-read_cfg.ensures.kept m0 _ first) in
     c.in-Ok-issue_by_csw.ensures.on m0 l.left
 
 pub returns-in-Ok-issue_by_csw-clause-kept : goal.returns-in-Ok-issue_by_csw-clause-kept
@@ -71,9 +71,9 @@ returns-in-Ok-issue_by_csw-clause-kept g c = λ m0 h.
     let old = c.args.self.now in
     let mid = c.read_cfg.new.self in
     let needs : needs_cfg old.managed c.args.unit.now ≡ true = search rules in
-    let first = cfg_left g.F.Flights.planner _ old.log _ (target_issued g.F.Flights.planner old.log m0) old.managed c.args.unit.now m0 c.requires.whole needs h in
+    let first = cfg_left g.F.Flights.planner _ old.log _ (target_issued g.F.Flights.planner old.log m0) old.managed c.args.unit.now m0 c.requires.ready.whole needs h in
     let bit : has_bit (gives (target_issued g.F.Flights.planner old.log m0) (cfg_plan old.managed (port_of c.args.unit.now))) 2 ≡ true = sym (c.in-Ok-read_cfg.ensures.large m0 _ first) ∙ c.if-not-large.false in
-    let l = large_left g.F.Flights.planner _ _ old.log mid.log _ _ old.managed mid.managed c.args.unit.now m0 needs bit first (c.in-Ok-read_cfg.ensures.on m0 _ first) c.in-Ok-read_cfg.ensures.calls c.in-Ok-read_cfg.ensures.empty (c.in-Ok-read_cfg.ensures.kept m0 _ first) in
+    let l = large_left g.F.Flights.planner _ _ old.log mid.log _ _ old.managed mid.managed c.args.unit.now m0 needs bit first (c.in-Ok-read_cfg.ensures.on m0 _ first) c.in-Ok-read_cfg.ensures.keeps.calls c.in-Ok-read_cfg.ensures.empty (c.in-Ok-read_cfg.ensures.kept m0 _ first) in
     c.in-Ok-issue_by_csw.ensures.kept m0 l.left ∙ l.kept
 
 pub returns-in-Ok-issue_by_csw-clause-small : goal.returns-in-Ok-issue_by_csw-clause-small
@@ -81,22 +81,22 @@ returns-in-Ok-issue_by_csw-clause-small g c = λ m0 calls ask are h.
     let old = c.args.self.now in
     let mid = c.read_cfg.new.self in
     let needs : needs_cfg old.managed c.args.unit.now ≡ true = search rules in
-    let first = cfg_left g.F.Flights.planner _ old.log _ (target_issued g.F.Flights.planner old.log m0) old.managed c.args.unit.now m0 c.requires.whole needs h in
+    let first = cfg_left g.F.Flights.planner _ old.log _ (target_issued g.F.Flights.planner old.log m0) old.managed c.args.unit.now m0 c.requires.ready.whole needs h in
     let there = c.in-Ok-read_cfg.ensures.on m0 _ first in
-    let whole : mid.log.whole + 1 ≡ length mid.log.calls = (let w = c.requires.whole in let s = c.in-Ok-read_cfg.ensures.whole_same in let k = ap length c.in-Ok-read_cfg.ensures.calls in omega (arith, w, s, k)) in
+    let whole : mid.log.whole + 1 ≡ length mid.log.calls = (let w = c.requires.ready.whole in let s = c.in-Ok-read_cfg.ensures.issues.whole in let k = ap length c.in-Ok-read_cfg.ensures.keeps.calls in omega (arith, w, s, k)) in
     shown_by _ calls (target_issued g.F.Flights.planner old.log m0) old.managed c.args.unit.now true needs (sym c.if-not-large.false ∙ c.in-Ok-read_cfg.ensures.large m0 _ first)
-    (came_good g.F.Flights.planner _ _ old.log mid.log _ _ _ (cfg_plan old.managed (port_of c.args.unit.now)) _ m0 first there c.in-Ok-read_cfg.ensures.calls)
-    (rest_whole g.F.Flights.planner _ mid.log _ calls ask m0 there (c.in-Ok-read_cfg.ensures.calls ∙ are) whole)
+    (came_good g.F.Flights.planner _ _ old.log mid.log _ _ _ (cfg_plan old.managed (port_of c.args.unit.now)) _ m0 first there c.in-Ok-read_cfg.ensures.keeps.calls)
+    (rest_whole g.F.Flights.planner _ mid.log _ calls ask m0 there (c.in-Ok-read_cfg.ensures.keeps.calls ∙ are) whole)
 
 pub returns-in-Ok-issue_by_csw-clause-asks : goal.returns-in-Ok-issue_by_csw-clause-asks
 returns-in-Ok-issue_by_csw-clause-asks g c = λ m0 h.
     let old = c.args.self.now in
     let mid = c.read_cfg.new.self in
     let needs : needs_cfg old.managed c.args.unit.now ≡ true = search rules in
-    let first = cfg_left g.F.Flights.planner _ old.log _ (target_issued g.F.Flights.planner old.log m0) old.managed c.args.unit.now m0 c.requires.whole needs h in
+    let first = cfg_left g.F.Flights.planner _ old.log _ (target_issued g.F.Flights.planner old.log m0) old.managed c.args.unit.now m0 c.requires.ready.whole needs h in
     let bit : has_bit (gives (target_issued g.F.Flights.planner old.log m0) (cfg_plan old.managed (port_of c.args.unit.now))) 2 ≡ true = sym (c.in-Ok-read_cfg.ensures.large m0 _ first) ∙ c.if-not-large.false in
     c.in-Ok-issue_by_csw.ensures.asks
-    ∙ needs_both (needs_csw mid.managed c.args.unit.now) old.log mid.log (length mid.log.calls - 1) (length old.log.calls - 1) c.in-Ok-read_cfg.ensures.asks (ap (λ (l : List Ask). length l - 1) c.in-Ok-read_cfg.ensures.calls)
+    ∙ needs_both (needs_csw mid.managed c.args.unit.now) old.log mid.log (length mid.log.calls - 1) (length old.log.calls - 1) c.in-Ok-read_cfg.ensures.asks (ap (λ (l : List Ask). length l - 1) c.in-Ok-read_cfg.ensures.keeps.calls)
     ∙ ap (λ (n : ℕ). asks_of (with_needs old.log n (length old.log.calls - 1))) (sym (reads_large (target_issued g.F.Flights.planner old.log m0) old.managed mid.managed c.args.unit.now needs bit (c.in-Ok-read_cfg.ensures.kept m0 _ first)))
 
 pub returns-in-Err-issue_by_csw-clause-broke : goal.returns-in-Err-issue_by_csw-clause-broke
@@ -104,9 +104,9 @@ returns-in-Err-issue_by_csw-clause-broke g c = λ m0 h.
     let old = c.args.self.now in
     let mid = c.read_cfg.new.self in
     let needs : needs_cfg old.managed c.args.unit.now ≡ true = search rules in
-    let first = cfg_left g.F.Flights.planner _ old.log _ (target_issued g.F.Flights.planner old.log m0) old.managed c.args.unit.now m0 c.requires.whole needs h in
+    let first = cfg_left g.F.Flights.planner _ old.log _ (target_issued g.F.Flights.planner old.log m0) old.managed c.args.unit.now m0 c.requires.ready.whole needs h in
     let bit : has_bit (gives (target_issued g.F.Flights.planner old.log m0) (cfg_plan old.managed (port_of c.args.unit.now))) 2 ≡ true = sym (c.in-Ok-read_cfg.ensures.large m0 _ first) ∙ c.if-not-large.false in
-    let l = large_left g.F.Flights.planner _ _ old.log mid.log _ _ old.managed mid.managed c.args.unit.now m0 needs bit first (c.in-Ok-read_cfg.ensures.on m0 _ first) c.in-Ok-read_cfg.ensures.calls c.in-Ok-read_cfg.ensures.empty (c.in-Ok-read_cfg.ensures.kept m0 _ first) in
+    let l = large_left g.F.Flights.planner _ _ old.log mid.log _ _ old.managed mid.managed c.args.unit.now m0 needs bit first (c.in-Ok-read_cfg.ensures.on m0 _ first) c.in-Ok-read_cfg.ensures.keeps.calls c.in-Ok-read_cfg.ensures.empty (c.in-Ok-read_cfg.ensures.kept m0 _ first) in
     c.in-Err-issue_by_csw.ensures.broke m0 l.left
 
 pub returns-in-Err-issue_by_csw-clause-stops : goal.returns-in-Err-issue_by_csw-clause-stops
@@ -114,25 +114,25 @@ returns-in-Err-issue_by_csw-clause-stops g c = λ m0 answered h left.
     let old = c.args.self.now in
     let mid = c.read_cfg.new.self in
     let needs : needs_cfg old.managed c.args.unit.now ≡ true = search rules in
-    let first = cfg_left g.F.Flights.planner _ old.log _ (target_issued g.F.Flights.planner old.log m0) old.managed c.args.unit.now m0 c.requires.whole needs h in
+    let first = cfg_left g.F.Flights.planner _ old.log _ (target_issued g.F.Flights.planner old.log m0) old.managed c.args.unit.now m0 c.requires.ready.whole needs h in
     let bit : has_bit (gives (target_issued g.F.Flights.planner old.log m0) (cfg_plan old.managed (port_of c.args.unit.now))) 2 ≡ true = sym (c.in-Ok-read_cfg.ensures.large m0 _ first) ∙ c.if-not-large.false in
-    let l = large_left g.F.Flights.planner _ _ old.log mid.log _ _ old.managed mid.managed c.args.unit.now m0 needs bit first (c.in-Ok-read_cfg.ensures.on m0 _ first) c.in-Ok-read_cfg.ensures.calls c.in-Ok-read_cfg.ensures.empty (c.in-Ok-read_cfg.ensures.kept m0 _ first) in
-    subst (λ (calls : List Ask). StopsThere m0 answered calls c.issue_by_csw-2.new.self.log.lines c.in-Err-issue_by_csw.stop) c.in-Ok-read_cfg.ensures.calls (c.in-Err-issue_by_csw.ensures.stops m0 answered l.left left)
+    let l = large_left g.F.Flights.planner _ _ old.log mid.log _ _ old.managed mid.managed c.args.unit.now m0 needs bit first (c.in-Ok-read_cfg.ensures.on m0 _ first) c.in-Ok-read_cfg.ensures.keeps.calls c.in-Ok-read_cfg.ensures.empty (c.in-Ok-read_cfg.ensures.kept m0 _ first) in
+    subst (λ (calls : List Ask). StopsThere m0 answered calls c.issue_by_csw-2.new.self.log.lines c.in-Err-issue_by_csw.stop) c.in-Ok-read_cfg.ensures.keeps.calls (c.in-Err-issue_by_csw.ensures.stops m0 answered l.left left)
 
 pub returns-then-not-large-clause-spare : goal.returns-then-not-large-clause-spare
 returns-then-not-large-clause-spare g c = λ m0 left h s.
     let old = c.args.self.now in
     let needs : needs_cfg old.managed c.args.unit.now ≡ true = search rules in
-    c.in-Ok-read_cfg.ensures.spare m0 _ left (cfg_left g.F.Flights.planner _ old.log _ (target_issued g.F.Flights.planner old.log m0) old.managed c.args.unit.now m0 c.requires.whole needs h) s
+    c.in-Ok-read_cfg.ensures.spare m0 _ left (cfg_left g.F.Flights.planner _ old.log _ (target_issued g.F.Flights.planner old.log m0) old.managed c.args.unit.now m0 c.requires.ready.whole needs h) s
 
 pub returns-in-Ok-issue_by_csw-clause-spare : goal.returns-in-Ok-issue_by_csw-clause-spare
 returns-in-Ok-issue_by_csw-clause-spare g c = λ m0 left h s.
     let old = c.args.self.now in
     let mid = c.read_cfg.new.self in
     let needs : needs_cfg old.managed c.args.unit.now ≡ true = search rules in
-    let first = cfg_left g.F.Flights.planner _ old.log _ (target_issued g.F.Flights.planner old.log m0) old.managed c.args.unit.now m0 c.requires.whole needs h in
+    let first = cfg_left g.F.Flights.planner _ old.log _ (target_issued g.F.Flights.planner old.log m0) old.managed c.args.unit.now m0 c.requires.ready.whole needs h in
     let bit : has_bit (gives (target_issued g.F.Flights.planner old.log m0) (cfg_plan old.managed (port_of c.args.unit.now))) 2 ≡ true = sym (c.in-Ok-read_cfg.ensures.large m0 _ first) ∙ c.if-not-large.false in
-    let l = large_left g.F.Flights.planner _ _ old.log mid.log _ _ old.managed mid.managed c.args.unit.now m0 needs bit first (c.in-Ok-read_cfg.ensures.on m0 _ first) c.in-Ok-read_cfg.ensures.calls c.in-Ok-read_cfg.ensures.empty (c.in-Ok-read_cfg.ensures.kept m0 _ first) in
+    let l = large_left g.F.Flights.planner _ _ old.log mid.log _ _ old.managed mid.managed c.args.unit.now m0 needs bit first (c.in-Ok-read_cfg.ensures.on m0 _ first) c.in-Ok-read_cfg.ensures.keeps.calls c.in-Ok-read_cfg.ensures.empty (c.in-Ok-read_cfg.ensures.kept m0 _ first) in
     c.in-Ok-issue_by_csw.ensures.spare m0 left l.left (c.in-Ok-read_cfg.ensures.spare m0 _ left first s)
 
 pub returns-then-not-large-clause-fenced : goal.returns-then-not-large-clause-fenced

@@ -89,7 +89,7 @@ returns-in-Ok-clause-on g c = λ m0 calls ask is mild h.
     let needs : needs_settle old.managed c.args.unit.now ≡ true = search rules in
     let before : c.count-before.result - 1 ≡ length old.log.calls - 1 = ap (λ (n : ℕ). n - 1) c.count-before.ensures in
     let first = settle_left g.F.Flights.planner _ old.log _ _ old.managed c.args.unit.now _ m0 before needs (planned_left g.F.Flights.planner _ old.log _ old.managed calls ask c.args.unit.now m0 is mild c.requires.planned h) in
-    let r = settled_ready g.F.Flights.planner _ _ old.log mid.log _ _ old.managed mid.managed c.args.unit.now _ m0 needs first (c.in-Ok.ensures.on m0 _ first) c.in-Ok.ensures.further.calls c.settle.ensures.managed in
+    let r = settled_ready g.F.Flights.planner _ _ old.log mid.log _ _ old.managed mid.managed c.args.unit.now _ m0 needs first (c.in-Ok.ensures.on m0 _ first) c.in-Ok.ensures.further.so.calls c.settle.ensures.managed in
     c.issue_by_cfg-in-Ok.ensures.on m0 r.left
 
 pub returns-in-Ok-clause-kept : goal.returns-in-Ok-clause-kept
@@ -101,7 +101,7 @@ returns-in-Ok-clause-kept g c = λ m0 calls ask is mild h.
     let needs : needs_settle old.managed c.args.unit.now ≡ true = search rules in
     let before : c.count-before.result - 1 ≡ length old.log.calls - 1 = ap (λ (n : ℕ). n - 1) c.count-before.ensures in
     let first = settle_left g.F.Flights.planner _ old.log _ _ old.managed c.args.unit.now _ m0 before needs (planned_left g.F.Flights.planner _ old.log _ old.managed calls ask c.args.unit.now m0 is mild c.requires.planned h) in
-    let r = settled_ready g.F.Flights.planner _ _ old.log mid.log _ _ old.managed mid.managed c.args.unit.now _ m0 needs first (c.in-Ok.ensures.on m0 _ first) c.in-Ok.ensures.further.calls c.settle.ensures.managed in
+    let r = settled_ready g.F.Flights.planner _ _ old.log mid.log _ _ old.managed mid.managed c.args.unit.now _ m0 needs first (c.in-Ok.ensures.on m0 _ first) c.in-Ok.ensures.further.so.calls c.settle.ensures.managed in
     ok_then _ _ c.issue_by_cfg-in-Ok.result (kept_is g.F.Flights.planner _ _ old.log mid.log _ _ old.managed mid.managed _ calls ask asked m0 is mild c.requires.planned h r) (c.issue_by_cfg-in-Ok.ensures.kept m0 r.left)
 
 pub returns-in-Ok-clause-small : goal.returns-in-Ok-clause-small
@@ -113,8 +113,8 @@ returns-in-Ok-clause-small g c = λ m0 calls ask is mild h.
     let needs : needs_settle old.managed c.args.unit.now ≡ true = search rules in
     let before : c.count-before.result - 1 ≡ length old.log.calls - 1 = ap (λ (n : ℕ). n - 1) c.count-before.ensures in
     let first = settle_left g.F.Flights.planner _ old.log _ _ old.managed c.args.unit.now _ m0 before needs (planned_left g.F.Flights.planner _ old.log _ old.managed calls ask c.args.unit.now m0 is mild c.requires.planned h) in
-    let r = settled_ready g.F.Flights.planner _ _ old.log mid.log _ _ old.managed mid.managed c.args.unit.now _ m0 needs first (c.in-Ok.ensures.on m0 _ first) c.in-Ok.ensures.further.calls c.settle.ensures.managed in
-    at_ok_then _ _ c.issue_by_cfg-in-Ok.result (λ v. small_is g.F.Flights.planner _ _ old.log mid.log _ _ old.managed mid.managed calls ask asked v m0 is h r) (c.issue_by_cfg-in-Ok.ensures.small m0 calls ask (c.in-Ok.ensures.further.calls ∙ h.are) r.left)
+    let r = settled_ready g.F.Flights.planner _ _ old.log mid.log _ _ old.managed mid.managed c.args.unit.now _ m0 needs first (c.in-Ok.ensures.on m0 _ first) c.in-Ok.ensures.further.so.calls c.settle.ensures.managed in
+    at_ok_then _ _ c.issue_by_cfg-in-Ok.result (λ v. small_is g.F.Flights.planner _ _ old.log mid.log _ _ old.managed mid.managed calls ask asked v m0 is h r) (c.issue_by_cfg-in-Ok.ensures.small m0 calls ask (c.in-Ok.ensures.further.so.calls ∙ h.are) r.left)
 
 pub returns-in-Ok-clause-needs : goal.returns-in-Ok-clause-needs
 returns-in-Ok-clause-needs g c = λ m0 calls ask is mild h.
@@ -125,8 +125,8 @@ returns-in-Ok-clause-needs g c = λ m0 calls ask is mild h.
     let needs : needs_settle old.managed c.args.unit.now ≡ true = search rules in
     let before : c.count-before.result - 1 ≡ length old.log.calls - 1 = ap (λ (n : ℕ). n - 1) c.count-before.ensures in
     let first = settle_left g.F.Flights.planner _ old.log _ _ old.managed c.args.unit.now _ m0 before needs (planned_left g.F.Flights.planner _ old.log _ old.managed calls ask c.args.unit.now m0 is mild c.requires.planned h) in
-    let r = settled_ready g.F.Flights.planner _ _ old.log mid.log _ _ old.managed mid.managed c.args.unit.now _ m0 needs first (c.in-Ok.ensures.on m0 _ first) c.in-Ok.ensures.further.calls c.settle.ensures.managed in
-    ok_then _ _ c.issue_by_cfg-in-Ok.result (needs_is g.F.Flights.planner _ _ old.log mid.log new.log _ _ old.managed mid.managed calls ask asked m0 is mild c.requires.no_poll c.requires.planned h r c.settle.ensures.asks) (c.issue_by_cfg-in-Ok.ensures.asks m0 r.left)
+    let r = settled_ready g.F.Flights.planner _ _ old.log mid.log _ _ old.managed mid.managed c.args.unit.now _ m0 needs first (c.in-Ok.ensures.on m0 _ first) c.in-Ok.ensures.further.so.calls c.settle.ensures.managed in
+    ok_then _ _ c.issue_by_cfg-in-Ok.result (needs_is g.F.Flights.planner _ _ old.log mid.log new.log _ _ old.managed mid.managed calls ask asked m0 is mild c.requires.no_poll c.requires.planned h r c.settle.ensures.further.asks) (c.issue_by_cfg-in-Ok.ensures.asks m0 r.left)
 
 pub returns-in-Ok-clause-broke : goal.returns-in-Ok-clause-broke
 returns-in-Ok-clause-broke g c = λ m0 calls ask is mild h.
@@ -137,7 +137,7 @@ returns-in-Ok-clause-broke g c = λ m0 calls ask is mild h.
     let needs : needs_settle old.managed c.args.unit.now ≡ true = search rules in
     let before : c.count-before.result - 1 ≡ length old.log.calls - 1 = ap (λ (n : ℕ). n - 1) c.count-before.ensures in
     let first = settle_left g.F.Flights.planner _ old.log _ _ old.managed c.args.unit.now _ m0 before needs (planned_left g.F.Flights.planner _ old.log _ old.managed calls ask c.args.unit.now m0 is mild c.requires.planned h) in
-    let r = settled_ready g.F.Flights.planner _ _ old.log mid.log _ _ old.managed mid.managed c.args.unit.now _ m0 needs first (c.in-Ok.ensures.on m0 _ first) c.in-Ok.ensures.further.calls c.settle.ensures.managed in
+    let r = settled_ready g.F.Flights.planner _ _ old.log mid.log _ _ old.managed mid.managed c.args.unit.now _ m0 needs first (c.in-Ok.ensures.on m0 _ first) c.in-Ok.ensures.further.so.calls c.settle.ensures.managed in
     c.issue_by_cfg-in-Ok.ensures.broke m0 r.left
 
 pub returns-in-Ok-clause-stops : goal.returns-in-Ok-clause-stops
@@ -149,8 +149,8 @@ returns-in-Ok-clause-stops g c = λ m0 calls ask answered is mild h left.
     let needs : needs_settle old.managed c.args.unit.now ≡ true = search rules in
     let before : c.count-before.result - 1 ≡ length old.log.calls - 1 = ap (λ (n : ℕ). n - 1) c.count-before.ensures in
     let first = settle_left g.F.Flights.planner _ old.log _ _ old.managed c.args.unit.now _ m0 before needs (planned_left g.F.Flights.planner _ old.log _ old.managed calls ask c.args.unit.now m0 is mild c.requires.planned h) in
-    let r = settled_ready g.F.Flights.planner _ _ old.log mid.log _ _ old.managed mid.managed c.args.unit.now _ m0 needs first (c.in-Ok.ensures.on m0 _ first) c.in-Ok.ensures.further.calls c.settle.ensures.managed in
-    subst (λ (l : List Ask). IfErr c.issue_by_cfg-in-Ok.result (StopsThere m0 answered l new.log.lines)) c.in-Ok.ensures.further.calls (c.issue_by_cfg-in-Ok.ensures.stops m0 answered r.left left)
+    let r = settled_ready g.F.Flights.planner _ _ old.log mid.log _ _ old.managed mid.managed c.args.unit.now _ m0 needs first (c.in-Ok.ensures.on m0 _ first) c.in-Ok.ensures.further.so.calls c.settle.ensures.managed in
+    subst (λ (l : List Ask). IfErr c.issue_by_cfg-in-Ok.result (StopsThere m0 answered l new.log.lines)) c.in-Ok.ensures.further.so.calls (c.issue_by_cfg-in-Ok.ensures.stops m0 answered r.left left)
 
 pub returns-in-Err-clause-broke : goal.returns-in-Err-clause-broke
 returns-in-Err-clause-broke g c = λ m0 calls ask is mild h.
@@ -185,8 +185,8 @@ returns-in-Ok-clause-spare g c = λ m0 calls ask left is mild h s.
     let needs : needs_settle old.managed c.args.unit.now ≡ true = search rules in
     let before : c.count-before.result - 1 ≡ length old.log.calls - 1 = ap (λ (n : ℕ). n - 1) c.count-before.ensures in
     let first = settle_left g.F.Flights.planner _ old.log _ _ old.managed c.args.unit.now _ m0 before needs (planned_left g.F.Flights.planner _ old.log _ old.managed calls ask c.args.unit.now m0 is mild c.requires.planned h) in
-    let r = settled_ready g.F.Flights.planner _ _ old.log mid.log _ _ old.managed mid.managed c.args.unit.now _ m0 needs first (c.in-Ok.ensures.on m0 _ first) c.in-Ok.ensures.further.calls c.settle.ensures.managed in
-    c.issue_by_cfg-in-Ok.ensures.spare m0 left r.left (spared_same g.F.Flights.planner _ _ _ old.log mid.log s.paid left m0 s.covers c.in-Ok.ensures.further (c.in-Ok.ensures.spare m0 _ s.paid first s.spared))
+    let r = settled_ready g.F.Flights.planner _ _ old.log mid.log _ _ old.managed mid.managed c.args.unit.now _ m0 needs first (c.in-Ok.ensures.on m0 _ first) c.in-Ok.ensures.further.so.calls c.settle.ensures.managed in
+    c.issue_by_cfg-in-Ok.ensures.spare m0 left r.left (spared_same g.F.Flights.planner _ _ _ old.log mid.log s.paid left m0 s.covers c.in-Ok.ensures.further.so (c.in-Ok.ensures.spare m0 _ s.paid first s.spared))
 
 pub returns-in-Ok-clause-fenced : goal.returns-in-Ok-clause-fenced
-returns-in-Ok-clause-fenced g c = past_before c.args.self.now.log c.settle.new.self.log c.issue_by_cfg-in-Ok.new.self.log c.issue_by_cfg-in-Ok.result c.in-Ok.ensures.further c.settle.ensures.goes.known c.issue_by_cfg-in-Ok.ensures.fenced
+returns-in-Ok-clause-fenced g c = past_before c.args.self.now.log c.settle.new.self.log c.issue_by_cfg-in-Ok.new.self.log c.issue_by_cfg-in-Ok.result c.in-Ok.ensures.further.so c.settle.ensures.keeps.goes.known c.issue_by_cfg-in-Ok.ensures.fenced

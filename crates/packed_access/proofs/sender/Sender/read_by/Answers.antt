@@ -1,9 +1,8 @@
-use Rattle.std.proofs.Common.{rules, ◌≡◌, ◌∙◌, ℕ, ◌+◌, ◌-◌, ◌<◌, ◌++◌, ◌∷◌, [], List, length, arith, refl, sym, ap, subst}
+use Rattle.std.proofs.Common.{◌≡◌, ◌∙◌, ℕ, ◌+◌, ◌-◌, ◌++◌, ◌∷◌, [], List, length, arith, sym, ap, subst}
 use Rattle.std.specs.Option.{unwrap_or}
 use Rattle.batch_packer.specs.SlotList.{slot_at}
 use Rattle.target_machine.specs.declared.access.RegAccess.{RegAccess}
 use Rattle.probe_core.specs.Probe.{target_of}
-use Rattle.target_calls.specs.declared.calls.Ask.{Ask}
 use Rattle.target_calls.specs.declared.journal.Part.TheVariants.{Leads}
 use Rattle.access_regs.specs.Journal.{gives, issued}
 use Rattle.packed_access.specs.Begun.{HasIssued, entries_of, target_issued}
@@ -20,7 +19,7 @@ returns-in-Ok-send-clause-value g c = λ m0 lead a rest is h.
     let h' = subst (λ (l : List RegAccess). HasIssued g.F.Flights.planner (g.F.Flights.state old.flights) old.log (g.F.Flights.accesses old.flights) (entries_of c.args.unit Leads l ++ rest) m0) is h in
     let there = c.in-Ok.ensures.on m0 rest h in
     let after = c.in-Ok-send.ensures.on m0 rest there in
-    let mid_calls : mid.log.calls ≡ old.log.calls = c.in-Ok.ensures.further.calls in
+    let mid_calls : mid.log.calls ≡ old.log.calls = c.in-Ok.ensures.further.so.calls in
     let calls : new.log.calls ≡ old.log.calls = ap (λ (l : LogState). l.calls) c.in-Ok-send.ensures.log ∙ mid_calls in
     let entries : length new.log.entries ≡ length mid.log.entries = ap (λ (l : LogState). length l.entries) c.in-Ok-send.ensures.log in
     let grown : length mid.log.entries ≡ length old.log.entries + length plan = c.in-Ok.ensures.entries in

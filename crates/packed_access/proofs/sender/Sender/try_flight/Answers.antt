@@ -1,5 +1,4 @@
-use Rattle.std.proofs.Common.{◌≡◌, Bool, true, false, List, sym, subst}
-use Rattle.target_machine.specs.declared.access.RegAccess.{RegAccess}
+use Rattle.std.proofs.Common.{Bool, subst}
 use Rattle.packed_access.specs.Forgiving.{LeadsCame}
 use Rattle.packed_access.proofs.LeadLemmas.{all_went, last_next}
 use Rattle.packed_access.proofs.TryMemoryLemmas.{broken_calls, on_err, on_ok}
@@ -16,7 +15,7 @@ pub returns-in-Ok-true-clause-broke : goal.returns-in-Ok-true-clause-broke
 returns-in-Ok-true-clause-broke g c = λ m0 asked k t made rest more h n.
     let mid = c.try_leads.new.self in
     let came = subst (λ (b : Bool). LeadsCame b g.F.Flights.planner c.args.forgive (g.F.Flights.state mid.flights) mid.log asked k t made c.args.leads.now c.args.last more m0) c.in-Ok-true.field-0-test (c.in-Ok-true.ensures.on m0 asked k t made c.args.last c.args.ends rest more h n) in
-    on_err c.try_together-in-Ok-true.result _ _ (λ s broke. broken_calls g.F.Flights.planner s _ c.try_together-in-Ok-true.new.self.log _ _ m0 c.in-Ok-true.ensures.further.calls broke)
+    on_err c.try_together-in-Ok-true.result _ _ (λ s broke. broken_calls g.F.Flights.planner s _ c.try_together-in-Ok-true.new.self.log _ _ m0 c.in-Ok-true.ensures.tries.further.calls broke)
     (c.try_together-in-Ok-true.ensures.broke m0 asked k t _ _ more came (last_next asked t made c.args.leads.now c.args.last c.args.ends rest more n))
 
 pub returns-in-Ok-false-clause-on : goal.returns-in-Ok-false-clause-on

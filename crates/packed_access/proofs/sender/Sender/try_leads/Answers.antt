@@ -1,4 +1,4 @@
-use Rattle.std.proofs.Common.{◌≡◌, ℕ, ◌∙◌, ◌+◌, ◌<◌, ◌≤◌, ◌++◌, ◌∷◌, [], true, false, List, length, take, drop, get_or, take_all, take-append-drop, Option, Some, None, refl, sym, ap, subst, arith}
+use Rattle.std.proofs.Common.{◌≡◌, ℕ, ◌∙◌, ◌+◌, ◌≤◌, ◌++◌, ◌∷◌, [], true, false, List, length, take, drop, get_or, take_all, take-append-drop, Option, sym, subst, arith}
 use Rattle.std.specs.Prelude.{IfSome}
 use Rattle.std.proofs.lemmas.List.{at_drop_more, drop_all, take_more}
 use Rattle.target_machine.specs.Plain.{Action}
@@ -55,26 +55,26 @@ loop-lead-preserved g c =
           let went = subst (λ (w : Option ℕ). WentTo g.F.Flights.planner c.args.forgive w (g.F.Flights.state new.flights) new.log asked k t (made ++ take i leads) [] lead (making (drop (i + 1) leads ++ last ∷ []) ++ more) m0) c.in-Ok-Some.field-0-is (now.on m0 asked k t (made ++ take i leads) _ _ tried next) in
           subst (λ (l : List RegAccess). HasTried g.F.Flights.planner c.args.forgive (g.F.Flights.state new.flights) new.log asked k t (made ++ l) (making (drop (i + 1) leads ++ last ∷ []) ++ more) m0) (sym (take_more leads i (record { ap = false; read = false; addr = 0; value = 0 }) c.loop-lead-test.true))
           (lead_came g.F.Flights.planner c.args.forgive _ new.log asked k t made (take i leads) lead _ m0 went.0);
-      goes = goes_trans _ _ _ before.goes c.try_together.ensures.goes;
-      later = (let a = before.later in let b = now.later in omega (arith, a, b));
-      limits = c.try_together.ensures.limits ∙ before.limits;
+      goes = goes_trans _ _ _ before.goes c.try_together.ensures.keeps.goes;
+      later = (let a = before.later in let b = now.tries.later in omega (arith, a, b));
+      limits = c.try_together.ensures.keeps.same_limits ∙ before.limits;
       further = record {
-        calls = now.further.calls ∙ before.further.calls;
-        places = now.further.places ∙ before.further.places;
-        whole = now.further.whole ∙ before.further.whole;
-        room = now.further.room ∙ before.further.room;
-        needs = now.further.needs ∙ before.further.needs;
-        fence = now.further.fence ∙ before.further.fence;
-        skipped = now.further.skipped ∙ before.further.skipped;
-        end = now.further.end;
+        calls = now.tries.further.calls ∙ before.further.calls;
+        places = now.tries.further.places ∙ before.further.places;
+        whole = now.tries.further.whole ∙ before.further.whole;
+        room = now.tries.further.room ∙ before.further.room;
+        needs = now.tries.further.needs ∙ before.further.needs;
+        fence = now.tries.further.fence ∙ before.further.fence;
+        skipped = now.tries.further.skipped ∙ before.further.skipped;
+        end = now.tries.further.end;
       };
-      came = now.came;
-      empty = now.empty;
+      came = now.tries.came;
+      empty = now.tries.empty;
       space = subst (λ (w : Option ℕ). IfSome w (λ v. (next : RegAccess) → IsTaken next → g.F.Flights.has_room new.flights next ≡ true)) c.in-Ok-Some.field-0-is now.space;
-      asks = c.try_together.ensures.asks ∙ before.asks;
+      asks = c.try_together.ensures.tries.asks ∙ before.asks;
       entries = (let a = before.entries in let b = subst (λ (w : Option ℕ). IfSome w (λ v. length new.log.entries ≤ length mid.log.entries + (0 + 1))) c.in-Ok-Some.field-0-is now.unskipped in omega (arith, a, b));
       managed = c.try_together.ensures.managed ∙ before.managed;
-      identity = c.try_together.ensures.identity ∙ before.identity;
+      identity = c.try_together.ensures.keeps.same_bench ∙ before.identity;
     }
 
 pub returns-clause-on : goal.returns-clause-on
@@ -85,3 +85,25 @@ returns-clause-on g c = λ m0 asked k t made last ends rest more h n.
     let all : length leads ≤ i = (let no = c.loop-lead-test.false in omega (arith, no)) in
     let tried = subst (λ (l : List RegAccess). HasTried g.F.Flights.planner c.args.forgive (g.F.Flights.state mid.flights) mid.log asked k t (made ++ take i leads) (making (l ++ last ∷ []) ++ more) m0) (drop_all i leads all) (c.loop-lead.invariant.on m0 asked k t made last ends rest more h n) in
     subst (λ (l : List RegAccess). HasTried g.F.Flights.planner c.args.forgive (g.F.Flights.state mid.flights) mid.log asked k t (made ++ l) (making (last ∷ []) ++ more) m0) (take_all i leads all) tried
+
+pub returns-in-Ok-None-clause-keeps : goal.returns-in-Ok-None-clause-keeps
+returns-in-Ok-None-clause-keeps g c =
+    let before = c.loop-lead.invariant in
+    let now = c.try_together.ensures.keeps in
+    record {
+      same_bench = now.same_bench ∙ before.identity;
+      same_limits = now.same_limits ∙ before.limits;
+      calls = now.calls ∙ before.further.calls;
+      goes = goes_trans _ _ _ before.goes now.goes;
+    }
+
+pub returns-in-Err-clause-keeps : goal.returns-in-Err-clause-keeps
+returns-in-Err-clause-keeps g c =
+    let before = c.loop-lead.invariant in
+    let now = c.try_together.ensures.keeps in
+    record {
+      same_bench = now.same_bench ∙ before.identity;
+      same_limits = now.same_limits ∙ before.limits;
+      calls = now.calls ∙ before.further.calls;
+      goes = goes_trans _ _ _ before.goes now.goes;
+    }

@@ -65,7 +65,7 @@ returns-then-large-clause-broke g c = λ m0 k t made rest h quiet is.
     let high : c.access_ap-high.result ≡ ap_access_of false 8 (c.args.address / 2 ^ 32) = c.access_ap-high.ensures ∙ ap (ap_access_of false 8) c.high_of.ensures in
     let low : c.access_ap-low.result ≡ ap_access_of false 4 (c.args.address % 2 ^ 32) = c.access_ap-low.ensures ∙ ap (ap_access_of false 4) c.low_of.ensures in
     let next' = subst (λ (l : List RegAccess × RegAccess). IsNext (unit.Memory c.args.size c.args.read c.args.ap c.args.address c.args.value) t (made ++ (select_of c.args.ap 0 ∷ [] ++ ap_access_of true 0 0 ∷ [])) l.0 l.1 true (transfer_actions c.args.large c.args.size c.args.read c.args.address c.args.value (csw_read (after t (making made)) c.args.ap)) []) (λ j. (sym first j ∷ sym high j ∷ sym low j ∷ [], sym c.access_drw-last.ensures j)) next in
-    on_err c.try_flight.result _ _ (λ s broke. broken_calls g.F.Flights.planner s _ c.try_flight.new.self.log _ _ m0 c.in-Ok-Some.ensures.further.calls broke) (c.try_flight.ensures.broke m0 (unit.Memory c.args.size c.args.read c.args.ap c.args.address c.args.value) k t _ _ [] went'.0 next')
+    on_err c.try_flight.result _ _ (λ s broke. broken_calls g.F.Flights.planner s _ c.try_flight.new.self.log _ _ m0 c.in-Ok-Some.ensures.tries.further.calls broke) (c.try_flight.ensures.broke m0 (unit.Memory c.args.size c.args.read c.args.ap c.args.address c.args.value) k t _ _ [] went'.0 next')
 
 pub returns-else-large-clause-on : goal.returns-else-large-clause-on
 returns-else-large-clause-on g c = λ m0 k t made rest h quiet is.
@@ -101,7 +101,7 @@ returns-else-large-clause-broke g c = λ m0 k t made rest h quiet is.
     let high : c.access_ap-high.result ≡ ap_access_of false 8 (c.args.address / 2 ^ 32) = c.access_ap-high.ensures ∙ ap (ap_access_of false 8) c.high_of.ensures in
     let low : c.access_ap-low.result ≡ ap_access_of false 4 (c.args.address % 2 ^ 32) = c.access_ap-low.ensures ∙ ap (ap_access_of false 4) c.low_of.ensures in
     let next' = subst (λ (l : List RegAccess × RegAccess). IsNext (unit.Memory c.args.size c.args.read c.args.ap c.args.address c.args.value) t (made ++ (select_of c.args.ap 0 ∷ [] ++ ap_access_of true 0 0 ∷ [])) l.0 l.1 true (transfer_actions c.args.large c.args.size c.args.read c.args.address c.args.value (csw_read (after t (making made)) c.args.ap)) []) (λ j. (sym first j ∷ sym low j ∷ [], sym c.access_drw-last.ensures j)) next in
-    on_err c.try_flight-else-large.result _ _ (λ s broke. broken_calls g.F.Flights.planner s _ c.try_flight-else-large.new.self.log _ _ m0 c.in-Ok-Some.ensures.further.calls broke) (c.try_flight-else-large.ensures.broke m0 (unit.Memory c.args.size c.args.read c.args.ap c.args.address c.args.value) k t _ _ [] went'.0 next')
+    on_err c.try_flight-else-large.result _ _ (λ s broke. broken_calls g.F.Flights.planner s _ c.try_flight-else-large.new.self.log _ _ m0 c.in-Ok-Some.ensures.tries.further.calls broke) (c.try_flight-else-large.ensures.broke m0 (unit.Memory c.args.size c.args.read c.args.ap c.args.address c.args.value) k t _ _ [] went'.0 next')
 
 pub returns-in-Ok-None-clause-packets : goal.returns-in-Ok-None-clause-packets
 returns-in-Ok-None-clause-packets g c = λ managed. went_most _ _ c.in-Ok-None.field-0 3 (omega arith) (c.in-Ok-None.ensures.packets managed)

@@ -78,7 +78,7 @@ returns-in-Err-try_memory-clause-broke g c = λ m0 t rest table h.
     let has : has_bit c.in-Ok-Some.cfg cfg_la ≡ true = sym c.learn_cfg.ensures.large ∙ (search rules) in
     let tried = cfg_tried g.F.Flights.planner c.args.forgive _ old.log old.managed t rest m0 c.args.size c.args.read c.args.ap c.args.address c.args.value h lt c.requires.wide _ port.log c.in-Ok-Some.field-0 c.in-Ok-Some.cfg came went table in
     let shape = cfg_large g.F.Flights.planner c.args.forgive _ old.log old.managed t rest m0 c.args.size c.args.read c.args.ap c.args.address c.args.value h lt c.requires.wide _ port.log c.in-Ok-Some.field-0 c.in-Ok-Some.cfg came went table has in
-    broken_calls g.F.Flights.planner c.in-Err-try_memory.stop _ c.try_memory.new.self.log _ _ m0 c.in-Ok-Some.ensures.further.calls
+    broken_calls g.F.Flights.planner c.in-Err-try_memory.stop _ c.try_memory.new.self.log _ _ m0 c.in-Ok-Some.ensures.tries.further.calls
     (c.in-Err-try_memory.ensures.broke m0 old.managed t (select_of c.args.ap 15 ∷ ap_access_of true 4 0 ∷ []) (after_cfg t c.args.size c.args.read c.args.ap c.args.address c.args.value) tried refl shape)
 
 pub returns-in-Ok-None-clause-packets : goal.returns-in-Ok-None-clause-packets

@@ -1,0 +1,55 @@
+use Rattle.std.proofs.Common.{◌∙◌, ◌+◌, ◌++◌, ◌∷◌, [], false, List, length, length-append, drop, get_or, refl, ap, subst, arith}
+use Rattle.std.proofs.lemmas.List.{at_drop_more}
+use Rattle.target_machine.specs.Plain.{Makes}
+use Rattle.target_machine.specs.declared.access.RegAccess.{RegAccess}
+use Rattle.target_calls.specs.Journal.{Entry}
+use Rattle.access_calls.proofs.KeepLemmas.{goes_trans}
+use Rattle.packed_access.specs.Begun.{HasIssued, entries_of}
+use Rattle.packed_access.proofs.sender.Sender.issue_all.Goals as goal
+
+pub returns-in-Err-clause-keeps : goal.returns-in-Err-clause-keeps
+returns-in-Err-clause-keeps g c =
+    let before = c.loop-access.invariant in
+    let now = c.issue.ensures.keeps in
+    record {
+      same_bench = now.same_bench ∙ before.identity;
+      same_limits = now.same_limits ∙ before.limits;
+      calls = now.calls ∙ before.further.calls;
+      goes = goes_trans _ _ _ before.goes now.goes;
+    }
+
+pub loop-access-preserved : goal.loop-access-preserved
+loop-access-preserved g c =
+    let accesses : List RegAccess = c.args.accesses.now in
+    let i = c.loop-access.access-index in
+    let access : RegAccess = get_or accesses i (record { ap = false; read = false; addr = 0; value = 0 }) in
+    let entry : Entry = record { unit = c.args.unit; part = c.args.part; forgiving = false; action = Makes access } in
+    let mid = c.loop-access.self in
+    let before = c.loop-access.invariant in
+    let now = c.in-Ok.ensures in
+    record {
+      on = λ m0 rest h.
+          let there = at_drop_more (λ (l : List RegAccess). entries_of c.args.unit c.args.part l ++ rest) accesses i (record { ap = false; read = false; addr = 0; value = 0 }) c.loop-access-test.true in
+          let due = subst (λ (l : List Entry). HasIssued g.F.Flights.planner (g.F.Flights.state mid.flights) mid.log (g.F.Flights.accesses mid.flights) l m0) there (before.on m0 rest h) in
+          now.on m0 entry (entries_of c.args.unit c.args.part (drop (i + 1) accesses) ++ rest) due refl refl refl;
+      spare = λ m0 rest points h s.
+          let there = at_drop_more (λ (l : List RegAccess). entries_of c.args.unit c.args.part l ++ rest) accesses i (record { ap = false; read = false; addr = 0; value = 0 }) c.loop-access-test.true in
+          let due = subst (λ (l : List Entry). HasIssued g.F.Flights.planner (g.F.Flights.state mid.flights) mid.log (g.F.Flights.accesses mid.flights) l m0) there (before.on m0 rest h) in
+          now.spare m0 entry (entries_of c.args.unit c.args.part (drop (i + 1) accesses) ++ rest) points due refl (before.spare m0 rest points h s);
+      goes = goes_trans _ _ _ before.goes c.issue.ensures.keeps.goes;
+      entries = (let a = before.entries in let n = ap length now.entries ∙ length-append mid.log.entries (record { unit = c.args.unit; part = c.args.part } ∷ []) in omega (arith, a, n));
+      further = record {
+        calls = now.further.so.calls ∙ before.further.calls;
+        places = now.further.so.places ∙ before.further.places;
+        whole = now.further.so.whole ∙ before.further.whole;
+        room = now.further.so.room ∙ before.further.room;
+        needs = now.further.so.needs ∙ before.further.needs;
+        fence = now.further.so.fence ∙ before.further.fence;
+        skipped = now.further.so.skipped ∙ before.further.skipped;
+        end = now.further.so.end;
+      };
+      pending = λ some. now.pending;
+      managed = c.issue.ensures.managed ∙ before.managed;
+      limits = c.issue.ensures.keeps.same_limits ∙ before.limits;
+      identity = c.issue.ensures.keeps.same_bench ∙ before.identity;
+    }
