@@ -13,9 +13,6 @@ pub part_bytes : (is_last : Bool) (accesses : List RegAccess) (command bytes : L
 part_bytes true accesses command bytes c e = e ∙ ap (λ xs. 0x7F ∷ 1 ∷ xs) (c ∙ sym (append-nil (command_bytes (guarded_command accesses))))
 part_bytes false accesses command bytes c e = e ∙ ap (λ xs. 0x7E ∷ 1 ∷ xs) (c ∙ sym (append-nil (command_bytes (guarded_command accesses))))
 
-pub part_fits : (accesses : List RegAccess) (command : List ℕ) → FitsPacket 1024 2 (guarded_command accesses) → command ≡ command_bytes (guarded_command accesses) → length command + 2 ≤ 1024
-part_fits accesses command fits is = let a = ap length is in let b = fits.bytes in omega arith
-
 -- ---- lists of parts
 
 pub some_filled : (size : ℕ) (part rest : List RegAccess) → 0 < length (filled size part rest)

@@ -16,23 +16,25 @@ ghost use Rattle.batch_packer.specs.Queues.{IsFresh};
 ghost use Rattle.batch_packer.specs.Readings.{IsSeen, part_with};
 
 use crate::exchange::exchange;
-use crate::packing::{MOST_REQUESTS, UNUSED, write_one};
+use crate::packing::write_one;
 use crate::part::Progress;
 use crate::reply::read_reply;
 use crate::slots::Slots;
 use dap_base::Failed;
+use dap_messages::Request;
 use flight_forms::put_requests;
 use probe_core::{Bench, PacketList};
 use target_machine::RegAccess;
 
 /// Sends a flight in one packet, a block or one Transfer, reads its reply, and adds the values of the
 /// confirmed accesses to the slots. `None` where the reply is none that the packet may get. The packet
-/// and the reply are kept; `bytes` is room for either.
+/// and the reply are kept; `bytes` is room for either, and `requests` for the requests of one Transfer.
 pub fn fly_alone<B: Bench>(
     is_block: bool,
     accesses: &[RegAccess],
     packets: &mut PacketList,
     replies: &mut PacketList,
+    requests: &mut [Request],
     bytes: &mut [u8],
     slots: &mut Slots,
     bench: &mut B,
@@ -43,6 +45,7 @@ pub fn fly_alone<B: Bench>(
     requires taken { AreTaken accesses.now }
     requires words { AreWords accesses.now }
     requires fits { FitsPacket (B.reported bench.old).limits.packet_size 0 (one_command is_block accesses.now) }
+    requires requests { length requests.old ≡ 255 }
     requires bytes { length bytes.old ≡ 1024 }
     requires packets { IsFresh packets.old 1 }
     requires replies { IsFresh replies.old 1 }
@@ -67,8 +70,7 @@ pub fn fly_alone<B: Bench>(
     ensures identity { B.identity bench.new ≡ B.identity bench.old }
     ensures cause { HasCause (B.reported bench.old).faults (B.reported bench.new).faults result }
 {
-    let mut requests = [UNUSED; MOST_REQUESTS];
-    let count = put_requests(accesses, &mut requests);
+    let count = put_requests(accesses, requests);
     let size = write_one(is_block, accesses, &requests[..count], bytes);
     packets.push(&bytes[..size]);
     match exchange(packets.get(0), bytes, bench) {

@@ -18,13 +18,13 @@ ghost use Rattle.batch_packer.specs.Flying.{HasFlownBy, IsReady, MayHaveFlown};
 ghost use Rattle.batch_packer.specs.Queues.{IsChain, IsFresh, IsPartPacket};
 ghost use Rattle.batch_packer.specs.Readings.{IsFew, IsNear, IsSeen, IsShown, part_with};
 
-use crate::packing::{MOST_REQUESTS, UNUSED, put_packets};
+use crate::packing::put_packets;
 use crate::part::Progress;
 use crate::queue::{receive_all, send_all};
 use crate::reply::read_reply;
 use crate::slots::Slots;
 use dap_base::Failed;
-use dap_messages::Response;
+use dap_messages::{Request, Response};
 use flight_forms::{first_part, put_guarded_requests};
 use probe_core::{Bench, PacketList};
 use target_machine::RegAccess;
@@ -45,8 +45,10 @@ fn read_part(
     accesses: &[RegAccess],
     packet: &[u8],
     reply: &[u8],
+    requests: &mut [Request],
     slots: &mut Slots,
 ) -> Option<Progress>
+    requires requests { length requests.old ≡ 255 }
     requires packet { IsPartPacket accesses.now packet.now }
     requires some { 0 < length accesses.now }
     requires taken { AreTaken accesses.now }
@@ -56,8 +58,7 @@ fn read_part(
     ensures few { IfSome result (λ p. IsFew p slots.old.values slots.new.values) }
     ensures room { slots.new.room ≡ slots.old.room }
 {
-    let mut requests = [UNUSED; MOST_REQUESTS];
-    let count = put_guarded_requests(accesses, &mut requests);
+    let count = put_guarded_requests(accesses, requests);
     if reply.len() < 2 || !is_of_one(reply[0], reply[1]) {
         return None;
     }
@@ -130,8 +131,10 @@ fn read_next(
     accesses: &[RegAccess],
     packet: &[u8],
     reply: &[u8],
+    requests: &mut [Request],
     slots: &mut Slots,
 ) -> Option<Progress>
+    requires requests { length requests.old ≡ 255 }
     requires packet { IsPartPacket accesses.now packet.now }
     requires some { 0 < length accesses.now }
     requires taken { AreTaken accesses.now }
@@ -145,7 +148,7 @@ fn read_next(
     ensures room { slots.new.room ≡ slots.old.room }
 {
     let len = slots.len();
-    match read_part(accesses, packet, reply, slots) {
+    match read_part(accesses, packet, reply, requests, slots) {
         None => None,
         Some(next) => {
             keep(next.response, len, slots);
@@ -170,9 +173,11 @@ fn read_packets(
     accesses: &[RegAccess],
     packets: &PacketList,
     replies: &PacketList,
+    requests: &mut [Request],
     slots: &mut Slots,
     at: &mut usize,
 ) -> Option<Progress>
+    requires requests { length requests.old ≡ 255 }
     requires few { length accesses.now < 65535 }
     requires taken { AllTaken (parts_of packet_size accesses.now) }
     requires fits { FitChain 1024 (parts_of packet_size accesses.now) }
@@ -198,7 +203,14 @@ fn read_packets(
         let rest = &accesses[start..];
         let len = first_part(packet_size, rest);
         mark(so_far, i, at);
-        match read_next(so_far, &rest[..len], packets.get(i), replies.get(i), slots) {
+        match read_next(
+            so_far,
+            &rest[..len],
+            packets.get(i),
+            replies.get(i),
+            requests,
+            slots,
+        ) {
             None => {
                 *at = i;
                 return None;
@@ -212,12 +224,14 @@ fn read_packets(
 
 /// Sends a flight as a guarded chain, reads its replies, and adds the values of the confirmed accesses
 /// to the slots. `None` where a reply breaks the rules of replies, or the two on chains. The packets and
-/// the replies are kept, and `at` is the number of those at which it ended; `bytes` is room for one.
+/// the replies are kept, and `at` is the number of those at which it ended; `bytes` is room for one, and `requests` for its
+/// requests.
 pub fn fly_chain<B: Bench>(
     packet_size: u16,
     accesses: &[RegAccess],
     packets: &mut PacketList,
     replies: &mut PacketList,
+    requests: &mut [Request],
     bytes: &mut [u8],
     at: &mut usize,
     slots: &mut Slots,
@@ -228,6 +242,7 @@ pub fn fly_chain<B: Bench>(
     requires chain { IsChain packet_size (B.reported bench.old).limits accesses.now }
     requires taken { AreTaken accesses.now }
     requires words { AreWords accesses.now }
+    requires requests { length requests.old ≡ 255 }
     requires bytes { length bytes.old ≡ 1024 }
     requires packets { IsFresh packets.old (length (parts_of packet_size accesses.now)) }
     requires replies { IsFresh replies.old (length (parts_of packet_size accesses.now)) }
@@ -254,12 +269,20 @@ pub fn fly_chain<B: Bench>(
     ensures identity { B.identity bench.new ≡ B.identity bench.old }
     ensures cause { HasCause (B.reported bench.old).faults (B.reported bench.new).faults result }
 {
-    put_packets(packet_size, accesses, packets, bytes);
+    put_packets(packet_size, accesses, packets, requests, bytes);
     match send_all(packets, bench) {
         Err(Failed) => Err(Failed),
         Ok(()) => match receive_all(packets.len(), replies, bytes, bench) {
             Err(Failed) => Err(Failed),
-            Ok(()) => Ok(read_packets(packet_size, accesses, packets, replies, slots, at)),
+            Ok(()) => Ok(read_packets(
+                packet_size,
+                accesses,
+                packets,
+                replies,
+                requests,
+                slots,
+                at,
+            )),
         },
     }
 }

@@ -14,8 +14,10 @@ ghost use Rattle.batch_packer.specs.SlotList.{slot_room};
 use crate::accesses::AccessList;
 use crate::ends::FlightEnd;
 use crate::flying::fly;
+use crate::packing::{MOST_REQUESTS, UNUSED};
 use crate::slots::Slots;
 use dap_base::OutOfMemory;
+use dap_messages::Request;
 use flight_forms::{FlightSize, Form};
 use probe_core::{Bench, Limits, PacketList};
 use std::alloc::Global;
@@ -60,6 +62,8 @@ pub struct Flight {
     accesses: AccessList,
     packets: PacketList,
     replies: PacketList,
+    // room for the requests of one packet
+    requests: [Request; 255],
     // room for one packet or reply
     bytes: [u8; 1024],
     end: Option<FlightEnd>,
@@ -101,6 +105,7 @@ impl Flight {
             accesses,
             packets,
             replies,
+            requests: [UNUSED; MOST_REQUESTS],
             bytes: [0; 1024],
             end: None,
             resumable: false,
@@ -224,6 +229,7 @@ impl Flight {
             self.accesses.as_slice(),
             &mut self.packets,
             &mut self.replies,
+            &mut self.requests,
             &mut self.bytes,
             &mut self.at,
             slots,

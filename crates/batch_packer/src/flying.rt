@@ -20,7 +20,7 @@ use crate::ends::{Cut, FlightEnd};
 use crate::part::Progress;
 use crate::slots::Slots;
 use dap_base::Failed;
-use dap_messages::Response;
+use dap_messages::{Request, Response};
 use flight_forms::Form;
 use probe_core::{Bench, Limits, PacketList};
 use target_machine::RegAccess;
@@ -33,6 +33,7 @@ fn fly_in<B: Bench>(
     accesses: &[RegAccess],
     packets: &mut PacketList,
     replies: &mut PacketList,
+    requests: &mut [Request],
     bytes: &mut [u8],
     at: &mut usize,
     slots: &mut Slots,
@@ -46,6 +47,7 @@ fn fly_in<B: Bench>(
     requires form { form_of limits.packet_size limits.packet_count accesses.now ≡ Some form }
     requires taken { AreTaken accesses.now }
     requires words { AreWords accesses.now }
+    requires requests { length requests.old ≡ 255 }
     requires bytes { length bytes.old ≡ 1024 }
     requires packets { IsFresh packets.old limits.packet_count }
     requires replies { IsFresh replies.old limits.packet_count }
@@ -73,13 +75,18 @@ fn fly_in<B: Bench>(
     ensures cause { HasCause (B.reported bench.old).faults (B.reported bench.new).faults result }
 {
     match form {
-        Form::Block => fly_alone(true, accesses, packets, replies, bytes, slots, bench),
-        Form::Transfer => fly_alone(false, accesses, packets, replies, bytes, slots, bench),
+        Form::Block => fly_alone(
+            true, accesses, packets, replies, requests, bytes, slots, bench,
+        ),
+        Form::Transfer => fly_alone(
+            false, accesses, packets, replies, requests, bytes, slots, bench,
+        ),
         Form::Chain => fly_chain(
             limits.packet_size,
             accesses,
             packets,
             replies,
+            requests,
             bytes,
             at,
             slots,
@@ -117,13 +124,15 @@ fn end_of(progress: Option<Progress>) -> Option<FlightEnd>
 
 /// Sends a flight in this form, reads its replies, and answers how it ended, or `None` where it came
 /// to its end. The values of the confirmed accesses are added to the slots. The packets and the replies
-/// are kept, and `at` is the number of those at which a chain ended; `bytes` is room for one.
+/// are kept, and `at` is the number of those at which a chain ended; `bytes` is room for one, and `requests` for its
+/// requests.
 pub fn fly<B: Bench>(
     form: Form,
     limits: Limits,
     accesses: &[RegAccess],
     packets: &mut PacketList,
     replies: &mut PacketList,
+    requests: &mut [Request],
     bytes: &mut [u8],
     at: &mut usize,
     slots: &mut Slots,
@@ -137,6 +146,7 @@ pub fn fly<B: Bench>(
     requires form { form_of limits.packet_size limits.packet_count accesses.now ≡ Some form }
     requires taken { AreTaken accesses.now }
     requires words { AreWords accesses.now }
+    requires requests { length requests.old ≡ 255 }
     requires bytes { length bytes.old ≡ 1024 }
     requires packets { IsFresh packets.old limits.packet_count }
     requires replies { IsFresh replies.old limits.packet_count }
@@ -161,7 +171,7 @@ pub fn fly<B: Bench>(
     ensures cause { HasEndCause (B.reported bench.old).faults (B.reported bench.new).faults result }
 {
     match fly_in(
-        form, limits, accesses, packets, replies, bytes, at, slots, bench,
+        form, limits, accesses, packets, replies, requests, bytes, at, slots, bench,
     ) {
         Err(Failed) => Some(FlightEnd::BenchFault),
         Ok(progress) => end_of(progress),

@@ -104,16 +104,15 @@ pub fn write_single(command: &Command<'_>, bytes: &mut [u8]) -> usize
     }
 }
 
-// Writes two parts, one after the other, into the front of a buffer, and answers how many bytes they have.
-fn put(out: &mut [u8], head: &[u8], tail: &[u8]) -> usize
-    requires { length head.now + length tail.now ≤ length out.old }
-    ensures within { result ≤ length out.new }
-    ensures front { take result out.new ≡ head.now ++ tail.now }
+// Writes a Transfer of these requests after so many bytes of a buffer, and answers the place after it.
+fn write_transfer_at(requests: &[Request], bytes: &mut [u8], at: usize) -> usize
+    requires command { IsCommand (Transfer requests.now) }
+    requires fits { at + length (command_bytes (Transfer requests.now)) ≤ length bytes.old }
+    ensures within { result ≤ length bytes.new }
+    ensures front { take result bytes.new ≡ take at bytes.old ++ command_bytes (Transfer requests.now) }
 {
-    let size = head.len() + tail.len();
-    out[..head.len()].copy_from_slice(head);
-    out[head.len()..size].copy_from_slice(tail);
-    size
+    let (_, rest) = bytes.split_at_mut(at);
+    at + write_transfer(requests, rest)
 }
 
 // The id of the packet of a chain: the last lets all run, and the others are held.
@@ -125,30 +124,36 @@ fn id_of(is_last: bool) -> u8
 
 // Writes a packet of a chain, the last of it or a held one, into the front of a buffer, and answers
 // how many bytes it has.
-#[tactic(auto, using(crate::proofs::PartLemmas::part_bytes, crate::proofs::PartLemmas::part_fits))]
-fn write_part(is_last: bool, accesses: &[RegAccess], bytes: &mut [u8]) -> usize
+fn write_part(
+    is_last: bool,
+    accesses: &[RegAccess],
+    requests: &mut [Request],
+    bytes: &mut [u8],
+) -> usize
     requires fits { FitsPacket 1024 2 (guarded_command accesses.now) }
+    requires requests { length requests.old ≡ 255 }
     requires room { length bytes.old ≡ 1024 }
     ensures within { result ≤ length bytes.new }
     ensures front { take result bytes.new ≡ bytes_of_kind (last_kind is_last) (guarded_command accesses.now ∷ []) }
 {
-    let mut requests = [UNUSED; MOST_REQUESTS];
-    let count = put_guarded_requests(accesses, &mut requests);
-    let mut command = [0u8; 1024];
-    let size = write_transfer(&requests[..count], &mut command);
-    put(bytes, &[id_of(is_last), 1], &command[..size])
+    let count = put_guarded_requests(accesses, requests);
+    bytes[0] = id_of(is_last);
+    bytes[1] = 1;
+    write_transfer_at(&requests[..count], bytes, 2)
 }
 
-/// Makes the packets of a chain of these accesses. `bytes` is room for one.
+/// Makes the packets of a chain of these accesses. `bytes` is room for one, and `requests` for its requests.
 pub fn put_packets(
     packet_size: u16,
     accesses: &[RegAccess],
     packets: &mut PacketList,
+    requests: &mut [Request],
     bytes: &mut [u8],
 )
     requires few { length accesses.now < 65535 }
     requires fits { FitChain 1024 (parts_of packet_size accesses.now) }
     requires packets { IsFresh packets.old (length (parts_of packet_size accesses.now)) }
+    requires requests { length requests.old ≡ 255 }
     requires bytes { length bytes.old ≡ 1024 }
     ensures items { packets.new.items ≡ chain_packets (parts_of packet_size accesses.now) }
     ensures room { packets.new.room ≡ packets.old.room }
@@ -157,7 +162,7 @@ pub fn put_packets(
     while start < accesses.len() {
         let rest = &accesses[start..];
         let len = first_part(packet_size, rest);
-        let size = write_part(len == rest.len(), &rest[..len], bytes);
+        let size = write_part(len == rest.len(), &rest[..len], requests, bytes);
         packets.push(&bytes[..size]);
         start += len;
     }

@@ -1,4 +1,4 @@
-use Rattle.std.proofs.Common.{◌≡◌, ℕ, List, [], ◌∷◌, ◌++◌, ap, sym, ◌∙◌, take, subst, append-nil, IfSome, Option, false}
+use Rattle.std.proofs.Common.{◌≡◌, ◌≤◌, ℕ, List, length, [], ◌∷◌, ◌++◌, ap, sym, ◌∙◌, take, subst, append-nil, IfSome, Option, false}
 use Rattle.dap_messages.specs.Commands.{command_bytes}
 use Rattle.dap_messages.specs.declared.request.Request.{Request}
 use Rattle.probe_core.specs.Bench.{StepsTo}
@@ -15,7 +15,8 @@ use Rattle.batch_packer.specs.Alone.{one_command}
 use Rattle.batch_packer.proofs.alone.fly_alone.Goals as goal
 
 pub put_requests-count-requires : goal.put_requests-count-requires
-put_requests-count-requires g c = few_requests c.args.is_block _ c.args.accesses.now c.requires.block c.requires.fits
+put_requests-count-requires g c =
+    subst (λ (n : ℕ). length (requests_for false c.args.accesses.now) ≤ n) (sym c.requires.requests) (few_requests c.args.is_block _ c.args.accesses.now c.requires.block c.requires.fits)
 
 pub read_reply-requires-clause-normal : goal.read_reply-requires-clause-normal
 read_reply-requires-clause-normal g c =

@@ -98,6 +98,7 @@ loop-i-preserved c =
       performed = (let a = few.performed in let b = inv.performed in omega arith);
       confirmed = (let a = few.confirmed in let b = inv.confirmed in omega arith);
       values = (let a = c.in-Some.ensures.values in let b = inv.values in omega arith);
+      requests = c.read_next.auto.requests ∙ inv.requests;
       room_is = c.read_next.ensures.room ∙ inv.room_is;
     }
 

@@ -21,5 +21,6 @@ invariant-loop-i l = record {
   performed : l.so_far.performed ≤ 255 * l.i;
   confirmed : l.so_far.confirmed ≤ 255 * l.i;
   values : length l.slots.values ≤ 255 * l.i;
+  requests : length l.requests ≡ 255;
   room_is : l.slots.room ≡ l.fn.slots.room;
 }

@@ -34,5 +34,6 @@ loop-start-preserved c =
       fits = fits.1;
       room_is = ap (λ (p : Packets). p.room) c.push.ensures ∙ inv.room_is;
       count = (let a = ap length made.parts in let b = one_longer c.loop-start.packets.items c.push.new.self.items packet pushed in let d = inv.count in omega arith);
+      requests = c.write_part-size.auto.requests ∙ inv.requests;
       bytes = c.write_part-size.auto.bytes ∙ inv.bytes;
     }

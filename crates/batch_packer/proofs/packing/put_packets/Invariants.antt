@@ -10,6 +10,7 @@ invariant-loop-start l = record {
   fits : FitChain 1024 (parts_of l.packet_size (drop l.start l.accesses));
   room_is : l.packets.room ≡ l.fn.packets.room;
   count : length l.packets.items + length (parts_of l.packet_size (drop l.start l.accesses)) ≡ length (parts_of l.packet_size l.accesses);
+  requests : length l.requests ≡ 255;
   bytes : length l.bytes ≡ 1024;
 }
 
