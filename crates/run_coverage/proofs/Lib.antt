@@ -4,3 +4,4 @@ pub mod NameLemmas
 pub mod CoverLemmas
 pub mod ShownLemmas
 pub mod ReachLemmas
+pub mod RanLemmas

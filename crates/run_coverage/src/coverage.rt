@@ -1,5 +1,6 @@
 //! What a run has covered so far.
-ghost use Rattle.std.specs.Prelude.{◌≡◌, ◌++◌, ◌∷◌, ◌||◌, [], ℕ, List, OnOk};
+ghost use Rattle.std.specs.Prelude.{◌≡◌, ◌++◌, ◌∷◌, ◌||◌, [], ℕ, List, true, OnOk};
+ghost use Rattle.std.specs.List.{AllPass, list_any};
 ghost use Rattle.std.specs.Str.{bytes_eq};
 ghost use Rattle.expr_grammar.specs.Tree.{stmt_tree};
 ghost use Rattle.sequence_trees.specs.declared.spot.Part.TheVariants as part;
@@ -7,11 +8,13 @@ ghost use Rattle.run_events.specs.Events as e;
 ghost use Rattle.run_events.specs.Events.{Event};
 ghost use Rattle.run_events.specs.OfSteps.{place_of};
 ghost use Rattle.log_lines.specs.Places.{condition_spot, spot_in};
-ghost use Rattle.run_coverage.specs.Items.{chosen};
+ghost use Rattle.run_coverage.specs.Items.{chosen, ran_words};
+ghost use Rattle.run_coverage.specs.Ran.{is_had};
 
 use crate::items::place_of;
+use crate::ran::{Ran, empty_slots, slot_of};
 use crate::words::{if_words, statement_words, while_words};
-use dap_base::OutOfMemory;
+use dap_base::{OutOfMemory, Place};
 use expr_grammar::Stmt;
 use indexmap::IndexSet;
 use std::alloc::Global;
@@ -30,6 +33,9 @@ fn chosen(value: u64) -> &'static str
 pub struct Coverage {
     pub(crate) alloc: Global,
     pub(crate) words: IndexSet<Vec<u8>>,
+    // Statements that ran lately, each in its slot: of one that runs again no words are made.
+    pub(crate) recent: Vec<Option<Ran>>,
+    ghost had: { AllPass (is_had (λ own. list_any (λ k. bytes_eq own k.items) words.keys)) recent.items },
 }
 
 impl Coverage {
@@ -42,6 +48,7 @@ impl Coverage {
         Coverage {
             alloc,
             words: IndexSet::new(alloc),
+            recent: Vec::new(alloc),
         }
     }
 
@@ -75,6 +82,33 @@ impl Coverage {
         self.keep(words.as_bytes())
     }
 
+    // Whether it is remembered that this statement ran.
+    fn is_recent(&self, sequence: &str, path: &[u64], place: Place) -> bool
+        ensures { result ≡ true → has self.now (ran_words (spot_in sequence.now path.now part.Block place)) ≡ true }
+    {
+        match self.recent.get(slot_of(sequence, path, place)) {
+            Some(Some(ran)) => ran.is_at(sequence, path, place),
+            _ => false,
+        }
+    }
+
+    // Remembers a statement in its slot, in place of another.
+    #[tactic(auto, using(crate::proofs::RanLemmas::one_had))]
+    fn remember(&mut self, sequence: &str, path: &[u64], place: Place) -> Result<(), OutOfMemory>
+        requires { has self.old (ran_words (spot_in sequence.now path.now part.Block place)) ≡ true }
+        ensures { (other : List ℕ) → has self.new other ≡ has self.old other }
+    {
+        let slot = slot_of(sequence, path, place);
+        let ran = Ran::new(self.alloc, sequence, path, place)?;
+        if self.recent.is_empty() {
+            self.recent = empty_slots(self.alloc)?;
+        }
+        if slot < self.recent.len() {
+            self.recent[slot] = Some(ran);
+        }
+        Ok(())
+    }
+
     /// A statement of a block begins.
     pub fn begin(
         &mut self,
@@ -85,8 +119,13 @@ impl Coverage {
         ensures { (events : List Event) → IsOf self.old events
             → OnOk result (IsOf self.new (events ++ e.Begins (spot_in sequence.now path.now part.Block (place_of (stmt_tree statement.now))) (stmt_tree statement.now) ∷ [])) }
     {
-        let words = statement_words(self.alloc, sequence, path, place_of(statement))?;
-        self.note(&words)
+        let place = place_of(statement);
+        if self.is_recent(sequence, path, place) {
+            return Ok(());
+        }
+        let words = statement_words(self.alloc, sequence, path, place)?;
+        self.note(&words)?;
+        self.remember(sequence, path, place)
     }
 
     /// The `if` of a control has this value: the control is skipped where it is 0.

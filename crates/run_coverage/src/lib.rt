@@ -6,6 +6,7 @@ mod coverage;
 mod items;
 pub mod laws;
 mod names;
+mod ran;
 mod reach;
 mod text;
 mod words;
