@@ -1,5 +1,5 @@
--- What the parts of a poll or of a delay come to, each in a packet or a flight of its own.
-use Rattle.std.specs.Prelude.{◌≡◌, ◌⊎◌, ℕ, ◌+◌, ◌*◌, ◌^◌, ◌<◌, ◌≤◌, false, true, is_some, slice_get, List, length, Some}
+-- What each function of a wire keeps, and what the parts of a poll or of a delay come to, each in a packet or a flight of its own.
+use Rattle.std.specs.Prelude.{◌≡◌, ◌⊎◌, ℕ, ◌+◌, ◌*◌, ◌^◌, ◌<◌, ◌≤◌, false, true, is_some, slice_get, List, [], length, Option, None, Some, Result, IfErr, OnOk}
 use Rattle.target_machine.specs.Attempt.{attempt, bank}
 use Rattle.target_machine.specs.InRange.{IsInRange}
 use Rattle.target_machine.specs.Lines.{delayed}
@@ -7,15 +7,34 @@ use Rattle.target_machine.specs.Plain.{Action, acted, dp_read_of, given, is_faul
 use Rattle.target_machine.specs.declared.access.Outcome.TheVariants.{Value}
 use Rattle.target_machine.specs.declared.access.RegAccess.{RegAccess}
 use Rattle.dap_transfer.specs.State.{grown}
-use Rattle.probe_core.specs.Bench.{BenchState}
+use Rattle.probe_core.specs.Bench.{BenchState, Reported}
 use Rattle.probe_core.specs.Probe.{ended_retries_of, target_of, work_of}
 use Rattle.probe_core.specs.declared.job.Limits.{Limits}
 use Rattle.access_calls.specs.Standing.{IsOver, idle_cycles_of, number_of, pending_of, setting_of}
 use Rattle.flight_forms.specs.Forms.{form_of}
 use Rattle.batch_packer.specs.Actions.{Acts}
+use Rattle.batch_packer.specs.FlightStates.{FlightState, item_at}
 use Rattle.batch_packer.specs.Flying.{CanFly, transfers_of}
 use Rattle.batch_packer.specs.declared.ends.FlightEnd.{FlightEnd}
 use Rattle.batch_packer.specs.declared.ends.FlightEnd.TheVariants as ends
+use Rattle.bench_flights.specs.Flown.{BenchGoesOn, HasEndCause}
+
+-- A flight that can be used, and of which nothing was pushed.
+pub record IsFree (flight : FlightState) : Type 0 where
+  pub usable : flight.end ≡ None
+  pub empty : flight.accesses ≡ []
+
+-- What each function of a wire keeps, and how it ends: nothing is left that was pushed, the bench goes on as each call of it does, and it
+-- is the same loan. Where it answers there is no end, and the bench counts no fault more. An end that it answers has its cause.
+pub record KeepsWire {B T : Type 0} (reported : B → Reported) (state : B → Option BenchState) (identity : B → ℕ) (result : Result T FlightEnd)
+    (old new : B) (flight : FlightState) : Type 0 where
+  pub empty : flight.accesses ≡ []
+  pub ended : OnOk result (flight.end ≡ None)
+  pub faults : OnOk result ((reported new).faults ≡ (reported old).faults)
+  pub cause : IfErr result (λ end. HasEndCause end (reported old) (reported new) (item_at flight.packets flight.at)
+      (item_at flight.replies flight.at))
+  pub goes : BenchGoesOn (reported old) (reported new) (state old) (state new)
+  pub same_bench : identity new ≡ identity old
 
 -- the accesses that were pushed are held by some form
 abbrev pub AreHeld : Limits → List RegAccess → Type 0

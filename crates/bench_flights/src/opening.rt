@@ -1,5 +1,5 @@
 //! How flights begin over a bench.
-ghost use Rattle.std.specs.Prelude.{◌≡◌, ◌⊎◌, ◌≤◌, [], min, length, take, None, OnOk, IfErr, IfOk};
+ghost use Rattle.std.specs.Prelude.{◌≡◌, ◌≤◌, [], min, length, take, None, OnOk, IfErr, IfOk};
 ghost use Rattle.target_machine.specs.InRange.{IsInRange};
 ghost use Rattle.access_calls.specs.declared.stop.Stop.TheVariants as Stop;
 ghost use Rattle.probe_core.specs.Bench.{StepsTo};
@@ -8,10 +8,10 @@ ghost use Rattle.probe_core.specs.Ranges.{AreLimits};
 ghost use Rattle.batch_packer.specs.Exchanges.{IsOpen};
 ghost use Rattle.batch_packer.specs.FlightStates.{item_at};
 ghost use Rattle.batch_packer.specs.Flying.{IsWithin};
-ghost use Rattle.bench_flights.specs.Flown.{BenchGoesOn, HasEndCause};
+ghost use Rattle.bench_flights.specs.Flown.{BenchGoesOn};
 ghost use Rattle.access_calls.specs.Opening.{HasOpened, HasTried, MayBegin};
 ghost use Rattle.bench_flights.specs.Opening.{IsRefusal, IsStopFor, LeftOpen};
-ghost use Rattle.bench_flights.specs.Wires.{IsNoCut};
+ghost use Rattle.bench_flights.specs.Wires.{IsFree, IsNoCut, KeepsWire};
 
 use crate::flights::Flights;
 use crate::wire::Wire;
@@ -151,8 +151,7 @@ fn end_begin<B: Bench>(flights: Wire<B>, end: FlightEnd) -> NotBegun<B>
 impl<B: Bench> Wire<B> {
     // The three exchanges that begin an access. Afterwards its packets are held to what the probe answers.
     fn open(&mut self, config: Config, limits: Limits) -> Result<(), FlightEnd>
-        requires usable { self.old.flight.end ≡ None }
-        requires empty { self.old.flight.accesses ≡ [] }
+        requires free { IsFree self.old.flight }
         requires limits { AreLimits limits }
         requires given { self.old.flight.limits ≡ limits }
         ensures on { OnOk result (StepsTo (λ m o. IsInRange (target_of m.probe) → HasOpened config m o) (B.state self.old.bench) (B.state self.new.bench)) }
@@ -160,12 +159,7 @@ impl<B: Bench> Wire<B> {
         ensures uncut { IfErr result IsNoCut }
         ensures within { OnOk result (IsWithin self.new.flight.limits limits) }
         ensures same { OnOk result (StepsTo (λ m o. IsInRange (target_of m.probe) → m.probe.executor.limits ≡ limits → self.new.flight.limits ≡ limits) (B.state self.old.bench) (B.state self.new.bench)) }
-        ensures empty { self.new.flight.accesses ≡ [] }
-        ensures ended { OnOk result (self.new.flight.end ≡ None) }
-        ensures faults { OnOk result ((B.reported self.new.bench).faults ≡ (B.reported self.old.bench).faults) }
-        ensures cause { IfErr result (λ end. HasEndCause end (B.reported self.old.bench) (B.reported self.new.bench) (item_at self.new.flight.packets self.new.flight.at) (item_at self.new.flight.replies self.new.flight.at)) }
-        ensures goes { BenchGoesOn (B.reported self.old.bench) (B.reported self.new.bench) (B.state self.old.bench) (B.state self.new.bench) }
-        ensures identity { B.identity self.new.bench ≡ B.identity self.old.bench }
+        ensures keeps { KeepsWire B.reported B.state B.identity result self.old.bench self.new.bench self.new.flight }
     {
         let Config { idle, retry } = config;
         let size = match self.exchange(&Command::Info(PACKET_SIZE)) {

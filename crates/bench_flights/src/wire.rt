@@ -1,5 +1,5 @@
 //! Flights, polls and commands over a bench.
-ghost use Rattle.std.specs.Prelude.{◌≡◌, ◌≤◌, ◌+◌, ◌/◌, [], true, None, IfErr, IfOk, OnOk};
+ghost use Rattle.std.specs.Prelude.{◌≡◌, ◌≤◌, ◌+◌, ◌/◌, true, None, IfErr, IfOk, OnOk};
 ghost use Rattle.target_machine.specs.InRange.{IsInRange};
 ghost use Rattle.target_machine.specs.Plain.{Commands, Polls};
 ghost use Rattle.target_machine.specs.Sound.{IsSoundProbe};
@@ -14,10 +14,10 @@ ghost use Rattle.batch_packer.specs.Exchanges.{IsOpen};
 ghost use Rattle.batch_packer.specs.FlightStates.{item_at, new_flight};
 ghost use Rattle.batch_packer.specs.Flying.{CanFly, IsWithin};
 ghost use Rattle.batch_packer.specs.SlotList.{slot_room};
-ghost use Rattle.bench_flights.specs.Flown.{BenchGoesOn, CanMatch, HasEndCause, IsCutResponse, LeftOff, NamesNone, matched_word};
+ghost use Rattle.bench_flights.specs.Flown.{CanMatch, IsCutResponse, LeftOff, NamesNone, matched_word};
 ghost use Rattle.bench_flights.specs.Opening.{least_of};
 ghost use Rattle.bench_flights.specs.Flown.{SendsFew};
-ghost use Rattle.bench_flights.specs.Wires.{AreHeld, AreSmall, HasMade, HasRead, IsNoCut, MadeOrNot, ReadOrNot, unnamed};
+ghost use Rattle.bench_flights.specs.Wires.{AreHeld, AreSmall, HasMade, HasRead, IsFree, IsNoCut, KeepsWire, MadeOrNot, ReadOrNot, unnamed};
 
 use crate::flights::{Flights, Polled};
 use batch_packer::{Config as PollConfig, Cut, Flight, FlightEnd, PollAsk, Slots};
@@ -117,28 +117,21 @@ impl<B: Bench> Wire<B> {
 
     // Sends a command of the probe that is no Transfer and no block, in one packet.
     pub(crate) fn exchange(&mut self, command: &Command<'_>) -> Result<u32, FlightEnd>
-        requires usable { self.old.flight.end ≡ None }
-        requires empty { self.old.flight.accesses ≡ [] }
+        requires free { IsFree self.old.flight }
         requires command { IsCommand (command_value command.now) }
         requires single { is_single (command_value command.now) ≡ true }
         ensures done { StepsTo (λ m o. IsInRange (target_of m.probe) → DoneBy (command_value command.now) result m o) (B.state self.old.bench) (B.state self.new.bench) }
         ensures least { IfOk result (λ number. least_of (command_value command.now) ≤ number) }
         ensures uncut { IfErr result IsNoCut }
         ensures limits { self.new.flight.limits ≡ self.old.flight.limits }
-        ensures empty { self.new.flight.accesses ≡ [] }
-        ensures ended { OnOk result (self.new.flight.end ≡ None) }
-        ensures faults { OnOk result ((B.reported self.new.bench).faults ≡ (B.reported self.old.bench).faults) }
-        ensures cause { IfErr result (λ end. HasEndCause end (B.reported self.old.bench) (B.reported self.new.bench) (item_at self.new.flight.packets self.new.flight.at) (item_at self.new.flight.replies self.new.flight.at)) }
-        ensures goes { BenchGoesOn (B.reported self.old.bench) (B.reported self.new.bench) (B.state self.old.bench) (B.state self.new.bench) }
-        ensures identity { B.identity self.new.bench ≡ B.identity self.old.bench }
+        ensures keeps { KeepsWire B.reported B.state B.identity result self.old.bench self.new.bench self.new.flight }
     {
         self.flight.command(&mut self.bench, command)
     }
 
     // Makes a command that needs only one packet.
     fn command_once(&mut self, call: ProbeCall) -> Result<u32, FlightEnd>
-        requires usable { self.old.flight.end ≡ None }
-        requires empty { self.old.flight.accesses ≡ [] }
+        requires free { IsFree self.old.flight }
         requires sound { IsSoundProbe call }
         requires one { is_one call ≡ true }
         ensures done { IfOk result (λ word. StepsTo (λ m o. IsInRange (target_of m.probe) → HasMade (Commands call) word m o) (B.state self.old.bench) (B.state self.new.bench)) }
@@ -146,32 +139,21 @@ impl<B: Bench> Wire<B> {
         ensures left { IfErr result (λ end. StepsTo (λ m o. IsInRange (target_of m.probe) → MadeOrNot (Commands call) end m o) (B.state self.old.bench) (B.state self.new.bench)) }
         ensures uncut { IfErr result IsNoCut }
         ensures limits { self.new.flight.limits ≡ self.old.flight.limits }
-        ensures empty { self.new.flight.accesses ≡ [] }
-        ensures ended { OnOk result (self.new.flight.end ≡ None) }
-        ensures faults { OnOk result ((B.reported self.new.bench).faults ≡ (B.reported self.old.bench).faults) }
-        ensures cause { IfErr result (λ end. HasEndCause end (B.reported self.old.bench) (B.reported self.new.bench) (item_at self.new.flight.packets self.new.flight.at) (item_at self.new.flight.replies self.new.flight.at)) }
-        ensures goes { BenchGoesOn (B.reported self.old.bench) (B.reported self.new.bench) (B.state self.old.bench) (B.state self.new.bench) }
-        ensures identity { B.identity self.new.bench ≡ B.identity self.old.bench }
+        ensures keeps { KeepsWire B.reported B.state B.identity result self.old.bench self.new.bench self.new.flight }
     {
         self.exchange(&command_of(call))
     }
 
     // A delay in parts of at most 65,535 microseconds.
     fn delay(&mut self, micros: u32) -> Result<u32, FlightEnd>
-        requires usable { self.old.flight.end ≡ None }
-        requires empty { self.old.flight.accesses ≡ [] }
+        requires free { IsFree self.old.flight }
         requires sound { IsSoundProbe (probe.Delay micros) }
         ensures done { IfOk result (λ word. StepsTo (λ m o. IsInRange (target_of m.probe) → HasMade (Commands (probe.Delay micros)) word m o) (B.state self.old.bench) (B.state self.new.bench)) }
         ensures packets { OnOk result (StepsTo (λ m o. IsInRange (target_of m.probe) → SendsFew (1 + micros / 65535) m o) (B.state self.old.bench) (B.state self.new.bench)) }
         ensures left { IfErr result (λ end. StepsTo (λ m o. CanFly m → LeftOff (Commands (probe.Delay micros)) end m o) (B.state self.old.bench) (B.state self.new.bench)) }
         ensures uncut { IfErr result IsNoCut }
         ensures limits { self.new.flight.limits ≡ self.old.flight.limits }
-        ensures empty { self.new.flight.accesses ≡ [] }
-        ensures ended { OnOk result (self.new.flight.end ≡ None) }
-        ensures faults { OnOk result ((B.reported self.new.bench).faults ≡ (B.reported self.old.bench).faults) }
-        ensures cause { IfErr result (λ end. HasEndCause end (B.reported self.old.bench) (B.reported self.new.bench) (item_at self.new.flight.packets self.new.flight.at) (item_at self.new.flight.replies self.new.flight.at)) }
-        ensures goes { BenchGoesOn (B.reported self.old.bench) (B.reported self.new.bench) (B.state self.old.bench) (B.state self.new.bench) }
-        ensures identity { B.identity self.new.bench ≡ B.identity self.old.bench }
+        ensures keeps { KeepsWire B.reported B.state B.identity result self.old.bench self.new.bench self.new.flight }
     {
         let mut left = micros;
         while left > 0xFFFF {
@@ -186,8 +168,7 @@ impl<B: Bench> Wire<B> {
 
     // One portion of a poll: at most 65,536 turns, in one packet.
     fn poll_portion(&mut self, config: PollConfig, ask: PollAsk) -> Result<bool, FlightEnd>
-        requires usable { self.old.flight.end ≡ None }
-        requires empty { self.old.flight.accesses ≡ [] }
+        requires free { IsFree self.old.flight }
         requires low { 1 ≤ ask.turns }
         requires high { ask.turns ≤ 65536 }
         ensures done { IfOk result (λ matched. StepsTo (λ m o. CanFly m → CanMatch config.idle config.retry m → HasMade (Polls ask.mask ask.value ask.turns) (matched_word matched) m o) (B.state self.old.bench) (B.state self.new.bench)) }
@@ -196,32 +177,21 @@ impl<B: Bench> Wire<B> {
         ensures none { IfErr result NamesNone }
         ensures response { IfErr result IsCutResponse }
         ensures limits { self.new.flight.limits ≡ self.old.flight.limits }
-        ensures empty { self.new.flight.accesses ≡ [] }
-        ensures ended { OnOk result (self.new.flight.end ≡ None) }
-        ensures faults { OnOk result ((B.reported self.new.bench).faults ≡ (B.reported self.old.bench).faults) }
-        ensures cause { IfErr result (λ end. HasEndCause end (B.reported self.old.bench) (B.reported self.new.bench) (item_at self.new.flight.packets self.new.flight.at) (item_at self.new.flight.replies self.new.flight.at)) }
-        ensures goes { BenchGoesOn (B.reported self.old.bench) (B.reported self.new.bench) (B.state self.old.bench) (B.state self.new.bench) }
-        ensures identity { B.identity self.new.bench ≡ B.identity self.old.bench }
+        ensures keeps { KeepsWire B.reported B.state B.identity result self.old.bench self.new.bench self.new.flight }
     {
         self.flight.poll(&mut self.bench, config, ask)
     }
 
     // Reads CTRL/STAT, in a flight of its own. At a cut it names no access.
     fn read_once(&mut self) -> Result<u32, FlightEnd>
-        requires usable { self.old.flight.end ≡ None }
-        requires empty { self.old.flight.accesses ≡ [] }
+        requires free { IsFree self.old.flight }
         ensures done { IfOk result (λ value. StepsTo (λ m o. CanFly m → HasRead value m o) (B.state self.old.bench) (B.state self.new.bench)) }
         ensures packets { OnOk result (StepsTo (λ m o. CanFly m → SendsFew 1 m o) (B.state self.old.bench) (B.state self.new.bench)) }
         ensures left { IfErr result (λ end. StepsTo (λ m o. CanFly m → ReadOrNot end m o) (B.state self.old.bench) (B.state self.new.bench)) }
         ensures none { IfErr result NamesNone }
         ensures response { IfErr result IsCutResponse }
         ensures limits { self.new.flight.limits ≡ self.old.flight.limits }
-        ensures empty { self.new.flight.accesses ≡ [] }
-        ensures ended { OnOk result (self.new.flight.end ≡ None) }
-        ensures faults { OnOk result ((B.reported self.new.bench).faults ≡ (B.reported self.old.bench).faults) }
-        ensures cause { IfErr result (λ end. HasEndCause end (B.reported self.old.bench) (B.reported self.new.bench) (item_at self.new.flight.packets self.new.flight.at) (item_at self.new.flight.replies self.new.flight.at)) }
-        ensures goes { BenchGoesOn (B.reported self.old.bench) (B.reported self.new.bench) (B.state self.old.bench) (B.state self.new.bench) }
-        ensures identity { B.identity self.new.bench ≡ B.identity self.old.bench }
+        ensures keeps { KeepsWire B.reported B.state B.identity result self.old.bench self.new.bench self.new.flight }
     {
         self.flight.push(RegAccess {
             ap: false,

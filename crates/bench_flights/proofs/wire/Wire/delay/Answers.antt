@@ -10,8 +10,8 @@ loop-left-init g c = record {
   count = 0;
   is = omega arith;
   some = λ no. absurd (omega (arith, no));
-  usable = c.requires.usable;
-  empty = c.requires.empty;
+  usable = c.requires.free.usable;
+  empty = c.requires.free.empty;
   on = delay_begins _;
   packets = few_begins (λ m. IsInRange (target_of m.probe)) _;
   limits = search rules;
@@ -27,12 +27,12 @@ loop-left-preserved g c =
       count = i.count + 1;
       is = (let e = i.is in let b = c.loop-left-test.true in omega (arith, e, b));
       some = λ no. (let b = c.loop-left-test.true in omega (arith, b));
-      usable = c.in-Ok.ensures.ended;
-      empty = c.command_once.ensures.empty;
+      usable = c.in-Ok.ensures.keeps.ended;
+      empty = c.command_once.ensures.keeps.empty;
       on = delay_next _ _ _ i.count c.in-Ok.field-0 i.on c.in-Ok.ensures.done;
       packets = delay_few _ _ _ i.count i.on i.packets c.in-Ok.ensures.packets;
       limits = search rules;
-      goes = goes_then _ _ _ _ _ _ i.goes c.command_once.ensures.goes;
+      goes = goes_then _ _ _ _ _ _ i.goes c.command_once.ensures.keeps.goes;
       faults = search rules;
       identity = search rules;
     }

@@ -13,16 +13,16 @@ use Rattle.bench_flights.proofs.wire.Wire.read_once.Goals as goal
 pub returns-in-Ok-clause-done : goal.returns-in-Ok-clause-done
 returns-in-Ok-clause-done g c =
     let f : FlightState = c.push.new.self in
-    let usable : c.push.new.self.end ≡ None = ap (λ (s : FlightState). s.end) c.push.ensures.pushed ∙ c.requires.usable in
+    let usable : c.push.new.self.end ≡ None = ap (λ (s : FlightState). s.end) c.push.ensures.pushed ∙ c.requires.free.usable in
     let fits : AreLimits c.push.new.self.limits = subst AreLimits (sym (ap (λ (s : FlightState). s.limits) c.push.ensures.pushed)) c.args.self.now.limits in
-    let pushed : c.push.new.self.accesses ≡ look = ap (λ (s : FlightState). s.accesses) c.push.ensures.pushed ∙ ap (λ (l : List RegAccess). l ++ look) c.requires.empty in
+    let pushed : c.push.new.self.accesses ≡ look = ap (λ (s : FlightState). s.accesses) c.push.ensures.pushed ∙ ap (λ (l : List RegAccess). l ++ look) c.requires.free.empty in
     look_made _ _ c.push.new.self.limits c.push.new.self.accesses c.send.new.self.end c.send.new.slots.values c.unwrap_or.result fits pushed c.in-Ok.ensures.answer (c.unwrap_or.ensures ∙ ap (λ o. unwrap_or o 0) c.get.ensures) (c.send.ensures.flown usable)
 
 pub returns-in-Err : goal.returns-in-Err
 returns-in-Err g c =
-    let usable : c.push.new.self.end ≡ None = ap (λ (s : FlightState). s.end) c.push.ensures.pushed ∙ c.requires.usable in
+    let usable : c.push.new.self.end ≡ None = ap (λ (s : FlightState). s.end) c.push.ensures.pushed ∙ c.requires.free.usable in
     let fits : AreLimits c.push.new.self.limits = subst AreLimits (sym (ap (λ (s : FlightState). s.limits) c.push.ensures.pushed)) c.args.self.now.limits in
-    let pushed : c.push.new.self.accesses ≡ look = ap (λ (s : FlightState). s.accesses) c.push.ensures.pushed ∙ ap (λ (l : List RegAccess). l ++ look) c.requires.empty in
+    let pushed : c.push.new.self.accesses ≡ look = ap (λ (s : FlightState). s.accesses) c.push.ensures.pushed ∙ ap (λ (l : List RegAccess). l ++ look) c.requires.free.empty in
     let words : AreWords c.push.new.self.accesses = subst AreWords (sym pushed) (omega arith, tt) in
     let e = c.send.ensures in
     let end : FlightEnd = c.in-Err.end in
@@ -34,26 +34,28 @@ returns-in-Err g c =
       left = unnamed_left _ _ c.in-Err.end c.name_no_access.result c.name_no_access.ensures (look_left _ _ c.push.new.self.limits c.push.new.self.accesses c.send.new.self.end c.send.new.slots.values c.in-Err.end fits pushed broke (c.send.ensures.flown usable));
       none = unnamed_none c.in-Err.end c.name_no_access.result c.name_no_access.ensures;
       response = unnamed_response c.in-Err.end c.name_no_access.result c.name_no_access.ensures (cut_stopped _ c.push.new.self.limits.packet_size c.push.new.self.accesses (g.B.Bench.reported c.send.new.bench).last.replies c.send.new.self.end c.in-Err.end c.send.new.slots.values broke (e.read usable));
-      empty = e.empty usable;
-      ended = tt;
-      faults = tt;
-      cause = unnamed_cause c.in-Err.end c.name_no_access.result (g.B.Bench.reported c.args.self.now.bench) (g.B.Bench.reported c.send.new.bench) _ _ c.name_no_access.ensures
-          (send_cause {A = Unit {0}} c.push.new.self.limits c.push.new.self.accesses (Err c.in-Err.end) (g.B.Bench.reported c.args.self.now.bench) (g.B.Bench.reported c.send.new.bench) c.send.new.self c.send.new.slots.values fits words broke
-          (record {
-            cause = e.cause usable;
-            read = e.read usable;
-            sent = e.sent usable;
-            replied = e.replied usable;
-            counted_are = e.exchanges usable;
-            packets_are = e.packets usable;
-            replies_are = e.replies usable;
-            at = e.at usable;
-          }));
-      goes = search rules;
-      identity = e.identity;
+      keeps = record {
+        empty = e.empty usable;
+        ended = tt;
+        faults = tt;
+        cause = unnamed_cause c.in-Err.end c.name_no_access.result (g.B.Bench.reported c.args.self.now.bench) (g.B.Bench.reported c.send.new.bench) _ _ c.name_no_access.ensures
+            (send_cause {A = Unit {0}} c.push.new.self.limits c.push.new.self.accesses (Err c.in-Err.end) (g.B.Bench.reported c.args.self.now.bench) (g.B.Bench.reported c.send.new.bench) c.send.new.self c.send.new.slots.values fits words broke
+            (record {
+              cause = e.cause usable;
+              read = e.read usable;
+              sent = e.sent usable;
+              replied = e.replied usable;
+              counted_are = e.exchanges usable;
+              packets_are = e.packets usable;
+              replies_are = e.replies usable;
+              at = e.at usable;
+            }));
+        goes = search rules;
+        same_bench = e.identity;
+      };
     }
 
 pub returns-in-Ok-clause-packets : goal.returns-in-Ok-clause-packets
 returns-in-Ok-clause-packets g c =
-    let usable : c.push.new.self.end ≡ None = ap (λ (s : FlightState). s.end) c.push.ensures.pushed ∙ c.requires.usable in
+    let usable : c.push.new.self.end ≡ None = ap (λ (s : FlightState). s.end) c.push.ensures.pushed ∙ c.requires.free.usable in
     look_few _ _ c.push.new.self.limits c.push.new.self.accesses c.send.new.self.end c.send.new.slots.values c.in-Ok.ensures.answer (c.send.ensures.flown usable)

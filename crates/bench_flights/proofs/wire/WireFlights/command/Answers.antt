@@ -15,12 +15,12 @@ returns-in-Delay g c = record {
   uncleared = λ same. absurd (let other = c.in-Delay.is in cc);
   none = uncut_none c.delay.result c.delay.ensures.uncut;
   response = uncut_response c.delay.result c.delay.ensures.uncut;
-  empty = c.delay.ensures.empty;
-  ended = c.delay.ensures.ended;
-  faults = c.delay.ensures.faults;
-  cause = c.delay.ensures.cause;
-  goes = c.delay.ensures.goes;
-  identity = c.delay.ensures.identity;
+  empty = c.delay.ensures.keeps.empty;
+  ended = c.delay.ensures.keeps.ended;
+  faults = c.delay.ensures.keeps.faults;
+  cause = c.delay.ensures.keeps.cause;
+  goes = c.delay.ensures.keeps.goes;
+  identity = c.delay.ensures.keeps.same_bench;
 }
 
 pub returns-in_default : goal.returns-in_default
@@ -35,10 +35,10 @@ returns-in_default g c =
       uncleared = clear_lefts _ _ c.args.call c.command_once.result (call_lefts _ _ c.args.call c.command_once.result one c.command_once.ensures.left) c.command_once.ensures.uncut;
       none = uncut_none c.command_once.result c.command_once.ensures.uncut;
       response = uncut_response c.command_once.result c.command_once.ensures.uncut;
-      empty = c.command_once.ensures.empty;
-      ended = c.command_once.ensures.ended;
-      faults = c.command_once.ensures.faults;
-      cause = c.command_once.ensures.cause;
-      goes = c.command_once.ensures.goes;
-      identity = c.command_once.ensures.identity;
+      empty = c.command_once.ensures.keeps.empty;
+      ended = c.command_once.ensures.keeps.ended;
+      faults = c.command_once.ensures.keeps.faults;
+      cause = c.command_once.ensures.keeps.cause;
+      goes = c.command_once.ensures.keeps.goes;
+      identity = c.command_once.ensures.keeps.same_bench;
     }
