@@ -4,4 +4,3 @@ pub mod Leaves
 pub mod LineLemmas
 pub mod UseLemmas
 pub mod KindLemmas
-pub mod SharedLemmas

@@ -13,9 +13,8 @@ ghost use Rattle.sequence_rules.specs.Variables.{bound, set_in, set_visible, vis
 ghost use Rattle.function_calls.specs.Ends.{CountsStep};
 ghost use Rattle.function_calls.specs.Held.{state_of};
 
-use crate::shared::SharedVariables;
 use dap_base::{NameText, OutOfMemory};
-use sequence_rules::{Globals, Locals, MOST_STEPS};
+use sequence_rules::{Globals, Locals, MOST_STEPS, SharedVariables};
 use std::alloc::Global;
 use std::mem;
 use target_calls::Value;
@@ -25,7 +24,7 @@ use target_machine::HaltCause;
 #[derive(Drop)]
 pub struct Held {
     /// The variables that all sequences share.
-    pub globals: SharedVariables,
+    pub globals: SharedVariables<Value>,
     /// Those that the running sequence declared, the newest last.
     pub locals: Locals<Value>,
     /// How many units were asked, at most 1,000,000.

@@ -11,7 +11,6 @@ mod performing;
 mod ports;
 mod probe;
 mod registers;
-mod shared;
 mod uses;
 
 pub use asking::ask;
@@ -19,5 +18,4 @@ pub use end::End;
 pub use held::Held;
 pub use performing::make_call;
 pub use ports::use_debug_port;
-pub use shared::SharedVariables;
 pub use uses::{use_both, use_value, use_values};

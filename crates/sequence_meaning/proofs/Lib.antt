@@ -16,4 +16,3 @@ pub mod StartLemmas
 pub mod UnitLemmas
 pub mod StopLemmas
 pub mod PartLemmas
-pub mod SharedLemmas

@@ -11,17 +11,16 @@ ghost use Rattle.sequence_meaning.specs.Frame.{KeepsMade};
 ghost use Rattle.sequence_meaning.specs.Held.{state_of};
 
 use crate::end::DirectEnd;
-use crate::shared::SharedVariables;
 use dap_base::{NameText, OutOfMemory};
 use direct_calls::CallList;
-use sequence_rules::{Globals, Locals};
+use sequence_rules::{Globals, Locals, SharedVariables};
 use std::alloc::Global;
 use std::mem;
 
 // The variables, the counts, the calls that were made, and the access ports that are known to have large addresses.
 #[derive(Drop)]
 pub(crate) struct DirectHeld {
-    pub globals: SharedVariables,
+    pub globals: SharedVariables<u64>,
     pub locals: Locals<u64>,
     pub units: u32,
     pub lines: u32,
@@ -124,13 +123,32 @@ impl DirectHeld {
         self.locals.truncate(len);
     }
 
-    // Gives a variable that all sequences share a value.
-    fn set_global(&mut self, name: &str, value: u64)
+    // Gives the caller its `__dp` again.
+    fn set_dp(&mut self, value: u64)
         ensures state { (target : TargetState) (written : Option (List ℕ)) → state_of self.new target written
-            ≡ with_variables (state_of self.old target written) (set_in (bindings_of self.old.globals.variables) name.now value) (locals_of self.old.locals) }
+            ≡ with_variables (state_of self.old target written) (set_in (bindings_of self.old.globals.variables) (codes "__dp") value) (locals_of self.old.locals) }
         ensures keeps { (target : TargetState) → KeepsMade self.old target self.new target }
     {
-        self.globals.set(name, value);
+        self.globals.set_dp(value);
+    }
+
+    // Gives the caller its `__ap` again.
+    fn set_ap(&mut self, value: u64)
+        ensures state { (target : TargetState) (written : Option (List ℕ)) → state_of self.new target written
+            ≡ with_variables (state_of self.old target written) (set_in (bindings_of self.old.globals.variables) (codes "__ap") value) (locals_of self.old.locals) }
+        ensures keeps { (target : TargetState) → KeepsMade self.old target self.new target }
+    {
+        self.globals.set_ap(value);
+    }
+
+    // Gives the caller its `__errorcontrol` again.
+    fn set_control(&mut self, value: u64)
+        ensures state { (target : TargetState) (written : Option (List ℕ)) → state_of self.new target written
+            ≡ with_variables (state_of self.old target written)
+            (set_in (bindings_of self.old.globals.variables) (codes "__errorcontrol") value) (locals_of self.old.locals) }
+        ensures keeps { (target : TargetState) → KeepsMade self.old target self.new target }
+    {
+        self.globals.set_control(value);
     }
 
     fn set_locals(&mut self, locals: Locals<u64>)
@@ -148,9 +166,9 @@ impl DirectHeld {
             (set_in (set_in (set_in (bindings_of self.old.globals.variables) (codes "__dp") dp) (codes "__ap") ap) (codes "__errorcontrol") control) (locals_of locals) }
         ensures keeps { (target : TargetState) → KeepsMade self.old target self.new target }
     {
-        self.set_global("__dp", dp);
-        self.set_global("__ap", ap);
-        self.set_global("__errorcontrol", control);
+        self.set_dp(dp);
+        self.set_ap(ap);
+        self.set_control(control);
         self.set_locals(locals);
     }
 }

@@ -15,7 +15,6 @@ mod probe;
 mod registers;
 mod runner;
 mod running;
-mod shared;
 mod start;
 mod steps;
 mod values;

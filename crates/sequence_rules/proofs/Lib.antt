@@ -22,3 +22,4 @@ pub mod LocalLemmas
 pub mod Rows
 pub mod Sizes
 pub mod PredefinedNames
+pub mod SharedLemmas

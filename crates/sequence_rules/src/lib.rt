@@ -14,6 +14,7 @@ mod parts;
 mod polls;
 mod ports;
 mod sequences;
+mod shared;
 mod units;
 
 pub use arguments::text_of;
@@ -26,4 +27,5 @@ pub use parts::Locals;
 pub use polls::poll_of;
 pub use ports::Port;
 pub use sequences::steps_of;
+pub use shared::{SharedVariables, VariableValue};
 pub use units::{ap_unit, dp_unit, low_bits, memory_port, memory_unit, pins_command};

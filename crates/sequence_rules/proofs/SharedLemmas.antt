@@ -1,14 +1,13 @@
 -- Variables that all sequences share, and the values of some of them beside them.
 use Rattle.std.proofs.Common.{◌≡◌, ◌∙◌, ℕ, Bool, true, false, cond, bytes_eq, List, [], ◌∷◌, Some, unwrap_or, refl, sym, ap, true≢false}
 use Rattle.std.proofs.lemmas.Slice.Eq.{bytes_eq-Decides}
-use Rattle.target_calls.specs.declared.calls.Value.{Value}
 use Rattle.sequence_rules.specs.declared.bindings.Binding.{Binding}
 use Rattle.sequence_rules.specs.Variables.{bound, set_in, value_named}
 
 -- a variable of another name keeps its value
-pub elsewhere : (bs : List (Binding Value)) (n m : List ℕ) (v : Value) → bytes_eq n m ≡ false → value_named (set_in bs n v) m ≡ value_named bs m
+pub elsewhere : {V : Type 0} (bs : List (Binding V)) (n m : List ℕ) (v : V) → bytes_eq n m ≡ false → value_named (set_in bs n v) m ≡ value_named bs m
 elsewhere [] n m v h = refl
-elsewhere (b ∷ bs) n m v h = by_names (bytes_eq n b.name) (bytes_eq m b.name) refl refl (elsewhere bs n m v h)
+elsewhere {V} (b ∷ bs) n m v h = by_names (bytes_eq n b.name) (bytes_eq m b.name) refl refl (elsewhere bs n m v h)
   where
     not_here : bytes_eq n b.name ≡ true → bytes_eq m b.name ≡ true → true ≡ false
     not_here x y = sym ((bytes_eq-Decides n m).1 ((bytes_eq-Decides n b.name).0 x ∙ sym ((bytes_eq-Decides m b.name).0 y))) ∙ h
@@ -20,9 +19,9 @@ elsewhere (b ∷ bs) n m v h = by_names (bytes_eq n b.name) (bytes_eq m b.name) 
     by_names false false e f rest = ap (λ k. cond k (Some b.value) (value_named (set_in bs n v) m)) f ∙ rest
 
 -- a variable that is given the value that it has
-pub set_same : (bs : List (Binding Value)) (n : List ℕ) (v d : Value) → v ≡ unwrap_or (value_named bs n) d → set_in bs n v ≡ bs
+pub set_same : {V : Type 0} (bs : List (Binding V)) (n : List ℕ) (v d : V) → v ≡ unwrap_or (value_named bs n) d → set_in bs n v ≡ bs
 set_same [] n v d h = refl
-set_same (b ∷ bs) n v d h = by_name (bytes_eq n b.name) h (λ e. set_same bs n v d e)
+set_same {V} (b ∷ bs) n v d h = by_name (bytes_eq n b.name) h (λ e. set_same bs n v d e)
   where
     by_name : (x : Bool) → v ≡ unwrap_or (cond x (Some b.value) (value_named bs n)) d → (v ≡ unwrap_or (value_named bs n) d → set_in bs n v ≡ bs) → cond x (bound b.name v ∷ bs) (b ∷ set_in bs n v) ≡ b ∷ bs
     by_name true e rest = ap (λ u. bound b.name u ∷ bs) e

@@ -1,8 +1,8 @@
 use Rattle.sequence_rules.specs.Shared.{bindings_of}
-use Rattle.function_calls.proofs.shared.SharedVariables.set.Goals as goal
+use Rattle.sequence_rules.proofs.shared.SharedVariables.set.Goals as goal
 
 pub invariant_of-self : goal.invariant_of-self
-invariant_of-self c =
+invariant_of-self g c =
     let self = c.args.self.now in
     record {
       dp_is = c.value_after-self.ensures (bindings_of self.variables) c.args.value self.dp_is c.set.ensures;
