@@ -10,7 +10,7 @@ use Rattle.text_lines.specs.Causes.{NamesFault}
 use Rattle.text_lines.proofs.PutLemmas.{prefix_first}
 use Rattle.report_lines.specs.declared.put.TextEnd.{TextEnd}
 use Rattle.report_lines.specs.declared.put.TextEnd.TheVariants as ends
-use Rattle.report_lines.specs.Frame.{AppendsSome, EndsPutting, EndsShowing, KeepsBench, PutsFirst}
+use Rattle.report_lines.specs.Frame.{AppendsSome, EndsPutting, EndsShowing, KeepsBench, PutsFirst, ShowsView}
 use Rattle.report_lines.specs.Views.{IsViewedAsBefore, View, bench_view}
 use Rattle.report_lines.proofs.RowLemmas.{before-trans, viewed-trans}
 
@@ -122,4 +122,31 @@ module _ {B : Type 0} (reported : B → Reported) (state : B → Option BenchSta
 pub viewed_none : (a : View) → IsViewedAsBefore a a
 viewed_none a = record { target = refl; bench = record { reported = refl; state = refl }; identity = refl }
 
-pub ruleset frames = (some_same, some_put, puts_none, puts_on, shows_none, shows_on, shows_puts, viewed_none, viewed-trans, bench_none, bench_on, bench_viewed)
+module _ {S K : Type 0} (known : S → View) (written : K → Option (List ℕ)) (faults : K → ℕ) where
+  -- no call
+  pub views_none : {T : Type 0} (x : T) (s : S) (a : K) → ShowsView known written faults (Ok x) s s a a
+  views_none x s a = record { keeps = viewed_none _; ends = shows_none written faults x _ a }
+
+  -- a call after one that answers
+  pub views_on : {T U : Type 0} (x : T) (r : Result U TextEnd) (l m n : S) (a b c : K) → ShowsView known written faults (Ok x) l m a b → ShowsView known written faults r m n b c → ShowsView known written faults r l n a c
+  views_on x r l m n a b c first second = record {
+    keeps = viewed-trans _ _ _ first.keeps second.keeps;
+    ends = shows_on written faults x r _ _ _ _ _ _ first.ends second.ends;
+  }
+
+pub ruleset frames = (
+  some_same,
+  some_put,
+  puts_none,
+  puts_on,
+  shows_none,
+  shows_on,
+  shows_puts,
+  viewed_none,
+  viewed-trans,
+  views_none,
+  views_on,
+  bench_none,
+  bench_on,
+  bench_viewed,
+)

@@ -4,6 +4,7 @@ use Rattle.std.specs.Io.KnownBytes.{Appends}
 use Rattle.dap_base.specs.Streams.{PutAppends}
 use Rattle.probe_core.specs.Bench.{BenchState, IsAsBefore, Reported, seen}
 use Rattle.text_lines.specs.Causes.{NamesFault}
+use Rattle.report_lines.specs.Views.{IsViewedAsBefore, View}
 use Rattle.report_lines.specs.declared.put.TextEnd.{TextEnd}
 use Rattle.report_lines.specs.declared.put.TextEnd.TheVariants as ends
 
@@ -36,3 +37,10 @@ pub record EndsShowing {T K : Type 0} (written : K → Option (List ℕ)) (fault
   pub some : AppendsSome (written old) (written new)
   pub bench : NamesFault ends.BenchFault bench_old.faults bench_new.faults result
   pub sink : NamesFault ends.WriteFault (faults old) (faults new) result
+
+-- What a call keeps that asks what shows a target, and how it ends: all that is known of what shows it is as it was except the count of
+-- faults of its bench; and it ends as a call that asks that bench.
+pub record ShowsView {S T K : Type 0} (known : S → View) (written : K → Option (List ℕ)) (faults : K → ℕ) (result : Result T TextEnd)
+    (shower_old shower_new : S) (old new : K) : Type 0 where
+  pub keeps : IsViewedAsBefore (known shower_old) (known shower_new)
+  pub ends : EndsShowing written faults result (known shower_old).bench.reported (known shower_new).bench.reported old new

@@ -4,9 +4,8 @@
 ghost use Rattle.std.specs.Prelude.{◌≡◌, ◌+◌, ◌*◌, ◌^◌, ◌≤◌, ◌==◌, [], unwrap_or, IfOk, IfSome};
 ghost use Rattle.std.specs.List.{All, list_any};
 ghost use Rattle.dap_base.specs.Streams.{PutAppends};
-ghost use Rattle.report_lines.specs.Frame.{EndsShowing};
+ghost use Rattle.report_lines.specs.Frame.{ShowsView};
 ghost use Rattle.report_lines.specs.Target.{IsLow, outside_lines, part_line, part_of, port_lines, port_of, ports_on, target_lines, watch_lines, word_lines};
-ghost use Rattle.report_lines.specs.Views.{IsViewedAsBefore};
 
 use crate::lines::{ap_text, dp_text, lines_text, word_text};
 use crate::put::{TextEnd, put};
@@ -41,8 +40,7 @@ fn write_part<K: Sink, S: ShowsTarget>(
     sink: &mut K,
 ) -> Result<(), TextEnd>
     ensures text { IfSome (S.known shower.old).target (λ t. PutAppends (K.written sink.old) (K.written sink.new) result (part_of t ask)) }
-    ensures keeps { IsViewedAsBefore (S.known shower.old) (S.known shower.new) }
-    ensures ends { EndsShowing K.written K.faults result (S.known shower.old).bench.reported (S.known shower.new).bench.reported sink.old sink.new }
+    ensures shows { ShowsView S.known K.written K.faults result shower.old shower.new sink.old sink.new }
 {
     let Ok(part) = shower.part(ask) else {
         return Err(TextEnd::BenchFault);
@@ -71,8 +69,7 @@ fn write_port<K: Sink, S: ShowsTarget>(
     sink: &mut K,
 ) -> Result<(), TextEnd>
     ensures text { IfSome (S.known shower.old).target (λ t. PutAppends (K.written sink.old) (K.written sink.new) result (port_of t aps.now number)) }
-    ensures keeps { IsViewedAsBefore (S.known shower.old) (S.known shower.new) }
-    ensures ends { EndsShowing K.written K.faults result (S.known shower.old).bench.reported (S.known shower.new).bench.reported sink.old sink.new }
+    ensures shows { ShowsView S.known K.written K.faults result shower.old shower.new sink.old sink.new }
 {
     if is_listed(aps, number) {
         write_part(alloc, ImageAsk::Ap(number), shower, sink)
@@ -89,8 +86,7 @@ fn write_ports<K: Sink, S: ShowsTarget>(
     sink: &mut K,
 ) -> Result<(), TextEnd>
     ensures text { IfSome (S.known shower.old).target (λ t. PutAppends (K.written sink.old) (K.written sink.new) result (port_lines t aps.now)) }
-    ensures keeps { IsViewedAsBefore (S.known shower.old) (S.known shower.new) }
-    ensures ends { EndsShowing K.written K.faults result (S.known shower.old).bench.reported (S.known shower.new).bench.reported sink.old sink.new }
+    ensures shows { ShowsView S.known K.written K.faults result shower.old shower.new sink.old sink.new }
 {
     for number in 0..256u32 {
         match write_port(alloc, aps, number as u8, shower, sink) {
@@ -110,8 +106,7 @@ fn write_words<K: Sink, S: ShowsTarget>(
 ) -> Result<(), TextEnd>
     requires { IsLow item }
     ensures text { IfSome (S.known shower.old).target (λ t. PutAppends (K.written sink.old) (K.written sink.new) result (word_lines t item.address item.words)) }
-    ensures keeps { IsViewedAsBefore (S.known shower.old) (S.known shower.new) }
-    ensures ends { EndsShowing K.written K.faults result (S.known shower.old).bench.reported (S.known shower.new).bench.reported sink.old sink.new }
+    ensures shows { ShowsView S.known K.written K.faults result shower.old shower.new sink.old sink.new }
 {
     for number in 0..item.words {
         let ask = ImageAsk::Word(item.address + 4 * number as u64);
@@ -132,8 +127,7 @@ fn write_watch<K: Sink, S: ShowsTarget>(
 ) -> Result<(), TextEnd>
     requires { All IsLow watch.now }
     ensures text { IfSome (S.known shower.old).target (λ t. PutAppends (K.written sink.old) (K.written sink.new) result (watch_lines t watch.now)) }
-    ensures keeps { IsViewedAsBefore (S.known shower.old) (S.known shower.new) }
-    ensures ends { EndsShowing K.written K.faults result (S.known shower.old).bench.reported (S.known shower.new).bench.reported sink.old sink.new }
+    ensures shows { ShowsView S.known K.written K.faults result shower.old shower.new sink.old sink.new }
 {
     for item in watch {
         match write_words(alloc, *item, shower, sink) {
@@ -153,8 +147,7 @@ fn write_outside<K: Sink, S: ShowsTarget>(
 ) -> Result<(), TextEnd>
     requires { All IsLow watch.now }
     ensures text { IfSome (S.known shower.old).target (λ t. PutAppends (K.written sink.old) (K.written sink.new) result (outside_lines t watch.now)) }
-    ensures keeps { IsViewedAsBefore (S.known shower.old) (S.known shower.new) }
-    ensures ends { EndsShowing K.written K.faults result (S.known shower.old).bench.reported (S.known shower.new).bench.reported sink.old sink.new }
+    ensures shows { ShowsView S.known K.written K.faults result shower.old shower.new sink.old sink.new }
 {
     match write_part(alloc, ImageAsk::Lines, shower, sink) {
         Ok(()) => write_watch(alloc, watch, shower, sink),
@@ -172,8 +165,7 @@ fn write_ports_on<K: Sink, S: ShowsTarget>(
 ) -> Result<(), TextEnd>
     requires { All IsLow watch.now }
     ensures text { IfSome (S.known shower.old).target (λ t. PutAppends (K.written sink.old) (K.written sink.new) result (ports_on t aps.now watch.now)) }
-    ensures keeps { IsViewedAsBefore (S.known shower.old) (S.known shower.new) }
-    ensures ends { EndsShowing K.written K.faults result (S.known shower.old).bench.reported (S.known shower.new).bench.reported sink.old sink.new }
+    ensures shows { ShowsView S.known K.written K.faults result shower.old shower.new sink.old sink.new }
 {
     match write_ports(alloc, aps, shower, sink) {
         Ok(()) => write_outside(alloc, watch, shower, sink),
@@ -192,8 +184,7 @@ pub fn write_target<K: Sink, S: ShowsTarget>(
 ) -> Result<(), TextEnd>
     requires { All IsLow watch.now }
     ensures text { IfSome (S.known shower.old).target (λ t. PutAppends (K.written sink.old) (K.written sink.new) result (target_lines t aps.now watch.now)) }
-    ensures keeps { IsViewedAsBefore (S.known shower.old) (S.known shower.new) }
-    ensures ends { EndsShowing K.written K.faults result (S.known shower.old).bench.reported (S.known shower.new).bench.reported sink.old sink.new }
+    ensures shows { ShowsView S.known K.written K.faults result shower.old shower.new sink.old sink.new }
 {
     match write_part(alloc, ImageAsk::Dp, shower, sink) {
         Ok(()) => write_ports_on(alloc, aps, watch, shower, sink),

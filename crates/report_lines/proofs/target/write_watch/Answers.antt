@@ -1,8 +1,8 @@
 use Rattle.std.proofs.Common.{Err, Ok, get_or}
 use Rattle.job_text.specs.declared.job.WatchItem.{WatchItem}
 use Rattle.report_lines.specs.Target.{word_lines}
-use Rattle.report_lines.proofs.FrameLemmas.{shows_on}
-use Rattle.report_lines.proofs.RowLemmas.{viewed-trans, began_same, rows_cut, rows_more, wrote_same}
+use Rattle.report_lines.proofs.FrameLemmas.{views_on}
+use Rattle.report_lines.proofs.RowLemmas.{began_same, rows_cut, rows_more, wrote_same}
 use Rattle.text_lines.proofs.RowLemmas.{slice_get-in}
 use Rattle.report_lines.proofs.target.write_watch.Goals as goal
 
@@ -10,16 +10,16 @@ pub returns-in-Err-clause-text : goal.returns-in-Err-clause-text
 returns-in-Err-clause-text g c =
     let item : WatchItem = get_or c.args.watch.now c.loop-item.item-index (record { address = 0; words = 0 }) in
     rows_cut (g.S.ShowsTarget.known c.args.shower.now).target _ _ _ (λ t item. word_lines t item.address item.words) c.args.watch.now c.loop-item.item-index item (slice_get-in c.args.watch.now c.loop-item.item-index _ c.loop-item-test.true) c.loop-item.invariant.text
-    (began_same _ _ (λ t. word_lines t item.address item.words) _ _ c.loop-item.invariant.keeps.target c.in-Err.ensures.text)
+    (began_same _ _ (λ t. word_lines t item.address item.words) _ _ c.loop-item.invariant.shows.keeps.target c.in-Err.ensures.text)
 
 pub loop-item-preserved : goal.loop-item-preserved
 loop-item-preserved g c =
     let item : WatchItem = get_or c.args.watch.now c.loop-item.item-index (record { address = 0; words = 0 }) in record {
       text = rows_more (g.S.ShowsTarget.known c.args.shower.now).target _ _ _ (λ t item. word_lines t item.address item.words) c.args.watch.now c.loop-item.item-index item (slice_get-in c.args.watch.now c.loop-item.item-index _ c.loop-item-test.true) c.loop-item.invariant.text
-          (wrote_same _ _ (λ t. word_lines t item.address item.words) _ _ c.loop-item.invariant.keeps.target c.in-Ok.ensures.text);
-      keeps = viewed-trans _ _ _ c.loop-item.invariant.keeps c.in-Ok.ensures.keeps;
-      ends = shows_on g.K.Sink.written g.K.Sink.faults tt (Ok tt) _ _ _ _ _ _ c.loop-item.invariant.ends c.in-Ok.ensures.ends;
+          (wrote_same _ _ (λ t. word_lines t item.address item.words) _ _ c.loop-item.invariant.shows.keeps.target c.in-Ok.ensures.text);
+      shows = views_on g.S.ShowsTarget.known g.K.Sink.written g.K.Sink.faults tt (Ok tt) _ _ _ _ _ _ c.loop-item.invariant.shows c.in-Ok.ensures.shows;
     }
 
-pub returns-in-Err-clause-ends : goal.returns-in-Err-clause-ends
-returns-in-Err-clause-ends g c = shows_on g.K.Sink.written g.K.Sink.faults tt (Err c.in-Err.end) _ _ _ _ _ _ c.loop-item.invariant.ends c.in-Err.ensures.ends
+pub returns-in-Err-clause-shows : goal.returns-in-Err-clause-shows
+returns-in-Err-clause-shows g c =
+    views_on g.S.ShowsTarget.known g.K.Sink.written g.K.Sink.faults tt (Err c.in-Err.end) _ _ _ _ _ _ c.loop-item.invariant.shows c.in-Err.ensures.shows
