@@ -16,3 +16,4 @@ pub mod Grows
 pub mod Tails
 pub mod Views
 pub mod Frame
+pub mod Gives

@@ -1,21 +1,21 @@
 //! Asking a unit that forgives nothing and is no poll.
-ghost use Rattle.std.specs.Prelude.{◌&&◌, ◌≡◌, ◌<◌, ◌+◌, ◌-◌, ◌++◌, ◌∷◌, [], ℕ, List, Option, None, false, true, length, IfErr, IfOk, OnOk};
+ghost use Rattle.std.specs.Prelude.{◌&&◌, ◌≡◌, ◌<◌, ◌+◌, ◌-◌, ◌++◌, ◌∷◌, [], List, None, false, true, length, IfOk, OnOk};
 ghost use Rattle.target_machine.specs.Sound.{IsSound};
 ghost use Rattle.probe_core.specs.Bench.{BenchState};
 ghost use Rattle.access_regs.specs.Entries.{target_by};
 ghost use Rattle.access_regs.specs.Journal.{by_cfg, is_alone, issue_of};
 ghost use Rattle.target_machine.specs.Plain.{may_forgive};
 ghost use Rattle.packed_access.specs.Planned.{HasShown, reads_before};
-ghost use Rattle.access_calls.specs.Left.{IsLeft};
-ghost use Rattle.packed_access.specs.Begun.{IsNoPoll, StopsThere, steps_left, target_issued};
+ghost use Rattle.packed_access.specs.Begun.{IsNoPoll, steps_left, target_issued};
 ghost use Rattle.packed_access.specs.Logs.{asks_of, most_entries, with_needs};
 ghost use Rattle.target_calls.specs.World.{small_now, start_world};
 ghost use Rattle.target_calls.specs.declared.calls.Ask.{Ask};
 ghost use Rattle.target_calls.specs.Asks.{is_forgiving};
 ghost use Rattle.probe_core.specs.Probe.{target_of};
 ghost use Rattle.target_machine.specs.declared.unit.Call.TheVariants.{Access};
+ghost use Rattle.packed_access.specs.Gives.{AsksFor, Plans};
 ghost use Rattle.packed_access.specs.Frame.{AsksWhole, CanIssue, EndsBy, IssuesFew, Keeps};
-ghost use Rattle.packed_access.specs.Views.{HasNeeds, IsAsked, IsAtEnd, IsBegun, IsPaid, IsToIssue, access_view};
+ghost use Rattle.packed_access.specs.Views.{IsAsked, IsBegun, IsToIssue};
 
 use crate::seen::Seen;
 use crate::sender::Sender;
@@ -31,24 +31,18 @@ impl<F: Flights> Sender<F> {
         requires ready { CanIssue 9 (⟦<Self as Seen>⟧.view self.old) }
         requires sound { IsSound unit.now }
         requires no_poll { IsNoPoll unit.now }
-        ensures on { (m0 : BenchState) → IsToIssue (⟦<Self as Seen>⟧.view self.old) (steps_left self.old.log (by_cfg (target_issued F.planner self.old.log m0) self.old.managed unit.now).steps) m0
-            → OnOk result (IsToIssue (⟦<Self as Seen>⟧.view self.new) [] m0) }
-        ensures spare { (m0 : BenchState) (left : ℕ)
+        ensures gives { Plans result (⟦<Self as Seen>⟧.view self.old) (⟦<Self as Seen>⟧.view self.new)
+            (λ m0. by_cfg (target_issued F.planner self.old.log m0) self.old.managed unit.now) }
+        ensures kept { (m0 : BenchState)
             → IsToIssue (⟦<Self as Seen>⟧.view self.old) (steps_left self.old.log (by_cfg (target_issued F.planner self.old.log m0) self.old.managed unit.now).steps) m0
-            → IsPaid (⟦<Self as Seen>⟧.view self.old) left m0 → OnOk result (IsPaid (⟦<Self as Seen>⟧.view self.new) left m0) }
-        ensures kept { (m0 : BenchState) → IsToIssue (⟦<Self as Seen>⟧.view self.old) (steps_left self.old.log (by_cfg (target_issued F.planner self.old.log m0) self.old.managed unit.now).steps) m0
             → OnOk result (self.new.managed ≡ (by_cfg (target_issued F.planner self.old.log m0) self.old.managed unit.now).kept) }
         ensures small { (m0 : BenchState) (calls : List Ask) (ask : Ask) → self.old.log.calls ≡ calls ++ ask ∷ []
             → IsToIssue (⟦<Self as Seen>⟧.view self.old) (steps_left self.old.log (by_cfg (target_issued F.planner self.old.log m0) self.old.managed unit.now).steps) m0
             → IfOk result (HasShown (target_of m0.probe) calls (target_issued F.planner self.old.log m0) self.old.managed unit.now) }
-        ensures asks { (m0 : BenchState) → IsToIssue (⟦<Self as Seen>⟧.view self.old) (steps_left self.old.log (by_cfg (target_issued F.planner self.old.log m0) self.old.managed unit.now).steps) m0
+        ensures asks { (m0 : BenchState)
+            → IsToIssue (⟦<Self as Seen>⟧.view self.old) (steps_left self.old.log (by_cfg (target_issued F.planner self.old.log m0) self.old.managed unit.now).steps) m0
             → OnOk result (asks_of self.new.log
             ≡ asks_of (with_needs self.old.log (reads_before (target_issued F.planner self.old.log m0) self.old.managed unit.now) (length self.old.log.calls - 1))) }
-        ensures broke { (m0 : BenchState) → IsToIssue (⟦<Self as Seen>⟧.view self.old) (steps_left self.old.log (by_cfg (target_issued F.planner self.old.log m0) self.old.managed unit.now).steps) m0
-            → IfErr result (IsAtEnd (⟦<Self as Seen>⟧.view self.new) m0) }
-        ensures stops { (m0 : BenchState) (answered : Option ℕ)
-            → IsToIssue (⟦<Self as Seen>⟧.view self.old) (steps_left self.old.log (by_cfg (target_issued F.planner self.old.log m0) self.old.managed unit.now).steps) m0
-            → IsLeft (access_view (⟦<Self as Seen>⟧.view self.new)) answered → IfErr result (StopsThere m0 answered self.old.log.calls self.new.log.lines) }
         ensures keeps { Keeps (⟦<Self as Seen>⟧.view self.old) (⟦<Self as Seen>⟧.view self.new) }
         ensures ends { EndsBy result (⟦<Self as Seen>⟧.view self.new) }
         ensures issues { IssuesFew result 9 (⟦<Self as Seen>⟧.view self.old) (⟦<Self as Seen>⟧.view self.new) }
@@ -83,20 +77,14 @@ impl<F: Flights> Sender<F> {
         requires sound { IsSound unit.now }
         requires no_poll { IsNoPoll unit.now }
         requires planned { (is_alone F.planner false && may_forgive (Access unit.now)) ≡ false }
-        ensures on { (m0 : BenchState) (calls : List Ask) (ask : Ask) → ask.call ≡ Access unit.now → is_forgiving ask ≡ false → IsAsked (⟦<Self as Seen>⟧.view self.old) calls ask m0
-            → OnOk result (IsToIssue (⟦<Self as Seen>⟧.view self.new) [] m0) }
-        ensures spare { (m0 : BenchState) (calls : List Ask) (ask : Ask) (left : ℕ) → ask.call ≡ Access unit.now → is_forgiving ask ≡ false
-            → IsAsked (⟦<Self as Seen>⟧.view self.old) calls ask m0 → IsPaid (⟦<Self as Seen>⟧.view self.old) left m0 → OnOk result (IsPaid (⟦<Self as Seen>⟧.view self.new) left m0) }
-        ensures kept { (m0 : BenchState) (calls : List Ask) (ask : Ask) → ask.call ≡ Access unit.now → is_forgiving ask ≡ false → IsAsked (⟦<Self as Seen>⟧.view self.old) calls ask m0
+        ensures gives { AsksFor result (⟦<Self as Seen>⟧.view self.old) (⟦<Self as Seen>⟧.view self.new)
+            (λ m0 ask. (ask.call ≡ Access unit.now) × (is_forgiving ask ≡ false)) (λ s m0. IsToIssue s [] m0) }
+        ensures kept { (m0 : BenchState) (calls : List Ask) (ask : Ask) → ask.call ≡ Access unit.now → is_forgiving ask ≡ false
+            → IsAsked (⟦<Self as Seen>⟧.view self.old) calls ask m0
             → OnOk result (self.new.managed ≡ (issue_of F.planner (target_by F.planner (target_of m0.probe) calls) self.old.managed ask).kept) }
-        ensures small { (m0 : BenchState) (calls : List Ask) (ask : Ask) → ask.call ≡ Access unit.now → is_forgiving ask ≡ false → IsAsked (⟦<Self as Seen>⟧.view self.old) calls ask m0
+        ensures small { (m0 : BenchState) (calls : List Ask) (ask : Ask) → ask.call ≡ Access unit.now → is_forgiving ask ≡ false
+            → IsAsked (⟦<Self as Seen>⟧.view self.old) calls ask m0
             → IfOk result (λ small. small ≡ small_now (start_world (target_of m0.probe) None) calls ask) }
-        ensures needs { (m0 : BenchState) (calls : List Ask) (ask : Ask) → ask.call ≡ Access unit.now → is_forgiving ask ≡ false → IsAsked (⟦<Self as Seen>⟧.view self.old) calls ask m0
-            → OnOk result (HasNeeds (⟦<Self as Seen>⟧.view self.old) (⟦<Self as Seen>⟧.view self.new) calls ask m0) }
-        ensures broke { (m0 : BenchState) (calls : List Ask) (ask : Ask) → ask.call ≡ Access unit.now → is_forgiving ask ≡ false → IsAsked (⟦<Self as Seen>⟧.view self.old) calls ask m0
-            → IfErr result (IsAtEnd (⟦<Self as Seen>⟧.view self.new) m0) }
-        ensures stops { (m0 : BenchState) (calls : List Ask) (ask : Ask) (answered : Option ℕ) → ask.call ≡ Access unit.now → is_forgiving ask ≡ false
-            → IsAsked (⟦<Self as Seen>⟧.view self.old) calls ask m0 → IsLeft (access_view (⟦<Self as Seen>⟧.view self.new)) answered → IfErr result (StopsThere m0 answered self.old.log.calls self.new.log.lines) }
         ensures keeps { Keeps (⟦<Self as Seen>⟧.view self.old) (⟦<Self as Seen>⟧.view self.new) }
         ensures ends { EndsBy result (⟦<Self as Seen>⟧.view self.new) }
         ensures issues { IssuesFew result 11 (⟦<Self as Seen>⟧.view self.old) (⟦<Self as Seen>⟧.view self.new) }
@@ -122,18 +110,11 @@ impl<F: Flights> Sender<F> {
         requires sound { IsSound unit.now }
         requires no_poll { IsNoPoll unit.now }
         requires planned { (is_alone F.planner false && may_forgive (Access unit.now)) ≡ false }
-        ensures on { (m0 : BenchState) (calls : List Ask) (ask : Ask) → ask.call ≡ Access unit.now → is_forgiving ask ≡ false → IsAsked (⟦<Self as Seen>⟧.view self.old) calls ask m0
-            → OnOk result (IsBegun (⟦<Self as Seen>⟧.view self.new) m0) }
-        ensures spare { (m0 : BenchState) (calls : List Ask) (ask : Ask) (left : ℕ) → ask.call ≡ Access unit.now → is_forgiving ask ≡ false
-            → IsAsked (⟦<Self as Seen>⟧.view self.old) calls ask m0 → IsPaid (⟦<Self as Seen>⟧.view self.old) left m0 → OnOk result (IsPaid (⟦<Self as Seen>⟧.view self.new) left m0) }
-        ensures small { (m0 : BenchState) (calls : List Ask) (ask : Ask) → ask.call ≡ Access unit.now → is_forgiving ask ≡ false → IsAsked (⟦<Self as Seen>⟧.view self.old) calls ask m0
+        ensures gives { AsksFor result (⟦<Self as Seen>⟧.view self.old) (⟦<Self as Seen>⟧.view self.new)
+            (λ m0 ask. (ask.call ≡ Access unit.now) × (is_forgiving ask ≡ false)) IsBegun }
+        ensures small { (m0 : BenchState) (calls : List Ask) (ask : Ask) → ask.call ≡ Access unit.now → is_forgiving ask ≡ false
+            → IsAsked (⟦<Self as Seen>⟧.view self.old) calls ask m0
             → IfOk result (λ small. small ≡ small_now (start_world (target_of m0.probe) None) calls ask) }
-        ensures needs { (m0 : BenchState) (calls : List Ask) (ask : Ask) → ask.call ≡ Access unit.now → is_forgiving ask ≡ false → IsAsked (⟦<Self as Seen>⟧.view self.old) calls ask m0
-            → OnOk result (HasNeeds (⟦<Self as Seen>⟧.view self.old) (⟦<Self as Seen>⟧.view self.new) calls ask m0) }
-        ensures broke { (m0 : BenchState) (calls : List Ask) (ask : Ask) → ask.call ≡ Access unit.now → is_forgiving ask ≡ false → IsAsked (⟦<Self as Seen>⟧.view self.old) calls ask m0
-            → IfErr result (IsAtEnd (⟦<Self as Seen>⟧.view self.new) m0) }
-        ensures stops { (m0 : BenchState) (calls : List Ask) (ask : Ask) (answered : Option ℕ) → ask.call ≡ Access unit.now → is_forgiving ask ≡ false
-            → IsAsked (⟦<Self as Seen>⟧.view self.old) calls ask m0 → IsLeft (access_view (⟦<Self as Seen>⟧.view self.new)) answered → IfErr result (StopsThere m0 answered self.old.log.calls self.new.log.lines) }
         ensures keeps { Keeps (⟦<Self as Seen>⟧.view self.old) (⟦<Self as Seen>⟧.view self.new) }
         ensures ends { EndsBy result (⟦<Self as Seen>⟧.view self.new) }
         ensures asks { AsksWhole result (⟦<Self as Seen>⟧.view self.new) }

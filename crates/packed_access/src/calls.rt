@@ -1,13 +1,11 @@
 //! The calls of the access.
-ghost use Rattle.std.specs.Prelude.{◌&&◌, ◌<◌, ◌≡◌, ℕ, List, Option, None, IfErr, IfOk, OnOk};
+ghost use Rattle.std.specs.Prelude.{◌&&◌, ◌<◌, ◌≡◌, List, None, IfOk, OnOk};
 ghost use Rattle.target_machine.specs.Plain.{may_forgive};
 ghost use Rattle.target_machine.specs.Sound.{IsSound};
 ghost use Rattle.target_machine.specs.declared.unit.Call.TheVariants.{Access};
 ghost use Rattle.probe_core.specs.Bench.{BenchState};
 ghost use Rattle.access_calls.specs.Answers.{HasSlot, IsSmallWhere};
-ghost use Rattle.access_calls.specs.Left.{IsLeft};
 ghost use Rattle.bench_flights.specs.Flown.{IsSetTo};
-ghost use Rattle.packed_access.specs.Begun.{StopsThere};
 ghost use Rattle.packed_access.specs.Logs.{most_entries};
 ghost use Rattle.target_calls.specs.World.{small_now, start_world};
 ghost use Rattle.target_calls.specs.declared.calls.Ask.{Ask};
@@ -15,8 +13,9 @@ ghost use Rattle.target_calls.specs.Asks.{IsProbeInRange, IsUnitInRange, is_wide
 ghost use Rattle.probe_core.specs.Probe.{target_of};
 ghost use Rattle.access_regs.specs.Costs.{command_cost};
 ghost use Rattle.access_regs.specs.Journal.{is_alone};
+ghost use Rattle.packed_access.specs.Gives.{AsksFor};
 ghost use Rattle.packed_access.specs.Frame.{AsksWhole, CanIssue, EndsBy, Keeps};
-ghost use Rattle.packed_access.specs.Views.{HasNeeds, IsAsked, IsAtEnd, IsBegun, IsPaid, access_view};
+ghost use Rattle.packed_access.specs.Views.{IsAsked, IsBegun};
 
 use crate::access::PackedAccess;
 use crate::seen::Seen;
@@ -98,19 +97,10 @@ impl<F: Flights> Sender<F> {
     ) -> Result<bool, Stop>
         requires ready { CanIssue most_entries (⟦<Self as Seen>⟧.view self.old) }
         requires sound { IsSound unit.now }
-        ensures on { (m0 : BenchState) (calls : List Ask) (ask : Ask) → IsSetTo config.idle config.retry m0 → ask ≡ unit_ask unit.now forgive
-            → IsAsked (⟦<Self as Seen>⟧.view self.old) calls ask m0 → OnOk result (IsBegun (⟦<Self as Seen>⟧.view self.new) m0) }
-        ensures spare { (m0 : BenchState) (calls : List Ask) (ask : Ask) (left : ℕ) → IsSetTo config.idle config.retry m0 → ask ≡ unit_ask unit.now forgive
-            → IsAsked (⟦<Self as Seen>⟧.view self.old) calls ask m0 → IsPaid (⟦<Self as Seen>⟧.view self.old) left m0 → OnOk result (IsPaid (⟦<Self as Seen>⟧.view self.new) left m0) }
+        ensures gives { AsksFor result (⟦<Self as Seen>⟧.view self.old) (⟦<Self as Seen>⟧.view self.new)
+            (λ m0 ask. (IsSetTo config.idle config.retry m0) × (ask ≡ unit_ask unit.now forgive)) IsBegun }
         ensures small { (m0 : BenchState) (calls : List Ask) (ask : Ask) → IsSetTo config.idle config.retry m0 → ask ≡ unit_ask unit.now forgive
             → IsAsked (⟦<Self as Seen>⟧.view self.old) calls ask m0 → IfOk result (λ small. small ≡ small_now (start_world (target_of m0.probe) None) calls ask) }
-        ensures needs { (m0 : BenchState) (calls : List Ask) (ask : Ask) → IsSetTo config.idle config.retry m0 → ask ≡ unit_ask unit.now forgive
-            → IsAsked (⟦<Self as Seen>⟧.view self.old) calls ask m0 → OnOk result (HasNeeds (⟦<Self as Seen>⟧.view self.old) (⟦<Self as Seen>⟧.view self.new) calls ask m0) }
-        ensures broke { (m0 : BenchState) (calls : List Ask) (ask : Ask) → IsSetTo config.idle config.retry m0 → ask ≡ unit_ask unit.now forgive
-            → IsAsked (⟦<Self as Seen>⟧.view self.old) calls ask m0 → IfErr result (IsAtEnd (⟦<Self as Seen>⟧.view self.new) m0) }
-        ensures stops { (m0 : BenchState) (calls : List Ask) (ask : Ask) (answered : Option ℕ) → IsSetTo config.idle config.retry m0
-            → ask ≡ unit_ask unit.now forgive → IsAsked (⟦<Self as Seen>⟧.view self.old) calls ask m0
-            → IsLeft (access_view (⟦<Self as Seen>⟧.view self.new)) answered → IfErr result (StopsThere m0 answered self.old.log.calls self.new.log.lines) }
         ensures keeps { Keeps (⟦<Self as Seen>⟧.view self.old) (⟦<Self as Seen>⟧.view self.new) }
         ensures ends { EndsBy result (⟦<Self as Seen>⟧.view self.new) }
         ensures asks { AsksWhole result (⟦<Self as Seen>⟧.view self.new) }

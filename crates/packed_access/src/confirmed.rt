@@ -121,7 +121,8 @@ impl Confirmed {
         ensures accesses { result.report.accesses ≡ self.now.entries + cut.performed }
         ensures confirmed { result.report.confirmed ≡ self.now.entries + cut.confirmed }
         ensures numbers { (first : List Issued) (all : List Entry) (calls : List Ask) → IsCountOf self.now first → AreKeptOf all (first ++ entries.now)
-            → IfSome (slice_get entries.now cut.confirmed) (λ e. option_map (λ ask. ask.call) (slice_get calls (e.unit - 1)) ≡ Some what) → HasNumbers all calls result.skipped result.lines result.report }
+            → IfSome (slice_get entries.now cut.confirmed) (λ e. option_map (λ ask. ask.call) (slice_get calls (e.unit - 1)) ≡ Some what)
+            → HasNumbers all calls result.skipped result.lines result.report }
     {
         let next = entries[cut.confirmed as usize];
         let made = &entries[..cut.performed as usize];

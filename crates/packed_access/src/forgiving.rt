@@ -1,5 +1,5 @@
 //! Units that are made alone: each access made as by the unit alone, in flights of which only the last access may fault.
-ghost use Rattle.std.specs.Prelude.{◌≡◌, ◌<◌, ◌≤◌, ◌+◌, [], ℕ, List, Option, None, false, true, length, IfErr, IfOk, OnOk};
+ghost use Rattle.std.specs.Prelude.{◌≡◌, ◌<◌, ◌≤◌, ◌+◌, [], List, None, false, true, length, IfErr, IfOk, OnOk};
 ghost use Rattle.std.specs.List.{list_any};
 ghost use Rattle.target_machine.specs.Lists.{after};
 ghost use Rattle.target_machine.specs.Plain.{Action, may_forgive, memory_actions};
@@ -8,8 +8,6 @@ ghost use Rattle.target_machine.specs.State.{TargetState};
 ghost use Rattle.target_machine.specs.declared.access.RegAccess.{RegAccess};
 ghost use Rattle.target_machine.specs.declared.unit.Unit.TheVariants as unit;
 ghost use Rattle.probe_core.specs.Bench.{BenchState, StepsTo};
-ghost use Rattle.access_calls.specs.Left.{IsLeft};
-ghost use Rattle.packed_access.specs.Begun.{StopsThere};
 ghost use Rattle.packed_access.specs.Forgiving.{CameTo, IsDoneBy, closed};
 ghost use Rattle.bench_flights.specs.Flown.{SendsFew};
 ghost use Rattle.batch_packer.specs.Flying.{CanFly};
@@ -23,8 +21,9 @@ ghost use Rattle.access_regs.specs.Journal.{is_alone, is_end, making};
 ghost use Rattle.access_regs.specs.Kept.{Kept, known, selected};
 ghost use Rattle.access_regs.specs.Plan.{needs_cfg, select_value};
 ghost use Rattle.access_regs.specs.declared.planner.Planner.TheVariants.{Managed};
+ghost use Rattle.packed_access.specs.Gives.{AsksFor};
 ghost use Rattle.packed_access.specs.Frame.{AsksWhole, CanIssue, CanTry, EndsBy, Keeps, Tries};
-ghost use Rattle.packed_access.specs.Views.{HasNeeds, IsAsked, IsAtEnd, IsBegun, IsBroken, IsPaid, IsTried, access_view};
+ghost use Rattle.packed_access.specs.Views.{IsAsked, IsBegun, IsBroken, IsTried};
 
 use crate::log::CallLog;
 use crate::planned::port_of;
@@ -197,7 +196,8 @@ impl<F: Flights> Sender<F> {
         requires sound { IsSound unit.now }
         ensures on { (m0 : BenchState) (t : TargetState) (rest : List Action) → may_forgive (Access unit.now) ≡ true → length self.old.managed.ports ≡ 256
             → IsTried (⟦<Self as Seen>⟧.view self.old) forgive unit.now self.old.managed t [] rest m0
-            → IfOk result (λ r. IsDoneBy F.planner forgive r.small r.word r.reads self.new.managed (F.state self.new.flights) self.new.log unit.now self.old.managed t m0) }
+            → IfOk result (λ r. IsDoneBy F.planner forgive r.small r.word r.reads self.new.managed (F.state self.new.flights) self.new.log
+            unit.now self.old.managed t m0) }
         ensures broke { (m0 : BenchState) (t : TargetState) (rest : List Action) → length self.old.managed.ports ≡ 256
             → IsTried (⟦<Self as Seen>⟧.view self.old) forgive unit.now self.old.managed t [] rest m0
             → IfErr result (IsBroken (⟦<Self as Seen>⟧.view self.new) self.old.log.calls m0) }
@@ -248,18 +248,9 @@ impl<F: Flights> Sender<F> {
         requires sound { IsSound unit.now }
         requires may { may_forgive (Access unit.now) ≡ true }
         requires alone { is_alone F.planner forgive ≡ true }
-        ensures on { (m0 : BenchState) (calls : List Ask) (ask : Ask) → ask ≡ unit_ask unit.now forgive → IsAsked (⟦<Self as Seen>⟧.view self.old) calls ask m0
-            → OnOk result (IsBegun (⟦<Self as Seen>⟧.view self.new) m0) }
-        ensures spare { (m0 : BenchState) (calls : List Ask) (ask : Ask) (left : ℕ) → ask ≡ unit_ask unit.now forgive → IsAsked (⟦<Self as Seen>⟧.view self.old) calls ask m0
-            → IsPaid (⟦<Self as Seen>⟧.view self.old) left m0 → OnOk result (IsPaid (⟦<Self as Seen>⟧.view self.new) left m0) }
+        ensures gives { AsksFor result (⟦<Self as Seen>⟧.view self.old) (⟦<Self as Seen>⟧.view self.new) (λ m0 ask. ask ≡ unit_ask unit.now forgive) IsBegun }
         ensures small { (m0 : BenchState) (calls : List Ask) (ask : Ask) → ask ≡ unit_ask unit.now forgive → IsAsked (⟦<Self as Seen>⟧.view self.old) calls ask m0
             → IfOk result (λ small. small ≡ small_now (start_world (target_of m0.probe) None) calls ask) }
-        ensures needs { (m0 : BenchState) (calls : List Ask) (ask : Ask) → ask ≡ unit_ask unit.now forgive → IsAsked (⟦<Self as Seen>⟧.view self.old) calls ask m0
-            → OnOk result (HasNeeds (⟦<Self as Seen>⟧.view self.old) (⟦<Self as Seen>⟧.view self.new) calls ask m0) }
-        ensures broke { (m0 : BenchState) (calls : List Ask) (ask : Ask) → ask ≡ unit_ask unit.now forgive → IsAsked (⟦<Self as Seen>⟧.view self.old) calls ask m0
-            → IfErr result (IsAtEnd (⟦<Self as Seen>⟧.view self.new) m0) }
-        ensures stops { (m0 : BenchState) (calls : List Ask) (ask : Ask) (answered : Option ℕ) → ask ≡ unit_ask unit.now forgive → IsAsked (⟦<Self as Seen>⟧.view self.old) calls ask m0
-            → IsLeft (access_view (⟦<Self as Seen>⟧.view self.new)) answered → IfErr result (StopsThere m0 answered self.old.log.calls self.new.log.lines) }
         ensures keeps { Keeps (⟦<Self as Seen>⟧.view self.old) (⟦<Self as Seen>⟧.view self.new) }
         ensures ends { EndsBy result (⟦<Self as Seen>⟧.view self.new) }
         ensures asks { AsksWhole result (⟦<Self as Seen>⟧.view self.new) }

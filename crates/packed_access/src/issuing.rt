@@ -25,6 +25,7 @@ ghost use Rattle.access_regs.specs.declared.planner.Planner.TheVariants.{Managed
 ghost use Rattle.packed_access.specs.Begun.{StopsThere, entries_of, target_issued};
 ghost use Rattle.packed_access.specs.Actions.{entry_of, log_done};
 ghost use Rattle.packed_access.specs.Logs.{IsOfCall, IsSoundState, all_confirmed, all_taken, asks_of, ended_by, result_for};
+ghost use Rattle.packed_access.specs.Gives.{Issues, Sends};
 ghost use Rattle.packed_access.specs.Frame.{CanAdd, EndsBy, Further, Keeps};
 ghost use Rattle.packed_access.specs.Views.{HasSpace, IsAtEnd, IsSparing, IsToIssue, IsToIssueNext, access_view};
 
@@ -63,17 +64,12 @@ impl<F: Flights> Sender<F> {
     // Sends the flight, and takes its values. At an error the access has ended.
     pub(crate) fn send(&mut self) -> Result<(), Stop>
         requires open { self.old.log.end ≡ None }
-        ensures on { (m0 : BenchState) (rest : List Entry) → IsToIssue (⟦<Self as Seen>⟧.view self.old) rest m0 → OnOk result (IsToIssueNext (⟦<Self as Seen>⟧.view self.new) rest m0) }
-        ensures broke { (m0 : BenchState) (rest : List Entry) → IsToIssue (⟦<Self as Seen>⟧.view self.old) rest m0 → IfErr result (IsAtEnd (⟦<Self as Seen>⟧.view self.new) m0) }
-        ensures stops { (m0 : BenchState) (rest : List Entry) (answered : Option ℕ) → IsToIssue (⟦<Self as Seen>⟧.view self.old) rest m0
-            → IsLeft (access_view (⟦<Self as Seen>⟧.view self.new)) answered → IfErr result (StopsThere m0 answered self.old.log.calls self.new.log.lines) }
+        ensures gives { Sends result (⟦<Self as Seen>⟧.view self.old) (⟦<Self as Seen>⟧.view self.new) (λ rest. rest) }
         ensures last { (m0 : BenchState) (rest front : List Entry) (e : Entry) (more : List Entry) → IsToIssue (⟦<Self as Seen>⟧.view self.old) rest m0
             → issued F.planner (target_of m0.probe) self.old.log.calls ≡ front ++ e ∷ more → length front + 1 ≡ length self.old.log.entries
             → self.old.log.confirmed < length self.old.log.entries
             → OnOk result (unwrap_or (slot_at (F.values self.new.flights) (length self.old.log.entries - self.old.log.confirmed - 1)) 0
             ≡ given (acted (target_after (target_of m0.probe) front) e.action).outcome) }
-        ensures spare { (m0 : BenchState) (rest : List Entry) (points : ℕ) → IsToIssue (⟦<Self as Seen>⟧.view self.old) rest m0
-            → IsSparing (⟦<Self as Seen>⟧.view self.old) points m0 → OnOk result (IsSparing (⟦<Self as Seen>⟧.view self.new) (points + 1) m0) }
         ensures full { (m0 : BenchState) (e : Entry) (rest : List Entry) (next : RegAccess) (points : ℕ) → IsToIssue (⟦<Self as Seen>⟧.view self.old) (e ∷ rest) m0
             → e.action ≡ Makes next → IsSparing (⟦<Self as Seen>⟧.view self.old) points m0
             → (F.planner ≡ Managed → IsFull (F.limits self.old.flights) (F.accesses self.old.flights) next)
@@ -110,7 +106,8 @@ impl<F: Flights> Sender<F> {
             → OnOk result (IsToIssue (⟦<Self as Seen>⟧.view self.new) rest m0) }
         ensures spare { (m0 : BenchState) (e : Entry) (rest : List Entry) (points : ℕ) → IsToIssue (⟦<Self as Seen>⟧.view self.old) (e ∷ rest) m0
             → e.action ≡ Makes access → IsSparing (⟦<Self as Seen>⟧.view self.old) points m0 → OnOk result (IsSparing (⟦<Self as Seen>⟧.view self.new) points m0) }
-        ensures broke { (m0 : BenchState) (rest : List Entry) → IsToIssue (⟦<Self as Seen>⟧.view self.old) rest m0 → IfErr result (IsAtEnd (⟦<Self as Seen>⟧.view self.new) m0) }
+        ensures broke { (m0 : BenchState) (rest : List Entry) → IsToIssue (⟦<Self as Seen>⟧.view self.old) rest m0
+            → IfErr result (IsAtEnd (⟦<Self as Seen>⟧.view self.new) m0) }
         ensures stops { (m0 : BenchState) (rest : List Entry) (answered : Option ℕ) → IsToIssue (⟦<Self as Seen>⟧.view self.old) rest m0
             → IsLeft (access_view (⟦<Self as Seen>⟧.view self.new)) answered → IfErr result (StopsThere m0 answered self.old.log.calls self.new.log.lines) }
         ensures keeps { Keeps (⟦<Self as Seen>⟧.view self.old) (⟦<Self as Seen>⟧.view self.new) }
@@ -143,14 +140,7 @@ impl<F: Flights> Sender<F> {
         requires taken { AllByRecursion IsTaken accesses.now }
         requires unit { 0 < length accesses.now → IsOfCall (length self.old.log.calls) (record { unit = unit; part = part }) }
         requires later { 0 < length accesses.now → self.old.log.whole ≤ lines_before_kept (record { unit = unit; part = part }) }
-        ensures on { (m0 : BenchState) (rest : List Entry) → IsToIssue (⟦<Self as Seen>⟧.view self.old) (entries_of unit part accesses.now ++ rest) m0
-            → OnOk result (IsToIssue (⟦<Self as Seen>⟧.view self.new) rest m0) }
-        ensures spare { (m0 : BenchState) (rest : List Entry) (points : ℕ) → IsToIssue (⟦<Self as Seen>⟧.view self.old) (entries_of unit part accesses.now ++ rest) m0
-            → IsSparing (⟦<Self as Seen>⟧.view self.old) points m0 → OnOk result (IsSparing (⟦<Self as Seen>⟧.view self.new) points m0) }
-        ensures broke { (m0 : BenchState) (rest : List Entry) → IsToIssue (⟦<Self as Seen>⟧.view self.old) (entries_of unit part accesses.now ++ rest) m0
-            → IfErr result (IsAtEnd (⟦<Self as Seen>⟧.view self.new) m0) }
-        ensures stops { (m0 : BenchState) (rest : List Entry) (answered : Option ℕ) → IsToIssue (⟦<Self as Seen>⟧.view self.old) (entries_of unit part accesses.now ++ rest) m0
-            → IsLeft (access_view (⟦<Self as Seen>⟧.view self.new)) answered → IfErr result (StopsThere m0 answered self.old.log.calls self.new.log.lines) }
+        ensures gives { Issues result (⟦<Self as Seen>⟧.view self.old) (⟦<Self as Seen>⟧.view self.new) (λ rest. entries_of unit part accesses.now ++ rest) }
         ensures keeps { Keeps (⟦<Self as Seen>⟧.view self.old) (⟦<Self as Seen>⟧.view self.new) }
         ensures ends { EndsBy result (⟦<Self as Seen>⟧.view self.new) }
         ensures further { Further result (⟦<Self as Seen>⟧.view self.old) (⟦<Self as Seen>⟧.view self.new) }
@@ -175,17 +165,10 @@ impl<F: Flights> Sender<F> {
         requires taken { AllByRecursion IsTaken accesses.now }
         requires unit { IsOfCall (length self.old.log.calls) (record { unit = unit; part = Leads }) }
         requires later { self.old.log.whole ≤ lines_before_kept (record { unit = unit; part = Leads }) }
-        ensures on { (m0 : BenchState) (rest : List Entry) → IsToIssue (⟦<Self as Seen>⟧.view self.old) (entries_of unit Leads accesses.now ++ rest) m0
-            → OnOk result (IsToIssueNext (⟦<Self as Seen>⟧.view self.new) rest m0) }
-        ensures spare { (m0 : BenchState) (rest : List Entry) (points : ℕ) → IsToIssue (⟦<Self as Seen>⟧.view self.old) (entries_of unit Leads accesses.now ++ rest) m0
-            → IsSparing (⟦<Self as Seen>⟧.view self.old) points m0 → OnOk result (IsSparing (⟦<Self as Seen>⟧.view self.new) (points + 1) m0) }
+        ensures gives { Sends result (⟦<Self as Seen>⟧.view self.old) (⟦<Self as Seen>⟧.view self.new) (λ rest. entries_of unit Leads accesses.now ++ rest) }
         ensures value { (m0 : BenchState) (lead : List RegAccess) (a : RegAccess) (rest : List Entry) → accesses.now ≡ lead ++ a ∷ []
             → IsToIssue (⟦<Self as Seen>⟧.view self.old) (entries_of unit Leads accesses.now ++ rest) m0
             → IfOk result (λ v. v ≡ gives (target_issued F.planner self.old.log m0) accesses.now) }
-        ensures broke { (m0 : BenchState) (rest : List Entry) → IsToIssue (⟦<Self as Seen>⟧.view self.old) (entries_of unit Leads accesses.now ++ rest) m0
-            → IfErr result (IsAtEnd (⟦<Self as Seen>⟧.view self.new) m0) }
-        ensures stops { (m0 : BenchState) (rest : List Entry) (answered : Option ℕ) → IsToIssue (⟦<Self as Seen>⟧.view self.old) (entries_of unit Leads accesses.now ++ rest) m0
-            → IsLeft (access_view (⟦<Self as Seen>⟧.view self.new)) answered → IfErr result (StopsThere m0 answered self.old.log.calls self.new.log.lines) }
         ensures keeps { Keeps (⟦<Self as Seen>⟧.view self.old) (⟦<Self as Seen>⟧.view self.new) }
         ensures ends { EndsBy result (⟦<Self as Seen>⟧.view self.new) }
         ensures further { Further result (⟦<Self as Seen>⟧.view self.old) (⟦<Self as Seen>⟧.view self.new) }
@@ -211,14 +194,8 @@ impl<F: Flights> Sender<F> {
         requires ready { CanAdd (length (settle self.old.managed)) (⟦<Self as Seen>⟧.view self.old) }
         requires unit { 0 < length (settle self.old.managed) → IsOfCall (length self.old.log.calls) (record { unit = unit; part = Settles }) }
         requires later { 0 < length (settle self.old.managed) → self.old.log.whole ≤ unit }
-        ensures on { (m0 : BenchState) (rest : List Entry) → IsToIssue (⟦<Self as Seen>⟧.view self.old) (entries_of unit Settles (settle self.old.managed) ++ rest) m0
-            → OnOk result (IsToIssue (⟦<Self as Seen>⟧.view self.new) rest m0) }
-        ensures spare { (m0 : BenchState) (rest : List Entry) (points : ℕ) → IsToIssue (⟦<Self as Seen>⟧.view self.old) (entries_of unit Settles (settle self.old.managed) ++ rest) m0
-            → IsSparing (⟦<Self as Seen>⟧.view self.old) points m0 → OnOk result (IsSparing (⟦<Self as Seen>⟧.view self.new) points m0) }
-        ensures broke { (m0 : BenchState) (rest : List Entry) → IsToIssue (⟦<Self as Seen>⟧.view self.old) (entries_of unit Settles (settle self.old.managed) ++ rest) m0
-            → IfErr result (IsAtEnd (⟦<Self as Seen>⟧.view self.new) m0) }
-        ensures stops { (m0 : BenchState) (rest : List Entry) (answered : Option ℕ) → IsToIssue (⟦<Self as Seen>⟧.view self.old) (entries_of unit Settles (settle self.old.managed) ++ rest) m0
-            → IsLeft (access_view (⟦<Self as Seen>⟧.view self.new)) answered → IfErr result (StopsThere m0 answered self.old.log.calls self.new.log.lines) }
+        ensures gives { Issues result (⟦<Self as Seen>⟧.view self.old) (⟦<Self as Seen>⟧.view self.new)
+            (λ rest. entries_of unit Settles (settle self.old.managed) ++ rest) }
         ensures keeps { Keeps (⟦<Self as Seen>⟧.view self.old) (⟦<Self as Seen>⟧.view self.new) }
         ensures ends { EndsBy result (⟦<Self as Seen>⟧.view self.new) }
         ensures further { Further result (⟦<Self as Seen>⟧.view self.old) (⟦<Self as Seen>⟧.view self.new) }
@@ -238,7 +215,8 @@ impl<F: Flights> Sender<F> {
         requires rest { F.accesses self.old.flights ≡ [] }
         requires last { self.old.log.came + 1 ≡ length self.old.log.calls }
         ensures on { (m0 : BenchState) (calls : List Ask) → self.old.log.calls ≡ calls ++ probe_ask call ∷ []
-            → IsToIssueNext (⟦<Self as Seen>⟧.view self.old) (entry_of calls (Commands call) ∷ []) m0 → OnOk result (IsToIssueNext (⟦<Self as Seen>⟧.view self.new) [] m0) }
+            → IsToIssueNext (⟦<Self as Seen>⟧.view self.old) (entry_of calls (Commands call) ∷ []) m0
+            → OnOk result (IsToIssueNext (⟦<Self as Seen>⟧.view self.new) [] m0) }
         ensures spare { (m0 : BenchState) (calls : List Ask) (points : ℕ) → self.old.log.calls ≡ calls ++ probe_ask call ∷ []
             → IsToIssueNext (⟦<Self as Seen>⟧.view self.old) (entry_of calls (Commands call) ∷ []) m0
             → IsSparing (⟦<Self as Seen>⟧.view self.old) (points + 1) m0 → OnOk result (IsSparing (⟦<Self as Seen>⟧.view self.new) (points + command_cost call) m0) }

@@ -1,5 +1,5 @@
 //! Units that forgive nothing.
-ghost use Rattle.std.specs.Prelude.{◌≡◌, ◌<◌, ◌≤◌, ◌+◌, ◌-◌, ◌++◌, ◌∷◌, [], ℕ, List, Option, true, length, IfErr, IfOk, OnOk};
+ghost use Rattle.std.specs.Prelude.{◌≡◌, ◌<◌, ◌≤◌, ◌+◌, ◌-◌, ◌++◌, ◌∷◌, [], ℕ, List, true, length, IfOk, OnOk};
 ghost use Rattle.dap_base.specs.Bits.{has_bit};
 ghost use Rattle.target_machine.specs.Registers.{cfg_la};
 ghost use Rattle.target_machine.specs.Sound.{IsSound};
@@ -10,15 +10,14 @@ ghost use Rattle.target_calls.specs.NeedPoints.{capped_sum};
 ghost use Rattle.target_machine.specs.Counts.{one_if};
 ghost use Rattle.access_regs.specs.Journal.{by_csw, gives, port_of};
 ghost use Rattle.access_regs.specs.Plan.{cfg_plan, first_plan, last_access, leads, learned, learned_cfg, made, needs_cfg, needs_csw};
-ghost use Rattle.access_calls.specs.Left.{IsLeft};
 ghost use Rattle.bench_flights.specs.Flown.{IsSetTo};
-ghost use Rattle.packed_access.specs.Begun.{IsNoPoll, StopsThere, entries_of, steps_left, target_issued};
+ghost use Rattle.packed_access.specs.Begun.{IsNoPoll, entries_of, steps_left, target_issued};
 ghost use Rattle.packed_access.specs.Logs.{asks_of, most_entries, with_needs};
-ghost use Rattle.target_calls.specs.declared.calls.Ask.{Ask};
 ghost use Rattle.target_machine.specs.declared.unit.Call.TheVariants.{Access};
 ghost use Rattle.target_machine.specs.declared.unit.Unit.TheVariants as unit;
+ghost use Rattle.packed_access.specs.Gives.{AsksFor, Issues, Plans, Reads};
 ghost use Rattle.packed_access.specs.Frame.{AsksWhole, CanIssue, EndsBy, Further, IssuesFew, Keeps};
-ghost use Rattle.packed_access.specs.Views.{HasNeeds, IsAsked, IsAtEnd, IsBegun, IsPaid, IsSparing, IsToIssue, IsToIssueNext, access_view};
+ghost use Rattle.packed_access.specs.Views.{IsBegun, IsPaid, IsToIssue};
 
 use crate::issuing::list_accesses;
 use crate::seen::Seen;
@@ -45,31 +44,23 @@ impl<F: Flights> Sender<F> {
     pub(crate) fn read_cfg(&mut self, unit: &Unit) -> Result<bool, Stop>
         requires unknown { needs_cfg self.old.managed unit.now ≡ true }
         requires ready { CanIssue 2 (⟦<Self as Seen>⟧.view self.old) }
-        ensures on { (m0 : BenchState) (rest : List Entry)
-            → IsToIssue (⟦<Self as Seen>⟧.view self.old) (entries_of (length self.old.log.calls) Leads (cfg_plan self.old.managed (port_of unit.now)) ++ rest) m0
-            → OnOk result (IsToIssueNext (⟦<Self as Seen>⟧.view self.new) rest m0) }
+        ensures gives { Reads result (⟦<Self as Seen>⟧.view self.old) (⟦<Self as Seen>⟧.view self.new)
+            (λ rest. entries_of (length self.old.log.calls) Leads (cfg_plan self.old.managed (port_of unit.now)) ++ rest)
+            (λ m0. learned_cfg self.old.managed (port_of unit.now)
+            (gives (target_issued F.planner self.old.log m0) (cfg_plan self.old.managed (port_of unit.now)))) }
         ensures spare { (m0 : BenchState) (rest : List Entry) (left : ℕ)
             → IsToIssue (⟦<Self as Seen>⟧.view self.old) (entries_of (length self.old.log.calls) Leads (cfg_plan self.old.managed (port_of unit.now)) ++ rest) m0
             → IsPaid (⟦<Self as Seen>⟧.view self.old) left m0 → OnOk result (IsPaid (⟦<Self as Seen>⟧.view self.new) left m0) }
-        ensures kept { (m0 : BenchState) (rest : List Entry)
-            → IsToIssue (⟦<Self as Seen>⟧.view self.old) (entries_of (length self.old.log.calls) Leads (cfg_plan self.old.managed (port_of unit.now)) ++ rest) m0
-            → OnOk result (self.new.managed ≡ learned_cfg self.old.managed (port_of unit.now)
-            (gives (target_issued F.planner self.old.log m0) (cfg_plan self.old.managed (port_of unit.now)))) }
         ensures large { (m0 : BenchState) (rest : List Entry)
             → IsToIssue (⟦<Self as Seen>⟧.view self.old) (entries_of (length self.old.log.calls) Leads (cfg_plan self.old.managed (port_of unit.now)) ++ rest) m0
             → IfOk result (λ large. large ≡ has_bit (gives (target_issued F.planner self.old.log m0) (cfg_plan self.old.managed (port_of unit.now))) cfg_la) }
-        ensures broke { (m0 : BenchState) (rest : List Entry)
-            → IsToIssue (⟦<Self as Seen>⟧.view self.old) (entries_of (length self.old.log.calls) Leads (cfg_plan self.old.managed (port_of unit.now)) ++ rest) m0
-            → IfErr result (IsAtEnd (⟦<Self as Seen>⟧.view self.new) m0) }
-        ensures stops { (m0 : BenchState) (rest : List Entry) (answered : Option ℕ)
-            → IsToIssue (⟦<Self as Seen>⟧.view self.old) (entries_of (length self.old.log.calls) Leads (cfg_plan self.old.managed (port_of unit.now)) ++ rest) m0
-            → IsLeft (access_view (⟦<Self as Seen>⟧.view self.new)) answered → IfErr result (StopsThere m0 answered self.old.log.calls self.new.log.lines) }
         ensures keeps { Keeps (⟦<Self as Seen>⟧.view self.old) (⟦<Self as Seen>⟧.view self.new) }
         ensures ends { EndsBy result (⟦<Self as Seen>⟧.view self.new) }
         ensures issues { IssuesFew result 2 (⟦<Self as Seen>⟧.view self.old) (⟦<Self as Seen>⟧.view self.new) }
         ensures empty { OnOk result (F.accesses self.new.flights ≡ []) }
         ensures places { OnOk result (self.new.log.places ≡ self.old.log.places) }
-        ensures asks { OnOk result (asks_of self.new.log ≡ record { calls = self.old.log.calls; needs = capped_sum self.old.log.needs 1; fence = length self.old.log.calls - 1 }) }
+        ensures asks { OnOk result (asks_of self.new.log
+            ≡ record { calls = self.old.log.calls; needs = capped_sum self.old.log.needs 1; fence = length self.old.log.calls - 1 }) }
         ensures fenced { OnOk result (self.new.log.fence ≤ self.new.log.known) }
     {
         let plan = self.managed.cfg_plan(unit);
@@ -88,28 +79,20 @@ impl<F: Flights> Sender<F> {
     fn read_csw(&mut self, unit: &Unit) -> Result<(), Stop>
         requires unknown { needs_csw self.old.managed unit.now ≡ true }
         requires ready { CanIssue 2 (⟦<Self as Seen>⟧.view self.old) }
-        ensures on { (m0 : BenchState) (rest : List Entry)
-            → IsToIssue (⟦<Self as Seen>⟧.view self.old) (entries_of (length self.old.log.calls) Leads (first_plan self.old.managed (port_of unit.now)) ++ rest) m0
-            → OnOk result (IsToIssueNext (⟦<Self as Seen>⟧.view self.new) rest m0) }
+        ensures gives { Reads result (⟦<Self as Seen>⟧.view self.old) (⟦<Self as Seen>⟧.view self.new)
+            (λ rest. entries_of (length self.old.log.calls) Leads (first_plan self.old.managed (port_of unit.now)) ++ rest)
+            (λ m0. learned self.old.managed (port_of unit.now)
+            (gives (target_issued F.planner self.old.log m0) (first_plan self.old.managed (port_of unit.now)))) }
         ensures spare { (m0 : BenchState) (rest : List Entry) (left : ℕ)
             → IsToIssue (⟦<Self as Seen>⟧.view self.old) (entries_of (length self.old.log.calls) Leads (first_plan self.old.managed (port_of unit.now)) ++ rest) m0
             → IsPaid (⟦<Self as Seen>⟧.view self.old) left m0 → OnOk result (IsPaid (⟦<Self as Seen>⟧.view self.new) left m0) }
-        ensures kept { (m0 : BenchState) (rest : List Entry)
-            → IsToIssue (⟦<Self as Seen>⟧.view self.old) (entries_of (length self.old.log.calls) Leads (first_plan self.old.managed (port_of unit.now)) ++ rest) m0
-            → OnOk result (self.new.managed ≡ learned self.old.managed (port_of unit.now)
-            (gives (target_issued F.planner self.old.log m0) (first_plan self.old.managed (port_of unit.now)))) }
-        ensures broke { (m0 : BenchState) (rest : List Entry)
-            → IsToIssue (⟦<Self as Seen>⟧.view self.old) (entries_of (length self.old.log.calls) Leads (first_plan self.old.managed (port_of unit.now)) ++ rest) m0
-            → IfErr result (IsAtEnd (⟦<Self as Seen>⟧.view self.new) m0) }
-        ensures stops { (m0 : BenchState) (rest : List Entry) (answered : Option ℕ)
-            → IsToIssue (⟦<Self as Seen>⟧.view self.old) (entries_of (length self.old.log.calls) Leads (first_plan self.old.managed (port_of unit.now)) ++ rest) m0
-            → IsLeft (access_view (⟦<Self as Seen>⟧.view self.new)) answered → IfErr result (StopsThere m0 answered self.old.log.calls self.new.log.lines) }
         ensures keeps { Keeps (⟦<Self as Seen>⟧.view self.old) (⟦<Self as Seen>⟧.view self.new) }
         ensures ends { EndsBy result (⟦<Self as Seen>⟧.view self.new) }
         ensures issues { IssuesFew result 2 (⟦<Self as Seen>⟧.view self.old) (⟦<Self as Seen>⟧.view self.new) }
         ensures empty { OnOk result (F.accesses self.new.flights ≡ []) }
         ensures places { OnOk result (self.new.log.places ≡ self.old.log.places) }
-        ensures asks { OnOk result (asks_of self.new.log ≡ record { calls = self.old.log.calls; needs = capped_sum self.old.log.needs 1; fence = length self.old.log.calls - 1 }) }
+        ensures asks { OnOk result (asks_of self.new.log
+            ≡ record { calls = self.old.log.calls; needs = capped_sum self.old.log.needs 1; fence = length self.old.log.calls - 1 }) }
         ensures fenced { OnOk result (self.new.log.fence ≤ self.new.log.known) }
     {
         let plan = self.managed.first_plan(unit);
@@ -129,22 +112,9 @@ impl<F: Flights> Sender<F> {
     fn issue_unit(&mut self, unit: &Unit) -> Result<(), Stop>
         requires ready { CanIssue 5 (⟦<Self as Seen>⟧.view self.old) }
         requires sound { IsSound unit.now }
-        ensures on { (m0 : BenchState) (rest : List Entry)
-            → IsToIssue (⟦<Self as Seen>⟧.view self.old) (entries_of (length self.old.log.calls) Leads (leads self.old.managed unit.now)
-            ++ (entries_of (length self.old.log.calls) Ends (last_access unit.now ∷ []) ++ rest)) m0
-            → OnOk result (IsToIssue (⟦<Self as Seen>⟧.view self.new) rest m0) }
-        ensures spare { (m0 : BenchState) (rest : List Entry) (points : ℕ)
-            → IsToIssue (⟦<Self as Seen>⟧.view self.old) (entries_of (length self.old.log.calls) Leads (leads self.old.managed unit.now)
-            ++ (entries_of (length self.old.log.calls) Ends (last_access unit.now ∷ []) ++ rest)) m0
-            → IsSparing (⟦<Self as Seen>⟧.view self.old) points m0 → OnOk result (IsSparing (⟦<Self as Seen>⟧.view self.new) points m0) }
-        ensures broke { (m0 : BenchState) (rest : List Entry)
-            → IsToIssue (⟦<Self as Seen>⟧.view self.old) (entries_of (length self.old.log.calls) Leads (leads self.old.managed unit.now)
-            ++ (entries_of (length self.old.log.calls) Ends (last_access unit.now ∷ []) ++ rest)) m0
-            → IfErr result (IsAtEnd (⟦<Self as Seen>⟧.view self.new) m0) }
-        ensures stops { (m0 : BenchState) (rest : List Entry) (answered : Option ℕ)
-            → IsToIssue (⟦<Self as Seen>⟧.view self.old) (entries_of (length self.old.log.calls) Leads (leads self.old.managed unit.now)
-            ++ (entries_of (length self.old.log.calls) Ends (last_access unit.now ∷ []) ++ rest)) m0
-            → IsLeft (access_view (⟦<Self as Seen>⟧.view self.new)) answered → IfErr result (StopsThere m0 answered self.old.log.calls self.new.log.lines) }
+        ensures gives { Issues result (⟦<Self as Seen>⟧.view self.old) (⟦<Self as Seen>⟧.view self.new)
+            (λ rest. entries_of (length self.old.log.calls) Leads (leads self.old.managed unit.now)
+            ++ (entries_of (length self.old.log.calls) Ends (last_access unit.now ∷ []) ++ rest)) }
         ensures keeps { Keeps (⟦<Self as Seen>⟧.view self.old) (⟦<Self as Seen>⟧.view self.new) }
         ensures ends { EndsBy result (⟦<Self as Seen>⟧.view self.new) }
         ensures further { Further result (⟦<Self as Seen>⟧.view self.old) (⟦<Self as Seen>⟧.view self.new) }
@@ -170,18 +140,11 @@ impl<F: Flights> Sender<F> {
         requires ready { CanIssue 7 (⟦<Self as Seen>⟧.view self.old) }
         requires sound { IsSound unit.now }
         requires no_poll { IsNoPoll unit.now }
-        ensures on { (m0 : BenchState) → IsToIssue (⟦<Self as Seen>⟧.view self.old) (steps_left self.old.log (by_csw (target_issued F.planner self.old.log m0) self.old.managed unit.now).steps) m0
-            → OnOk result (IsToIssue (⟦<Self as Seen>⟧.view self.new) [] m0) }
-        ensures spare { (m0 : BenchState) (left : ℕ)
+        ensures gives { Plans result (⟦<Self as Seen>⟧.view self.old) (⟦<Self as Seen>⟧.view self.new)
+            (λ m0. by_csw (target_issued F.planner self.old.log m0) self.old.managed unit.now) }
+        ensures kept { (m0 : BenchState)
             → IsToIssue (⟦<Self as Seen>⟧.view self.old) (steps_left self.old.log (by_csw (target_issued F.planner self.old.log m0) self.old.managed unit.now).steps) m0
-            → IsPaid (⟦<Self as Seen>⟧.view self.old) left m0 → OnOk result (IsPaid (⟦<Self as Seen>⟧.view self.new) left m0) }
-        ensures kept { (m0 : BenchState) → IsToIssue (⟦<Self as Seen>⟧.view self.old) (steps_left self.old.log (by_csw (target_issued F.planner self.old.log m0) self.old.managed unit.now).steps) m0
             → OnOk result (self.new.managed ≡ (by_csw (target_issued F.planner self.old.log m0) self.old.managed unit.now).kept) }
-        ensures broke { (m0 : BenchState) → IsToIssue (⟦<Self as Seen>⟧.view self.old) (steps_left self.old.log (by_csw (target_issued F.planner self.old.log m0) self.old.managed unit.now).steps) m0
-            → IfErr result (IsAtEnd (⟦<Self as Seen>⟧.view self.new) m0) }
-        ensures stops { (m0 : BenchState) (answered : Option ℕ)
-            → IsToIssue (⟦<Self as Seen>⟧.view self.old) (steps_left self.old.log (by_csw (target_issued F.planner self.old.log m0) self.old.managed unit.now).steps) m0
-            → IsLeft (access_view (⟦<Self as Seen>⟧.view self.new)) answered → IfErr result (StopsThere m0 answered self.old.log.calls self.new.log.lines) }
         ensures keeps { Keeps (⟦<Self as Seen>⟧.view self.old) (⟦<Self as Seen>⟧.view self.new) }
         ensures ends { EndsBy result (⟦<Self as Seen>⟧.view self.new) }
         ensures issues { IssuesFew result 7 (⟦<Self as Seen>⟧.view self.old) (⟦<Self as Seen>⟧.view self.new) }
@@ -210,19 +173,8 @@ impl<F: Flights> Sender<F> {
     ) -> Result<(), Stop>
         requires ready { CanIssue most_entries (⟦<Self as Seen>⟧.view self.old) }
         requires sound { IsSound (unit.Poll mask requested turns) }
-        ensures on { (m0 : BenchState) (calls : List Ask) (ask : Ask) → IsSetTo config.idle config.retry m0
-            → ask.call ≡ Access (unit.Poll mask requested turns) → IsAsked (⟦<Self as Seen>⟧.view self.old) calls ask m0 → OnOk result (IsBegun (⟦<Self as Seen>⟧.view self.new) m0) }
-        ensures spare { (m0 : BenchState) (calls : List Ask) (ask : Ask) (left : ℕ) → IsSetTo config.idle config.retry m0
-            → ask.call ≡ Access (unit.Poll mask requested turns) → IsAsked (⟦<Self as Seen>⟧.view self.old) calls ask m0
-            → IsPaid (⟦<Self as Seen>⟧.view self.old) left m0 → OnOk result (IsPaid (⟦<Self as Seen>⟧.view self.new) left m0) }
-        ensures needs { (m0 : BenchState) (calls : List Ask) (ask : Ask) → IsSetTo config.idle config.retry m0
-            → ask.call ≡ Access (unit.Poll mask requested turns) → IsAsked (⟦<Self as Seen>⟧.view self.old) calls ask m0
-            → OnOk result (HasNeeds (⟦<Self as Seen>⟧.view self.old) (⟦<Self as Seen>⟧.view self.new) calls ask m0) }
-        ensures broke { (m0 : BenchState) (calls : List Ask) (ask : Ask) → IsSetTo config.idle config.retry m0
-            → ask.call ≡ Access (unit.Poll mask requested turns) → IsAsked (⟦<Self as Seen>⟧.view self.old) calls ask m0 → IfErr result (IsAtEnd (⟦<Self as Seen>⟧.view self.new) m0) }
-        ensures stops { (m0 : BenchState) (calls : List Ask) (ask : Ask) (answered : Option ℕ) → IsSetTo config.idle config.retry m0
-            → ask.call ≡ Access (unit.Poll mask requested turns) → IsAsked (⟦<Self as Seen>⟧.view self.old) calls ask m0
-            → IsLeft (access_view (⟦<Self as Seen>⟧.view self.new)) answered → IfErr result (StopsThere m0 answered self.old.log.calls self.new.log.lines) }
+        ensures gives { AsksFor result (⟦<Self as Seen>⟧.view self.old) (⟦<Self as Seen>⟧.view self.new)
+            (λ m0 ask. (IsSetTo config.idle config.retry m0) × (ask.call ≡ Access (unit.Poll mask requested turns))) IsBegun }
         ensures keeps { Keeps (⟦<Self as Seen>⟧.view self.old) (⟦<Self as Seen>⟧.view self.new) }
         ensures ends { EndsBy result (⟦<Self as Seen>⟧.view self.new) }
         ensures asks { AsksWhole result (⟦<Self as Seen>⟧.view self.new) }

@@ -47,11 +47,15 @@ fn make_poll<F: Flights>(
     requires usable { F.ended flights.old ≡ None }
     requires empty { F.accesses flights.old ≡ [] }
     requires turns { 1 ≤ turns }
-    ensures done { IfOk result (λ found. StepsTo (λ m o. CanFly m → (zero ≡ true → CanMatch config.idle config.retry m) → HasDone (Polls mask requested turns) (matched_word found.matched) m o) (F.state flights.old) (F.state flights.new)) }
-    ensures packets { IfOk result (λ found. StepsTo (λ m o. CanFly m → (zero ≡ true → CanMatch config.idle config.retry m) → SendsFew (found.points - 1) m o) (F.state flights.old) (F.state flights.new)) }
+    ensures done { IfOk result (λ found. StepsTo (λ m o. CanFly m → (zero ≡ true → CanMatch config.idle config.retry m)
+        → HasDone (Polls mask requested turns) (matched_word found.matched) m o) (F.state flights.old) (F.state flights.new)) }
+    ensures packets { IfOk result (λ found. StepsTo (λ m o. CanFly m → (zero ≡ true → CanMatch config.idle config.retry m)
+        → SendsFew (found.points - 1) m o) (F.state flights.old) (F.state flights.new)) }
     ensures some { IfOk result (λ found. 1 ≤ found.points) }
-    ensures points { IfOk result (λ found. StepsTo (λ m o. CanFly m → found.points ≡ 1 + (if zero then portions turns else (polled turns mask requested (target_of m.probe)).reads)) (F.state flights.old) (F.state flights.new)) }
-    ensures left { IfErr result (λ end. StepsTo (λ m o. CanFly m → (zero ≡ true → CanMatch config.idle config.retry m) → LeftOff (Polls mask requested turns) end m o) (F.state flights.old) (F.state flights.new)) }
+    ensures points { IfOk result (λ found. StepsTo (λ m o. CanFly m
+        → found.points ≡ 1 + (if zero then portions turns else (polled turns mask requested (target_of m.probe)).reads)) (F.state flights.old) (F.state flights.new)) }
+    ensures left { IfErr result (λ end. StepsTo (λ m o. CanFly m → (zero ≡ true → CanMatch config.idle config.retry m)
+        → LeftOff (Polls mask requested turns) end m o) (F.state flights.old) (F.state flights.new)) }
     ensures none { IfErr result NamesNone }
     ensures response { IfErr result IsCutResponse }
     ensures empty { F.accesses flights.new ≡ [] }

@@ -9,13 +9,14 @@ ghost use Rattle.flight_forms.specs.Packing.{IsTaken};
 ghost use Rattle.probe_core.specs.Bench.{BenchState, StepsTo};
 ghost use Rattle.access_calls.specs.Issued.{lines_before_kept};
 ghost use Rattle.bench_flights.specs.Clearing.{IsOneTransfer};
-ghost use Rattle.packed_access.specs.Forgiving.{IsNext, LeadsCame, WentTo, with_accesses};
+ghost use Rattle.packed_access.specs.Forgiving.{IsNext, LeadsCame, with_accesses};
 ghost use Rattle.packed_access.specs.Sparing.{WentFew};
 ghost use Rattle.batch_packer.specs.Flying.{CanFly};
 ghost use Rattle.packed_access.specs.Logs.{IsOfCall};
 ghost use Rattle.access_regs.specs.Kept.{Kept, selected};
 ghost use Rattle.access_regs.specs.Plan.{select_value};
 ghost use Rattle.access_regs.specs.declared.planner.Planner.TheVariants.{Managed};
+ghost use Rattle.packed_access.specs.Gives.{TriesNext};
 ghost use Rattle.packed_access.specs.Frame.{CanAdd, CanTry, EndsBy, Keeps, Tries};
 ghost use Rattle.packed_access.specs.Views.{HasSpace, IsBroken, IsTried};
 
@@ -68,12 +69,7 @@ impl<F: Flights> Sender<F> {
         requires one { IsOneTransfer (leads.now ++ last ∷ []) }
         requires taken { AllByRecursion IsTaken leads.now }
         requires last { IsTaken last }
-        ensures on { (m0 : BenchState) (asked : AccessUnit) (k : Kept) (t : TargetState) (made : List RegAccess) (rest more : List Action)
-            → IsTried (⟦<Self as Seen>⟧.view self.old) forgive asked k t made rest m0 → IsNext asked t made leads.now last ends rest more
-            → IfOk result (λ w. WentTo F.planner forgive w (F.state self.new.flights) self.new.log asked k t made leads.now last more m0) }
-        ensures broke { (m0 : BenchState) (asked : AccessUnit) (k : Kept) (t : TargetState) (made : List RegAccess) (rest more : List Action)
-            → IsTried (⟦<Self as Seen>⟧.view self.old) forgive asked k t made rest m0 → IsNext asked t made leads.now last ends rest more
-            → IfErr result (IsBroken (⟦<Self as Seen>⟧.view self.new) self.old.log.calls m0) }
+        ensures gives { TriesNext result (⟦<Self as Seen>⟧.view self.old) (⟦<Self as Seen>⟧.view self.new) forgive leads.now last ends }
         ensures keeps { Keeps (⟦<Self as Seen>⟧.view self.old) (⟦<Self as Seen>⟧.view self.new) }
         ensures ends { EndsBy result (⟦<Self as Seen>⟧.view self.new) }
         ensures tries { Tries result (⟦<Self as Seen>⟧.view self.old) (⟦<Self as Seen>⟧.view self.new) }
@@ -117,10 +113,12 @@ impl<F: Flights> Sender<F> {
     fn try_leads(&mut self, leads: &[RegAccess], forgive: bool) -> Result<bool, Stop>
         requires ready { CanTry (length leads.now + 2) (⟦<Self as Seen>⟧.view self.old) }
         requires taken { AllByRecursion IsTaken leads.now }
-        ensures on { (m0 : BenchState) (asked : AccessUnit) (k : Kept) (t : TargetState) (made : List RegAccess) (last : RegAccess) (ends : Bool) (rest more : List Action)
+        ensures on { (m0 : BenchState) (asked : AccessUnit) (k : Kept) (t : TargetState) (made : List RegAccess)
+            (last : RegAccess) (ends : Bool) (rest more : List Action)
             → IsTried (⟦<Self as Seen>⟧.view self.old) forgive asked k t made rest m0 → IsNext asked t made leads.now last ends rest more
             → IfOk result (λ came. LeadsCame came F.planner forgive (F.state self.new.flights) self.new.log asked k t made leads.now last more m0) }
-        ensures broke { (m0 : BenchState) (asked : AccessUnit) (k : Kept) (t : TargetState) (made : List RegAccess) (last : RegAccess) (ends : Bool) (rest more : List Action)
+        ensures broke { (m0 : BenchState) (asked : AccessUnit) (k : Kept) (t : TargetState) (made : List RegAccess)
+            (last : RegAccess) (ends : Bool) (rest more : List Action)
             → IsTried (⟦<Self as Seen>⟧.view self.old) forgive asked k t made rest m0 → IsNext asked t made leads.now last ends rest more
             → IfErr result (IsBroken (⟦<Self as Seen>⟧.view self.new) self.old.log.calls m0) }
         ensures keeps { Keeps (⟦<Self as Seen>⟧.view self.old) (⟦<Self as Seen>⟧.view self.new) }
@@ -152,12 +150,7 @@ impl<F: Flights> Sender<F> {
         requires one { IsOneTransfer (leads.now ++ last ∷ []) }
         requires taken { AllByRecursion IsTaken leads.now }
         requires last { IsTaken last }
-        ensures on { (m0 : BenchState) (asked : AccessUnit) (k : Kept) (t : TargetState) (made : List RegAccess) (rest more : List Action)
-            → IsTried (⟦<Self as Seen>⟧.view self.old) forgive asked k t made rest m0 → IsNext asked t made leads.now last ends rest more
-            → IfOk result (λ w. WentTo F.planner forgive w (F.state self.new.flights) self.new.log asked k t made leads.now last more m0) }
-        ensures broke { (m0 : BenchState) (asked : AccessUnit) (k : Kept) (t : TargetState) (made : List RegAccess) (rest more : List Action)
-            → IsTried (⟦<Self as Seen>⟧.view self.old) forgive asked k t made rest m0 → IsNext asked t made leads.now last ends rest more
-            → IfErr result (IsBroken (⟦<Self as Seen>⟧.view self.new) self.old.log.calls m0) }
+        ensures gives { TriesNext result (⟦<Self as Seen>⟧.view self.old) (⟦<Self as Seen>⟧.view self.new) forgive leads.now last ends }
         ensures keeps { Keeps (⟦<Self as Seen>⟧.view self.old) (⟦<Self as Seen>⟧.view self.new) }
         ensures ends { EndsBy result (⟦<Self as Seen>⟧.view self.new) }
         ensures tries { Tries result (⟦<Self as Seen>⟧.view self.old) (⟦<Self as Seen>⟧.view self.new) }
@@ -189,12 +182,7 @@ impl<F: Flights> Sender<F> {
         requires calm { self.old.managed.unsettled ≡ None }
         requires bank { bank < 16 }
         requires taken { IsTaken access }
-        ensures on { (m0 : BenchState) (asked : AccessUnit) (k : Kept) (t : TargetState) (made : List RegAccess) (rest more : List Action)
-            → IsTried (⟦<Self as Seen>⟧.view self.old) forgive asked k t made rest m0 → IsNext asked t made (select_of ap bank ∷ []) access ends rest more
-            → IfOk result (λ w. WentTo F.planner forgive w (F.state self.new.flights) self.new.log asked k t made (select_of ap bank ∷ []) access more m0) }
-        ensures broke { (m0 : BenchState) (asked : AccessUnit) (k : Kept) (t : TargetState) (made : List RegAccess) (rest more : List Action)
-            → IsTried (⟦<Self as Seen>⟧.view self.old) forgive asked k t made rest m0 → IsNext asked t made (select_of ap bank ∷ []) access ends rest more
-            → IfErr result (IsBroken (⟦<Self as Seen>⟧.view self.new) self.old.log.calls m0) }
+        ensures gives { TriesNext result (⟦<Self as Seen>⟧.view self.old) (⟦<Self as Seen>⟧.view self.new) forgive (select_of ap bank ∷ []) access ends }
         ensures keeps { Keeps (⟦<Self as Seen>⟧.view self.old) (⟦<Self as Seen>⟧.view self.new) }
         ensures ends { EndsBy result (⟦<Self as Seen>⟧.view self.new) }
         ensures tries { Tries result (⟦<Self as Seen>⟧.view self.old) (⟦<Self as Seen>⟧.view self.new) }

@@ -28,7 +28,7 @@ returns-after-small-clause-needs g c = λ m answered h left.
     let is : c.ask.new.self ≡ with_call old.log (unit_ask c.args.unit c.args.forgive) c.ask.new.self.room = search rules in
     let ok : IsAskable (unit_ask c.args.unit c.args.forgive) = record { sound = c.requires.sound; range = c.ask_of-ask.ensures.range } in
     let there = begins_asked g.F.Flights.planner _ _ old.log c.ask.new.self _ _ _ _ (unit_ask c.args.unit c.args.forgive) m h.sparing.begun none ok refl old.sound.results_long old.sound.places_long is in
-    c.in-Ok.ensures.needs m old.log.calls (unit_ask c.args.unit c.args.forgive) h.set refl there ∙ ap (λ (l : LogState). asked (cost_by g.F.Flights.planner (target_of m.probe) old.log.calls (unit_ask c.args.unit c.args.forgive)) (unit_ask c.args.unit c.args.forgive) (record { calls = old.log.calls; needs = l.needs; fence = l.fence })) is
+    c.in-Ok.ensures.gives.needs m old.log.calls (unit_ask c.args.unit c.args.forgive) (h.set, refl) there ∙ ap (λ (l : LogState). asked (cost_by g.F.Flights.planner (target_of m.probe) old.log.calls (unit_ask c.args.unit c.args.forgive)) (unit_ask c.args.unit c.args.forgive) (record { calls = old.log.calls; needs = l.needs; fence = l.fence })) is
 
 pub returns-after-small-clause-small : goal.returns-after-small-clause-small
 returns-after-small-clause-small g c = λ m answered h left.
@@ -44,7 +44,7 @@ returns-after-small-clause-small g c = λ m answered h left.
     both
     ∙ ap (λ (b : Bool). b && is_wide c.args.unit) (c.in-Ok.ensures.small m old.log.calls (unit_ask c.args.unit c.args.forgive) h.set refl there)
     ∙ small_wide (target_of m.probe) old.log.calls c.args.unit c.args.forgive
-    ∙ sym (small_left g.F.Flights.planner _ _ new.log _ _ _ _ old.log.calls (unit_ask c.args.unit c.args.forgive) m answered (c.in-Ok.ensures.on m old.log.calls (unit_ask c.args.unit c.args.forgive) h.set refl there) c.in-Ok.ensures.ends.no_end calls left) in
+    ∙ sym (small_left g.F.Flights.planner _ _ new.log _ _ _ _ old.log.calls (unit_ask c.args.unit c.args.forgive) m answered (c.in-Ok.ensures.gives.on m old.log.calls (unit_ask c.args.unit c.args.forgive) (h.set, refl) there) c.in-Ok.ensures.ends.no_end calls left) in
     subst (λ (b : Bool). IsSmallWhere b c.answer.result) is c.answer.ensures.small
 
 pub returns-after-small-clause-on : goal.returns-after-small-clause-on
@@ -56,12 +56,12 @@ returns-after-small-clause-on g c = λ m h.
     let there = begins_asked g.F.Flights.planner _ _ old.log c.ask.new.self _ _ _ _ (unit_ask c.args.unit c.args.forgive) m h.sparing.begun none ok refl old.sound.results_long old.sound.places_long is_asked in
     record {
       sparing = record {
-        begun = c.in-Ok.ensures.on m old.log.calls (unit_ask c.args.unit c.args.forgive) h.set refl there;
+        begun = c.in-Ok.ensures.gives.on m old.log.calls (unit_ask c.args.unit c.args.forgive) (h.set, refl) there;
         paid = λ open_. paid_upto g.F.Flights.planner _ _ _ old.log c.issue_asked.new.self.log m
-            (c.in-Ok.ensures.spare m old.log.calls (unit_ask c.args.unit c.args.forgive) (left_of old.log) h.set refl there (paid_asked g.F.Flights.planner _ _ _ old.log c.ask.new.self (unit_ask c.args.unit c.args.forgive) (left_of old.log) m (h.sparing.paid none) is_asked))
+            (c.in-Ok.ensures.gives.spare m old.log.calls (unit_ask c.args.unit c.args.forgive) (left_of old.log) (h.set, refl) there (paid_asked g.F.Flights.planner _ _ _ old.log c.ask.new.self (unit_ask c.args.unit c.args.forgive) (left_of old.log) m (h.sparing.paid none) is_asked))
             (λ past. (let p = c.in-Ok.ensures.fenced past in let k = ap (λ (l : LogState). l.known) is_asked in let f = ap (λ (l : LogState). l.fence) is_asked in omega (arith, p, k, f)));
         needed = λ open_. needed_by g.F.Flights.planner (target_of m.probe) (asks_of old.log) (asks_of c.issue_asked.new.self.log) (unit_ask c.args.unit c.args.forgive) (h.sparing.needed none) refl
-            (c.in-Ok.ensures.needs m old.log.calls (unit_ask c.args.unit c.args.forgive) h.set refl there ∙ ap (λ (l : LogState). asked (cost_by g.F.Flights.planner (target_of m.probe) old.log.calls (unit_ask c.args.unit c.args.forgive)) (unit_ask c.args.unit c.args.forgive) (record { calls = old.log.calls; needs = l.needs; fence = l.fence })) is_asked);
+            (c.in-Ok.ensures.gives.needs m old.log.calls (unit_ask c.args.unit c.args.forgive) (h.set, refl) there ∙ ap (λ (l : LogState). asked (cost_by g.F.Flights.planner (target_of m.probe) old.log.calls (unit_ask c.args.unit c.args.forgive)) (unit_ask c.args.unit c.args.forgive) (record { calls = old.log.calls; needs = l.needs; fence = l.fence })) is_asked);
       };
       set = h.set;
     }
@@ -74,7 +74,7 @@ returns-in-Err-clause-stops g c = λ m answered h left none.
     let there = begins_asked g.F.Flights.planner _ _ old.log c.ask.new.self _ _ _ _ (unit_ask c.args.unit c.args.forgive) m h.sparing.begun none ok refl old.sound.results_long old.sound.places_long is_asked in
     stops_asked m answered old.log.calls (unit_ask c.args.unit c.args.forgive) _ c.in-Err.stop refl
     (subst (λ (calls : List Ask). StopsThere m answered calls c.issue_asked.new.self.log.lines c.in-Err.stop) (ap (λ (l : LogState). l.calls) is_asked)
-    (c.in-Err.ensures.stops m old.log.calls (unit_ask c.args.unit c.args.forgive) answered h.set refl there left))
+    (c.in-Err.ensures.gives.stops m old.log.calls (unit_ask c.args.unit c.args.forgive) answered (h.set, refl) there left))
 
 pub returns-in-Err-clause-on : goal.returns-in-Err-clause-on
 returns-in-Err-clause-on g c = λ m h.
@@ -83,4 +83,4 @@ returns-in-Err-clause-on g c = λ m h.
     let is_asked : c.ask.new.self ≡ with_call old.log (unit_ask c.args.unit c.args.forgive) c.ask.new.self.room = search rules in
     let ok : IsAskable (unit_ask c.args.unit c.args.forgive) = record { sound = c.requires.sound; range = c.ask_of-ask.ensures.range } in
     let there = begins_asked g.F.Flights.planner _ _ old.log c.ask.new.self _ _ _ _ (unit_ask c.args.unit c.args.forgive) m h.sparing.begun none ok refl old.sound.results_long old.sound.places_long is_asked in
-    record { sparing = sparing_ended g.F.Flights.planner _ _ _ c.issue_asked.new.self.log _ _ _ _ m c.in-Err.stop (c.in-Err.ensures.broke m old.log.calls (unit_ask c.args.unit c.args.forgive) h.set refl there) c.in-Err.ensures.ends.ended; set = h.set }
+    record { sparing = sparing_ended g.F.Flights.planner _ _ _ c.issue_asked.new.self.log _ _ _ _ m c.in-Err.stop (c.in-Err.ensures.gives.broke m old.log.calls (unit_ask c.args.unit c.args.forgive) (h.set, refl) there) c.in-Err.ensures.ends.ended; set = h.set }

@@ -27,7 +27,7 @@ returns-in-Err-clause-stops g c = λ m answered h left none.
     let ok : IsAskable (probe_ask c.args.call) = record { sound = c.requires.sound; range = c.points_of-points.ensures.range } in
     let there = begun_asked g.F.Flights.planner _ _ old.log c.ask.new.self _ _ _ _ (probe_ask c.args.call) m h.sparing.begun none ok refl old.sound.results_long old.sound.places_long asked in
     stops_asked m answered old.log.calls (probe_ask c.args.call) _ c.in-Err.stop refl
-    (subst (λ (calls : List Ask). StopsThere m answered calls c.send.new.self.log.lines c.in-Err.stop) (ap (λ (l : LogState). l.calls) asked) (c.in-Err.ensures.stops m _ answered there left))
+    (subst (λ (calls : List Ask). StopsThere m answered calls c.send.new.self.log.lines c.in-Err.stop) (ap (λ (l : LogState). l.calls) asked) (c.in-Err.ensures.gives.stops m _ answered there left))
 
 pub returns-in-Err-clause-on : goal.returns-in-Err-clause-on
 returns-in-Err-clause-on g c = λ m h.
@@ -36,7 +36,7 @@ returns-in-Err-clause-on g c = λ m h.
     let asked : c.ask.new.self ≡ with_call old.log (probe_ask c.args.call) c.ask.new.self.room = search rules in
     let ok : IsAskable (probe_ask c.args.call) = record { sound = c.requires.sound; range = c.points_of-points.ensures.range } in
     let there = begun_asked g.F.Flights.planner _ _ old.log c.ask.new.self _ _ _ _ (probe_ask c.args.call) m h.sparing.begun none ok refl old.sound.results_long old.sound.places_long asked in
-    record { sparing = sparing_ended g.F.Flights.planner _ _ _ c.send.new.self.log _ _ _ _ m c.in-Err.stop (c.in-Err.ensures.broke m _ there) (ap (λ (l : LogState). l.end) c.in-Err.ensures.ended); set = h.set }
+    record { sparing = sparing_ended g.F.Flights.planner _ _ _ c.send.new.self.log _ _ _ _ m c.in-Err.stop (c.in-Err.ensures.gives.broke m _ there) (ap (λ (l : LogState). l.end) c.in-Err.ensures.ended); set = h.set }
 
 pub returns-in-Err-make_last-clause-stops : goal.returns-in-Err-make_last-clause-stops
 returns-in-Err-make_last-clause-stops g c = λ m answered h left none.
@@ -44,7 +44,7 @@ returns-in-Err-make_last-clause-stops g c = λ m answered h left none.
     let asked : c.ask.new.self ≡ with_call old.log (probe_ask c.args.call) c.ask.new.self.room = search rules in
     let ok : IsAskable (probe_ask c.args.call) = record { sound = c.requires.sound; range = c.points_of-points.ensures.range } in
     let there = begun_asked g.F.Flights.planner _ _ old.log c.ask.new.self _ _ _ _ (probe_ask c.args.call) m h.sparing.begun none ok refl old.sound.results_long old.sound.places_long asked in
-    let sent = c.in-Ok.ensures.on m _ there in
+    let sent = c.in-Ok.ensures.gives.on m _ there in
     let calls : c.send.new.self.log.calls ≡ old.log.calls ++ probe_ask c.args.call ∷ [] = ap (λ (l : LogState). l.calls) c.in-Ok.ensures.log ∙ ap (λ (l : LogState). l.calls) asked in
     stops_asked m answered old.log.calls (probe_ask c.args.call) _ c.in-Err-make_last.stop refl
     (subst (λ (calls : List Ask). StopsThere m answered calls c.make_last.new.self.log.lines c.in-Err-make_last.stop) calls (c.in-Err-make_last.ensures.stops m old.log.calls answered calls sent left))
@@ -56,7 +56,7 @@ returns-in-Err-make_last-clause-on g c = λ m h.
     let asked : c.ask.new.self ≡ with_call old.log (probe_ask c.args.call) c.ask.new.self.room = search rules in
     let ok : IsAskable (probe_ask c.args.call) = record { sound = c.requires.sound; range = c.points_of-points.ensures.range } in
     let there = begun_asked g.F.Flights.planner _ _ old.log c.ask.new.self _ _ _ _ (probe_ask c.args.call) m h.sparing.begun none ok refl old.sound.results_long old.sound.places_long asked in
-    let sent = c.in-Ok.ensures.on m _ there in
+    let sent = c.in-Ok.ensures.gives.on m _ there in
     let calls : c.send.new.self.log.calls ≡ old.log.calls ++ probe_ask c.args.call ∷ [] = ap (λ (l : LogState). l.calls) c.in-Ok.ensures.log ∙ ap (λ (l : LogState). l.calls) asked in
     record { sparing = sparing_ended g.F.Flights.planner _ _ _ c.make_last.new.self.log _ _ _ _ m _ (c.in-Err-make_last.ensures.broke m old.log.calls calls sent) c.in-Err-make_last.ensures.ends.ended; set = h.set }
 
@@ -69,14 +69,14 @@ returns-in-Ok-make_last-clause-on g c = λ m h.
     let asked : c.ask.new.self ≡ with_call old.log (probe_ask c.args.call) c.ask.new.self.room = search rules in
     let ok : IsAskable (probe_ask c.args.call) = record { sound = c.requires.sound; range = c.points_of-points.ensures.range } in
     let there = begun_asked g.F.Flights.planner _ _ old.log c.ask.new.self _ _ _ _ (probe_ask c.args.call) m h.sparing.begun none ok refl old.sound.results_long old.sound.places_long asked in
-    let sent = c.in-Ok.ensures.on m _ there in
+    let sent = c.in-Ok.ensures.gives.on m _ there in
     let calls : mid.log.calls ≡ old.log.calls ++ probe_ask c.args.call ∷ [] = ap (λ (l : LogState). l.calls) c.in-Ok.ensures.log ∙ ap (λ (l : LogState). l.calls) asked in
     let done = c.in-Ok-make_last.ensures.on m old.log.calls calls sent in
     let same : new.log.calls ≡ mid.log.calls = ap (λ (l : LogState). l.calls) c.in-Ok-make_last.ensures.log in
     let end : new.log.end ≡ None = ap (λ (l : LogState). l.end) c.in-Ok-make_last.ensures.log ∙ ap (λ (l : LogState). l.end) c.in-Ok.ensures.log ∙ ap (λ (l : LogState). l.end) asked ∙ none in
     let whole : new.log.whole ≡ length new.log.calls = ap (λ (l : LogState). l.whole) c.in-Ok-make_last.ensures.log ∙ ap length (sym same) in
     let paid = paid_asked g.F.Flights.planner _ _ _ old.log c.ask.new.self (probe_ask c.args.call) (left_of old.log) m (h.sparing.paid none) asked in
-    let made = c.in-Ok-make_last.ensures.spare m old.log.calls paid.paid calls sent (c.in-Ok.ensures.spare m _ paid.paid there paid.spared) in
+    let made = c.in-Ok-make_last.ensures.spare m old.log.calls paid.paid calls sent (c.in-Ok.ensures.gives.spare m _ paid.paid there paid.spared) in
     let needs : new.log.needs ≡ c.ask.new.self.needs = ap (λ (l : LogState). l.needs) c.in-Ok-make_last.ensures.log ∙ ap (λ (l : LogState). l.needs) c.in-Ok.ensures.log in
     let noted = needs_new new.log c.need.new.self c.count_points.result c.count-count.result c.need.ensures.answer in
     let known : new.log.known ≡ length c.need.new.self.calls = ap (λ (l : LogState). l.known) c.in-Ok-make_last.ensures.log ∙ ap length (sym same) ∙ sym (ap (λ (l : LogState). length l.calls) noted) in
@@ -103,7 +103,7 @@ returns-in-Ok-make_last-clause-whole g c = λ m answered h left.
     let asked : c.ask.new.self ≡ with_call old.log (probe_ask c.args.call) c.ask.new.self.room = search rules in
     let ok : IsAskable (probe_ask c.args.call) = record { sound = c.requires.sound; range = c.points_of-points.ensures.range } in
     let there = begun_asked g.F.Flights.planner _ _ old.log c.ask.new.self _ _ _ _ (probe_ask c.args.call) m h.sparing.begun none ok refl old.sound.results_long old.sound.places_long asked in
-    let sent = c.in-Ok.ensures.on m _ there in
+    let sent = c.in-Ok.ensures.gives.on m _ there in
     let calls : mid.log.calls ≡ old.log.calls ++ probe_ask c.args.call ∷ [] = ap (λ (l : LogState). l.calls) c.in-Ok.ensures.log ∙ ap (λ (l : LogState). l.calls) asked in
     let done = c.in-Ok-make_last.ensures.on m old.log.calls calls sent in
     let same : new.log.calls ≡ mid.log.calls = ap (λ (l : LogState). l.calls) c.in-Ok-make_last.ensures.log in
@@ -121,7 +121,7 @@ returns-in-Ok-make_last-clause-value g c = λ m answered h left.
     let asked : c.ask.new.self ≡ with_call old.log (probe_ask c.args.call) c.ask.new.self.room = search rules in
     let ok : IsAskable (probe_ask c.args.call) = record { sound = c.requires.sound; range = c.points_of-points.ensures.range } in
     let there = begun_asked g.F.Flights.planner _ _ old.log c.ask.new.self _ _ _ _ (probe_ask c.args.call) m h.sparing.begun none ok refl old.sound.results_long old.sound.places_long asked in
-    let sent = c.in-Ok.ensures.on m _ there in
+    let sent = c.in-Ok.ensures.gives.on m _ there in
     let calls : mid.log.calls ≡ old.log.calls ++ probe_ask c.args.call ∷ [] = ap (λ (l : LogState). l.calls) c.in-Ok.ensures.log ∙ ap (λ (l : LogState). l.calls) asked in
     let done = c.in-Ok-make_last.ensures.on m old.log.calls calls sent in
     let same : new.log.calls ≡ mid.log.calls = ap (λ (l : LogState). l.calls) c.in-Ok-make_last.ensures.log in

@@ -36,14 +36,14 @@ pub returns-in-Ok-clause-on : goal.returns-in-Ok-clause-on
 returns-in-Ok-clause-on g c = λ m h.
     let old = c.args.self.now.sender in
     let none : old.log.end ≡ None = search rules in
-    let there = c.in-Ok.ensures.on m [] (begun_issued g.F.Flights.planner _ _ old.log _ _ _ _ m h.sparing.begun none) in
+    let there = c.in-Ok.ensures.gives.on m [] (begun_issued g.F.Flights.planner _ _ old.log _ _ _ _ m h.sparing.begun none) in
     let not : old.log.known ≤ c.args.slot.index = is_past c.args.slot.index old.log.known c.is_known.result c.is_known.ensures c.if-is_known.false in
     record {
       sparing = record {
         begun = begun_needs g.F.Flights.planner _ _ c.send.new.self.log c.use_slot-in-Ok.new.self _ _ _ _ _ _ m
             (begun_flushed g.F.Flights.planner _ _ _ _ old.log c.send.new.self.log _ _ _ _ _ _ _ _ _ m h.sparing.begun none (c.args.self.now.whole none) there c.in-Ok.ensures.log c.send.ensures.empty c.send.ensures.managed)
             refl refl (used_new c.send.new.self.log _ c.args.slot c.use_slot-in-Ok.ensures.answer);
-        paid = λ open_. paid_sent g.F.Flights.planner _ _ _ _ _ _ old.log c.send.new.self.log c.use_slot-in-Ok.new.self _ c.args.slot m (h.sparing.paid none) (λ points s. c.in-Ok.ensures.spare m [] points (begun_issued g.F.Flights.planner _ _ old.log _ _ _ _ m h.sparing.begun none) s)
+        paid = λ open_. paid_sent g.F.Flights.planner _ _ _ _ _ _ old.log c.send.new.self.log c.use_slot-in-Ok.new.self _ c.args.slot m (h.sparing.paid none) (λ points s. c.in-Ok.ensures.gives.spare m [] points (begun_issued g.F.Flights.planner _ _ old.log _ _ _ _ m h.sparing.begun none) s)
             c.in-Ok.ensures.log (c.args.self.now.whole none) old.sound.fence_within not c.use_slot-in-Ok.ensures.answer;
         needed = λ open_. needed_used g.F.Flights.planner (target_of m.probe) (asks_of old.log) c.send.new.self.log c.use_slot-in-Ok.new.self c.args.slot (h.sparing.needed none) (ap (λ (l : LogState). l.calls) c.in-Ok.ensures.log) (ap (λ (l : LogState). l.needs) c.in-Ok.ensures.log) c.use_slot-in-Ok.ensures.answer;
       };
@@ -55,7 +55,7 @@ returns-in-Ok-clause-value g c = λ m answered h left.
     let old = c.args.self.now.sender in
     let mid = c.send.new.self in
     let none : old.log.end ≡ None = search rules in
-    let there = c.in-Ok.ensures.on m [] (begun_issued g.F.Flights.planner _ _ old.log _ _ _ _ m h.sparing.begun none) in
+    let there = c.in-Ok.ensures.gives.on m [] (begun_issued g.F.Flights.planner _ _ old.log _ _ _ _ m h.sparing.begun none) in
     let begun = begun_flushed g.F.Flights.planner _ (g.F.Flights.reported mid.flights) _ _ old.log mid.log _ _ [] [] _ _ _ _ _ m h.sparing.begun none (c.args.self.now.whole none) there c.in-Ok.ensures.log c.send.ensures.empty c.send.ensures.managed in
     let calls : mid.log.calls ≡ old.log.calls = ap (λ (l : LogState). l.calls) c.in-Ok.ensures.log in
     let known : mid.log.known ≡ old.log.whole = ap (λ (l : LogState). l.known) c.in-Ok.ensures.log in
@@ -69,10 +69,10 @@ returns-in-Ok-clause-value g c = λ m answered h left.
 pub returns-in-Err-clause-stops : goal.returns-in-Err-clause-stops
 returns-in-Err-clause-stops g c = λ m answered h left none.
     let old = c.args.self.now.sender in
-    stops_flushed g.F.Flights.planner _ _ old.log _ _ _ _ m answered _ c.in-Err.stop h.sparing.begun none c.in-Err.ensures.some (c.in-Err.ensures.stops m [] answered (begun_issued g.F.Flights.planner _ _ old.log _ _ _ _ m h.sparing.begun none) left)
+    stops_flushed g.F.Flights.planner _ _ old.log _ _ _ _ m answered _ c.in-Err.stop h.sparing.begun none c.in-Err.ensures.some (c.in-Err.ensures.gives.stops m [] answered (begun_issued g.F.Flights.planner _ _ old.log _ _ _ _ m h.sparing.begun none) left)
 
 pub returns-in-Err-clause-on : goal.returns-in-Err-clause-on
 returns-in-Err-clause-on g c = λ m h.
     let old = c.args.self.now.sender in
     let none : old.log.end ≡ None = search rules in
-    record { sparing = sparing_ended g.F.Flights.planner _ _ _ c.send.new.self.log _ _ _ _ m c.in-Err.stop (c.in-Err.ensures.broke m [] (begun_issued g.F.Flights.planner _ _ old.log _ _ _ _ m h.sparing.begun none)) (ap (λ (l : LogState). l.end) c.in-Err.ensures.ended); set = h.set }
+    record { sparing = sparing_ended g.F.Flights.planner _ _ _ c.send.new.self.log _ _ _ _ m c.in-Err.stop (c.in-Err.ensures.gives.broke m [] (begun_issued g.F.Flights.planner _ _ old.log _ _ _ _ m h.sparing.begun none)) (ap (λ (l : LogState). l.end) c.in-Err.ensures.ended); set = h.set }

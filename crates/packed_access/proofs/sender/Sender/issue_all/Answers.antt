@@ -3,9 +3,20 @@ use Rattle.std.proofs.lemmas.List.{at_drop_more}
 use Rattle.target_machine.specs.Plain.{Makes}
 use Rattle.target_machine.specs.declared.access.RegAccess.{RegAccess}
 use Rattle.target_calls.specs.Journal.{Entry}
+use Rattle.target_calls.specs.declared.calls.Ask.{Ask}
 use Rattle.access_calls.proofs.KeepLemmas.{goes_trans}
-use Rattle.packed_access.specs.Begun.{HasIssued, entries_of}
+use Rattle.packed_access.specs.Begun.{HasIssued, StopsThere, entries_of}
 use Rattle.packed_access.proofs.sender.Sender.issue_all.Goals as goal
+
+pub returns-in-Err-clause-gives : goal.returns-in-Err-clause-gives
+returns-in-Err-clause-gives g c = record {
+  on = λ m0 rest h. tt;
+  spare = λ m0 rest points h s. tt;
+  broke = λ m0 rest h. c.in-Err.ensures.broke m0 _ (c.loop-access.invariant.on m0 rest h);
+  stops = λ m0 rest answered h left.
+      subst (λ (calls : List Ask). StopsThere m0 answered calls c.issue.new.self.log.lines c.in-Err.stop) c.loop-access.invariant.further.calls
+      (c.in-Err.ensures.stops m0 _ answered (c.loop-access.invariant.on m0 rest h) left);
+}
 
 pub returns-in-Err-clause-keeps : goal.returns-in-Err-clause-keeps
 returns-in-Err-clause-keeps g c =

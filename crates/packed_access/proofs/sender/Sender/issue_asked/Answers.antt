@@ -19,12 +19,14 @@ returns-else-makes_alone g c =
     let e = c.ask_planned.ensures in
     let mild : (c.args.forgive && may_forgive (Access c.args.unit.now)) ≡ false = apart_mild g.F.Flights.planner c.args.forgive (may_forgive (Access c.args.unit.now)) (sym c.makes_alone.ensures ∙ c.if-makes_alone.false) in
     record {
-      on = λ m0 calls ask set is h. e.on m0 calls ask (ap (λ (a : Ask). a.call) is) (ap is_forgiving is ∙ mild) h;
-      spare = λ m0 calls ask left set is h s. e.spare m0 calls ask left (ap (λ (a : Ask). a.call) is) (ap is_forgiving is ∙ mild) h s;
+      gives = record {
+        on = λ m0 calls ask this h. e.gives.on m0 calls ask (ap (λ (a : Ask). a.call) this.1, ap is_forgiving this.1 ∙ mild) h;
+        spare = λ m0 calls ask left this h s. e.gives.spare m0 calls ask left (ap (λ (a : Ask). a.call) this.1, ap is_forgiving this.1 ∙ mild) h s;
+        needs = λ m0 calls ask this h. e.gives.needs m0 calls ask (ap (λ (a : Ask). a.call) this.1, ap is_forgiving this.1 ∙ mild) h;
+        broke = λ m0 calls ask this h. e.gives.broke m0 calls ask (ap (λ (a : Ask). a.call) this.1, ap is_forgiving this.1 ∙ mild) h;
+        stops = λ m0 calls ask answered this h left. e.gives.stops m0 calls ask answered (ap (λ (a : Ask). a.call) this.1, ap is_forgiving this.1 ∙ mild) h left;
+      };
       small = λ m0 calls ask set is h. e.small m0 calls ask (ap (λ (a : Ask). a.call) is) (ap is_forgiving is ∙ mild) h;
-      needs = λ m0 calls ask set is h. e.needs m0 calls ask (ap (λ (a : Ask). a.call) is) (ap is_forgiving is ∙ mild) h;
-      broke = λ m0 calls ask set is h. e.broke m0 calls ask (ap (λ (a : Ask). a.call) is) (ap is_forgiving is ∙ mild) h;
-      stops = λ m0 calls ask answered set is h left. e.stops m0 calls ask answered (ap (λ (a : Ask). a.call) is) (ap is_forgiving is ∙ mild) h left;
       keeps = e.keeps;
       ends = e.ends;
       asks = e.asks;

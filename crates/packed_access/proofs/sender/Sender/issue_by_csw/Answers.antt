@@ -11,67 +11,90 @@ use Rattle.packed_access.proofs.PlannedLemmas.{csw_left, csw_steps, plain_left, 
 use Rattle.packed_access.proofs.SparingLemmas.{never_past, spared_further, still_past}
 use Rattle.packed_access.proofs.sender.Sender.issue_by_csw.Goals as goal
 
-pub returns-then-not-needs_csw-clause-broke : goal.returns-then-not-needs_csw-clause-broke
-returns-then-not-needs_csw-clause-broke g c = λ m0 h.
-    let old = c.args.self.now in
-    let some : 0 < length old.log.calls = (let w = c.requires.ready.whole in omega (arith, w)) in
-    let needs : needs_csw old.managed c.args.unit.now ≡ false = search rules in
-    c.issue_unit.ensures.broke m0 [] (subst (λ (l : List Entry). HasIssued g.F.Flights.planner (g.F.Flights.state old.flights) old.log (g.F.Flights.accesses old.flights) l m0) (plain_left (length old.log.calls) (target_issued g.F.Flights.planner old.log m0) old.managed c.args.unit.now some c.requires.no_poll needs) h)
+pub returns-then-not-needs_csw-clause-gives : goal.returns-then-not-needs_csw-clause-gives
+returns-then-not-needs_csw-clause-gives g c = record {
+  on = λ m0 h.
+      let old = c.args.self.now in
+      let some : 0 < length old.log.calls = (let w = c.requires.ready.whole in omega (arith, w)) in
+      let needs : needs_csw old.managed c.args.unit.now ≡ false = search rules in
+      c.issue_unit.ensures.gives.on m0 [] (subst (λ (l : List Entry). HasIssued g.F.Flights.planner (g.F.Flights.state old.flights) old.log (g.F.Flights.accesses old.flights) l m0) (plain_left (length old.log.calls) (target_issued g.F.Flights.planner old.log m0) old.managed c.args.unit.now some c.requires.no_poll needs) h);
+  spare = λ m0 left h s.
+      let old = c.args.self.now in
+      let some : 0 < length old.log.calls = (let w = c.requires.ready.whole in omega (arith, w)) in
+      let needs : needs_csw old.managed c.args.unit.now ≡ false = search rules in
+      spared_further g.F.Flights.planner _ _ _ old.log c.issue_unit.new.self.log s.paid left c.issue_unit.result m0 s.covers c.issue_unit.ensures.further.so
+      (c.issue_unit.ensures.gives.spare m0 [] s.paid (subst (λ (l : List Entry). HasIssued g.F.Flights.planner (g.F.Flights.state old.flights) old.log (g.F.Flights.accesses old.flights) l m0) (plain_left (length old.log.calls) (target_issued g.F.Flights.planner old.log m0) old.managed c.args.unit.now some c.requires.no_poll needs) h) s.spared);
+  broke = λ m0 h.
+      let old = c.args.self.now in
+      let some : 0 < length old.log.calls = (let w = c.requires.ready.whole in omega (arith, w)) in
+      let needs : needs_csw old.managed c.args.unit.now ≡ false = search rules in
+      c.issue_unit.ensures.gives.broke m0 [] (subst (λ (l : List Entry). HasIssued g.F.Flights.planner (g.F.Flights.state old.flights) old.log (g.F.Flights.accesses old.flights) l m0) (plain_left (length old.log.calls) (target_issued g.F.Flights.planner old.log m0) old.managed c.args.unit.now some c.requires.no_poll needs) h);
+  stops = λ m0 answered h left.
+      let old = c.args.self.now in
+      let some : 0 < length old.log.calls = (let w = c.requires.ready.whole in omega (arith, w)) in
+      let needs : needs_csw old.managed c.args.unit.now ≡ false = search rules in
+      c.issue_unit.ensures.gives.stops m0 [] answered (subst (λ (l : List Entry). HasIssued g.F.Flights.planner (g.F.Flights.state old.flights) old.log (g.F.Flights.accesses old.flights) l m0) (plain_left (length old.log.calls) (target_issued g.F.Flights.planner old.log m0) old.managed c.args.unit.now some c.requires.no_poll needs) h) left;
+}
 
-pub returns-then-not-needs_csw-clause-stops : goal.returns-then-not-needs_csw-clause-stops
-returns-then-not-needs_csw-clause-stops g c = λ m0 answered h left.
-    let old = c.args.self.now in
-    let some : 0 < length old.log.calls = (let w = c.requires.ready.whole in omega (arith, w)) in
-    let needs : needs_csw old.managed c.args.unit.now ≡ false = search rules in
-    c.issue_unit.ensures.stops m0 [] answered (subst (λ (l : List Entry). HasIssued g.F.Flights.planner (g.F.Flights.state old.flights) old.log (g.F.Flights.accesses old.flights) l m0) (plain_left (length old.log.calls) (target_issued g.F.Flights.planner old.log m0) old.managed c.args.unit.now some c.requires.no_poll needs) h) left
+pub returns-in-Err-clause-gives : goal.returns-in-Err-clause-gives
+returns-in-Err-clause-gives g c = record {
+  on = λ m0 h. tt;
+  spare = λ m0 left h s. tt;
+  broke = λ m0 h.
+      let old = c.args.self.now in
+      let some : 0 < length old.log.calls = (let w = c.requires.ready.whole in omega (arith, w)) in
+      let needs : needs_csw old.managed c.args.unit.now ≡ true = search rules in
+      c.in-Err.ensures.gives.broke m0 _ (subst (λ (l : List Entry). HasIssued g.F.Flights.planner (g.F.Flights.state old.flights) old.log (g.F.Flights.accesses old.flights) l m0) (csw_left (length old.log.calls) (target_issued g.F.Flights.planner old.log m0) old.managed c.args.unit.now some c.requires.no_poll needs) h);
+  stops = λ m0 answered h left.
+      let old = c.args.self.now in
+      let some : 0 < length old.log.calls = (let w = c.requires.ready.whole in omega (arith, w)) in
+      let needs : needs_csw old.managed c.args.unit.now ≡ true = search rules in
+      c.in-Err.ensures.gives.stops m0 _ answered (subst (λ (l : List Entry). HasIssued g.F.Flights.planner (g.F.Flights.state old.flights) old.log (g.F.Flights.accesses old.flights) l m0) (csw_left (length old.log.calls) (target_issued g.F.Flights.planner old.log m0) old.managed c.args.unit.now some c.requires.no_poll needs) h) left;
+}
 
-pub returns-in-Err-clause-broke : goal.returns-in-Err-clause-broke
-returns-in-Err-clause-broke g c = λ m0 h.
-    let old = c.args.self.now in
-    let some : 0 < length old.log.calls = (let w = c.requires.ready.whole in omega (arith, w)) in
-    let needs : needs_csw old.managed c.args.unit.now ≡ true = search rules in
-    c.in-Err.ensures.broke m0 _ (subst (λ (l : List Entry). HasIssued g.F.Flights.planner (g.F.Flights.state old.flights) old.log (g.F.Flights.accesses old.flights) l m0) (csw_left (length old.log.calls) (target_issued g.F.Flights.planner old.log m0) old.managed c.args.unit.now some c.requires.no_poll needs) h)
-
-pub returns-in-Err-clause-stops : goal.returns-in-Err-clause-stops
-returns-in-Err-clause-stops g c = λ m0 answered h left.
-    let old = c.args.self.now in
-    let some : 0 < length old.log.calls = (let w = c.requires.ready.whole in omega (arith, w)) in
-    let needs : needs_csw old.managed c.args.unit.now ≡ true = search rules in
-    c.in-Err.ensures.stops m0 _ answered (subst (λ (l : List Entry). HasIssued g.F.Flights.planner (g.F.Flights.state old.flights) old.log (g.F.Flights.accesses old.flights) l m0) (csw_left (length old.log.calls) (target_issued g.F.Flights.planner old.log m0) old.managed c.args.unit.now some c.requires.no_poll needs) h) left
-
-pub returns-in-Ok-clause-on : goal.returns-in-Ok-clause-on
-returns-in-Ok-clause-on g c = λ m0 h.
-    let old = c.args.self.now in
-    let mid = c.read_csw.new.self in
-    let some : 0 < length old.log.calls = (let w = c.requires.ready.whole in omega (arith, w)) in
-    let needs : needs_csw old.managed c.args.unit.now ≡ true = search rules in
-    let k : Kept = learned old.managed (port_of c.args.unit.now) (gives (target_issued g.F.Flights.planner old.log m0) (first_plan old.managed (port_of c.args.unit.now))) in
-    let first : HasIssued g.F.Flights.planner (g.F.Flights.state old.flights) old.log (g.F.Flights.accesses old.flights) (entries_of (length old.log.calls) Leads (first_plan old.managed (port_of c.args.unit.now)) ++ plan_entries (length old.log.calls) k c.args.unit.now) m0 =
-    subst (λ (l : List Entry). HasIssued g.F.Flights.planner (g.F.Flights.state old.flights) old.log (g.F.Flights.accesses old.flights) l m0) (csw_left (length old.log.calls) (target_issued g.F.Flights.planner old.log m0) old.managed c.args.unit.now some c.requires.no_poll needs) h in
-    c.issue_unit-in-Ok.ensures.on m0 [] (plan_now g.F.Flights.planner _ mid.log _ _ k mid.managed c.args.unit.now (length old.log.calls) m0 (c.in-Ok.ensures.on m0 _ first) c.in-Ok.ensures.empty (c.in-Ok.ensures.kept m0 _ first) (ap length c.read_csw.ensures.keeps.calls))
-
-pub returns-in-Ok-clause-broke : goal.returns-in-Ok-clause-broke
-returns-in-Ok-clause-broke g c = λ m0 h.
-    let old = c.args.self.now in
-    let mid = c.read_csw.new.self in
-    let some : 0 < length old.log.calls = (let w = c.requires.ready.whole in omega (arith, w)) in
-    let needs : needs_csw old.managed c.args.unit.now ≡ true = search rules in
-    let k : Kept = learned old.managed (port_of c.args.unit.now) (gives (target_issued g.F.Flights.planner old.log m0) (first_plan old.managed (port_of c.args.unit.now))) in
-    let first : HasIssued g.F.Flights.planner (g.F.Flights.state old.flights) old.log (g.F.Flights.accesses old.flights) (entries_of (length old.log.calls) Leads (first_plan old.managed (port_of c.args.unit.now)) ++ plan_entries (length old.log.calls) k c.args.unit.now) m0 =
-    subst (λ (l : List Entry). HasIssued g.F.Flights.planner (g.F.Flights.state old.flights) old.log (g.F.Flights.accesses old.flights) l m0) (csw_left (length old.log.calls) (target_issued g.F.Flights.planner old.log m0) old.managed c.args.unit.now some c.requires.no_poll needs) h in
-    c.issue_unit-in-Ok.ensures.broke m0 [] (plan_now g.F.Flights.planner _ mid.log _ _ k mid.managed c.args.unit.now (length old.log.calls) m0 (c.in-Ok.ensures.on m0 _ first) c.in-Ok.ensures.empty (c.in-Ok.ensures.kept m0 _ first) (ap length c.read_csw.ensures.keeps.calls))
-
-pub returns-in-Ok-clause-stops : goal.returns-in-Ok-clause-stops
-returns-in-Ok-clause-stops g c = λ m0 answered h left.
-    let old = c.args.self.now in
-    let mid = c.read_csw.new.self in
-    let some : 0 < length old.log.calls = (let w = c.requires.ready.whole in omega (arith, w)) in
-    let needs : needs_csw old.managed c.args.unit.now ≡ true = search rules in
-    let k : Kept = learned old.managed (port_of c.args.unit.now) (gives (target_issued g.F.Flights.planner old.log m0) (first_plan old.managed (port_of c.args.unit.now))) in
-    let first : HasIssued g.F.Flights.planner (g.F.Flights.state old.flights) old.log (g.F.Flights.accesses old.flights) (entries_of (length old.log.calls) Leads (first_plan old.managed (port_of c.args.unit.now)) ++ plan_entries (length old.log.calls) k c.args.unit.now) m0 =
-    subst (λ (l : List Entry). HasIssued g.F.Flights.planner (g.F.Flights.state old.flights) old.log (g.F.Flights.accesses old.flights) l m0) (csw_left (length old.log.calls) (target_issued g.F.Flights.planner old.log m0) old.managed c.args.unit.now some c.requires.no_poll needs) h in
-    subst (λ (calls : List Ask). IfErr c.issue_unit-in-Ok.result (StopsThere m0 answered calls c.issue_unit-in-Ok.new.self.log.lines)) c.read_csw.ensures.keeps.calls
-    (c.issue_unit-in-Ok.ensures.stops m0 [] answered (plan_now g.F.Flights.planner _ mid.log _ _ k mid.managed c.args.unit.now (length old.log.calls) m0 (c.in-Ok.ensures.on m0 _ first) c.in-Ok.ensures.empty (c.in-Ok.ensures.kept m0 _ first) (ap length c.read_csw.ensures.keeps.calls)) left)
+pub returns-in-Ok-clause-gives : goal.returns-in-Ok-clause-gives
+returns-in-Ok-clause-gives g c = record {
+  on = λ m0 h.
+      let old = c.args.self.now in
+      let mid = c.read_csw.new.self in
+      let some : 0 < length old.log.calls = (let w = c.requires.ready.whole in omega (arith, w)) in
+      let needs : needs_csw old.managed c.args.unit.now ≡ true = search rules in
+      let k : Kept = learned old.managed (port_of c.args.unit.now) (gives (target_issued g.F.Flights.planner old.log m0) (first_plan old.managed (port_of c.args.unit.now))) in
+      let first : HasIssued g.F.Flights.planner (g.F.Flights.state old.flights) old.log (g.F.Flights.accesses old.flights) (entries_of (length old.log.calls) Leads (first_plan old.managed (port_of c.args.unit.now)) ++ plan_entries (length old.log.calls) k c.args.unit.now) m0 =
+      subst (λ (l : List Entry). HasIssued g.F.Flights.planner (g.F.Flights.state old.flights) old.log (g.F.Flights.accesses old.flights) l m0) (csw_left (length old.log.calls) (target_issued g.F.Flights.planner old.log m0) old.managed c.args.unit.now some c.requires.no_poll needs) h in
+      c.issue_unit-in-Ok.ensures.gives.on m0 [] (plan_now g.F.Flights.planner _ mid.log _ _ k mid.managed c.args.unit.now (length old.log.calls) m0 (c.in-Ok.ensures.gives.on m0 _ first) c.in-Ok.ensures.empty (c.in-Ok.ensures.gives.kept m0 _ first) (ap length c.read_csw.ensures.keeps.calls));
+  spare = λ m0 left h s.
+      let old = c.args.self.now in
+      let mid = c.read_csw.new.self in
+      let some : 0 < length old.log.calls = (let w = c.requires.ready.whole in omega (arith, w)) in
+      let needs : needs_csw old.managed c.args.unit.now ≡ true = search rules in
+      let k : Kept = learned old.managed (port_of c.args.unit.now) (gives (target_issued g.F.Flights.planner old.log m0) (first_plan old.managed (port_of c.args.unit.now))) in
+      let first : HasIssued g.F.Flights.planner (g.F.Flights.state old.flights) old.log (g.F.Flights.accesses old.flights) (entries_of (length old.log.calls) Leads (first_plan old.managed (port_of c.args.unit.now)) ++ plan_entries (length old.log.calls) k c.args.unit.now) m0 =
+      subst (λ (l : List Entry). HasIssued g.F.Flights.planner (g.F.Flights.state old.flights) old.log (g.F.Flights.accesses old.flights) l m0) (csw_left (length old.log.calls) (target_issued g.F.Flights.planner old.log m0) old.managed c.args.unit.now some c.requires.no_poll needs) h in
+      let there = plan_now g.F.Flights.planner _ mid.log _ _ k mid.managed c.args.unit.now (length old.log.calls) m0 (c.in-Ok.ensures.gives.on m0 _ first) c.in-Ok.ensures.empty (c.in-Ok.ensures.gives.kept m0 _ first) (ap length c.read_csw.ensures.keeps.calls) in
+      let read = c.in-Ok.ensures.spare m0 _ left first s in
+      spared_further g.F.Flights.planner _ _ _ mid.log c.issue_unit-in-Ok.new.self.log read.paid left c.issue_unit-in-Ok.result m0 read.covers c.issue_unit-in-Ok.ensures.further.so
+      (c.issue_unit-in-Ok.ensures.gives.spare m0 [] read.paid there read.spared);
+  broke = λ m0 h.
+      let old = c.args.self.now in
+      let mid = c.read_csw.new.self in
+      let some : 0 < length old.log.calls = (let w = c.requires.ready.whole in omega (arith, w)) in
+      let needs : needs_csw old.managed c.args.unit.now ≡ true = search rules in
+      let k : Kept = learned old.managed (port_of c.args.unit.now) (gives (target_issued g.F.Flights.planner old.log m0) (first_plan old.managed (port_of c.args.unit.now))) in
+      let first : HasIssued g.F.Flights.planner (g.F.Flights.state old.flights) old.log (g.F.Flights.accesses old.flights) (entries_of (length old.log.calls) Leads (first_plan old.managed (port_of c.args.unit.now)) ++ plan_entries (length old.log.calls) k c.args.unit.now) m0 =
+      subst (λ (l : List Entry). HasIssued g.F.Flights.planner (g.F.Flights.state old.flights) old.log (g.F.Flights.accesses old.flights) l m0) (csw_left (length old.log.calls) (target_issued g.F.Flights.planner old.log m0) old.managed c.args.unit.now some c.requires.no_poll needs) h in
+      c.issue_unit-in-Ok.ensures.gives.broke m0 [] (plan_now g.F.Flights.planner _ mid.log _ _ k mid.managed c.args.unit.now (length old.log.calls) m0 (c.in-Ok.ensures.gives.on m0 _ first) c.in-Ok.ensures.empty (c.in-Ok.ensures.gives.kept m0 _ first) (ap length c.read_csw.ensures.keeps.calls));
+  stops = λ m0 answered h left.
+      let old = c.args.self.now in
+      let mid = c.read_csw.new.self in
+      let some : 0 < length old.log.calls = (let w = c.requires.ready.whole in omega (arith, w)) in
+      let needs : needs_csw old.managed c.args.unit.now ≡ true = search rules in
+      let k : Kept = learned old.managed (port_of c.args.unit.now) (gives (target_issued g.F.Flights.planner old.log m0) (first_plan old.managed (port_of c.args.unit.now))) in
+      let first : HasIssued g.F.Flights.planner (g.F.Flights.state old.flights) old.log (g.F.Flights.accesses old.flights) (entries_of (length old.log.calls) Leads (first_plan old.managed (port_of c.args.unit.now)) ++ plan_entries (length old.log.calls) k c.args.unit.now) m0 =
+      subst (λ (l : List Entry). HasIssued g.F.Flights.planner (g.F.Flights.state old.flights) old.log (g.F.Flights.accesses old.flights) l m0) (csw_left (length old.log.calls) (target_issued g.F.Flights.planner old.log m0) old.managed c.args.unit.now some c.requires.no_poll needs) h in
+      subst (λ (calls : List Ask). IfErr c.issue_unit-in-Ok.result (StopsThere m0 answered calls c.issue_unit-in-Ok.new.self.log.lines)) c.read_csw.ensures.keeps.calls
+      (c.issue_unit-in-Ok.ensures.gives.stops m0 [] answered (plan_now g.F.Flights.planner _ mid.log _ _ k mid.managed c.args.unit.now (length old.log.calls) m0 (c.in-Ok.ensures.gives.on m0 _ first) c.in-Ok.ensures.empty (c.in-Ok.ensures.gives.kept m0 _ first) (ap length c.read_csw.ensures.keeps.calls)) left);
+}
 
 pub returns-in-Ok-clause-kept : goal.returns-in-Ok-clause-kept
 returns-in-Ok-clause-kept g c = λ m0 h.
@@ -83,30 +106,8 @@ returns-in-Ok-clause-kept g c = λ m0 h.
     let first : HasIssued g.F.Flights.planner (g.F.Flights.state old.flights) old.log (g.F.Flights.accesses old.flights) (entries_of (length old.log.calls) Leads (first_plan old.managed (port_of c.args.unit.now)) ++ plan_entries (length old.log.calls) k c.args.unit.now) m0 =
     subst (λ (l : List Entry). HasIssued g.F.Flights.planner (g.F.Flights.state old.flights) old.log (g.F.Flights.accesses old.flights) l m0) (csw_left (length old.log.calls) (target_issued g.F.Flights.planner old.log m0) old.managed c.args.unit.now some c.requires.no_poll needs) h in
     let is : c.issue_unit-in-Ok.new.self.managed ≡ (by_csw (target_issued g.F.Flights.planner old.log m0) old.managed c.args.unit.now).kept =
-    c.issue_unit-in-Ok.ensures.managed ∙ ap (λ (q : Kept). made q c.args.unit.now) (c.in-Ok.ensures.kept m0 _ first) ∙ sym (csw_steps 0 (target_issued g.F.Flights.planner old.log m0) old.managed c.args.unit.now needs).1 in
+    c.issue_unit-in-Ok.ensures.managed ∙ ap (λ (q : Kept). made q c.args.unit.now) (c.in-Ok.ensures.gives.kept m0 _ first) ∙ sym (csw_steps 0 (target_issued g.F.Flights.planner old.log m0) old.managed c.args.unit.now needs).1 in
     elim c.issue_unit-in-Ok.result as (λ r. OnOk r (c.issue_unit-in-Ok.new.self.managed ≡ (by_csw (target_issued g.F.Flights.planner old.log m0) old.managed c.args.unit.now).kept)) [ Ok done ↦ is | Err s ↦ tt ]
-
-pub returns-then-not-needs_csw-clause-spare : goal.returns-then-not-needs_csw-clause-spare
-returns-then-not-needs_csw-clause-spare g c = λ m0 left h s.
-    let old = c.args.self.now in
-    let some : 0 < length old.log.calls = (let w = c.requires.ready.whole in omega (arith, w)) in
-    let needs : needs_csw old.managed c.args.unit.now ≡ false = search rules in
-    spared_further g.F.Flights.planner _ _ _ old.log c.issue_unit.new.self.log s.paid left c.issue_unit.result m0 s.covers c.issue_unit.ensures.further.so
-    (c.issue_unit.ensures.spare m0 [] s.paid (subst (λ (l : List Entry). HasIssued g.F.Flights.planner (g.F.Flights.state old.flights) old.log (g.F.Flights.accesses old.flights) l m0) (plain_left (length old.log.calls) (target_issued g.F.Flights.planner old.log m0) old.managed c.args.unit.now some c.requires.no_poll needs) h) s.spared)
-
-pub returns-in-Ok-clause-spare : goal.returns-in-Ok-clause-spare
-returns-in-Ok-clause-spare g c = λ m0 left h s.
-    let old = c.args.self.now in
-    let mid = c.read_csw.new.self in
-    let some : 0 < length old.log.calls = (let w = c.requires.ready.whole in omega (arith, w)) in
-    let needs : needs_csw old.managed c.args.unit.now ≡ true = search rules in
-    let k : Kept = learned old.managed (port_of c.args.unit.now) (gives (target_issued g.F.Flights.planner old.log m0) (first_plan old.managed (port_of c.args.unit.now))) in
-    let first : HasIssued g.F.Flights.planner (g.F.Flights.state old.flights) old.log (g.F.Flights.accesses old.flights) (entries_of (length old.log.calls) Leads (first_plan old.managed (port_of c.args.unit.now)) ++ plan_entries (length old.log.calls) k c.args.unit.now) m0 =
-    subst (λ (l : List Entry). HasIssued g.F.Flights.planner (g.F.Flights.state old.flights) old.log (g.F.Flights.accesses old.flights) l m0) (csw_left (length old.log.calls) (target_issued g.F.Flights.planner old.log m0) old.managed c.args.unit.now some c.requires.no_poll needs) h in
-    let there = plan_now g.F.Flights.planner _ mid.log _ _ k mid.managed c.args.unit.now (length old.log.calls) m0 (c.in-Ok.ensures.on m0 _ first) c.in-Ok.ensures.empty (c.in-Ok.ensures.kept m0 _ first) (ap length c.read_csw.ensures.keeps.calls) in
-    let read = c.in-Ok.ensures.spare m0 _ left first s in
-    spared_further g.F.Flights.planner _ _ _ mid.log c.issue_unit-in-Ok.new.self.log read.paid left c.issue_unit-in-Ok.result m0 read.covers c.issue_unit-in-Ok.ensures.further.so
-    (c.issue_unit-in-Ok.ensures.spare m0 [] read.paid there read.spared)
 
 pub returns-in-Ok-clause-fenced : goal.returns-in-Ok-clause-fenced
 returns-in-Ok-clause-fenced g c = never_past _ c.read_csw.new.self.log c.issue_unit-in-Ok.new.self.log c.issue_unit-in-Ok.result c.issue_unit-in-Ok.ensures.further.so c.issue_unit-in-Ok.ensures.keeps.goes.known c.in-Ok.ensures.fenced

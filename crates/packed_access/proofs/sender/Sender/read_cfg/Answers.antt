@@ -15,7 +15,7 @@ returns-in-Ok-clause-spare g c = λ m0 rest left h s.
     let here : HasIssued g.F.Flights.planner (g.F.Flights.state old.flights) old.log (g.F.Flights.accesses old.flights) (entries_of c.count-number.result Leads c.list_accesses.result.now ++ rest) m0 =
     subst (λ (l : List RegAccess). HasIssued g.F.Flights.planner (g.F.Flights.state old.flights) old.log (g.F.Flights.accesses old.flights) (entries_of c.count-number.result Leads l ++ rest) m0) (sym plan)
     (subst (λ (n : ℕ). HasIssued g.F.Flights.planner (g.F.Flights.state old.flights) old.log (g.F.Flights.accesses old.flights) (entries_of n Leads (cfg_plan old.managed (port_of c.args.unit.now)) ++ rest) m0) (sym c.count-number.ensures) h) in
-    has_paid g.F.Flights.planner _ _ _ c.read_by.new.self.log c.need.new.self old.log.needs s.paid 1 (c.count-number.result - 1) left m0 (c.in-Ok.ensures.spare m0 rest s.paid here s.spared) s.covers c.in-Ok.ensures.further.so.needs c.need.ensures.answer
+    has_paid g.F.Flights.planner _ _ _ c.read_by.new.self.log c.need.new.self old.log.needs s.paid 1 (c.count-number.result - 1) left m0 (c.in-Ok.ensures.gives.spare m0 rest s.paid here s.spared) s.covers c.in-Ok.ensures.further.so.needs c.need.ensures.answer
 
 pub returns-in-Ok-clause-fenced : goal.returns-in-Ok-clause-fenced
 returns-in-Ok-clause-fenced g c =

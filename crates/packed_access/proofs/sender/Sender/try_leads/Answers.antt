@@ -22,7 +22,7 @@ returns-in-Ok-None-clause-on g c = λ m0 asked k t made last ends rest more h n.
     let tried = subst (λ (a : List Action). HasTried g.F.Flights.planner c.args.forgive (g.F.Flights.state mid.flights) mid.log asked k t (made ++ take i leads) a m0) there (c.loop-lead.invariant.on m0 asked k t made last ends rest more h n) in
     let next = lead_next asked t made leads last ends rest more n (take i leads) lead (drop (i + 1) leads) are in
     let new = c.try_together.new.self in
-    let went = subst (λ (w : Option ℕ). WentTo g.F.Flights.planner c.args.forgive w (g.F.Flights.state new.flights) new.log asked k t (made ++ take i leads) [] lead (making (drop (i + 1) leads ++ last ∷ []) ++ more) m0) c.in-Ok-None.field-0-is (c.in-Ok-None.ensures.on m0 asked k t (made ++ take i leads) _ _ tried next) in
+    let went = subst (λ (w : Option ℕ). WentTo g.F.Flights.planner c.args.forgive w (g.F.Flights.state new.flights) new.log asked k t (made ++ take i leads) [] lead (making (drop (i + 1) leads ++ last ∷ []) ++ more) m0) c.in-Ok-None.field-0-is (c.in-Ok-None.ensures.gives.on m0 asked k t (made ++ take i leads) _ _ tried next) in
     lead_stays asked t made leads last ends rest more n (take i leads) lead (drop (i + 1) leads) are g.F.Flights.planner c.args.forgive _ new.log k m0 went
 
 pub returns-in-Err-clause-broke : goal.returns-in-Err-clause-broke
@@ -35,7 +35,7 @@ returns-in-Err-clause-broke g c = λ m0 asked k t made last ends rest more h n.
     let there = at_drop_more (λ (l : List RegAccess). making (l ++ last ∷ []) ++ more) leads i (record { ap = false; read = false; addr = 0; value = 0 }) c.loop-lead-test.true in
     let tried = subst (λ (a : List Action). HasTried g.F.Flights.planner c.args.forgive (g.F.Flights.state mid.flights) mid.log asked k t (made ++ take i leads) a m0) there (c.loop-lead.invariant.on m0 asked k t made last ends rest more h n) in
     let next = lead_next asked t made leads last ends rest more n (take i leads) lead (drop (i + 1) leads) are in
-    broken_calls g.F.Flights.planner _ _ c.try_together.new.self.log _ _ m0 c.loop-lead.invariant.further.calls (c.in-Err.ensures.broke m0 asked k t (made ++ take i leads) _ _ tried next)
+    broken_calls g.F.Flights.planner _ _ c.try_together.new.self.log _ _ m0 c.loop-lead.invariant.further.calls (c.in-Err.ensures.gives.broke m0 asked k t (made ++ take i leads) _ _ tried next)
 
 pub loop-lead-preserved : goal.loop-lead-preserved
 loop-lead-preserved g c =
@@ -52,7 +52,7 @@ loop-lead-preserved g c =
           let there = at_drop_more (λ (l : List RegAccess). making (l ++ last ∷ []) ++ more) leads i (record { ap = false; read = false; addr = 0; value = 0 }) c.loop-lead-test.true in
           let tried = subst (λ (a : List Action). HasTried g.F.Flights.planner c.args.forgive (g.F.Flights.state mid.flights) mid.log asked k t (made ++ take i leads) a m0) there (before.on m0 asked k t made last ends rest more h n) in
           let next = lead_next asked t made leads last ends rest more n (take i leads) lead (drop (i + 1) leads) are in
-          let went = subst (λ (w : Option ℕ). WentTo g.F.Flights.planner c.args.forgive w (g.F.Flights.state new.flights) new.log asked k t (made ++ take i leads) [] lead (making (drop (i + 1) leads ++ last ∷ []) ++ more) m0) c.in-Ok-Some.field-0-is (now.on m0 asked k t (made ++ take i leads) _ _ tried next) in
+          let went = subst (λ (w : Option ℕ). WentTo g.F.Flights.planner c.args.forgive w (g.F.Flights.state new.flights) new.log asked k t (made ++ take i leads) [] lead (making (drop (i + 1) leads ++ last ∷ []) ++ more) m0) c.in-Ok-Some.field-0-is (now.gives.on m0 asked k t (made ++ take i leads) _ _ tried next) in
           subst (λ (l : List RegAccess). HasTried g.F.Flights.planner c.args.forgive (g.F.Flights.state new.flights) new.log asked k t (made ++ l) (making (drop (i + 1) leads ++ last ∷ []) ++ more) m0) (sym (take_more leads i (record { ap = false; read = false; addr = 0; value = 0 }) c.loop-lead-test.true))
           (lead_came g.F.Flights.planner c.args.forgive _ new.log asked k t made (take i leads) lead _ m0 went.0);
       goes = goes_trans _ _ _ before.goes c.try_together.ensures.keeps.goes;

@@ -41,7 +41,7 @@ returns-in-Ok-try_port-clause-on g c = λ m0 t rest may table h.
     let access : c.access_ap-access.result ≡ ap_access_of c.in-Ap.read (c.in-Ap.addr % 16) c.in-Ap.value = c.access_ap-access.ensures in
     let n = port_next g.F.Flights.planner c.args.forgive _ old.log old.managed t rest m0 c.in-Ap.read c.in-Ap.ap c.in-Ap.addr c.in-Ap.value h' lt fits in
     let n' = subst (λ (x : RegAccess). IsNext (unit.Ap c.in-Ap.read c.in-Ap.ap c.in-Ap.addr c.in-Ap.value) t [] (select_of c.in-Ap.ap (c.in-Ap.addr / 16) ∷ []) x true rest []) (sym access) n in
-    let went = subst (λ (x : RegAccess). WentTo g.F.Flights.planner c.args.forgive c.in-Ok-try_port.word (g.F.Flights.state c.try_port.new.self.flights) c.try_port.new.self.log (unit.Ap c.in-Ap.read c.in-Ap.ap c.in-Ap.addr c.in-Ap.value) old.managed t [] (select_of c.in-Ap.ap (c.in-Ap.addr / 16) ∷ []) x [] m0) access (c.in-Ok-try_port.ensures.on m0 (unit.Ap c.in-Ap.read c.in-Ap.ap c.in-Ap.addr c.in-Ap.value) old.managed t [] rest [] h' n') in
+    let went = subst (λ (x : RegAccess). WentTo g.F.Flights.planner c.args.forgive c.in-Ok-try_port.word (g.F.Flights.state c.try_port.new.self.flights) c.try_port.new.self.log (unit.Ap c.in-Ap.read c.in-Ap.ap c.in-Ap.addr c.in-Ap.value) old.managed t [] (select_of c.in-Ap.ap (c.in-Ap.addr / 16) ∷ []) x [] m0) access (c.in-Ok-try_port.ensures.gives.on m0 (unit.Ap c.in-Ap.read c.in-Ap.ap c.in-Ap.addr c.in-Ap.value) old.managed t [] rest [] h' n') in
     subst (λ (x : AccessUnit). IsDoneBy g.F.Flights.planner c.args.forgive c.made-in-Ok-try_port.result.small c.made-in-Ok-try_port.result.word c.made-in-Ok-try_port.result.reads c.try_port.new.self.managed (g.F.Flights.state c.try_port.new.self.flights) c.try_port.new.self.log x old.managed t m0) (sym c.in-Ap.is)
     (done_same g.F.Flights.planner c.args.forgive c.try_port.new.self.managed _ c.try_port.new.self.log (unit.Ap c.in-Ap.read c.in-Ap.ap c.in-Ap.addr c.in-Ap.value) old.managed t m0 _ false _ c.in-Ok-try_port.word _ 0 c.made-in-Ok-try_port.ensures.small c.made-in-Ok-try_port.ensures.word c.made-in-Ok-try_port.ensures.reads
     (port_done g.F.Flights.planner c.args.forgive _ old.log old.managed t rest m0 c.in-Ap.read c.in-Ap.ap c.in-Ap.addr c.in-Ap.value h' lt fits c.in-Ok-try_port.word _ c.try_port.new.self.log c.try_port.new.self.managed c.try_port.ensures.managed went))
@@ -55,7 +55,7 @@ returns-in-Err-try_port-clause-broke g c = λ m0 t rest table h.
     let access : c.access_ap-access.result ≡ ap_access_of c.in-Ap.read (c.in-Ap.addr % 16) c.in-Ap.value = c.access_ap-access.ensures in
     let n = port_next g.F.Flights.planner c.args.forgive _ old.log old.managed t rest m0 c.in-Ap.read c.in-Ap.ap c.in-Ap.addr c.in-Ap.value h' lt fits in
     let n' = subst (λ (x : RegAccess). IsNext (unit.Ap c.in-Ap.read c.in-Ap.ap c.in-Ap.addr c.in-Ap.value) t [] (select_of c.in-Ap.ap (c.in-Ap.addr / 16) ∷ []) x true rest []) (sym access) n in
-    c.in-Err-try_port.ensures.broke m0 (unit.Ap c.in-Ap.read c.in-Ap.ap c.in-Ap.addr c.in-Ap.value) old.managed t [] rest [] h' n'
+    c.in-Err-try_port.ensures.gives.broke m0 (unit.Ap c.in-Ap.read c.in-Ap.ap c.in-Ap.addr c.in-Ap.value) old.managed t [] rest [] h' n'
 
 pub returns-in-Ok-clause-packets : goal.returns-in-Ok-clause-packets
 returns-in-Ok-clause-packets g c = λ managed. flies_most _ _ 3 4 (omega arith) (c.in-Ok.ensures.packets managed)
