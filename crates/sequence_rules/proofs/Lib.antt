@@ -21,5 +21,4 @@ pub mod GlobalLemmas
 pub mod LocalLemmas
 pub mod Rows
 pub mod Sizes
-pub mod PredefinedNames
 pub mod SharedLemmas
