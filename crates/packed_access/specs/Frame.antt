@@ -1,4 +1,4 @@
--- The frame of what a sender does: what it may be asked for, what it keeps, and how it ends.
+-- The frame of a step of a sender: what may be asked of it, what it keeps, and how it ends.
 use Rattle.std.specs.Prelude.{◌≡◌, ℕ, ◌+◌, ◌*◌, ◌≤◌, [], length, Some, None, Result, IfErr, OnOk}
 use Rattle.access_calls.specs.Answers.{NoMemory}
 use Rattle.access_calls.specs.GoesOn.{GoesOn}
@@ -34,32 +34,32 @@ pub record CanTry (count : ℕ) (s : SenderView) : Type 0 where
 
 -- ---- what is kept
 
--- What everything that a sender does keeps: which loan its bench is, the limits of its packets, the calls that were asked, and what
--- each call of an access keeps.
+-- What each step of a sender keeps: which loan its bench is, the limits of its packets, the calls that were asked, and what each call
+-- of an access keeps.
 pub record Keeps (old new : SenderView) : Type 0 where
   pub same_bench : new.identity ≡ old.identity
   pub same_limits : new.limits ≡ old.limits
   pub calls : new.log.calls ≡ old.log.calls
   pub goes : GoesOn (access_view old) (access_view new)
 
--- How it ends: where it comes about the access goes on; a stop is its end; and memory is never refused.
+-- How a step ends: where it answers, the access goes on; a stop is the end of the access; memory is never refused.
 pub record EndsBy {T : Type 0} (result : Result T Stop) (new : SenderView) : Type 0 where
   pub no_end : OnOk result (new.log.end ≡ None)
   pub ended : IfErr result (λ s. new.log.end ≡ Some s)
   pub memory : IfErr result NoMemory
 
--- No need point came, and where it comes about nothing changed in what is kept of the calls but the entries and the results.
+-- No need point came. Where the step answers, entries were issued and results came, and nothing else changed in what is kept of the calls.
 pub record Further {T : Type 0} (result : Result T Stop) (old new : SenderView) : Type 0 where
   pub asks : asks_of new.log ≡ asks_of old.log
   pub so : OnOk result (IsFurther old.log new.log)
 
--- At most so many entries were issued, and the last call is not issued whole.
+-- Where the step answers, at most so many entries were issued, and no call more is issued whole.
 pub record IssuesFew {T : Type 0} (result : Result T Stop) (count : ℕ) (old new : SenderView) : Type 0 where
   pub entries : OnOk result (length new.log.entries ≤ length old.log.entries + count)
   pub whole : OnOk result (new.log.whole ≡ old.log.whole)
   pub room : OnOk result (new.log.room ≡ old.log.room)
 
--- No need point came, and where it comes about all that was issued for the last call came, and the flight is empty.
+-- No need point came. Where the step answers, all that was issued for the last call came, and the flight is empty.
 pub record Tries {T : Type 0} (result : Result T Stop) (old new : SenderView) : Type 0 where
   pub asks : asks_of new.log ≡ asks_of old.log
   pub further : OnOk result (IsFurther old.log new.log)
@@ -67,7 +67,7 @@ pub record Tries {T : Type 0} (result : Result T Stop) (old new : SenderView) : 
   pub came : OnOk result (new.log.came ≡ new.log.whole)
   pub empty : OnOk result (new.accesses ≡ [])
 
--- The last call is issued whole, and there is room for a settling after it.
+-- Where the step answers, the last call is issued whole, and there is room for a settling after it.
 pub record AsksWhole {T : Type 0} (result : Result T Stop) (new : SenderView) : Type 0 where
   pub whole : OnOk result (new.log.whole ≡ length new.log.calls)
   pub settles : OnOk result (CanSettle new.log new.managed)

@@ -1,4 +1,5 @@
--- What comes of what a sender does, for the calls that were asked.
+-- What comes of a step of a sender, for the calls that were asked. At a stop the access has ended (`broke`), and the calls stop there
+-- (`stops`).
 use Rattle.std.specs.Prelude.{◌≡◌, ℕ, ◌+◌, Bool, List, [], Option, Result, IfErr, IfOk, OnOk}
 use Rattle.target_machine.specs.Plain.{Action}
 use Rattle.target_machine.specs.State.{TargetState}
@@ -15,8 +16,7 @@ use Rattle.packed_access.specs.Begun.{StopsThere, steps_left}
 use Rattle.packed_access.specs.Forgiving.{IsNext, WentTo}
 use Rattle.packed_access.specs.Views.{HasNeeds, IsAsked, IsAtEnd, IsBroken, IsPaid, IsSparing, IsToIssue, IsToIssueNext, IsTried, SenderView, access_view}
 
--- Entries that are due before the rest come into flights. A flight is sent only where there is no room for one access more. At a stop
--- the access has ended, and the calls stop there.
+-- Entries that are due before the rest come into flights. A flight is sent only where there is no room for one access more.
 pub record Issues {T : Type 0} (result : Result T Stop) (old new : SenderView) (due : List Entry → List Entry) : Type 0 where
   pub on : (m0 : BenchState) (rest : List Entry) → IsToIssue old (due rest) m0 → OnOk result (IsToIssue new rest m0)
   pub spare : (m0 : BenchState) (rest : List Entry) (points : ℕ) → IsToIssue old (due rest) m0 → IsSparing old points m0
@@ -25,8 +25,7 @@ pub record Issues {T : Type 0} (result : Result T Stop) (old new : SenderView) (
   pub stops : (m0 : BenchState) (rest : List Entry) (answered : Option ℕ) → IsToIssue old (due rest) m0 → IsLeft (access_view new) answered
       → IfErr result (StopsThere m0 answered old.log.calls new.log.lines)
 
--- Entries that are due before the rest come into flights, and the last of these is sent too, with at most one starting packet. At a stop
--- the access has ended, and the calls stop there.
+-- Entries that are due before the rest come into flights, and the last of these is sent too, with at most one starting packet.
 pub record Sends {T : Type 0} (result : Result T Stop) (old new : SenderView) (due : List Entry → List Entry) : Type 0 where
   pub on : (m0 : BenchState) (rest : List Entry) → IsToIssue old (due rest) m0 → OnOk result (IsToIssueNext new rest m0)
   pub spare : (m0 : BenchState) (rest : List Entry) (points : ℕ) → IsToIssue old (due rest) m0 → IsSparing old points m0
@@ -35,8 +34,7 @@ pub record Sends {T : Type 0} (result : Result T Stop) (old new : SenderView) (d
   pub stops : (m0 : BenchState) (rest : List Entry) (answered : Option ℕ) → IsToIssue old (due rest) m0 → IsLeft (access_view new) answered
       → IfErr result (StopsThere m0 answered old.log.calls new.log.lines)
 
--- Entries that are due before the rest come into flights, and the last of these is sent too. This is known of the registers then. At a
--- stop the access has ended, and the calls stop there.
+-- Entries that are due before the rest come into flights, and the last of these is sent too. This is known of the registers then.
 pub record Reads {T : Type 0} (result : Result T Stop) (old new : SenderView) (due : List Entry → List Entry) (known : BenchState → Kept) : Type 0 where
   pub on : (m0 : BenchState) (rest : List Entry) → IsToIssue old (due rest) m0 → OnOk result (IsToIssueNext new rest m0)
   pub kept : (m0 : BenchState) (rest : List Entry) → IsToIssue old (due rest) m0 → OnOk result (new.managed ≡ known m0)
@@ -44,8 +42,7 @@ pub record Reads {T : Type 0} (result : Result T Stop) (old new : SenderView) (d
   pub stops : (m0 : BenchState) (rest : List Entry) (answered : Option ℕ) → IsToIssue old (due rest) m0 → IsLeft (access_view new) answered
       → IfErr result (StopsThere m0 answered old.log.calls new.log.lines)
 
--- The steps of the last call come into flights, and its need points pay for what is sent. At a stop the access has ended, and the calls
--- stop there.
+-- The steps of the last call come into flights, and its need points pay for what is sent.
 pub record Plans {T : Type 0} (result : Result T Stop) (old new : SenderView) (plan : BenchState → Issue) : Type 0 where
   pub on : (m0 : BenchState) → IsToIssue old (steps_left old.log (plan m0).steps) m0 → OnOk result (IsToIssue new [] m0)
   pub spare : (m0 : BenchState) (left : ℕ) → IsToIssue old (steps_left old.log (plan m0).steps) m0 → IsPaid old left m0 → OnOk result (IsPaid new left m0)
@@ -53,8 +50,7 @@ pub record Plans {T : Type 0} (result : Result T Stop) (old new : SenderView) (p
   pub stops : (m0 : BenchState) (answered : Option ℕ) → IsToIssue old (steps_left old.log (plan m0).steps) m0 → IsLeft (access_view new) answered
       → IfErr result (StopsThere m0 answered old.log.calls new.log.lines)
 
--- The last call, which is this one, is issued, and its need points are counted, which pay for what is sent. At a stop the access has
--- ended, and the calls stop there.
+-- The last call, which is this one, is issued, and its need points are counted, which pay for what is sent.
 pub record AsksFor {T : Type 0} (result : Result T Stop) (old new : SenderView) (IsThis : BenchState → Ask → Type 0)
     (Comes : SenderView → BenchState → Type 0) : Type 0 where
   pub on : (m0 : BenchState) (calls : List Ask) (ask : Ask) → IsThis m0 ask → IsAsked old calls ask m0 → OnOk result (Comes new m0)
@@ -66,7 +62,7 @@ pub record AsksFor {T : Type 0} (result : Result T Stop) (old new : SenderView) 
       → IsLeft (access_view new) answered → IfErr result (StopsThere m0 answered old.log.calls new.log.lines)
 
 -- Accesses of a unit that is made alone come next, of which only the last may fault. They came, and the last gave what is answered; or
--- it faulted, which is forgiven. At a stop the access has ended, and the calls stop there.
+-- it faulted, which is forgiven.
 pub record TriesNext (result : Result (Option ℕ) Stop) (old new : SenderView) (forgive : Bool) (leads : List RegAccess) (last : RegAccess) (ends : Bool) : Type 0 where
   pub on : (m0 : BenchState) (asked : AccessUnit) (k : Kept) (t : TargetState) (made : List RegAccess) (rest more : List Action)
       → IsTried old forgive asked k t made rest m0 → IsNext asked t made leads last ends rest more

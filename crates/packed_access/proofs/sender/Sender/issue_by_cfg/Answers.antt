@@ -9,34 +9,32 @@ use Rattle.packed_access.proofs.CfgLemmas.{came_good, cfg_left, large_left, need
 use Rattle.packed_access.proofs.sender.Sender.issue_by_cfg.Goals as goal
 
 pub returns-in-Err-read_cfg-clause-gives : goal.returns-in-Err-read_cfg-clause-gives
-returns-in-Err-read_cfg-clause-gives g c = record {
-  on = λ m0 h. tt;
-  spare = λ m0 left h s. tt;
-  broke = λ m0 h.
-      let old = c.args.self.now in
-      let needs : needs_cfg old.managed c.args.unit.now ≡ true = search rules in
-      c.in-Err-read_cfg.ensures.gives.broke m0 _ (cfg_left g.F.Flights.planner _ old.log _ (target_issued g.F.Flights.planner old.log m0) old.managed c.args.unit.now m0 c.requires.ready.whole needs h);
-  stops = λ m0 answered h left.
-      let old = c.args.self.now in
-      let needs : needs_cfg old.managed c.args.unit.now ≡ true = search rules in
-      c.in-Err-read_cfg.ensures.gives.stops m0 _ answered (cfg_left g.F.Flights.planner _ old.log _ (target_issued g.F.Flights.planner old.log m0) old.managed c.args.unit.now m0 c.requires.ready.whole needs h) left;
-}
+returns-in-Err-read_cfg-clause-gives g c =
+    let old = c.args.self.now in
+    let needs : needs_cfg old.managed c.args.unit.now ≡ true = search rules in
+    record {
+      on = λ m0 h. tt;
+      spare = λ m0 left h s. tt;
+      broke = λ m0 h.
+          c.in-Err-read_cfg.ensures.gives.broke m0 _ (cfg_left g.F.Flights.planner _ old.log _ (target_issued g.F.Flights.planner old.log m0) old.managed c.args.unit.now m0 c.requires.ready.whole needs h);
+      stops = λ m0 answered h left.
+          c.in-Err-read_cfg.ensures.gives.stops m0 _ answered (cfg_left g.F.Flights.planner _ old.log _ (target_issued g.F.Flights.planner old.log m0) old.managed c.args.unit.now m0 c.requires.ready.whole needs h) left;
+    }
 
 pub returns-then-not-large-clause-gives : goal.returns-then-not-large-clause-gives
-returns-then-not-large-clause-gives g c = record {
-  on = λ m0 h.
-      let old = c.args.self.now in
-      let needs : needs_cfg old.managed c.args.unit.now ≡ true = search rules in
-      let first = cfg_left g.F.Flights.planner _ old.log _ (target_issued g.F.Flights.planner old.log m0) old.managed c.args.unit.now m0 c.requires.ready.whole needs h in
-      let bit : has_bit (gives (target_issued g.F.Flights.planner old.log m0) (cfg_plan old.managed (port_of c.args.unit.now))) 2 ≡ false = sym (c.in-Ok-read_cfg.ensures.large m0 _ first) ∙ c.if-not-large.true in
-      none_left g.F.Flights.planner _ old.log c.read_cfg.new.self.log _ (target_issued g.F.Flights.planner old.log m0) old.managed c.args.unit.now m0 bit c.in-Ok-read_cfg.ensures.empty (c.in-Ok-read_cfg.ensures.gives.on m0 _ first);
-  spare = λ m0 left h s.
-      let old = c.args.self.now in
-      let needs : needs_cfg old.managed c.args.unit.now ≡ true = search rules in
-      c.in-Ok-read_cfg.ensures.spare m0 _ left (cfg_left g.F.Flights.planner _ old.log _ (target_issued g.F.Flights.planner old.log m0) old.managed c.args.unit.now m0 c.requires.ready.whole needs h) s;
-  broke = λ m0 h. tt;
-  stops = λ m0 answered h left. tt;
-}
+returns-then-not-large-clause-gives g c =
+    let old = c.args.self.now in
+    let needs : needs_cfg old.managed c.args.unit.now ≡ true = search rules in
+    record {
+      on = λ m0 h.
+          let first = cfg_left g.F.Flights.planner _ old.log _ (target_issued g.F.Flights.planner old.log m0) old.managed c.args.unit.now m0 c.requires.ready.whole needs h in
+          let bit : has_bit (gives (target_issued g.F.Flights.planner old.log m0) (cfg_plan old.managed (port_of c.args.unit.now))) 2 ≡ false = sym (c.in-Ok-read_cfg.ensures.large m0 _ first) ∙ c.if-not-large.true in
+          none_left g.F.Flights.planner _ old.log c.read_cfg.new.self.log _ (target_issued g.F.Flights.planner old.log m0) old.managed c.args.unit.now m0 bit c.in-Ok-read_cfg.ensures.empty (c.in-Ok-read_cfg.ensures.gives.on m0 _ first);
+      spare = λ m0 left h s.
+          c.in-Ok-read_cfg.ensures.spare m0 _ left (cfg_left g.F.Flights.planner _ old.log _ (target_issued g.F.Flights.planner old.log m0) old.managed c.args.unit.now m0 c.requires.ready.whole needs h) s;
+      broke = λ m0 h. tt;
+      stops = λ m0 answered h left. tt;
+    }
 
 pub returns-then-not-large-clause-kept : goal.returns-then-not-large-clause-kept
 returns-then-not-large-clause-kept g c = λ m0 h.
@@ -67,26 +65,24 @@ returns-then-not-large-clause-asks g c = λ m0 h.
     c.in-Ok-read_cfg.ensures.asks ∙ ap (λ (n : ℕ). asks_of (with_needs old.log n (length old.log.calls - 1))) (sym (reads_small (target_issued g.F.Flights.planner old.log m0) old.managed c.args.unit.now needs bit))
 
 pub returns-in-Ok-issue_by_csw-clause-gives : goal.returns-in-Ok-issue_by_csw-clause-gives
-returns-in-Ok-issue_by_csw-clause-gives g c = record {
-  on = λ m0 h.
-      let old = c.args.self.now in
-      let mid = c.read_cfg.new.self in
-      let needs : needs_cfg old.managed c.args.unit.now ≡ true = search rules in
-      let first = cfg_left g.F.Flights.planner _ old.log _ (target_issued g.F.Flights.planner old.log m0) old.managed c.args.unit.now m0 c.requires.ready.whole needs h in
-      let bit : has_bit (gives (target_issued g.F.Flights.planner old.log m0) (cfg_plan old.managed (port_of c.args.unit.now))) 2 ≡ true = sym (c.in-Ok-read_cfg.ensures.large m0 _ first) ∙ c.if-not-large.false in
-      let l = large_left g.F.Flights.planner _ _ old.log mid.log _ _ old.managed mid.managed c.args.unit.now m0 needs bit first (c.in-Ok-read_cfg.ensures.gives.on m0 _ first) c.in-Ok-read_cfg.ensures.keeps.calls c.in-Ok-read_cfg.ensures.empty (c.in-Ok-read_cfg.ensures.gives.kept m0 _ first) in
-      c.in-Ok-issue_by_csw.ensures.gives.on m0 l.left;
-  spare = λ m0 left h s.
-      let old = c.args.self.now in
-      let mid = c.read_cfg.new.self in
-      let needs : needs_cfg old.managed c.args.unit.now ≡ true = search rules in
-      let first = cfg_left g.F.Flights.planner _ old.log _ (target_issued g.F.Flights.planner old.log m0) old.managed c.args.unit.now m0 c.requires.ready.whole needs h in
-      let bit : has_bit (gives (target_issued g.F.Flights.planner old.log m0) (cfg_plan old.managed (port_of c.args.unit.now))) 2 ≡ true = sym (c.in-Ok-read_cfg.ensures.large m0 _ first) ∙ c.if-not-large.false in
-      let l = large_left g.F.Flights.planner _ _ old.log mid.log _ _ old.managed mid.managed c.args.unit.now m0 needs bit first (c.in-Ok-read_cfg.ensures.gives.on m0 _ first) c.in-Ok-read_cfg.ensures.keeps.calls c.in-Ok-read_cfg.ensures.empty (c.in-Ok-read_cfg.ensures.gives.kept m0 _ first) in
-      c.in-Ok-issue_by_csw.ensures.gives.spare m0 left l.left (c.in-Ok-read_cfg.ensures.spare m0 _ left first s);
-  broke = λ m0 h. tt;
-  stops = λ m0 answered h left. tt;
-}
+returns-in-Ok-issue_by_csw-clause-gives g c =
+    let old = c.args.self.now in
+    let mid = c.read_cfg.new.self in
+    let needs : needs_cfg old.managed c.args.unit.now ≡ true = search rules in
+    record {
+      on = λ m0 h.
+          let first = cfg_left g.F.Flights.planner _ old.log _ (target_issued g.F.Flights.planner old.log m0) old.managed c.args.unit.now m0 c.requires.ready.whole needs h in
+          let bit : has_bit (gives (target_issued g.F.Flights.planner old.log m0) (cfg_plan old.managed (port_of c.args.unit.now))) 2 ≡ true = sym (c.in-Ok-read_cfg.ensures.large m0 _ first) ∙ c.if-not-large.false in
+          let l = large_left g.F.Flights.planner _ _ old.log mid.log _ _ old.managed mid.managed c.args.unit.now m0 needs bit first (c.in-Ok-read_cfg.ensures.gives.on m0 _ first) c.in-Ok-read_cfg.ensures.keeps.calls c.in-Ok-read_cfg.ensures.empty (c.in-Ok-read_cfg.ensures.gives.kept m0 _ first) in
+          c.in-Ok-issue_by_csw.ensures.gives.on m0 l.left;
+      spare = λ m0 left h s.
+          let first = cfg_left g.F.Flights.planner _ old.log _ (target_issued g.F.Flights.planner old.log m0) old.managed c.args.unit.now m0 c.requires.ready.whole needs h in
+          let bit : has_bit (gives (target_issued g.F.Flights.planner old.log m0) (cfg_plan old.managed (port_of c.args.unit.now))) 2 ≡ true = sym (c.in-Ok-read_cfg.ensures.large m0 _ first) ∙ c.if-not-large.false in
+          let l = large_left g.F.Flights.planner _ _ old.log mid.log _ _ old.managed mid.managed c.args.unit.now m0 needs bit first (c.in-Ok-read_cfg.ensures.gives.on m0 _ first) c.in-Ok-read_cfg.ensures.keeps.calls c.in-Ok-read_cfg.ensures.empty (c.in-Ok-read_cfg.ensures.gives.kept m0 _ first) in
+          c.in-Ok-issue_by_csw.ensures.gives.spare m0 left l.left (c.in-Ok-read_cfg.ensures.spare m0 _ left first s);
+      broke = λ m0 h. tt;
+      stops = λ m0 answered h left. tt;
+    }
 
 pub returns-in-Ok-issue_by_csw-clause-kept : goal.returns-in-Ok-issue_by_csw-clause-kept
 returns-in-Ok-issue_by_csw-clause-kept g c = λ m0 h.
@@ -122,26 +118,24 @@ returns-in-Ok-issue_by_csw-clause-asks g c = λ m0 h.
     ∙ ap (λ (n : ℕ). asks_of (with_needs old.log n (length old.log.calls - 1))) (sym (reads_large (target_issued g.F.Flights.planner old.log m0) old.managed mid.managed c.args.unit.now needs bit (c.in-Ok-read_cfg.ensures.gives.kept m0 _ first)))
 
 pub returns-in-Err-issue_by_csw-clause-gives : goal.returns-in-Err-issue_by_csw-clause-gives
-returns-in-Err-issue_by_csw-clause-gives g c = record {
-  on = λ m0 h. tt;
-  spare = λ m0 left h s. tt;
-  broke = λ m0 h.
-      let old = c.args.self.now in
-      let mid = c.read_cfg.new.self in
-      let needs : needs_cfg old.managed c.args.unit.now ≡ true = search rules in
-      let first = cfg_left g.F.Flights.planner _ old.log _ (target_issued g.F.Flights.planner old.log m0) old.managed c.args.unit.now m0 c.requires.ready.whole needs h in
-      let bit : has_bit (gives (target_issued g.F.Flights.planner old.log m0) (cfg_plan old.managed (port_of c.args.unit.now))) 2 ≡ true = sym (c.in-Ok-read_cfg.ensures.large m0 _ first) ∙ c.if-not-large.false in
-      let l = large_left g.F.Flights.planner _ _ old.log mid.log _ _ old.managed mid.managed c.args.unit.now m0 needs bit first (c.in-Ok-read_cfg.ensures.gives.on m0 _ first) c.in-Ok-read_cfg.ensures.keeps.calls c.in-Ok-read_cfg.ensures.empty (c.in-Ok-read_cfg.ensures.gives.kept m0 _ first) in
-      c.in-Err-issue_by_csw.ensures.gives.broke m0 l.left;
-  stops = λ m0 answered h left.
-      let old = c.args.self.now in
-      let mid = c.read_cfg.new.self in
-      let needs : needs_cfg old.managed c.args.unit.now ≡ true = search rules in
-      let first = cfg_left g.F.Flights.planner _ old.log _ (target_issued g.F.Flights.planner old.log m0) old.managed c.args.unit.now m0 c.requires.ready.whole needs h in
-      let bit : has_bit (gives (target_issued g.F.Flights.planner old.log m0) (cfg_plan old.managed (port_of c.args.unit.now))) 2 ≡ true = sym (c.in-Ok-read_cfg.ensures.large m0 _ first) ∙ c.if-not-large.false in
-      let l = large_left g.F.Flights.planner _ _ old.log mid.log _ _ old.managed mid.managed c.args.unit.now m0 needs bit first (c.in-Ok-read_cfg.ensures.gives.on m0 _ first) c.in-Ok-read_cfg.ensures.keeps.calls c.in-Ok-read_cfg.ensures.empty (c.in-Ok-read_cfg.ensures.gives.kept m0 _ first) in
-      subst (λ (calls : List Ask). StopsThere m0 answered calls c.issue_by_csw-2.new.self.log.lines c.in-Err-issue_by_csw.stop) c.in-Ok-read_cfg.ensures.keeps.calls (c.in-Err-issue_by_csw.ensures.gives.stops m0 answered l.left left);
-}
+returns-in-Err-issue_by_csw-clause-gives g c =
+    let old = c.args.self.now in
+    let mid = c.read_cfg.new.self in
+    let needs : needs_cfg old.managed c.args.unit.now ≡ true = search rules in
+    record {
+      on = λ m0 h. tt;
+      spare = λ m0 left h s. tt;
+      broke = λ m0 h.
+          let first = cfg_left g.F.Flights.planner _ old.log _ (target_issued g.F.Flights.planner old.log m0) old.managed c.args.unit.now m0 c.requires.ready.whole needs h in
+          let bit : has_bit (gives (target_issued g.F.Flights.planner old.log m0) (cfg_plan old.managed (port_of c.args.unit.now))) 2 ≡ true = sym (c.in-Ok-read_cfg.ensures.large m0 _ first) ∙ c.if-not-large.false in
+          let l = large_left g.F.Flights.planner _ _ old.log mid.log _ _ old.managed mid.managed c.args.unit.now m0 needs bit first (c.in-Ok-read_cfg.ensures.gives.on m0 _ first) c.in-Ok-read_cfg.ensures.keeps.calls c.in-Ok-read_cfg.ensures.empty (c.in-Ok-read_cfg.ensures.gives.kept m0 _ first) in
+          c.in-Err-issue_by_csw.ensures.gives.broke m0 l.left;
+      stops = λ m0 answered h left.
+          let first = cfg_left g.F.Flights.planner _ old.log _ (target_issued g.F.Flights.planner old.log m0) old.managed c.args.unit.now m0 c.requires.ready.whole needs h in
+          let bit : has_bit (gives (target_issued g.F.Flights.planner old.log m0) (cfg_plan old.managed (port_of c.args.unit.now))) 2 ≡ true = sym (c.in-Ok-read_cfg.ensures.large m0 _ first) ∙ c.if-not-large.false in
+          let l = large_left g.F.Flights.planner _ _ old.log mid.log _ _ old.managed mid.managed c.args.unit.now m0 needs bit first (c.in-Ok-read_cfg.ensures.gives.on m0 _ first) c.in-Ok-read_cfg.ensures.keeps.calls c.in-Ok-read_cfg.ensures.empty (c.in-Ok-read_cfg.ensures.gives.kept m0 _ first) in
+          subst (λ (calls : List Ask). StopsThere m0 answered calls c.issue_by_csw-2.new.self.log.lines c.in-Err-issue_by_csw.stop) c.in-Ok-read_cfg.ensures.keeps.calls (c.in-Err-issue_by_csw.ensures.gives.stops m0 answered l.left left);
+    }
 
 pub returns-then-not-large-clause-fenced : goal.returns-then-not-large-clause-fenced
 returns-then-not-large-clause-fenced g c = λ past. absurd (let f = c.in-Ok-read_cfg.ensures.fenced in omega (arith, f, past))

@@ -12,89 +12,68 @@ use Rattle.packed_access.proofs.SparingLemmas.{never_past, spared_further, still
 use Rattle.packed_access.proofs.sender.Sender.issue_by_csw.Goals as goal
 
 pub returns-then-not-needs_csw-clause-gives : goal.returns-then-not-needs_csw-clause-gives
-returns-then-not-needs_csw-clause-gives g c = record {
-  on = λ m0 h.
-      let old = c.args.self.now in
-      let some : 0 < length old.log.calls = (let w = c.requires.ready.whole in omega (arith, w)) in
-      let needs : needs_csw old.managed c.args.unit.now ≡ false = search rules in
-      c.issue_unit.ensures.gives.on m0 [] (subst (λ (l : List Entry). HasIssued g.F.Flights.planner (g.F.Flights.state old.flights) old.log (g.F.Flights.accesses old.flights) l m0) (plain_left (length old.log.calls) (target_issued g.F.Flights.planner old.log m0) old.managed c.args.unit.now some c.requires.no_poll needs) h);
-  spare = λ m0 left h s.
-      let old = c.args.self.now in
-      let some : 0 < length old.log.calls = (let w = c.requires.ready.whole in omega (arith, w)) in
-      let needs : needs_csw old.managed c.args.unit.now ≡ false = search rules in
-      spared_further g.F.Flights.planner _ _ _ old.log c.issue_unit.new.self.log s.paid left c.issue_unit.result m0 s.covers c.issue_unit.ensures.further.so
-      (c.issue_unit.ensures.gives.spare m0 [] s.paid (subst (λ (l : List Entry). HasIssued g.F.Flights.planner (g.F.Flights.state old.flights) old.log (g.F.Flights.accesses old.flights) l m0) (plain_left (length old.log.calls) (target_issued g.F.Flights.planner old.log m0) old.managed c.args.unit.now some c.requires.no_poll needs) h) s.spared);
-  broke = λ m0 h.
-      let old = c.args.self.now in
-      let some : 0 < length old.log.calls = (let w = c.requires.ready.whole in omega (arith, w)) in
-      let needs : needs_csw old.managed c.args.unit.now ≡ false = search rules in
-      c.issue_unit.ensures.gives.broke m0 [] (subst (λ (l : List Entry). HasIssued g.F.Flights.planner (g.F.Flights.state old.flights) old.log (g.F.Flights.accesses old.flights) l m0) (plain_left (length old.log.calls) (target_issued g.F.Flights.planner old.log m0) old.managed c.args.unit.now some c.requires.no_poll needs) h);
-  stops = λ m0 answered h left.
-      let old = c.args.self.now in
-      let some : 0 < length old.log.calls = (let w = c.requires.ready.whole in omega (arith, w)) in
-      let needs : needs_csw old.managed c.args.unit.now ≡ false = search rules in
-      c.issue_unit.ensures.gives.stops m0 [] answered (subst (λ (l : List Entry). HasIssued g.F.Flights.planner (g.F.Flights.state old.flights) old.log (g.F.Flights.accesses old.flights) l m0) (plain_left (length old.log.calls) (target_issued g.F.Flights.planner old.log m0) old.managed c.args.unit.now some c.requires.no_poll needs) h) left;
-}
+returns-then-not-needs_csw-clause-gives g c =
+    let old = c.args.self.now in
+    let some : 0 < length old.log.calls = (let w = c.requires.ready.whole in omega (arith, w)) in
+    let needs : needs_csw old.managed c.args.unit.now ≡ false = search rules in
+    record {
+      on = λ m0 h.
+          c.issue_unit.ensures.gives.on m0 [] (subst (λ (l : List Entry). HasIssued g.F.Flights.planner (g.F.Flights.state old.flights) old.log (g.F.Flights.accesses old.flights) l m0) (plain_left (length old.log.calls) (target_issued g.F.Flights.planner old.log m0) old.managed c.args.unit.now some c.requires.no_poll needs) h);
+      spare = λ m0 left h s.
+          spared_further g.F.Flights.planner _ _ _ old.log c.issue_unit.new.self.log s.paid left c.issue_unit.result m0 s.covers c.issue_unit.ensures.further.so
+          (c.issue_unit.ensures.gives.spare m0 [] s.paid (subst (λ (l : List Entry). HasIssued g.F.Flights.planner (g.F.Flights.state old.flights) old.log (g.F.Flights.accesses old.flights) l m0) (plain_left (length old.log.calls) (target_issued g.F.Flights.planner old.log m0) old.managed c.args.unit.now some c.requires.no_poll needs) h) s.spared);
+      broke = λ m0 h.
+          c.issue_unit.ensures.gives.broke m0 [] (subst (λ (l : List Entry). HasIssued g.F.Flights.planner (g.F.Flights.state old.flights) old.log (g.F.Flights.accesses old.flights) l m0) (plain_left (length old.log.calls) (target_issued g.F.Flights.planner old.log m0) old.managed c.args.unit.now some c.requires.no_poll needs) h);
+      stops = λ m0 answered h left.
+          c.issue_unit.ensures.gives.stops m0 [] answered (subst (λ (l : List Entry). HasIssued g.F.Flights.planner (g.F.Flights.state old.flights) old.log (g.F.Flights.accesses old.flights) l m0) (plain_left (length old.log.calls) (target_issued g.F.Flights.planner old.log m0) old.managed c.args.unit.now some c.requires.no_poll needs) h) left;
+    }
 
 pub returns-in-Err-clause-gives : goal.returns-in-Err-clause-gives
-returns-in-Err-clause-gives g c = record {
-  on = λ m0 h. tt;
-  spare = λ m0 left h s. tt;
-  broke = λ m0 h.
-      let old = c.args.self.now in
-      let some : 0 < length old.log.calls = (let w = c.requires.ready.whole in omega (arith, w)) in
-      let needs : needs_csw old.managed c.args.unit.now ≡ true = search rules in
-      c.in-Err.ensures.gives.broke m0 _ (subst (λ (l : List Entry). HasIssued g.F.Flights.planner (g.F.Flights.state old.flights) old.log (g.F.Flights.accesses old.flights) l m0) (csw_left (length old.log.calls) (target_issued g.F.Flights.planner old.log m0) old.managed c.args.unit.now some c.requires.no_poll needs) h);
-  stops = λ m0 answered h left.
-      let old = c.args.self.now in
-      let some : 0 < length old.log.calls = (let w = c.requires.ready.whole in omega (arith, w)) in
-      let needs : needs_csw old.managed c.args.unit.now ≡ true = search rules in
-      c.in-Err.ensures.gives.stops m0 _ answered (subst (λ (l : List Entry). HasIssued g.F.Flights.planner (g.F.Flights.state old.flights) old.log (g.F.Flights.accesses old.flights) l m0) (csw_left (length old.log.calls) (target_issued g.F.Flights.planner old.log m0) old.managed c.args.unit.now some c.requires.no_poll needs) h) left;
-}
+returns-in-Err-clause-gives g c =
+    let old = c.args.self.now in
+    let some : 0 < length old.log.calls = (let w = c.requires.ready.whole in omega (arith, w)) in
+    let needs : needs_csw old.managed c.args.unit.now ≡ true = search rules in
+    record {
+      on = λ m0 h. tt;
+      spare = λ m0 left h s. tt;
+      broke = λ m0 h.
+          c.in-Err.ensures.gives.broke m0 _ (subst (λ (l : List Entry). HasIssued g.F.Flights.planner (g.F.Flights.state old.flights) old.log (g.F.Flights.accesses old.flights) l m0) (csw_left (length old.log.calls) (target_issued g.F.Flights.planner old.log m0) old.managed c.args.unit.now some c.requires.no_poll needs) h);
+      stops = λ m0 answered h left.
+          c.in-Err.ensures.gives.stops m0 _ answered (subst (λ (l : List Entry). HasIssued g.F.Flights.planner (g.F.Flights.state old.flights) old.log (g.F.Flights.accesses old.flights) l m0) (csw_left (length old.log.calls) (target_issued g.F.Flights.planner old.log m0) old.managed c.args.unit.now some c.requires.no_poll needs) h) left;
+    }
 
 pub returns-in-Ok-clause-gives : goal.returns-in-Ok-clause-gives
-returns-in-Ok-clause-gives g c = record {
-  on = λ m0 h.
-      let old = c.args.self.now in
-      let mid = c.read_csw.new.self in
-      let some : 0 < length old.log.calls = (let w = c.requires.ready.whole in omega (arith, w)) in
-      let needs : needs_csw old.managed c.args.unit.now ≡ true = search rules in
-      let k : Kept = learned old.managed (port_of c.args.unit.now) (gives (target_issued g.F.Flights.planner old.log m0) (first_plan old.managed (port_of c.args.unit.now))) in
-      let first : HasIssued g.F.Flights.planner (g.F.Flights.state old.flights) old.log (g.F.Flights.accesses old.flights) (entries_of (length old.log.calls) Leads (first_plan old.managed (port_of c.args.unit.now)) ++ plan_entries (length old.log.calls) k c.args.unit.now) m0 =
-      subst (λ (l : List Entry). HasIssued g.F.Flights.planner (g.F.Flights.state old.flights) old.log (g.F.Flights.accesses old.flights) l m0) (csw_left (length old.log.calls) (target_issued g.F.Flights.planner old.log m0) old.managed c.args.unit.now some c.requires.no_poll needs) h in
-      c.issue_unit-in-Ok.ensures.gives.on m0 [] (plan_now g.F.Flights.planner _ mid.log _ _ k mid.managed c.args.unit.now (length old.log.calls) m0 (c.in-Ok.ensures.gives.on m0 _ first) c.in-Ok.ensures.empty (c.in-Ok.ensures.gives.kept m0 _ first) (ap length c.read_csw.ensures.keeps.calls));
-  spare = λ m0 left h s.
-      let old = c.args.self.now in
-      let mid = c.read_csw.new.self in
-      let some : 0 < length old.log.calls = (let w = c.requires.ready.whole in omega (arith, w)) in
-      let needs : needs_csw old.managed c.args.unit.now ≡ true = search rules in
-      let k : Kept = learned old.managed (port_of c.args.unit.now) (gives (target_issued g.F.Flights.planner old.log m0) (first_plan old.managed (port_of c.args.unit.now))) in
-      let first : HasIssued g.F.Flights.planner (g.F.Flights.state old.flights) old.log (g.F.Flights.accesses old.flights) (entries_of (length old.log.calls) Leads (first_plan old.managed (port_of c.args.unit.now)) ++ plan_entries (length old.log.calls) k c.args.unit.now) m0 =
-      subst (λ (l : List Entry). HasIssued g.F.Flights.planner (g.F.Flights.state old.flights) old.log (g.F.Flights.accesses old.flights) l m0) (csw_left (length old.log.calls) (target_issued g.F.Flights.planner old.log m0) old.managed c.args.unit.now some c.requires.no_poll needs) h in
-      let there = plan_now g.F.Flights.planner _ mid.log _ _ k mid.managed c.args.unit.now (length old.log.calls) m0 (c.in-Ok.ensures.gives.on m0 _ first) c.in-Ok.ensures.empty (c.in-Ok.ensures.gives.kept m0 _ first) (ap length c.read_csw.ensures.keeps.calls) in
-      let read = c.in-Ok.ensures.spare m0 _ left first s in
-      spared_further g.F.Flights.planner _ _ _ mid.log c.issue_unit-in-Ok.new.self.log read.paid left c.issue_unit-in-Ok.result m0 read.covers c.issue_unit-in-Ok.ensures.further.so
-      (c.issue_unit-in-Ok.ensures.gives.spare m0 [] read.paid there read.spared);
-  broke = λ m0 h.
-      let old = c.args.self.now in
-      let mid = c.read_csw.new.self in
-      let some : 0 < length old.log.calls = (let w = c.requires.ready.whole in omega (arith, w)) in
-      let needs : needs_csw old.managed c.args.unit.now ≡ true = search rules in
-      let k : Kept = learned old.managed (port_of c.args.unit.now) (gives (target_issued g.F.Flights.planner old.log m0) (first_plan old.managed (port_of c.args.unit.now))) in
-      let first : HasIssued g.F.Flights.planner (g.F.Flights.state old.flights) old.log (g.F.Flights.accesses old.flights) (entries_of (length old.log.calls) Leads (first_plan old.managed (port_of c.args.unit.now)) ++ plan_entries (length old.log.calls) k c.args.unit.now) m0 =
-      subst (λ (l : List Entry). HasIssued g.F.Flights.planner (g.F.Flights.state old.flights) old.log (g.F.Flights.accesses old.flights) l m0) (csw_left (length old.log.calls) (target_issued g.F.Flights.planner old.log m0) old.managed c.args.unit.now some c.requires.no_poll needs) h in
-      c.issue_unit-in-Ok.ensures.gives.broke m0 [] (plan_now g.F.Flights.planner _ mid.log _ _ k mid.managed c.args.unit.now (length old.log.calls) m0 (c.in-Ok.ensures.gives.on m0 _ first) c.in-Ok.ensures.empty (c.in-Ok.ensures.gives.kept m0 _ first) (ap length c.read_csw.ensures.keeps.calls));
-  stops = λ m0 answered h left.
-      let old = c.args.self.now in
-      let mid = c.read_csw.new.self in
-      let some : 0 < length old.log.calls = (let w = c.requires.ready.whole in omega (arith, w)) in
-      let needs : needs_csw old.managed c.args.unit.now ≡ true = search rules in
-      let k : Kept = learned old.managed (port_of c.args.unit.now) (gives (target_issued g.F.Flights.planner old.log m0) (first_plan old.managed (port_of c.args.unit.now))) in
-      let first : HasIssued g.F.Flights.planner (g.F.Flights.state old.flights) old.log (g.F.Flights.accesses old.flights) (entries_of (length old.log.calls) Leads (first_plan old.managed (port_of c.args.unit.now)) ++ plan_entries (length old.log.calls) k c.args.unit.now) m0 =
-      subst (λ (l : List Entry). HasIssued g.F.Flights.planner (g.F.Flights.state old.flights) old.log (g.F.Flights.accesses old.flights) l m0) (csw_left (length old.log.calls) (target_issued g.F.Flights.planner old.log m0) old.managed c.args.unit.now some c.requires.no_poll needs) h in
-      subst (λ (calls : List Ask). IfErr c.issue_unit-in-Ok.result (StopsThere m0 answered calls c.issue_unit-in-Ok.new.self.log.lines)) c.read_csw.ensures.keeps.calls
-      (c.issue_unit-in-Ok.ensures.gives.stops m0 [] answered (plan_now g.F.Flights.planner _ mid.log _ _ k mid.managed c.args.unit.now (length old.log.calls) m0 (c.in-Ok.ensures.gives.on m0 _ first) c.in-Ok.ensures.empty (c.in-Ok.ensures.gives.kept m0 _ first) (ap length c.read_csw.ensures.keeps.calls)) left);
-}
+returns-in-Ok-clause-gives g c =
+    let old = c.args.self.now in
+    let mid = c.read_csw.new.self in
+    let some : 0 < length old.log.calls = (let w = c.requires.ready.whole in omega (arith, w)) in
+    let needs : needs_csw old.managed c.args.unit.now ≡ true = search rules in
+    record {
+      on = λ m0 h.
+          let k : Kept = learned old.managed (port_of c.args.unit.now) (gives (target_issued g.F.Flights.planner old.log m0) (first_plan old.managed (port_of c.args.unit.now))) in
+          let first : HasIssued g.F.Flights.planner (g.F.Flights.state old.flights) old.log (g.F.Flights.accesses old.flights) (entries_of (length old.log.calls) Leads (first_plan old.managed (port_of c.args.unit.now)) ++ plan_entries (length old.log.calls) k c.args.unit.now) m0 =
+          subst (λ (l : List Entry). HasIssued g.F.Flights.planner (g.F.Flights.state old.flights) old.log (g.F.Flights.accesses old.flights) l m0) (csw_left (length old.log.calls) (target_issued g.F.Flights.planner old.log m0) old.managed c.args.unit.now some c.requires.no_poll needs) h in
+          c.issue_unit-in-Ok.ensures.gives.on m0 [] (plan_now g.F.Flights.planner _ mid.log _ _ k mid.managed c.args.unit.now (length old.log.calls) m0 (c.in-Ok.ensures.gives.on m0 _ first) c.in-Ok.ensures.empty (c.in-Ok.ensures.gives.kept m0 _ first) (ap length c.read_csw.ensures.keeps.calls));
+      spare = λ m0 left h s.
+          let k : Kept = learned old.managed (port_of c.args.unit.now) (gives (target_issued g.F.Flights.planner old.log m0) (first_plan old.managed (port_of c.args.unit.now))) in
+          let first : HasIssued g.F.Flights.planner (g.F.Flights.state old.flights) old.log (g.F.Flights.accesses old.flights) (entries_of (length old.log.calls) Leads (first_plan old.managed (port_of c.args.unit.now)) ++ plan_entries (length old.log.calls) k c.args.unit.now) m0 =
+          subst (λ (l : List Entry). HasIssued g.F.Flights.planner (g.F.Flights.state old.flights) old.log (g.F.Flights.accesses old.flights) l m0) (csw_left (length old.log.calls) (target_issued g.F.Flights.planner old.log m0) old.managed c.args.unit.now some c.requires.no_poll needs) h in
+          let there = plan_now g.F.Flights.planner _ mid.log _ _ k mid.managed c.args.unit.now (length old.log.calls) m0 (c.in-Ok.ensures.gives.on m0 _ first) c.in-Ok.ensures.empty (c.in-Ok.ensures.gives.kept m0 _ first) (ap length c.read_csw.ensures.keeps.calls) in
+          let read = c.in-Ok.ensures.spare m0 _ left first s in
+          spared_further g.F.Flights.planner _ _ _ mid.log c.issue_unit-in-Ok.new.self.log read.paid left c.issue_unit-in-Ok.result m0 read.covers c.issue_unit-in-Ok.ensures.further.so
+          (c.issue_unit-in-Ok.ensures.gives.spare m0 [] read.paid there read.spared);
+      broke = λ m0 h.
+          let k : Kept = learned old.managed (port_of c.args.unit.now) (gives (target_issued g.F.Flights.planner old.log m0) (first_plan old.managed (port_of c.args.unit.now))) in
+          let first : HasIssued g.F.Flights.planner (g.F.Flights.state old.flights) old.log (g.F.Flights.accesses old.flights) (entries_of (length old.log.calls) Leads (first_plan old.managed (port_of c.args.unit.now)) ++ plan_entries (length old.log.calls) k c.args.unit.now) m0 =
+          subst (λ (l : List Entry). HasIssued g.F.Flights.planner (g.F.Flights.state old.flights) old.log (g.F.Flights.accesses old.flights) l m0) (csw_left (length old.log.calls) (target_issued g.F.Flights.planner old.log m0) old.managed c.args.unit.now some c.requires.no_poll needs) h in
+          c.issue_unit-in-Ok.ensures.gives.broke m0 [] (plan_now g.F.Flights.planner _ mid.log _ _ k mid.managed c.args.unit.now (length old.log.calls) m0 (c.in-Ok.ensures.gives.on m0 _ first) c.in-Ok.ensures.empty (c.in-Ok.ensures.gives.kept m0 _ first) (ap length c.read_csw.ensures.keeps.calls));
+      stops = λ m0 answered h left.
+          let k : Kept = learned old.managed (port_of c.args.unit.now) (gives (target_issued g.F.Flights.planner old.log m0) (first_plan old.managed (port_of c.args.unit.now))) in
+          let first : HasIssued g.F.Flights.planner (g.F.Flights.state old.flights) old.log (g.F.Flights.accesses old.flights) (entries_of (length old.log.calls) Leads (first_plan old.managed (port_of c.args.unit.now)) ++ plan_entries (length old.log.calls) k c.args.unit.now) m0 =
+          subst (λ (l : List Entry). HasIssued g.F.Flights.planner (g.F.Flights.state old.flights) old.log (g.F.Flights.accesses old.flights) l m0) (csw_left (length old.log.calls) (target_issued g.F.Flights.planner old.log m0) old.managed c.args.unit.now some c.requires.no_poll needs) h in
+          subst (λ (calls : List Ask). IfErr c.issue_unit-in-Ok.result (StopsThere m0 answered calls c.issue_unit-in-Ok.new.self.log.lines)) c.read_csw.ensures.keeps.calls
+          (c.issue_unit-in-Ok.ensures.gives.stops m0 [] answered (plan_now g.F.Flights.planner _ mid.log _ _ k mid.managed c.args.unit.now (length old.log.calls) m0 (c.in-Ok.ensures.gives.on m0 _ first) c.in-Ok.ensures.empty (c.in-Ok.ensures.gives.kept m0 _ first) (ap length c.read_csw.ensures.keeps.calls)) left);
+    }
 
 pub returns-in-Ok-clause-kept : goal.returns-in-Ok-clause-kept
 returns-in-Ok-clause-kept g c = λ m0 h.

@@ -8,21 +8,20 @@ use Rattle.packed_access.proofs.SparingLemmas.{has_filled, has_sent}
 use Rattle.packed_access.proofs.sender.Sender.send.Goals as goal
 
 pub returns-in-Ok-clause-gives : goal.returns-in-Ok-clause-gives
-returns-in-Ok-clause-gives g c = record {
-  on =
-      let old = c.args.self.now in
-      let few : length old.log.entries < 2 ^ 32 = (let s = old.sound in let b = s.bounded in let f = s.few in omega (arith, b, f)) in
-      let is : c.confirm.new.self ≡ all_confirmed (all_taken (g.F.Flights.values c.send.new.self) old.log) = c.confirm.ensures.answer ∙ ap all_confirmed c.take_values.ensures.answer in
-      λ m0 rest h. subst (λ (l : LogState). HasIssued g.F.Flights.planner (g.F.Flights.state c.send.new.self) l [] rest m0) (sym is)
-      (has_come g.F.Flights.planner _ _ old.log _ rest _ m0 h c.in-Ok.ensures.came old.sound.results_long few);
-  spare =
-      let old = c.args.self.now in
-      let is : c.confirm.new.self ≡ all_confirmed (all_taken (g.F.Flights.values c.send.new.self) old.log) = c.confirm.ensures.answer ∙ ap all_confirmed c.take_values.ensures.answer in
-      λ m0 rest points h s. has_sent g.F.Flights.planner _ _ _ _ _ _ old.log c.confirm.new.self _ rest _ points m0 h s c.in-Ok.ensures.came (ap (λ (l : LogState). l.calls) is)
-      (let k = ap (λ (l : LogState). l.confirmed) is in let w = old.sound.confirmed_within in omega (arith, k, w)) c.send.ensures.limits c.send.ensures.goes.limits;
-  broke = λ m0 rest h. tt;
-  stops = λ m0 rest answered h left. tt;
-}
+returns-in-Ok-clause-gives g c =
+    let old = c.args.self.now in
+    let few : length old.log.entries < 2 ^ 32 = (let s = old.sound in let b = s.bounded in let f = s.few in omega (arith, b, f)) in
+    let is : c.confirm.new.self ≡ all_confirmed (all_taken (g.F.Flights.values c.send.new.self) old.log) = c.confirm.ensures.answer ∙ ap all_confirmed c.take_values.ensures.answer in
+    record {
+      on =
+          λ m0 rest h. subst (λ (l : LogState). HasIssued g.F.Flights.planner (g.F.Flights.state c.send.new.self) l [] rest m0) (sym is)
+          (has_come g.F.Flights.planner _ _ old.log _ rest _ m0 h c.in-Ok.ensures.came old.sound.results_long few);
+      spare =
+          λ m0 rest points h s. has_sent g.F.Flights.planner _ _ _ _ _ _ old.log c.confirm.new.self _ rest _ points m0 h s c.in-Ok.ensures.came (ap (λ (l : LogState). l.calls) is)
+          (let k = ap (λ (l : LogState). l.confirmed) is in let w = old.sound.confirmed_within in omega (arith, k, w)) c.send.ensures.limits c.send.ensures.goes.limits;
+      broke = λ m0 rest h. tt;
+      stops = λ m0 rest answered h left. tt;
+    }
 
 pub returns-in-Err-clause-gives : goal.returns-in-Err-clause-gives
 returns-in-Err-clause-gives g c = record {
