@@ -1,4 +1,4 @@
 mod CodeLemmas
 mod LineLemmas
-mod Cutting
+pub mod Cutting
 mod Rows

@@ -2,6 +2,7 @@
 #![tactic(auto)]
 
 mod code;
+mod entries;
 pub mod laws;
 mod lines;
 mod log;
@@ -9,4 +10,4 @@ mod marks;
 mod places;
 mod units;
 
-pub use log::{Log, LogMark};
+pub use log::{EventLog, Log, LogMark};

@@ -16,13 +16,13 @@ use Rattle.sequence_rules.specs.Machine as machine
 use Rattle.sequence_rules.specs.Machine.{State, Out, end_state}
 use Rattle.run_events.specs.Events.{Event, MadeUnit, Makes, Writes, all_made, end_in, units_from, units_between}
 use Rattle.run_events.specs.OfValues.{line_of, written_line, new_line, function_events}
-use Rattle.log_lines.specs.LogText.{LogText, noted, noted_all}
+use Rattle.log_lines.specs.LogLines.{LogLines, listed, listed_all}
 use Rattle.logged_calls.specs.declared.held.LoggedEnd.{LoggedEnd}
 use Rattle.logged_calls.specs.declared.held.LoggedEnd.TheVariants as end
 use Rattle.logged_calls.specs.declared.held.Stopped.{Stopped}
 use Rattle.logged_calls.specs.Held.{Means, Unless, left_by, Noted, LineNoted}
 
-pub noted_none : (s r : State ℕ Now) (old new : LogText) → r.rest.calls ≡ s.rest.calls → r.rest.world ≡ s.rest.world → r.lines ≡ s.lines → new ≡ old → Noted s r old new
+pub noted_none : (s r : State ℕ Now) (old new : LogLines) → r.rest.calls ≡ s.rest.calls → r.rest.world ≡ s.rest.world → r.lines ≡ s.lines → new ≡ old → Noted s r old new
 noted_none s r old new a b c d = record { more = []; calls = a ∙ sym (append-nil s.rest.calls); world = b; lines = c; log = d }
 
 left_on : (w : World) (xs ys : List Ask) → left_by w (xs ++ ys) ≡ left_by (left_by w xs) ys
@@ -43,11 +43,11 @@ made_on : (xs ys : List MadeUnit) → all_made (xs ++ ys) ≡ all_made xs ++ all
 made_on [] ys = refl
 made_on (x ∷ xs) ys = ap (λ more. Makes x ∷ more) (made_on xs ys)
 
-pub all_on : (log : LogText) (xs ys : List Event) → noted_all log (xs ++ ys) ≡ noted_all (noted_all log xs) ys
+pub all_on : (log : LogLines) (xs ys : List Event) → listed_all log (xs ++ ys) ≡ listed_all (listed_all log xs) ys
 all_on log [] ys = refl
-all_on log (x ∷ xs) ys = all_on (noted log x) xs ys
+all_on log (x ∷ xs) ys = all_on (listed log x) xs ys
 
-pub noted_on : (s q r : State ℕ Now) (old mid new : LogText) → Noted s q old mid → Noted q r mid new → Noted s r old new
+pub noted_on : (s q r : State ℕ Now) (old mid new : LogLines) → Noted s q old mid → Noted q r mid new → Noted s r old new
 noted_on s q r old mid new h k =
     let w : World = s.rest.world in
     let n : ℕ = suc (length s.rest.calls) in
@@ -59,13 +59,13 @@ noted_on s q r old mid new h k =
       calls = k.calls ∙ ap (λ c. c ++ k.more) h.calls ∙ append_assoc s.rest.calls h.more k.more;
       world = k.world ∙ ap (λ x. left_by x k.more) h.world ∙ sym (left_on w h.more k.more);
       lines = k.lines ∙ h.lines;
-      log = k.log ∙ ap (λ l. noted_all l (all_made (units_from q.rest.world (suc (length q.rest.calls)) k.more))) h.log
-          ∙ ap (λ u. noted_all (noted_all old first) (all_made u)) same
+      log = k.log ∙ ap (λ l. listed_all l (all_made (units_from q.rest.world (suc (length q.rest.calls)) k.more))) h.log
+          ∙ ap (λ u. listed_all (listed_all old first) (all_made u)) same
           ∙ sym (all_on old first (all_made (units_from (left_by w h.more) (n + length h.more) k.more)))
-          ∙ ap (noted_all old) (sym (made_on (units_from w n h.more) (units_from (left_by w h.more) (n + length h.more) k.more)) ∙ ap all_made (sym (units_on w n h.more k.more)));
+          ∙ ap (listed_all old) (sym (made_on (units_from w n h.more) (units_from (left_by w h.more) (n + length h.more) k.more)) ∙ ap all_made (sym (units_on w n h.more k.more)));
     }
 
-pub notes_on : {A : Type 0} (e : LoggedEnd) (result : Result A Stopped) (s q r : State ℕ Now) (old mid new : LogText) → Noted s q old mid → Unless e result (Noted q r mid new) → Unless e result (Noted s r old new)
+pub notes_on : {A : Type 0} (e : LoggedEnd) (result : Result A Stopped) (s q r : State ℕ Now) (old mid new : LogLines) → Noted s q old mid → Unless e result (Noted q r mid new) → Unless e result (Noted s r old new)
 notes_on e (Ok x) s q r old mid new h k = noted_on s q r old mid new h k
 notes_on (end.Halted cause) (Err stopped) s q r old mid new h k = noted_on s q r old mid new h k
 notes_on (end.Faulted u) (Err stopped) s q r old mid new h k = noted_on s q r old mid new h k
@@ -77,22 +77,22 @@ last_length : (calls : List Ask) (ask : Ask) → length (calls ++ ask ∷ []) �
 last_length [] ask = refl
 last_length (x ∷ calls) ask = ap suc (last_length calls ask)
 
-pub noted_one : (s r : State ℕ Now) (old new : LogText) (ask : Ask) (e : CallEnd) (u : TargetState) (large : List ℕ) (number : ℕ) → s.rest.world.answered ≡ None
+pub noted_one : (s r : State ℕ Now) (old new : LogLines) (ask : Ask) (e : CallEnd) (u : TargetState) (large : List ℕ) (number : ℕ) → s.rest.world.answered ≡ None
     → r.rest.calls ≡ s.rest.calls ++ ask ∷ [] → r.rest.world ≡ record { target = u; large = large; answered = None } → r.lines ≡ s.lines
     → IsDone (call_done s.rest.world.target s.rest.world.large ask.forgive ask.call) e u large → number ≡ length r.rest.calls
-    → new ≡ noted old (Makes (record { number = number; ask = ask; end = Some e })) → Noted s r old new
+    → new ≡ listed old (Makes (record { number = number; ask = ask; end = Some e })) → Noted s r old new
 noted_one s r old new ask e u large number all calls world lines d is log = record {
   more = ask ∷ [];
   calls = calls;
   world = world ∙ sym (rw all (ap (λ x. record { target = x; large = (done_now s.rest.world ask).large; answered = None }) d.next_is ∙ ap (λ l. record { target = u; large = l; answered = None }) d.large_is));
   lines = lines;
-  log = log ∙ sym (rw all (ap (λ x. noted old (Makes (record { number = suc (length s.rest.calls); ask = ask; end = Some x }))) d.end_is
-      ∙ ap (λ k. noted old (Makes (record { number = k; ask = ask; end = Some e }))) (sym (is ∙ ap length calls ∙ last_length s.rest.calls ask))));
+  log = log ∙ sym (rw all (ap (λ x. listed old (Makes (record { number = suc (length s.rest.calls); ask = ask; end = Some x }))) d.end_is
+      ∙ ap (λ k. listed old (Makes (record { number = k; ask = ask; end = Some e }))) (sym (is ∙ ap length calls ∙ last_length s.rest.calls ask))));
 }
 
 -- ---- functions
 
-pub between_is : (s r : State ℕ Now) (old new : LogText) (h : Noted s r old new) → units_between s r ≡ units_from s.rest.world (suc (length s.rest.calls)) h.more
+pub between_is : (s r : State ℕ Now) (old new : LogLines) (h : Noted s r old new) → units_between s r ≡ units_from s.rest.world (suc (length s.rest.calls)) h.more
 between_is s r old new h = ap (λ c. units_from s.rest.world (suc (length s.rest.calls)) (drop (length s.rest.calls) c)) h.calls
     ∙ ap (units_from s.rest.world (suc (length s.rest.calls))) (drop-append_seam s.rest.calls h.more)
 
@@ -101,10 +101,10 @@ none_new true None e xs = append-nil xs
 none_new false None e xs = append-nil xs
 none_new b (Some line) e xs = absurd cc
 
-seen_at : (function : Function) (text n : List ℕ) (s r : State ℕ Now) (old new : LogText) → line_of function text n ≡ None → Noted s r old new
-    → new ≡ noted_all old (all_made (units_between s r) ++ new_line function text n s r)
+seen_at : (function : Function) (text n : List ℕ) (s r : State ℕ Now) (old new : LogLines) → line_of function text n ≡ None → Noted s r old new
+    → new ≡ listed_all old (all_made (units_between s r) ++ new_line function text n s r)
 seen_at function text n s r old new e h =
-    h.log ∙ ap (noted_all old) (ap all_made (sym (between_is s r old new h)) ∙ sym (none_new (nat_lt s.lines r.lines) (line_of function text n) e (all_made (units_between s r))))
+    h.log ∙ ap (listed_all old) (ap all_made (sym (between_is s r old new h)) ∙ sym (none_new (nat_lt s.lines r.lines) (line_of function text n) e (all_made (units_between s r))))
 
 end_is : {A : Type 0} (now : State ℕ Now) (out : Out ℕ Now A) (x : A) → out ≡ Ok (x, now) → end_state out ≡ now
 end_is now out x h = ap end_state h
@@ -112,42 +112,42 @@ end_is now out x h = ap end_state h
 over_is : {A : Type 0} (now : State ℕ Now) (out : Out ℕ Now A) (e : machine.Over) → out ≡ Err (e, now) → end_state out ≡ now
 over_is now out e h = ap end_state h
 
-pub units_seen : (e : LoggedEnd) (result : Result ℕ Stopped) (function : Function) (text n : List ℕ) (s r : State ℕ Now) (old new : LogText) → line_of function text n ≡ None
-    → Means e result r (function_result (direct false) function text n s) → Unless e result (Noted s r old new) → Unless e result (new ≡ noted_all old (function_events function text n s))
+pub units_seen : (e : LoggedEnd) (result : Result ℕ Stopped) (function : Function) (text n : List ℕ) (s r : State ℕ Now) (old new : LogLines) → line_of function text n ≡ None
+    → Means e result r (function_result (direct false) function text n s) → Unless e result (Noted s r old new) → Unless e result (new ≡ listed_all old (function_events function text n s))
 unfolding function_events
-units_seen e (Ok x) function text n s r old new none h k = seen_at function text n s r old new none k ∙ ap (λ q. noted_all old (all_made (units_between s q) ++ new_line function text n s q)) (sym (end_is r (function_result (direct false) function text n s) x h))
-units_seen (end.Halted cause) (Err stopped) function text n s r old new none h k = seen_at function text n s r old new none k ∙ ap (λ q. noted_all old (all_made (units_between s q) ++ new_line function text n s q)) (sym (over_is r (function_result (direct false) function text n s) _ h))
-units_seen (end.Faulted u) (Err stopped) function text n s r old new none h k = seen_at function text n s r old new none k ∙ ap (λ q. noted_all old (all_made (units_between s q) ++ new_line function text n s q)) (sym (over_is r (function_result (direct false) function text n s) _ h))
+units_seen e (Ok x) function text n s r old new none h k = seen_at function text n s r old new none k ∙ ap (λ q. listed_all old (all_made (units_between s q) ++ new_line function text n s q)) (sym (end_is r (function_result (direct false) function text n s) x h))
+units_seen (end.Halted cause) (Err stopped) function text n s r old new none h k = seen_at function text n s r old new none k ∙ ap (λ q. listed_all old (all_made (units_between s q) ++ new_line function text n s q)) (sym (over_is r (function_result (direct false) function text n s) _ h))
+units_seen (end.Faulted u) (Err stopped) function text n s r old new none h k = seen_at function text n s r old new none k ∙ ap (λ q. listed_all old (all_made (units_between s q) ++ new_line function text n s q)) (sym (over_is r (function_result (direct false) function text n s) _ h))
 units_seen end.OutOfMemory (Err stopped) function text n s r old new none h k = tt
 
 pub no_units : (s r : State ℕ Now) → r.rest.calls ≡ s.rest.calls → units_between s r ≡ []
 no_units s r h = ap (λ c. units_from s.rest.world (suc (length s.rest.calls)) (drop (length s.rest.calls) c)) (h ∙ sym (append-nil s.rest.calls)) ∙ ap (units_from s.rest.world (suc (length s.rest.calls))) (drop-append_seam s.rest.calls [])
 
-new_at : (function : Function) (text n line : List ℕ) (s r : State ℕ Now) (old new : LogText) → line_of function text n ≡ Some line → r.lines ≡ s.lines + 1 → r.rest.calls ≡ s.rest.calls → new ≡ noted old (Writes line)
-    → new ≡ noted_all old (all_made (units_between s r) ++ new_line function text n s r)
+new_at : (function : Function) (text n line : List ℕ) (s r : State ℕ Now) (old new : LogLines) → line_of function text n ≡ Some line → r.lines ≡ s.lines + 1 → r.rest.calls ≡ s.rest.calls → new ≡ listed old (Writes line)
+    → new ≡ listed_all old (all_made (units_between s r) ++ new_line function text n s r)
 new_at function text n line s r old new e more same h =
     let test : nat_lt s.lines r.lines ≡ true = ap (nat_lt s.lines) more ∙ lt-ltb s.lines (s.lines + 1) (omega arith) in
-    h ∙ sym (ap (λ u. noted_all old (all_made u ++ new_line function text n s r)) (no_units s r same) ∙ ap (λ b. noted_all old (cond b (written_line (line_of function text n)) [])) test ∙ ap (λ o. noted_all old (written_line o)) e)
+    h ∙ sym (ap (λ u. listed_all old (all_made u ++ new_line function text n s r)) (no_units s r same) ∙ ap (λ b. listed_all old (cond b (written_line (line_of function text n)) [])) test ∙ ap (λ o. listed_all old (written_line o)) e)
 
-none_at : (function : Function) (text n : List ℕ) (s r : State ℕ Now) (old new : LogText) → r.lines ≡ s.lines → r.rest.calls ≡ s.rest.calls → new ≡ old
-    → new ≡ noted_all old (all_made (units_between s r) ++ new_line function text n s r)
+none_at : (function : Function) (text n : List ℕ) (s r : State ℕ Now) (old new : LogLines) → r.lines ≡ s.lines → r.rest.calls ≡ s.rest.calls → new ≡ old
+    → new ≡ listed_all old (all_made (units_between s r) ++ new_line function text n s r)
 none_at function text n s r old new more same h =
     let test : nat_lt s.lines r.lines ≡ false = ap (nat_lt s.lines) more ∙ le-ltb s.lines s.lines (omega arith) in
-    h ∙ sym (ap (λ u. noted_all old (all_made u ++ new_line function text n s r)) (no_units s r same) ∙ ap (λ b. noted_all old (cond b (written_line (line_of function text n)) [])) test)
+    h ∙ sym (ap (λ u. listed_all old (all_made u ++ new_line function text n s r)) (no_units s r same) ∙ ap (λ b. listed_all old (cond b (written_line (line_of function text n)) [])) test)
 
-pub line_seen : (e : LoggedEnd) (result : Result ℕ Stopped) (function : Function) (text n line : List ℕ) (s r : State ℕ Now) (old new : LogText) → line_of function text n ≡ Some line
-    → Means e result r (function_result (direct false) function text n s) → LineNoted e result s r old new line → Unless e result (new ≡ noted_all old (function_events function text n s))
+pub line_seen : (e : LoggedEnd) (result : Result ℕ Stopped) (function : Function) (text n line : List ℕ) (s r : State ℕ Now) (old new : LogLines) → line_of function text n ≡ Some line
+    → Means e result r (function_result (direct false) function text n s) → LineNoted e result s r old new line → Unless e result (new ≡ listed_all old (function_events function text n s))
 unfolding function_events
-line_seen e (Ok x) function text n line s r old new some h k = new_at function text n line s r old new some k.0 k.2 k.1 ∙ ap (λ q. noted_all old (all_made (units_between s q) ++ new_line function text n s q)) (sym (end_is r (function_result (direct false) function text n s) x h))
-line_seen (end.Halted cause) (Err stopped) function text n line s r old new some h k = none_at function text n s r old new k.0 k.2 k.1 ∙ ap (λ q. noted_all old (all_made (units_between s q) ++ new_line function text n s q)) (sym (over_is r (function_result (direct false) function text n s) _ h))
+line_seen e (Ok x) function text n line s r old new some h k = new_at function text n line s r old new some k.0 k.2 k.1 ∙ ap (λ q. listed_all old (all_made (units_between s q) ++ new_line function text n s q)) (sym (end_is r (function_result (direct false) function text n s) x h))
+line_seen (end.Halted cause) (Err stopped) function text n line s r old new some h k = none_at function text n s r old new k.0 k.2 k.1 ∙ ap (λ q. listed_all old (all_made (units_between s q) ++ new_line function text n s q)) (sym (over_is r (function_result (direct false) function text n s) _ h))
 line_seen (end.Faulted u) (Err stopped) function text n line s r old new some h k = absurd k
 line_seen end.OutOfMemory (Err stopped) function text n line s r old new some h k = tt
 
 pub no_line : {A : Type 0} {line : List ℕ} → Some line ≡ None → A
 no_line e = absurd cc
 
-pub line_seen_as : (e : LoggedEnd) (result : Result ℕ Stopped) (function known : Function) (text n line : List ℕ) (s r : State ℕ Now) (old new : LogText) → function ≡ known → line_of known text n ≡ Some line
-    → Means e result r (function_result (direct false) known text n s) → LineNoted e result s r old new line → Unless e result (new ≡ noted_all old (function_events function text n s))
+pub line_seen_as : (e : LoggedEnd) (result : Result ℕ Stopped) (function known : Function) (text n line : List ℕ) (s r : State ℕ Now) (old new : LogLines) → function ≡ known → line_of known text n ≡ Some line
+    → Means e result r (function_result (direct false) known text n s) → LineNoted e result s r old new line → Unless e result (new ≡ listed_all old (function_events function text n s))
 line_seen_as e result function known text n line s r old new is some h k = rw is (line_seen e result known text n line s r old new some h k)
 
 pub quiet : (function : Function) (text n : List ℕ) → (function ≡ f.Message → ⊥) → (function ≡ f.Query → ⊥) → (function ≡ f.QueryValue → ⊥) → (function ≡ f.LoadDebugInfo → ⊥) → line_of function text n ≡ None

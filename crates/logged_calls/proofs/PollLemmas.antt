@@ -17,7 +17,7 @@ use Rattle.sequence_rules.specs.Direct.{Now}
 use Rattle.sequence_rules.specs.Machine.{State}
 use Rattle.run_events.specs.Events.{MadeUnit, Makes, TimesOut, Matches, all_made, units_between, units_from}
 use Rattle.run_events.specs.OfSteps.{poll_end, polled_events}
-use Rattle.log_lines.specs.LogText.{LogText, noted, noted_all}
+use Rattle.log_lines.specs.LogLines.{LogLines, listed, listed_all}
 use Rattle.logged_calls.specs.declared.held.Stopped.{Stopped}
 use Rattle.logged_calls.specs.Held.{Noted, SeenAsPoll, poll_seen}
 use Rattle.logged_calls.proofs.NotedLemmas.{all_on, between_is, no_units}
@@ -62,25 +62,25 @@ polled_small s r ask stopped u large all calls d = record { seen = λ spot turns
 pub polled_skipped : {A : Type 0} (t : TargetState) (before : List ℕ) (forgive : Bool) (call : Call) (u : TargetState) (large : List ℕ) (m : Made) → forgive ≡ false → m ≡ made.Skipped → IsDone (call_done t before forgive call) (call_end_of m) u large → A
 polled_skipped t before forgive call u large m e is d = absurd (not_skipped t before forgive call e (d.end_is ∙ ap call_end_of is))
 
-made_noted : (s r : State ℕ Now) (old new : LogText) → Noted s r old new → new ≡ noted_all old (all_made (units_between s r))
-made_noted s r old new h = h.log ∙ ap (λ u. noted_all old (all_made u)) (sym (between_is s r old new h))
+made_noted : (s r : State ℕ Now) (old new : LogLines) → Noted s r old new → new ≡ listed_all old (all_made (units_between s r))
+made_noted s r old new h = h.log ∙ ap (λ u. listed_all old (all_made u)) (sym (between_is s r old new h))
 
-pub poll_noted : (s r : State ℕ Now) (old mid new : LogText) (n : ℕ) (spot : Spot) (turns : ℕ) → Noted s r old mid → SeenAsPoll s r (Ok n) → new ≡ noted_all mid (poll_end spot turns (Some (Answered n)))
-    → new ≡ noted_all old (polled_events spot turns (units_between s r))
+pub poll_noted : (s r : State ℕ Now) (old mid new : LogLines) (n : ℕ) (spot : Spot) (turns : ℕ) → Noted s r old mid → SeenAsPoll s r (Ok n) → new ≡ listed_all mid (poll_end spot turns (Some (Answered n)))
+    → new ≡ listed_all old (polled_events spot turns (units_between s r))
 poll_noted s r old mid new n spot turns h k next =
-    next ∙ ap (λ l. noted_all l (poll_end spot turns (Some (Answered n)))) (made_noted s r old mid h)
-    ∙ sym (all_on old (all_made (units_between s r)) (poll_end spot turns (Some (Answered n)))) ∙ ap (noted_all old) (sym (k.seen spot turns))
+    next ∙ ap (λ l. listed_all l (poll_end spot turns (Some (Answered n)))) (made_noted s r old mid h)
+    ∙ sym (all_on old (all_made (units_between s r)) (poll_end spot turns (Some (Answered n)))) ∙ ap (listed_all old) (sym (k.seen spot turns))
 
-pub poll_stopped : (s r : State ℕ Now) (old new : LogText) (stopped : Stopped) (spot : Spot) (turns : ℕ) → Noted s r old new → SeenAsPoll s r (Err stopped)
-    → new ≡ noted_all old (polled_events spot turns (units_between s r))
+pub poll_stopped : (s r : State ℕ Now) (old new : LogLines) (stopped : Stopped) (spot : Spot) (turns : ℕ) → Noted s r old new → SeenAsPoll s r (Err stopped)
+    → new ≡ listed_all old (polled_events spot turns (units_between s r))
 poll_stopped s r old new stopped spot turns h k =
-    made_noted s r old new h ∙ ap (noted_all old) (sym (k.seen spot turns ∙ append-nil (all_made (units_between s r))))
+    made_noted s r old new h ∙ ap (listed_all old) (sym (k.seen spot turns ∙ append-nil (all_made (units_between s r))))
 
 pub no_zero : (value : ℕ) → (value ≡ 0 → ⊥) → nat_eq value 0 ≡ false
 no_zero value some = elim (eqb_tells value 0) [ inl h ↦ absurd (some h.1) | inr h ↦ h.0 ]
 
-pub timed_out : (r : Result (Unit {0}) OutOfMemory) (spot : Spot) (turns value : ℕ) (old new : LogText) → value ≡ 0 → OnOk r (new ≡ noted old (TimesOut spot turns)) → OnOk r (new ≡ noted_all old (poll_end spot turns (Some (Answered value))))
-timed_out r spot turns value old new none h = subst (λ v. OnOk r (new ≡ noted_all old (poll_end spot turns (Some (Answered v))))) (sym none) h
+pub timed_out : (r : Result (Unit {0}) OutOfMemory) (spot : Spot) (turns value : ℕ) (old new : LogLines) → value ≡ 0 → OnOk r (new ≡ listed old (TimesOut spot turns)) → OnOk r (new ≡ listed_all old (poll_end spot turns (Some (Answered value))))
+timed_out r spot turns value old new none h = subst (λ v. OnOk r (new ≡ listed_all old (poll_end spot turns (Some (Answered v))))) (sym none) h
 
-pub matched : (r : Result (Unit {0}) OutOfMemory) (spot : Spot) (turns value : ℕ) (old new : LogText) → (value ≡ 0 → ⊥) → OnOk r (new ≡ noted old (Matches spot)) → OnOk r (new ≡ noted_all old (poll_end spot turns (Some (Answered value))))
-matched r spot turns value old new some h = subst (λ b. OnOk r (new ≡ noted old (cond b (TimesOut spot turns) (Matches spot)))) (sym (no_zero value some)) h
+pub matched : (r : Result (Unit {0}) OutOfMemory) (spot : Spot) (turns value : ℕ) (old new : LogLines) → (value ≡ 0 → ⊥) → OnOk r (new ≡ listed old (Matches spot)) → OnOk r (new ≡ listed_all old (poll_end spot turns (Some (Answered value))))
+matched r spot turns value old new some h = subst (λ b. OnOk r (new ≡ listed old (cond b (TimesOut spot turns) (Matches spot)))) (sym (no_zero value some)) h

@@ -17,7 +17,7 @@ use Rattle.sequence_rules.specs.Locals.{locals_of}
 use Rattle.sequence_rules.specs.Shared.{bindings_of}
 use Rattle.run_events.specs.Events.{Event, Writes, all_made, units_from, units_between}
 use Rattle.run_events.specs.OfSteps.{poll_end, polled_events}
-use Rattle.log_lines.specs.LogText.{LogText, noted, noted_all}
+use Rattle.log_lines.specs.LogLines.{LogLines, listed, listed_all}
 use Rattle.logged_calls.specs.declared.held.Held.{Held}
 use Rattle.logged_calls.specs.declared.held.LoggedEnd.{LoggedEnd}
 use Rattle.logged_calls.specs.declared.held.LoggedEnd.TheVariants as end
@@ -63,16 +63,16 @@ left_by w [] = w
 left_by w (ask ∷ asks) = left_by (left_at w ask) asks
 
 -- from s to r these units were made, and they were noted
-pub record Noted (s r : State ℕ Now) (old new : LogText) : Type 0 where
+pub record Noted (s r : State ℕ Now) (old new : LogLines) : Type 0 where
   pub more : List Ask
   pub calls : r.rest.calls ≡ s.rest.calls ++ more
   pub world : r.rest.world ≡ left_by s.rest.world more
   pub lines : r.lines ≡ s.lines
-  pub log : new ≡ noted_all old (all_made (units_from s.rest.world (suc (length s.rest.calls)) more))
+  pub log : new ≡ listed_all old (all_made (units_from s.rest.world (suc (length s.rest.calls)) more))
 
 -- the line was noted, where it is one more; else nothing was
-abbrev pub LineNoted : {A : Type 0} → LoggedEnd → Result A Stopped → State ℕ Now → State ℕ Now → LogText → LogText → List ℕ → Type 0
-LineNoted e (Ok x) s r old new line = (r.lines ≡ s.lines + 1) × (new ≡ noted old (Writes line)) × (r.rest.calls ≡ s.rest.calls)
+abbrev pub LineNoted : {A : Type 0} → LoggedEnd → Result A Stopped → State ℕ Now → State ℕ Now → LogLines → LogLines → List ℕ → Type 0
+LineNoted e (Ok x) s r old new line = (r.lines ≡ s.lines + 1) × (new ≡ listed old (Writes line)) × (r.rest.calls ≡ s.rest.calls)
 LineNoted (end.Halted cause) (Err stopped) s r old new line = (r.lines ≡ s.lines) × (new ≡ old) × (r.rest.calls ≡ s.rest.calls)
 LineNoted (end.Faulted u) (Err stopped) s r old new line = ⊥
 LineNoted end.OutOfMemory (Err stopped) s r old new line = Unit {0}

@@ -9,14 +9,14 @@ ghost use Rattle.sequence_rules.specs.Machine.{State};
 ghost use Rattle.sequence_rules.specs.Shared.{bindings_of};
 ghost use Rattle.run_events.specs.Events.{units_between};
 ghost use Rattle.run_events.specs.OfSteps.{poll_end, polled_events};
-ghost use Rattle.log_lines.specs.LogText.{noted_all};
+ghost use Rattle.log_lines.specs.LogLines.{listed_all};
 ghost use Rattle.sequence_rules.specs.Variables.{value_named};
 ghost use Rattle.logged_calls.specs.Held.{Means, Noted, SeenAsPoll, Unless, poll_value, state_of};
 
 use crate::held::{Held, LoggedEnd, Stopped};
 use dap_base::OutOfMemory;
 use direct_calls::{Made, call_at_once, command_at_once};
-use log_lines::Log;
+use log_lines::EventLog;
 use sequence_rules::{MOST_UNITS, Port};
 use target_calls::Ask;
 use target_machine::{Call, HaltCause, ProbeCall, Target, Unit};
@@ -125,8 +125,8 @@ pub(crate) fn ask_for_result(
 }
 
 // How a poll ended, by what its unit answered.
-fn note_end(value: u64, turns: u32, log: &mut Log) -> Result<(), OutOfMemory>
-    ensures { (spot : Spot) → OnOk result (log.new ≡ noted_all log.old (poll_end spot turns (Some (Answered value)))) }
+fn note_end(value: u64, turns: u32, log: &mut EventLog) -> Result<(), OutOfMemory>
+    ensures { (spot : Spot) → OnOk result (log.new ≡ listed_all log.old (poll_end spot turns (Some (Answered value)))) }
 {
     if value == 0 {
         log.time_out(turns)
@@ -148,7 +148,7 @@ pub fn ask_poll(
     requires least { 1 ≤ turns }
     requires most { turns ≤ 60000000 }
     ensures gives { Means held.new.end result (state_of held.new target.new) (poll_value (mask, requested) turns (state_of held.old target.old)) }
-    ensures noted { (spot : Spot) → Unless held.new.end result (held.new.log ≡ noted_all held.old.log (polled_events spot turns (units_between (state_of held.old target.old) (state_of held.new target.new)))) }
+    ensures noted { (spot : Spot) → Unless held.new.end result (held.new.log ≡ listed_all held.old.log (polled_events spot turns (units_between (state_of held.old target.old) (state_of held.new target.new)))) }
     ensures polled { Unless held.new.end result (SeenAsPoll (state_of held.old target.old) (state_of held.new target.new) result) }
 {
     if debug_port(held) != 0 {

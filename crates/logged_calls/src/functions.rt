@@ -3,7 +3,7 @@ ghost use Rattle.std.specs.Prelude.{◌≡◌, ℕ, List, None, false};
 ghost use Rattle.sequence_rules.specs.Calls as c;
 ghost use Rattle.sequence_rules.specs.Direct.{direct};
 ghost use Rattle.run_events.specs.OfValues.{function_events, line_of};
-ghost use Rattle.log_lines.specs.LogText.{noted_all};
+ghost use Rattle.log_lines.specs.LogLines.{listed_all};
 ghost use Rattle.logged_calls.specs.Held.{Means, Noted, Unless, state_of};
 
 use crate::held::{Held, LoggedEnd, Stopped};
@@ -74,7 +74,7 @@ pub fn make_call(
     // The result, the variables, the counts, the calls and the target are those of the meaning; and why the call ends.
     ensures gives { Means held.new.end result (state_of held.new target.new) (c.function_result (direct false) function text.now numbers.now (state_of held.old target.old)) }
     // What is seen of the call is noted.
-    ensures noted { Unless held.new.end result (held.new.log ≡ noted_all held.old.log (function_events function text.now numbers.now (state_of held.old target.old))) }
+    ensures noted { Unless held.new.end result (held.new.log ≡ listed_all held.old.log (function_events function text.now numbers.now (state_of held.old target.old))) }
 {
     match function {
         Function::Message => write_message(text, numbers, alloc, held),

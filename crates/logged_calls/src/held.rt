@@ -1,6 +1,6 @@
 //! What a logged run holds.
 use direct_calls::CallList;
-use log_lines::Log;
+use log_lines::EventLog;
 use sequence_rules::{Globals, Locals};
 use target_machine::{HaltCause, Unit};
 
@@ -19,9 +19,10 @@ pub enum LoggedEnd {
     OutOfMemory,
 }
 
-/// The variables, the counts, the calls that were made, the access ports that are known to have large addresses, and the log.
+/// The variables, the counts, the calls that were made, the access ports that are known to have large addresses, and the log, which refers to the
+/// set.
 #[derive(Drop)]
-pub struct Held {
+pub struct Held<'a> {
     pub globals: Globals<u64>,
     pub locals: Locals<u64>,
     pub units: u32,
@@ -32,5 +33,5 @@ pub struct Held {
     pub skipped: u32,
     /// Why the run goes no further. It counts only where the run has stopped.
     pub end: LoggedEnd,
-    pub log: Log,
+    pub log: EventLog<'a>,
 }

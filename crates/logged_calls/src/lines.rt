@@ -29,7 +29,7 @@ fn write_line(line: Result<Line, OutOfMemory>, value: u64, held: &mut Held) -> R
         held.end = LoggedEnd::OutOfMemory;
         return Err(Stopped);
     };
-    let Ok(()) = held.log.write(&line) else {
+    let Ok(()) = held.log.write(line) else {
         held.end = LoggedEnd::OutOfMemory;
         return Err(Stopped);
     };

@@ -7,7 +7,9 @@ use Rattle.sequence_rules.specs.Machine.{State, Out, end_state}
 use Rattle.sequence_rules.specs.Runs.{Outcome, outcome_of, units_of}
 use Rattle.run_events.specs.Events.{Event, places_after, places_of}
 use Rattle.run_events.specs.OfRuns.{each_turn}
+use Rattle.log_lines.specs.LogLines.{LogLines, listed_all, written}
 use Rattle.log_lines.specs.LogText.{noted_all}
+use Rattle.log_lines.proofs.Cutting.{written_all}
 use Rattle.logged_calls.specs.Held.{Means, Unless}
 use Rattle.logged_calls.specs.declared.held.LoggedEnd.{LoggedEnd}
 use Rattle.logged_calls.specs.declared.held.LoggedEnd.TheVariants as end
@@ -53,8 +55,9 @@ at_end P end.OutOfMemory (Err stopped) end units is h = absurd is
 
 -- what was seen from the start on
 module _ (turns : ℕ) (first last : SeenSoFar) (F : (ℕ → Bool) → List Event) (none : IsStart first) (h : Notes turns first last F) where
-  pub log_at : last.log ≡ noted_all (record { text = []; depth = 0 }) (F (λ number. nat_le number turns))
-  log_at = h.log ∙ ap (λ g. noted_all g (F (λ number. nat_le number turns))) none.log
+  pub log_at : written last.log ≡ noted_all (record { text = []; depth = 0 }) (F (λ number. nat_le number turns))
+  log_at = ap (λ (g : LogLines). written g) (h.log ∙ ap (λ (g : LogLines). listed_all g (F (λ number. nat_le number turns))) none.log)
+      ∙ written_all (record { lines = []; depth = 0 }) (F (λ number. nat_le number turns))
 
   pub places_at : last.places ≡ places_of (F each_turn)
   places_at = h.all.places ∙ ap (λ p. fold places_after p (F each_turn)) none.places

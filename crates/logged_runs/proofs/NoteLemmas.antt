@@ -8,7 +8,7 @@ use Rattle.sequence_rules.specs.Direct.{Now}
 use Rattle.sequence_rules.specs.Machine.{State, Out}
 use Rattle.run_events.specs.Events.{Event, after, places_after}
 use Rattle.run_events.specs.OfRuns.{each_turn}
-use Rattle.log_lines.specs.LogText.{noted_all}
+use Rattle.log_lines.specs.LogLines.{listed_all}
 use Rattle.logged_calls.specs.Held.{EndsAs, Means, Unless}
 use Rattle.logged_calls.specs.declared.held.LoggedEnd.{LoggedEnd}
 use Rattle.logged_calls.specs.declared.held.LoggedEnd.TheVariants as end
@@ -61,13 +61,13 @@ notes_none turns a = record { log = refl; all = all_none a }
 
 pub notes_then : (turns : ℕ) (a b c : SeenSoFar) (F G : Shown) → Notes turns a b F → Notes turns b c G → Notes turns a c (λ shows. F shows ++ G shows)
 notes_then turns a b c F G h k = record {
-  log = k.log ∙ ap (λ l. noted_all l (G (λ number. nat_le number turns))) h.log ∙ sym (all_on a.log (F (λ number. nat_le number turns)) (G (λ number. nat_le number turns)));
+  log = k.log ∙ ap (λ l. listed_all l (G (λ number. nat_le number turns))) h.log ∙ sym (all_on a.log (F (λ number. nat_le number turns)) (G (λ number. nat_le number turns)));
   all = all_then a b c (F each_turn) (G each_turn) h.all k.all;
 }
 
 pub notes_as : (turns : ℕ) (a b : SeenSoFar) (F G : Shown) → ((shows : ℕ → Bool) → F shows ≡ G shows) → Notes turns a b F → Notes turns a b G
 notes_as turns a b F G same h = record {
-  log = h.log ∙ ap (noted_all a.log) (same (λ number. nat_le number turns));
+  log = h.log ∙ ap (listed_all a.log) (same (λ number. nat_le number turns));
   all = subst (NotesAll a b) (same each_turn) h.all;
 }
 

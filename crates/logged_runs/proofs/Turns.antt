@@ -1,8 +1,7 @@
 -- Turns of a loop: what is noted of them, where a turn that is not shown is taken back when another begins.
 use Rattle.std.proofs.Common.{◌≡◌, ◌∙◌, ℕ, suc, ◌+◌, ◌-◌, ◌<◌, ◌≤◌, nat_le, nat_lt, nat_eq, Bool, true, false, cond, ◌||◌, List, [], ◌∷◌, ◌++◌, length, take, Result, Ok, Err, refl, sym, ap, subst, arith}
 use Rattle.std.proofs.lemmas.Bool.{le-ltb, lt-ltb, leb-true, leb-false, ne_eqb}
-use Rattle.std.proofs.lemmas.List.{append_assoc, append-nil}
-use Rattle.std.proofs.Math.Seq.{take-append_seam}
+use Rattle.std.proofs.lemmas.List.{append-nil}
 use Rattle.sequence_trees.specs.declared.spot.Spot.{Spot}
 use Rattle.sequence_rules.specs.Direct.{Now, direct}
 use Rattle.sequence_rules.specs.Machine.{State, Out}
@@ -10,8 +9,9 @@ use Rattle.sequence_rules.specs.Steps.{turn}
 use Rattle.run_events.specs.Events.{Event, Leaves, TimesOut, after}
 use Rattle.run_events.specs.OfRuns.{each_turn}
 use Rattle.run_events.specs.OfSteps.{is_last, turn_events, turns_events}
-use Rattle.log_lines.specs.LogText.{LogText, event_line, noted, noted_all}
+use Rattle.log_lines.specs.LogLines.{LogLines, listed_all}
 use Rattle.log_lines.specs.declared.log.LogMark.{LogMark}
+use Rattle.log_lines.proofs.Cutting.{cuts_back}
 use Rattle.logged_calls.specs.Held.{EndsAs, Unless}
 use Rattle.logged_calls.specs.declared.held.LoggedEnd.{LoggedEnd}
 use Rattle.logged_calls.specs.declared.held.LoggedEnd.TheVariants as end
@@ -24,25 +24,8 @@ use Rattle.logged_runs.proofs.NoteLemmas.{Shown, all_then, notes_as, notes_then,
 abbrev S : Type 0
 S = State ℕ Now
 
--- ---- what events add to a log
-
-record Grown (log now : LogText) : Type 0 where
-  more : List ℕ
-  text : now.text ≡ log.text ++ more
-
-grown : (log : LogText) (events : List Event) → Grown log (noted_all log events)
-grown log [] = record { more = []; text = sym (append-nil log.text) }
-grown log (e ∷ events) =
-    let rest = grown (noted log e) events in
-    record { more = event_line log.depth e ++ rest.more; text = rest.text ∙ append_assoc log.text (event_line log.depth e) rest.more }
-
-cuts_back : (log : LogText) (events : List Event) → record { text = take (length log.text) (noted_all log events).text; depth = log.depth } ≡ log
-cuts_back log events =
-    let h = grown log events in
-    ap (λ t. record { text = t; depth = log.depth }) (ap (take (length log.text)) h.text ∙ take-append_seam log.text h.more)
-
 -- what was seen, with another log
-abbrev pub with_log : SeenSoFar → LogText → SeenSoFar
+abbrev pub with_log : SeenSoFar → LogLines → SeenSoFar
 with_log a log = record { log = log; places = a.places; coverage = a.coverage; timed_out = a.timed_out; error_shown = a.error_shown }
 
 -- from where a loop goes on, where so many turns are left and so many were made
@@ -57,7 +40,7 @@ no_turns : (turns : ℕ) → nat_lt turns 0 ≡ false
 no_turns turns = le-ltb turns 0 (omega arith)
 
 pub going_first : (turns left : ℕ) (mark : LogMark) (a : SeenSoFar) → going turns left 0 mark a ≡ a
-going_first turns left mark a = ap (with_log a) (ap (λ b. cond (nat_eq left 0) a.log (cond b (record { text = take mark.len a.log.text; depth = mark.depth }) a.log)) (no_turns turns) ∙ cond_same (nat_eq left 0) a.log)
+going_first turns left mark a = ap (with_log a) (ap (λ b. cond (nat_eq left 0) a.log (cond b (record { lines = take mark.len a.log.lines; depth = mark.depth }) a.log)) (no_turns turns) ∙ cond_same (nat_eq left 0) a.log)
 
 some_left : (left : ℕ) → 0 < left → nat_eq left 0 ≡ false
 some_left left h = ne_eqb left 0 (omega arith)
@@ -87,30 +70,30 @@ module _ (turns : ℕ) (spot : Spot) (test : S → Out ℕ Now ℕ) (test_seen :
 
   -- ---- a turn after which another may follow
 
-  shown_log : (z y : Bool) (mark : LogMark) (old mid new : LogText) (xs ys : List Event) → mark.len ≡ length old.text → mark.depth ≡ old.depth → mid ≡ noted_all old xs
-      → new ≡ noted_all (cond z mid (cond y mid (record { text = take mark.len mid.text; depth = mark.depth }))) ys → new ≡ noted_all old (cond (y || z) xs [] ++ ys)
-  shown_log true true mark old mid new xs ys l d h k = k ∙ ap (λ m. noted_all m ys) h ∙ sym (all_on old xs ys)
-  shown_log true false mark old mid new xs ys l d h k = k ∙ ap (λ m. noted_all m ys) h ∙ sym (all_on old xs ys)
-  shown_log false true mark old mid new xs ys l d h k = k ∙ ap (λ m. noted_all m ys) h ∙ sym (all_on old xs ys)
+  shown_log : (z y : Bool) (mark : LogMark) (old mid new : LogLines) (xs ys : List Event) → mark.len ≡ length old.lines → mark.depth ≡ old.depth → mid ≡ listed_all old xs
+      → new ≡ listed_all (cond z mid (cond y mid (record { lines = take mark.len mid.lines; depth = mark.depth }))) ys → new ≡ listed_all old (cond (y || z) xs [] ++ ys)
+  shown_log true true mark old mid new xs ys l d h k = k ∙ ap (λ m. listed_all m ys) h ∙ sym (all_on old xs ys)
+  shown_log true false mark old mid new xs ys l d h k = k ∙ ap (λ m. listed_all m ys) h ∙ sym (all_on old xs ys)
+  shown_log false true mark old mid new xs ys l d h k = k ∙ ap (λ m. listed_all m ys) h ∙ sym (all_on old xs ys)
   shown_log false false mark old mid new xs ys l d h k =
-      let back : record { text = take mark.len mid.text; depth = mark.depth } ≡ old =
-      ap (λ n. record { text = take n mid.text; depth = mark.depth }) l ∙ ap (λ n. record { text = take (length old.text) mid.text; depth = n }) d
-      ∙ ap (λ (m : LogText). record { text = take (length old.text) m.text; depth = old.depth }) h ∙ cuts_back old xs in
-      k ∙ ap (λ m. noted_all m ys) back
+      let back : record { lines = take mark.len mid.lines; depth = mark.depth } ≡ old =
+      ap (λ n. record { lines = take n mid.lines; depth = mark.depth }) l ∙ ap (λ n. record { lines = take (length old.lines) mid.lines; depth = n }) d
+      ∙ ap (λ (m : LogLines). record { lines = take (length old.lines) m.lines; depth = old.depth }) h ∙ cuts_back old xs in
+      k ∙ ap (λ m. listed_all m ys) back
 
-  other_way : (made : ℕ) (x : LogText) (y : LogText) → cond (nat_lt turns (suc made)) x y ≡ cond (nat_le (suc made) turns) y x
+  other_way : (made : ℕ) (x : LogLines) (y : LogLines) → cond (nat_lt turns (suc made)) x y ≡ cond (nat_le (suc made) turns) y x
   other_way made x y = by (nat_le (suc made) turns) refl
     where
       by : (b : Bool) → nat_le (suc made) turns ≡ b → cond (nat_lt turns (suc made)) x y ≡ cond (nat_le (suc made) turns) y x
       by true e = (let k : nat_lt turns (suc made) ≡ false = le-ltb turns (suc made) (leb-true (suc made) turns e) in rw (e, k) refl)
       by false e = (let k : nat_lt turns (suc made) ≡ true = lt-ltb turns (suc made) (leb-false (suc made) turns e) in rw (e, k) refl)
 
-  pub turn_more : (made left : ℕ) (mark : LogMark) (a b : SeenSoFar) (s r : S) → turn (direct false) test body s ≡ Ok (true, r) → Notes turns a b (one (suc made) s) → mark.len ≡ length a.log.text → mark.depth ≡ a.log.depth
+  pub turn_more : (made left : ℕ) (mark : LogMark) (a b : SeenSoFar) (s r : S) → turn (direct false) test body s ≡ Ok (true, r) → Notes turns a b (one (suc made) s) → mark.len ≡ length a.log.lines → mark.depth ≡ a.log.depth
       → (c : SeenSoFar) → Notes turns (going turns left (suc made) mark b) c (rest (suc made) left r) → Notes turns a c (rest made (suc left) s)
   turn_more made left mark a b s r is h len depth c k =
       notes_as turns a c (from made left s (Ok (true, r))) (rest made (suc left) s) (λ shows. rest_is made left s (Ok (true, r)) is shows) (record {
         log = shown_log (nat_eq left 0) (nat_le (suc made) turns) mark a.log b.log c.log (one (suc made) s (λ number. nat_le number turns)) (rest (suc made) left r (λ number. nat_le number turns)) len depth h.log
-            (k.log ∙ ap (λ l. noted_all (cond (nat_eq left 0) b.log l) (rest (suc made) left r (λ number. nat_le number turns))) (other_way made (record { text = take mark.len b.log.text; depth = mark.depth }) b.log));
+            (k.log ∙ ap (λ l. listed_all (cond (nat_eq left 0) b.log l) (rest (suc made) left r (λ number. nat_le number turns))) (other_way made (record { lines = take mark.len b.log.lines; depth = mark.depth }) b.log));
         all = all_then a b c (one (suc made) s each_turn) (rest (suc made) left r each_turn) h.all (record { places = k.all.places; covered = k.all.covered; timed_out = k.all.timed_out; error_shown = k.all.error_shown });
       })
 
@@ -146,7 +129,7 @@ module _ (turns : ℕ) (spot : Spot) (test : S → Out ℕ Now ℕ) (test_seen :
       let same : count - 0 ≡ count = omega arith in
       notes_as turns a c (rest 0 (count - 0) s) (rest 0 count s) (λ shows. ap (λ n. rest 0 n s shows) same) (subst (λ (x : SeenSoFar). Notes turns x c (rest 0 (count - 0) s)) (going_first turns (count - 0) mark a) h)
 
-  module _ (count made : ℕ) (mark : LogMark) (f l : SeenSoFar) (log : LogText) (s : S) (all : Shown) (kept_is : log ≡ kept turns made mark l.log)
+  module _ (count made : ℕ) (mark : LogMark) (f l : SeenSoFar) (log : LogLines) (s : S) (all : Shown) (kept_is : log ≡ kept turns made mark l.log)
       (so : (c : SeenSoFar) → Notes turns (going turns (count - made) made mark l) c (rest made (count - made) s) → Notes turns f c all) where
     -- from where the turn begins
     begun : made < count → with_log l log ≡ going turns (count - made) made mark l
@@ -163,7 +146,7 @@ module _ (turns : ℕ) (spot : Spot) (test : S → Out ℕ Now ℕ) (test_seen :
     number_is : made + 1 ≡ suc made
     number_is = omega arith
 
-    pub loop_more : (mark2 : LogMark) (b : SeenSoFar) (r : S) → made < count → mark2.len ≡ length log.text → mark2.depth ≡ log.depth → turn (direct false) test body s ≡ Ok (true, r) → Notes turns (with_log l log) b (one (made + 1) s)
+    pub loop_more : (mark2 : LogMark) (b : SeenSoFar) (r : S) → made < count → mark2.len ≡ length log.lines → mark2.depth ≡ log.depth → turn (direct false) test body s ≡ Ok (true, r) → Notes turns (with_log l log) b (one (made + 1) s)
         → (c : SeenSoFar) → Notes turns (going turns (count - (made + 1)) (made + 1) mark2 b) c (rest (made + 1) (count - (made + 1)) r) → Notes turns f c all
     loop_more mark2 b r less len depth is h c k =
         onwards less c (turn_more made (count - (made + 1)) mark2 (with_log l log) b s r is (notes_as turns (with_log l log) b (one (made + 1) s) (one (suc made) s) (λ shows. ap (λ n. one n s shows) number_is) h) len depth c

@@ -16,7 +16,7 @@ use Rattle.run_events.specs.OfSteps.{poll_end, poll_events, polled_events}
 use Rattle.run_events.specs.OfValues.{function_events, line_of, new_line, written_line}
 use Rattle.target_machine.specs.Plain.{Answered}
 use Rattle.logged_calls.specs.Held.{EndsAs, Means, SeenAsPoll, Unless, poll_value}
-use Rattle.log_lines.specs.LogText.{noted_all}
+use Rattle.log_lines.specs.LogLines.{listed_all}
 use Rattle.logged_calls.proofs.EndLemmas.{ends_on}
 use Rattle.logged_calls.proofs.NotedLemmas.{no_units}
 use Rattle.logged_calls.specs.declared.held.LoggedEnd.{LoggedEnd}
@@ -207,20 +207,20 @@ module _ (turns : ℕ) (a b : SeenSoFar) (function : Function) (text n : List �
   out = function_result (direct false) function text n s
 
   -- a call that came to a value
-  pub function_done : (x : ℕ) → out ≡ Ok (x, r) → b.error_shown ≡ (a.error_shown || is_error_call function n) → b.log ≡ noted_all a.log (function_events function text n s) → Notes turns a b (λ shows. function_events function text n s)
+  pub function_done : (x : ℕ) → out ≡ Ok (x, r) → b.error_shown ≡ (a.error_shown || is_error_call function n) → b.log ≡ listed_all a.log (function_events function text n s) → Notes turns a b (λ shows. function_events function text n s)
   function_done x is e log = record {
     log = log;
     all = function_all a b function text n s p c t (e ∙ ap (λ y. a.error_shown || y) (and_true (is_error_call function n) (came out) (ap came is) ∙ sym (error_is function text n s fits)));
   }
 
-  stopped_so : (x : machine.Over × S) → out ≡ Err x → b.error_shown ≡ a.error_shown → b.log ≡ noted_all a.log (function_events function text n s) → Notes turns a b (λ shows. function_events function text n s)
+  stopped_so : (x : machine.Over × S) → out ≡ Err x → b.error_shown ≡ a.error_shown → b.log ≡ listed_all a.log (function_events function text n s) → Notes turns a b (λ shows. function_events function text n s)
   stopped_so x is e log = record {
     log = log;
     all = function_all a b function text n s p c t (e ∙ or_none a.error_shown _ (error_is function text n s fits ∙ and_false (is_error_call function n) (came out) (ap came is)));
   }
 
   -- a call that did not
-  pub function_stops : (e : LoggedEnd) (stopped : Stopped) → EndsAs e r out → b.error_shown ≡ a.error_shown → Unless {A = ℕ} e (Err stopped) (b.log ≡ noted_all a.log (function_events function text n s))
+  pub function_stops : (e : LoggedEnd) (stopped : Stopped) → EndsAs e r out → b.error_shown ≡ a.error_shown → Unless {A = ℕ} e (Err stopped) (b.log ≡ listed_all a.log (function_events function text n s))
       → Unless {A = ℕ} e (Err stopped) (Notes turns a b (λ shows. function_events function text n s))
   function_stops (end.Halted cause) stopped is same log = stopped_so _ is same log
   function_stops (end.Faulted u) stopped is same log = stopped_so _ is same log
@@ -238,13 +238,13 @@ poll_gives e (Ok x) r q out v is same none = rw is (ap (λ k. Ok (tt, k)) (sym s
 poll_gives e (Err stopped) r q out v is same none = refused_ends e q (dropped (direct false) out) none
 
 module _ (turns : ℕ) (a m : SeenSoFar) (s r : S) (spot : Spot) (count : ℕ) (p : m.places ≡ a.places) (c : m.coverage ≡ a.coverage) (t : m.timed_out ≡ a.timed_out) (e : m.error_shown ≡ a.error_shown) where
-  pub poll_stops : (end : LoggedEnd) (stopped : Stopped) → Unless {A = ℕ} end (Err stopped) (m.log ≡ noted_all a.log (polled_events spot count (units_between s r))) → Unless {A = ℕ} end (Err stopped) (SeenAsPoll s r (Err stopped))
+  pub poll_stops : (end : LoggedEnd) (stopped : Stopped) → Unless {A = ℕ} end (Err stopped) (m.log ≡ listed_all a.log (polled_events spot count (units_between s r))) → Unless {A = ℕ} end (Err stopped) (SeenAsPoll s r (Err stopped))
       → Unless {A = Unit {0}} end (Err stopped) (Notes turns a m (λ shows. polled_events spot count (units_between s r)))
   poll_stops (end.Halted cause) stopped log seen = record { log = log; all = poll_stopped_all a m s r spot count p c t e stopped seen }
   poll_stops (end.Faulted u) stopped log seen = record { log = log; all = poll_stopped_all a m s r spot count p c t e stopped seen }
   poll_stops end.OutOfMemory stopped log seen = tt
 
-  pub poll_noted : (b : SeenSoFar) (q : S) (last : LoggedEnd) (result : Result (Unit {0}) Stopped) (v : ℕ) → m.log ≡ noted_all a.log (polled_events spot count (units_between s r)) → SeenAsPoll s r (Ok v)
+  pub poll_noted : (b : SeenSoFar) (q : S) (last : LoggedEnd) (result : Result (Unit {0}) Stopped) (v : ℕ) → m.log ≡ listed_all a.log (polled_events spot count (units_between s r)) → SeenAsPoll s r (Ok v)
       → OnOk result (q ≡ r) → OnOk result (b.log ≡ m.log) → OnErr result (last ≡ end.OutOfMemory) → OnOk result (NotesAll m b (poll_end spot count (Some (Answered v))))
       → Unless last result (Notes turns a b (λ shows. polled_events spot count (units_between s q)))
   poll_noted b q last (Ok x) v log seen same kept none h =

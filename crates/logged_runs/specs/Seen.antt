@@ -7,7 +7,7 @@ use Rattle.function_table.specs.declared.function.Function.TheVariants.{Message}
 use Rattle.sequence_trees.specs.declared.spot.Spot.{Spot}
 use Rattle.run_events.specs.Events.{Event, TimesOut, Writes, places_after}
 use Rattle.run_events.specs.OfRuns.{each_turn}
-use Rattle.log_lines.specs.LogText.{LogText, noted_all}
+use Rattle.log_lines.specs.LogLines.{LogLines, listed_all}
 use Rattle.run_coverage.specs.declared.coverage.Coverage.{Coverage}
 use Rattle.run_coverage.specs.Covered.{IsOf}
 
@@ -41,7 +41,7 @@ is_error_call other numbers = false
 -- What was seen so far: the log; the places that were reached; the coverage; whether a loop timed out, and whether a message of type 2
 -- was written.
 pub record SeenSoFar : Type 0 where
-  pub log : LogText
+  pub log : LogLines
   pub places : List Spot
   pub coverage : Coverage
   pub timed_out : Bool
@@ -57,12 +57,12 @@ pub record NotesAll (old new : SeenSoFar) (events : List Event) : Type 0 where
 -- Events were noted: in the log those that are shown, where of each loop so many turns and the last are; elsewhere all of them. What is
 -- seen is given by the turns that are shown.
 pub record Notes (turns : ℕ) (old new : SeenSoFar) (events : (ℕ → Bool) → List Event) : Type 0 where
-  pub log : new.log ≡ noted_all old.log (events (λ number. nat_le number turns))
+  pub log : new.log ≡ listed_all old.log (events (λ number. nat_le number turns))
   pub all : NotesAll old new (events each_turn)
 
 -- nothing was seen yet
 pub record IsStart (first : SeenSoFar) : Type 0 where
-  pub log : first.log ≡ record { text = []; depth = 0 }
+  pub log : first.log ≡ record { lines = []; depth = 0 }
   pub places : first.places ≡ []
   pub coverage : IsOf first.coverage []
   pub timed_out : first.timed_out ≡ false

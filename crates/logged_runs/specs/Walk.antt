@@ -16,7 +16,7 @@ use Rattle.run_events.specs.Events.{Event, Begins, Assigns, after}
 use Rattle.run_events.specs.OfRuns.{at_debugvars, sequence_events}
 use Rattle.run_events.specs.OfSteps.{spot_at}
 use Rattle.run_events.specs.OfValues.{value_events}
-use Rattle.log_lines.specs.LogText.{LogText}
+use Rattle.log_lines.specs.LogLines.{LogLines}
 use Rattle.log_lines.specs.declared.log.LogMark.{LogMark}
 use Rattle.logged_calls.specs.Held.{EndsAs, state_of}
 use Rattle.logged_calls.specs.declared.held.LoggedEnd.{LoggedEnd}
@@ -62,8 +62,8 @@ abbrev pub tested : (State ℕ Now → Out ℕ Now ℕ) → (State ℕ Now → O
 tested test body s = used_now (direct false) (test s) >>= λ x. if nat_eq x.0 0 then Ok (false, x.1) else (body x.1 >>= λ y. Ok (true, y.1))
 
 -- the log where another turn begins after so many: the last of them is taken back, unless it is shown
-abbrev pub kept : ℕ → ℕ → LogMark → LogText → LogText
-kept turns made mark log = if nat_lt turns made then record { text = take mark.len log.text; depth = mark.depth } else log
+abbrev pub kept : ℕ → ℕ → LogMark → LogLines → LogLines
+kept turns made mark log = if nat_lt turns made then record { lines = take mark.len log.lines; depth = mark.depth } else log
 
 -- a debug variable gets its value
 abbrev pub defined : LoggedRunner → Name → Tree → State ℕ Now → Out ℕ Now (Unit {0})

@@ -25,16 +25,16 @@ use sequence_rules::text_of;
 use sequence_trees::CheckedStep;
 use target_machine::Target;
 
-impl LoggedRunner<'_> {
+impl<'a> LoggedRunner<'a> {
     // An argument is evaluated; a text is none.
     #[cycle(walk)]
     #[tactic(auto, unfolding(sequence_rules::specs::Values::argument, run_events::specs::OfValues::argument_events), using(crate::proofs::NoteLemmas::notes_none))]
     fn evaluate_argument(
         &self,
-        arg: &Arg,
+        arg: &'a Arg,
         numbers: &mut Vec<u64>,
         depth: u32,
-        walked: &mut Walked,
+        walked: &mut Walked<'a>,
         target: &mut Target,
     ) -> Result<(), Stopped>
         ensures gives { MeansAs walked.new.held.end numbers.new.items result (now walked.new target.new) (v.argument (direct false) (calls_of self.now depth) (arg_tree arg.now) numbers.old.items (now walked.old target.old)) }
@@ -51,10 +51,10 @@ impl LoggedRunner<'_> {
     #[tactic(auto, unfolding(sequence_rules::specs::Values::appended), using(crate::proofs::Ends::ends_appended))]
     fn push_value(
         &self,
-        expr: &Expr,
+        expr: &'a Expr,
         numbers: &mut Vec<u64>,
         depth: u32,
-        walked: &mut Walked,
+        walked: &mut Walked<'a>,
         target: &mut Target,
     ) -> Result<(), Stopped>
         ensures gives { MeansAs walked.new.held.end numbers.new.items result (now walked.new target.new) (v.appended (direct false) numbers.old.items (v.value (direct false) (calls_of self.now depth) (tree expr.now) (now walked.old target.old))) }
@@ -73,10 +73,10 @@ impl LoggedRunner<'_> {
     #[tactic(auto, unfolding(sequence_rules::specs::Values::arguments, run_events::specs::OfValues::arguments_events), using(crate::proofs::LoopEnds::looping))]
     fn evaluate_arguments(
         &self,
-        args: &[Arg],
+        args: &'a [Arg],
         numbers: &mut Vec<u64>,
         depth: u32,
-        walked: &mut Walked,
+        walked: &mut Walked<'a>,
         target: &mut Target,
     ) -> Result<(), Stopped>
         ensures gives { MeansAs walked.new.held.end numbers.new.items result (now walked.new target.new) (v.arguments (direct false) (calls_of self.now depth) (arg_trees args.now) numbers.old.items (now walked.old target.old)) }
@@ -96,10 +96,10 @@ impl LoggedRunner<'_> {
     #[tactic(auto, unfolding(sequence_rules::specs::Values::call_of, sequence_rules::specs::Calls::guarded, sequence_rules::specs::Values::numbers_of, sequence_rules::specs::Direct::direct), using(crate::proofs::Ends::ends_call, crate::proofs::Parts::numbers_used))]
     pub(crate) fn call(
         &self,
-        called: &CalledName,
-        args: &[Arg],
+        called: &'a CalledName,
+        args: &'a [Arg],
         depth: u32,
-        walked: &mut Walked,
+        walked: &mut Walked<'a>,
         target: &mut Target,
     ) -> Result<u64, Stopped>
         ensures gives { Means walked.new.held.end result (now walked.new target.new) (v.call_of (direct false) (calls_of self.now depth) called.now.name (arg_trees args.now) (v.arguments (direct false) (calls_of self.now depth) (arg_trees args.now) [] (now walked.old target.old))) }
@@ -126,10 +126,10 @@ impl LoggedRunner<'_> {
     fn call_function(
         &self,
         function: Option<Function>,
-        text: &str,
+        text: &'a str,
         numbers: &[u64],
         depth: u32,
-        walked: &mut Walked,
+        walked: &mut Walked<'a>,
         target: &mut Target,
     ) -> Result<u64, Stopped>
         ensures gives { Means walked.new.held.end result (now walked.new target.new) (v.call_result (direct false) (calls_of self.now depth) function text.now numbers.now (now walked.old target.old)) }
@@ -147,10 +147,10 @@ impl LoggedRunner<'_> {
     fn call_known(
         &self,
         function: Function,
-        text: &str,
+        text: &'a str,
         numbers: &[u64],
         depth: u32,
-        walked: &mut Walked,
+        walked: &mut Walked<'a>,
         target: &mut Target,
     ) -> Result<u64, Stopped>
         ensures gives { Means walked.new.held.end result (now walked.new target.new) (v.call_result (direct false) (calls_of self.now depth) (Some function) text.now numbers.now (now walked.old target.old)) }
@@ -167,9 +167,9 @@ impl LoggedRunner<'_> {
     #[tactic(auto, unfolding(sequence_rules::specs::Values::call_result, sequence_rules::specs::Direct::direct, run_events::specs::OfValues::called_events), using(crate::proofs::Ends::ends_sequence))]
     fn call_sequence(
         &self,
-        name: &str,
+        name: &'a str,
         depth: u32,
-        walked: &mut Walked,
+        walked: &mut Walked<'a>,
         target: &mut Target,
     ) -> Result<u64, Stopped>
         ensures gives { Means walked.new.held.end result (now walked.new target.new) (v.call_result (direct false) (calls_of self.now depth) (Some Function.Sequence) name.now [] (now walked.old target.old)) }
@@ -195,9 +195,9 @@ impl LoggedRunner<'_> {
     #[tactic(auto, unfolding(sequence_rules::specs::Steps::sequence_at, sequence_rules::specs::Calls::missing, sequence_rules::specs::Direct::direct, run_events::specs::OfRuns::sequence_events), using(crate::proofs::LoopEnds::sequence_on))]
     pub(crate) fn run_named(
         &self,
-        name: &str,
+        name: &'a str,
         depth: u32,
-        walked: &mut Walked,
+        walked: &mut Walked<'a>,
         target: &mut Target,
     ) -> Result<(), Stopped>
         ensures gives { Means walked.new.held.end result (now walked.new target.new) ((calls_of self.now depth) name.now (now walked.old target.old)) }
@@ -210,7 +210,7 @@ impl LoggedRunner<'_> {
     }
 
     // The steps of the sequence of the name, none where the set does not have it.
-    pub(crate) fn steps_of(&self, name: &str) -> &[CheckedStep]
+    pub(crate) fn steps_of(&self, name: &str) -> &'a [CheckedStep]
         ensures { steps_tree result.now ≡ unwrap_or (steps_named name.now (checked_trees self.now.set.now).sequences) NoSteps }
     {
         match self.set.steps(name) {
@@ -224,10 +224,10 @@ impl LoggedRunner<'_> {
     #[tactic(auto, unfolding(sequence_rules::specs::Steps::sequence_result), using(crate::proofs::LoopEnds::entered_fail))]
     fn run_sequence(
         &self,
-        name: &str,
-        steps: &[CheckedStep],
+        name: &'a str,
+        steps: &'a [CheckedStep],
         depth: u32,
-        walked: &mut Walked,
+        walked: &mut Walked<'a>,
         target: &mut Target,
     ) -> Result<(), Stopped>
         ensures gives { Means walked.new.held.end result (now walked.new target.new) (m.sequence_result (direct false) (m.steps_result (direct false) self.now.turn_us (calls_of self.now depth) (steps_tree steps.now)) (now walked.old target.old)) }

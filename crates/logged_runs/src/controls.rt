@@ -19,26 +19,26 @@ use crate::runner::LoggedRunner;
 use crate::steps::count_step;
 use crate::walked::Walked;
 use expr_grammar::Expr;
-use log_lines::{Log, LogMark};
+use log_lines::{EventLog, LogMark};
 use logged_calls::Stopped;
 use sequence_rules::{poll_of, turn_count};
 use sequence_trees::CheckedStep;
 use target_machine::Target;
 
-impl LoggedRunner<'_> {
+impl<'a> LoggedRunner<'a> {
     // A control.
     #[cycle(walk)]
     #[tactic(auto, unfolding(sequence_rules::specs::Steps::controlled, run_events::specs::OfSteps::controlled_events), using(crate::proofs::Ends::ends_control))]
     pub(crate) fn run_control(
         &self,
-        sequence: &str,
+        sequence: &'a str,
         path: &[u64],
-        cond: &Option<Expr>,
-        repeat: &Option<Expr>,
+        cond: &'a Option<Expr>,
+        repeat: &'a Option<Expr>,
         timeout: Option<u64>,
-        steps: &[CheckedStep],
+        steps: &'a [CheckedStep],
         depth: u32,
-        walked: &mut Walked,
+        walked: &mut Walked<'a>,
         target: &mut Target,
     ) -> Result<(), Stopped>
         ensures gives { Means walked.new.held.end result (now walked.new target.new) (m.controlled (direct false) self.now.turn_us (calls_of self.now depth) (option_map tree cond.now) (option_map tree repeat.now) timeout (steps_tree steps.now) (m.steps_result (direct false) self.now.turn_us (calls_of self.now depth) (steps_tree steps.now)) (now walked.old target.old)) }
@@ -62,11 +62,11 @@ impl LoggedRunner<'_> {
     #[tactic(auto, unfolding(sequence_rules::specs::Steps::condition, run_events::specs::OfSteps::condition_events), using(crate::proofs::NoteLemmas::notes_none))]
     fn test_condition(
         &self,
-        sequence: &str,
+        sequence: &'a str,
         path: &[u64],
-        cond: &Option<Expr>,
+        cond: &'a Option<Expr>,
         depth: u32,
-        walked: &mut Walked,
+        walked: &mut Walked<'a>,
         target: &mut Target,
     ) -> Result<bool, Stopped>
         ensures gives { Means walked.new.held.end result (now walked.new target.new) (m.condition (direct false) self.now.turn_us (calls_of self.now depth) (option_map tree cond.now) (now walked.old target.old)) }
@@ -83,11 +83,11 @@ impl LoggedRunner<'_> {
     #[tactic(auto, unfolding(sequence_rules::specs::Steps::condition, sequence_rules::specs::Values::used_now, sequence_rules::specs::Calls::use_now, sequence_rules::specs::Direct::direct, run_events::specs::OfSteps::condition_events), using(crate::proofs::Ends::ends_condition))]
     fn choose(
         &self,
-        sequence: &str,
+        sequence: &'a str,
         path: &[u64],
-        expr: &Expr,
+        expr: &'a Expr,
         depth: u32,
-        walked: &mut Walked,
+        walked: &mut Walked<'a>,
         target: &mut Target,
     ) -> Result<bool, Stopped>
         ensures gives { Means walked.new.held.end result (now walked.new target.new) (m.condition (direct false) self.now.turn_us (calls_of self.now depth) (Some (tree expr.now)) (now walked.old target.old)) }
@@ -113,13 +113,13 @@ impl LoggedRunner<'_> {
     #[tactic(auto, unfolding(sequence_rules::specs::Steps::repeat_result, sequence_rules::specs::Calls::given, sequence_rules::specs::Calls::missing, sequence_rules::specs::Direct::direct, run_events::specs::OfSteps::repeat_events))]
     fn repeat_steps(
         &self,
-        sequence: &str,
+        sequence: &'a str,
         path: &[u64],
-        repeat: &Option<Expr>,
+        repeat: &'a Option<Expr>,
         timeout: Option<u64>,
-        steps: &[CheckedStep],
+        steps: &'a [CheckedStep],
         depth: u32,
-        walked: &mut Walked,
+        walked: &mut Walked<'a>,
         target: &mut Target,
     ) -> Result<(), Stopped>
         ensures gives { Means walked.new.held.end result (now walked.new target.new) (m.repeat_result (direct false) self.now.turn_us (calls_of self.now depth) (option_map tree repeat.now) timeout (steps_tree steps.now) (m.steps_result (direct false) self.now.turn_us (calls_of self.now depth) (steps_tree steps.now)) (now walked.old target.old)) }
@@ -144,13 +144,13 @@ impl LoggedRunner<'_> {
     #[cycle(walk)]
     fn begin_loop(
         &self,
-        sequence: &str,
+        sequence: &'a str,
         path: &[u64],
-        expr: &Expr,
+        expr: &'a Expr,
         count: u32,
-        steps: &[CheckedStep],
+        steps: &'a [CheckedStep],
         depth: u32,
-        walked: &mut Walked,
+        walked: &mut Walked<'a>,
         target: &mut Target,
     ) -> Result<(), Stopped>
         requires least { 1 ≤ count }
@@ -170,13 +170,13 @@ impl LoggedRunner<'_> {
     #[tactic(auto, unfolding(sequence_rules::specs::Steps::loop_result, run_events::specs::OfSteps::loop_events))]
     fn run_loop(
         &self,
-        sequence: &str,
+        sequence: &'a str,
         path: &[u64],
-        expr: &Expr,
+        expr: &'a Expr,
         count: u32,
-        steps: &[CheckedStep],
+        steps: &'a [CheckedStep],
         depth: u32,
-        walked: &mut Walked,
+        walked: &mut Walked<'a>,
         target: &mut Target,
     ) -> Result<(), Stopped>
         requires least { 1 ≤ count }
@@ -197,13 +197,13 @@ impl LoggedRunner<'_> {
     #[tactic(auto, unfolding(sequence_rules::specs::Steps::turns, run_events::specs::OfSteps::turns_events), using(crate::proofs::LoopEnds::turning))]
     fn run_turns(
         &self,
-        sequence: &str,
+        sequence: &'a str,
         path: &[u64],
-        expr: &Expr,
+        expr: &'a Expr,
         count: u32,
-        steps: &[CheckedStep],
+        steps: &'a [CheckedStep],
         depth: u32,
-        walked: &mut Walked,
+        walked: &mut Walked<'a>,
         target: &mut Target,
     ) -> Result<(), Stopped>
         ensures gives { Means walked.new.held.end result (now walked.new target.new) (m.turns (direct false) (v.value (direct false) (calls_of self.now depth) (tree expr.now)) (m.inside (direct false) (m.steps_result (direct false) self.now.turn_us (calls_of self.now depth) (steps_tree steps.now))) count (now walked.old target.old)) }
@@ -224,7 +224,7 @@ impl LoggedRunner<'_> {
     }
 
     // Takes the last of so many turns back from the log, unless it is shown.
-    fn drop_turn(&self, made: u32, mark: LogMark, log: &mut Log)
+    fn drop_turn(&self, made: u32, mark: LogMark, log: &mut EventLog)
         ensures { log.new ≡ kept self.now.turns made mark log.old }
     {
         if made > self.turns {
@@ -237,13 +237,13 @@ impl LoggedRunner<'_> {
     #[tactic(auto, unfolding(sequence_rules::specs::Steps::turn, run_events::specs::OfSteps::turn_events), using(crate::proofs::Ends::ends_turn))]
     fn run_turn(
         &self,
-        sequence: &str,
+        sequence: &'a str,
         path: &[u64],
         number: u32,
-        expr: &Expr,
-        steps: &[CheckedStep],
+        expr: &'a Expr,
+        steps: &'a [CheckedStep],
         depth: u32,
-        walked: &mut Walked,
+        walked: &mut Walked<'a>,
         target: &mut Target,
     ) -> Result<bool, Stopped>
         ensures gives { Means walked.new.held.end result (now walked.new target.new) (m.turn (direct false) (v.value (direct false) (calls_of self.now depth) (tree expr.now)) (m.inside (direct false) (m.steps_result (direct false) self.now.turn_us (calls_of self.now depth) (steps_tree steps.now))) (now walked.old target.old)) }
@@ -265,12 +265,12 @@ impl LoggedRunner<'_> {
     #[tactic(auto, unfolding(sequence_rules::specs::Values::used_now, sequence_rules::specs::Calls::use_now, sequence_rules::specs::Direct::direct, run_events::specs::OfSteps::tested_events), using(crate::proofs::Ends::ends_tested, crate::proofs::Ends::ends_body))]
     fn test_turn(
         &self,
-        sequence: &str,
+        sequence: &'a str,
         path: &[u64],
-        expr: &Expr,
-        steps: &[CheckedStep],
+        expr: &'a Expr,
+        steps: &'a [CheckedStep],
         depth: u32,
-        walked: &mut Walked,
+        walked: &mut Walked<'a>,
         target: &mut Target,
     ) -> Result<bool, Stopped>
         ensures gives { Means walked.new.held.end result (now walked.new target.new) (tested (v.value (direct false) (calls_of self.now depth) (tree expr.now)) (m.inside (direct false) (m.steps_result (direct false) self.now.turn_us (calls_of self.now depth) (steps_tree steps.now))) (now walked.old target.old)) }
@@ -299,11 +299,11 @@ impl LoggedRunner<'_> {
     #[tactic(auto, unfolding(sequence_rules::specs::Steps::inside), using(crate::proofs::Ends::ends_inside))]
     fn run_inside(
         &self,
-        sequence: &str,
+        sequence: &'a str,
         path: &[u64],
-        steps: &[CheckedStep],
+        steps: &'a [CheckedStep],
         depth: u32,
-        walked: &mut Walked,
+        walked: &mut Walked<'a>,
         target: &mut Target,
     ) -> Result<(), Stopped>
         ensures gives { Means walked.new.held.end result (now walked.new target.new) (m.inside (direct false) (m.steps_result (direct false) self.now.turn_us (calls_of self.now depth) (steps_tree steps.now)) (now walked.old target.old)) }

@@ -97,10 +97,10 @@ fn place_of_end(ending: LoggedEnding, places: Places) -> Option<Spot>
 
 // What is answered at the end of a run.
 fn answer_run(ended: Result<(), Stopped>, walked: Walked) -> Result<Logged, OutOfMemory>
-    ensures answer { (p : Program) (start target : TargetState) → Means walked.held.end ended (now walked target) (meaning (start_world start None) p None)
+    ensures answer { (p : Program) (start target : TargetState) → Means walked.entry.held.end ended (now walked.entry target) (meaning (start_world start None) p None)
         → (end_state (meaning (start_world start None) p None)).units ≡ units_of (outcome p start None) → IfOk result (λ run. IsRun p start target run) }
     ensures seen { (turns : ℕ) (p : Program) (start : TargetState) (first : SeenSoFar) → IsStart first
-        → Unless walked.held.end ended (Notes turns first (seen walked) (λ shows. events_in shows (start_world start None) p None)) → IfOk result (λ run. IsSeen turns p start run) }
+        → Unless walked.entry.held.end ended (Notes turns first (seen walked.entry) (λ shows. events_in shows (start_world start None) p None)) → IfOk result (λ run. IsSeen turns p start run) }
 {
     let ending = match ending_of(ended, &walked.held) {
         Ok(ending) => ending,
@@ -113,12 +113,16 @@ fn answer_run(ended: Result<(), Stopped>, walked: Walked) -> Result<Logged, OutO
         timed_out,
         error_shown,
     } = walked;
+    let log = match held.log.write_text() {
+        Ok(log) => log,
+        Err(refused) => return Err(refused),
+    };
     Ok(Logged {
         ending,
         variables: held.globals,
         calls: held.calls,
         skipped: held.skipped,
-        log: held.log,
+        log,
         coverage,
         at: place_of_end(ending, places),
         timed_out,

@@ -50,7 +50,7 @@ fn is_error_call(function: Function, numbers: &[u64]) -> bool
     }
 }
 
-impl Walked {
+impl<'a> Walked<'a> {
     // Memory was refused.
     fn refuse(&mut self) -> Result<(), Stopped>
         ensures refused { OnErr result (self.new.held.end ≡ end.OutOfMemory) }
@@ -61,7 +61,12 @@ impl Walked {
     }
 
     /// A statement of a block begins.
-    pub fn begin(&mut self, sequence: &str, path: &[u64], statement: &Stmt) -> Result<(), Stopped>
+    pub fn begin(
+        &mut self,
+        sequence: &'a str,
+        path: &[u64],
+        statement: &'a Stmt,
+    ) -> Result<(), Stopped>
         ensures state { (target : TargetState) → OnOk result (now self.new target ≡ now self.old target) }
         ensures refused { OnErr result (self.new.held.end ≡ end.OutOfMemory) }
         ensures noted { (turns : ℕ) → OnOk result (Notes turns (seen self.old) (seen self.new) (λ shows. e.Begins (spot_in sequence.now path.now part.Block (place_of (stmt_tree statement.now))) (stmt_tree statement.now) ∷ [])) }
@@ -82,7 +87,7 @@ impl Walked {
     }
 
     /// A declaration of the debug variables begins.
-    pub fn begin_debug(&mut self, statement: &Stmt) -> Result<(), Stopped>
+    pub fn begin_debug(&mut self, statement: &'a Stmt) -> Result<(), Stopped>
         ensures state { (target : TargetState) → OnOk result (now self.new target ≡ now self.old target) }
         ensures refused { OnErr result (self.new.held.end ≡ end.OutOfMemory) }
         ensures noted { (turns : ℕ) → OnOk result (Notes turns (seen self.old) (seen self.new) (λ shows. e.Begins (debug_spot (place_of (stmt_tree statement.now))) (stmt_tree statement.now) ∷ [])) }
@@ -97,7 +102,7 @@ impl Walked {
     }
 
     /// The `if` of a control begins.
-    pub fn test(&mut self, sequence: &str, path: &[u64], expr: &Expr) -> Result<(), Stopped>
+    pub fn test(&mut self, sequence: &'a str, path: &[u64], expr: &'a Expr) -> Result<(), Stopped>
         ensures state { (target : TargetState) → OnOk result (now self.new target ≡ now self.old target) }
         ensures refused { OnErr result (self.new.held.end ≡ end.OutOfMemory) }
         ensures noted { (turns : ℕ) → OnOk result (Notes turns (seen self.old) (seen self.new) (λ shows. e.Tests (condition_spot sequence.now path.now part.If) (tree expr.now) ∷ [])) }
@@ -129,9 +134,9 @@ impl Walked {
     /// A `while` begins, with so many turns until its timeout.
     pub fn begin_loop(
         &mut self,
-        sequence: &str,
+        sequence: &'a str,
         path: &[u64],
-        expr: &Expr,
+        expr: &'a Expr,
         count: u32,
     ) -> Result<(), Stopped>
         ensures state { (target : TargetState) → OnOk result (now self.new target ≡ now self.old target) }
@@ -206,7 +211,7 @@ impl Walked {
     }
 
     /// The variable of this name has this value now.
-    pub fn assign(&mut self, name: &str, value: u64) -> Result<(), Stopped>
+    pub fn assign(&mut self, name: &'a str, value: u64) -> Result<(), Stopped>
         ensures state { (target : TargetState) → OnOk result (now self.new target ≡ now self.old target) }
         ensures refused { OnErr result (self.new.held.end ≡ end.OutOfMemory) }
         ensures noted { (turns : ℕ) → OnOk result (Notes turns (seen self.old) (seen self.new) (λ shows. e.Assigns name.now value ∷ [])) }
@@ -218,7 +223,7 @@ impl Walked {
     }
 
     /// The sequence of this name is called.
-    pub fn call(&mut self, name: &str) -> Result<(), Stopped>
+    pub fn call(&mut self, name: &'a str) -> Result<(), Stopped>
         ensures state { (target : TargetState) → OnOk result (now self.new target ≡ now self.old target) }
         ensures refused { OnErr result (self.new.held.end ≡ end.OutOfMemory) }
         ensures noted { (turns : ℕ) → OnOk result (Notes turns (seen self.old) (seen self.new) (λ shows. e.Calls name.now ∷ [])) }

@@ -36,6 +36,26 @@ fn copy_path(alloc: Global, path: &[u64]) -> Result<StepPath, OutOfMemory>
     Ok(copy)
 }
 
+// A name, in the memory of an earlier one where that is the same.
+fn name_from(alloc: Global, before: Option<NameText>, name: &str) -> Result<NameText, OutOfMemory>
+    ensures { IfOk result (λ text. text ≡ name.now) }
+{
+    match before {
+        Some(before) if before.as_str() == name => Ok(before),
+        _ => NameText::new(alloc, name),
+    }
+}
+
+// A path, in the memory of an earlier one where that is the same.
+fn path_from(alloc: Global, before: StepPath, path: &[u64]) -> Result<StepPath, OutOfMemory>
+    ensures { IfOk result (λ copy. copy ≡ path.now) }
+{
+    if before.as_slice() == path {
+        return Ok(before);
+    }
+    copy_path(alloc, path)
+}
+
 // A copy of a place.
 fn copy_spot(alloc: Global, spot: &Spot) -> Result<Spot, OutOfMemory>
     ensures { IfOk result (λ copy. copy ≡ spot.now) }
@@ -63,18 +83,24 @@ impl Places {
         }
     }
 
-    // The running sequence comes to a place.
-    fn put(&mut self, spot: Spot) -> Result<(), OutOfMemory>
-        ensures { OnOk result (self.new ≡ spot ∷ drop 1 self.old) }
+    // The place of the running sequence, which leaves it.
+    fn leave(&mut self) -> Option<Spot>
+        ensures { self.new ≡ drop 1 self.old }
     {
-        let _before = self.spots.pop();
+        self.spots.pop()
+    }
+
+    // The running sequence comes to a place, after it left one.
+    fn arrive(&mut self, spot: Spot) -> Result<(), OutOfMemory>
+        ensures { OnOk result (self.new ≡ spot ∷ self.old) }
+    {
         match self.spots.push(spot) {
             Ok(()) => Ok(()),
             Err(_) => Err(OutOfMemory),
         }
     }
 
-    /// The running sequence comes to a place in one of its steps.
+    /// The running sequence comes to a place in one of its steps. Nothing is allocated where it was in that step.
     pub fn reach(
         &mut self,
         sequence: &str,
@@ -84,9 +110,13 @@ impl Places {
     ) -> Result<(), OutOfMemory>
         ensures { OnOk result (self.new ≡ spot_in sequence.now path.now part place ∷ drop 1 self.old) }
     {
-        let sequence = Some(NameText::new(self.alloc, sequence)?);
-        let path = copy_path(self.alloc, path)?;
-        self.put(Spot {
+        let (name, steps) = match self.leave() {
+            Some(spot) => (spot.sequence, spot.path),
+            None => (None, StepPath::new(self.alloc)),
+        };
+        let sequence = Some(name_from(self.alloc, name, sequence)?);
+        let path = path_from(self.alloc, steps, path)?;
+        self.arrive(Spot {
             sequence,
             path,
             part,
@@ -98,7 +128,8 @@ impl Places {
     pub fn reach_debug(&mut self, place: Place) -> Result<(), OutOfMemory>
         ensures { OnOk result (self.new ≡ debug_spot place ∷ drop 1 self.old) }
     {
-        self.put(Spot {
+        let _before = self.leave();
+        self.arrive(Spot {
             sequence: None,
             path: StepPath::new(self.alloc),
             part: Part::Debugvars,

@@ -16,14 +16,14 @@ use logged_calls::Stopped;
 use sequence_rules::MOST_CALLS_DEEP;
 use target_machine::Target;
 
-impl LoggedRunner<'_> {
+impl<'a> LoggedRunner<'a> {
     // A debug variable gets its value.
     #[tactic(auto, unfolding(sequence_rules::specs::Values::stored, sequence_rules::specs::Calls::guarded, sequence_rules::specs::Direct::direct))]
     fn define(
         &self,
-        name: &Name,
-        expr: &Expr,
-        walked: &mut Walked,
+        name: &'a Name,
+        expr: &'a Expr,
+        walked: &mut Walked<'a>,
         target: &mut Target,
     ) -> Result<(), Stopped>
         ensures gives { Means walked.new.held.end result (now walked.new target.new) (defined self.now name.now (tree expr.now) (now walked.old target.old)) }
@@ -40,8 +40,8 @@ impl LoggedRunner<'_> {
     // A statement of the debug variables.
     fn define_one(
         &self,
-        one: &Stmt,
-        walked: &mut Walked,
+        one: &'a Stmt,
+        walked: &mut Walked<'a>,
         target: &mut Target,
     ) -> Result<(), Stopped>
         ensures gives { Means walked.new.held.end result (now walked.new target.new) (debugged_one self.now (stmt_tree one.now) (now walked.old target.old)) }
@@ -63,8 +63,8 @@ impl LoggedRunner<'_> {
     #[tactic(auto)]
     fn define_all(
         &self,
-        code: &[Stmt],
-        walked: &mut Walked,
+        code: &'a [Stmt],
+        walked: &mut Walked<'a>,
         target: &mut Target,
     ) -> Result<(), Stopped>
         ensures gives { Means walked.new.held.end result (now walked.new target.new) (m.debugged (direct false) self.now.turn_us (checked_trees self.now.set.now) (code_trees code.now) (now walked.old target.old)) }
@@ -83,8 +83,8 @@ impl LoggedRunner<'_> {
     #[tactic(auto, unfolding(sequence_rules::specs::Steps::run_of))]
     pub(crate) fn run_all(
         &self,
-        start: &str,
-        walked: &mut Walked,
+        start: &'a str,
+        walked: &mut Walked<'a>,
         target: &mut Target,
     ) -> Result<(), Stopped>
         ensures gives { Means walked.new.held.end result (now walked.new target.new) (m.run_of (direct false) self.now.turn_us (checked_trees self.now.set.now) start.now (now walked.old target.old)) }

@@ -15,25 +15,25 @@ ghost use Rattle.logged_runs.specs.Walk.{calls_of, events_of, now, seen, step_at
 
 use crate::runner::LoggedRunner;
 use crate::walked::Walked;
-use dap_base::{ItemList, OutOfMemory};
 use expr_grammar::{Expr, Name, Stmt};
 use logged_calls::{LoggedEnd, Stopped};
 use sequence_rules::MOST_STEPS;
-use sequence_trees::{CheckedStep, StepPath};
-use std::alloc::Global;
+use sequence_trees::CheckedStep;
+use smallvec::SmallVec;
+use std::alloc::{AllocError, Global};
 use target_machine::{HaltCause, Target};
 
-impl LoggedRunner<'_> {
+impl<'a> LoggedRunner<'a> {
     // The steps inside the one at the path, in order.
     #[cycle(walk)]
     #[tactic(auto, unfolding(sequence_rules::specs::Steps::steps_result, run_events::specs::OfSteps::steps_events), using(crate::proofs::LoopEnds::looping))]
     pub(crate) fn run_steps(
         &self,
-        sequence: &str,
+        sequence: &'a str,
         path: &[u64],
-        steps: &[CheckedStep],
+        steps: &'a [CheckedStep],
         depth: u32,
-        walked: &mut Walked,
+        walked: &mut Walked<'a>,
         target: &mut Target,
     ) -> Result<(), Stopped>
         ensures gives { Means walked.new.held.end result (now walked.new target.new) (m.steps_result (direct false) self.now.turn_us (calls_of self.now depth) (steps_tree steps.now) (now walked.old target.old)) }
@@ -52,12 +52,12 @@ impl LoggedRunner<'_> {
     #[cycle(walk)]
     fn run_inner(
         &self,
-        sequence: &str,
+        sequence: &'a str,
         path: &[u64],
         number: u64,
-        step: &CheckedStep,
+        step: &'a CheckedStep,
         depth: u32,
-        walked: &mut Walked,
+        walked: &mut Walked<'a>,
         target: &mut Target,
     ) -> Result<(), Stopped>
         ensures gives { Means walked.new.held.end result (now walked.new target.new) (m.step (direct false) self.now.turn_us (calls_of self.now depth) (step_tree step.now) (now walked.old target.old)) }
@@ -75,11 +75,11 @@ impl LoggedRunner<'_> {
     #[tactic(auto, unfolding(sequence_rules::specs::Steps::step, run_events::specs::OfSteps::step_events))]
     fn run_step(
         &self,
-        sequence: &str,
+        sequence: &'a str,
         path: &[u64],
-        step: &CheckedStep,
+        step: &'a CheckedStep,
         depth: u32,
-        walked: &mut Walked,
+        walked: &mut Walked<'a>,
         target: &mut Target,
     ) -> Result<(), Stopped>
         ensures gives { Means walked.new.held.end result (now walked.new target.new) (m.step (direct false) self.now.turn_us (calls_of self.now depth) (step_tree step.now) (now walked.old target.old)) }
@@ -113,11 +113,11 @@ impl LoggedRunner<'_> {
     #[tactic(auto, unfolding(sequence_rules::specs::Steps::block, run_events::specs::OfSteps::block_events), using(crate::proofs::LoopEnds::looping))]
     fn run_block(
         &self,
-        sequence: &str,
+        sequence: &'a str,
         path: &[u64],
-        code: &[Stmt],
+        code: &'a [Stmt],
         depth: u32,
-        walked: &mut Walked,
+        walked: &mut Walked<'a>,
         target: &mut Target,
     ) -> Result<(), Stopped>
         ensures gives { Means walked.new.held.end result (now walked.new target.new) (m.block (direct false) self.now.turn_us (calls_of self.now depth) (code_trees code.now) (now walked.old target.old)) }
@@ -137,11 +137,11 @@ impl LoggedRunner<'_> {
     #[tactic(auto, unfolding(run_events::specs::OfSteps::statement_events))]
     fn run_statement(
         &self,
-        sequence: &str,
+        sequence: &'a str,
         path: &[u64],
-        one: &Stmt,
+        one: &'a Stmt,
         depth: u32,
-        walked: &mut Walked,
+        walked: &mut Walked<'a>,
         target: &mut Target,
     ) -> Result<(), Stopped>
         ensures gives { Means walked.new.held.end result (now walked.new target.new) (m.statement (direct false) self.now.turn_us (calls_of self.now depth) (stmt_tree one.now) (now walked.old target.old)) }
@@ -159,9 +159,9 @@ impl LoggedRunner<'_> {
     #[tactic(auto, unfolding(sequence_rules::specs::Steps::statement, run_events::specs::OfSteps::done_events), using(crate::proofs::WalkLemmas::quiet_only))]
     fn do_statement(
         &self,
-        one: &Stmt,
+        one: &'a Stmt,
         depth: u32,
-        walked: &mut Walked,
+        walked: &mut Walked<'a>,
         target: &mut Target,
     ) -> Result<(), Stopped>
         ensures gives { Means walked.new.held.end result (now walked.new target.new) (m.statement (direct false) self.now.turn_us (calls_of self.now depth) (stmt_tree one.now) (now walked.old target.old)) }
@@ -179,10 +179,10 @@ impl LoggedRunner<'_> {
     #[tactic(auto, unfolding(sequence_rules::specs::Steps::after_counted, sequence_rules::specs::Steps::declared), using(crate::proofs::Ends::ends_counted, crate::proofs::Ends::declare_value))]
     fn declare(
         &self,
-        name: &Name,
-        expr: &Expr,
+        name: &'a Name,
+        expr: &'a Expr,
         depth: u32,
-        walked: &mut Walked,
+        walked: &mut Walked<'a>,
         target: &mut Target,
     ) -> Result<(), Stopped>
         ensures gives { Means walked.new.held.end result (now walked.new target.new) (m.after_counted (direct false) (λ r. m.declared (direct false) name.now (v.value (direct false) (calls_of self.now depth) (tree expr.now) r)) (now walked.old target.old)) }
@@ -208,9 +208,9 @@ impl LoggedRunner<'_> {
     #[tactic(auto, unfolding(sequence_rules::specs::Steps::after_counted, sequence_rules::specs::Steps::dropped), using(crate::proofs::Ends::ends_counted, crate::proofs::Ends::plain_value))]
     fn run_expression(
         &self,
-        expr: &Expr,
+        expr: &'a Expr,
         depth: u32,
-        walked: &mut Walked,
+        walked: &mut Walked<'a>,
         target: &mut Target,
     ) -> Result<(), Stopped>
         ensures gives { Means walked.new.held.end result (now walked.new target.new) (m.after_counted (direct false) (λ r. m.dropped (direct false) (v.value (direct false) (calls_of self.now depth) (tree expr.now) r)) (now walked.old target.old)) }
@@ -227,14 +227,11 @@ impl LoggedRunner<'_> {
     }
 }
 
-// The path of the step of this number inside the one at the path.
-fn inner_path(alloc: Global, path: &[u64], number: u64) -> Result<StepPath, OutOfMemory>
-    ensures { IfOk result (λ inner. inner ≡ path.now ++ number ∷ []) }
+// The path of the step of this number inside the one at the path. A path of up to four numbers takes no memory of its own.
+fn inner_path(alloc: Global, path: &[u64], number: u64) -> Result<SmallVec<u64, 4>, AllocError>
+    ensures { IfOk result (λ inner. inner.items ≡ path.now ++ number ∷ []) }
 {
-    let mut inner = ItemList::new(alloc);
-    for outer in path {
-        inner.push(*outer)?;
-    }
+    let mut inner = SmallVec::from_slice(alloc, path)?;
     inner.push(number)?;
     Ok(inner)
 }

@@ -16,15 +16,15 @@ use expr_grammar::{BinaryOp, Expr, Name, UnaryOp, binary_value, unary_value};
 use logged_calls::{LoggedEnd, Stopped};
 use target_machine::{HaltCause, Target};
 
-impl LoggedRunner<'_> {
+impl<'a> LoggedRunner<'a> {
     // The value of an expression.
     #[cycle(walk)]
     #[tactic(auto, unfolding(sequence_rules::specs::Values::value, sequence_rules::specs::Values::named, sequence_rules::specs::Calls::given, sequence_rules::specs::Calls::missing, sequence_rules::specs::Direct::direct, run_events::specs::OfValues::value_events), using(crate::proofs::NoteLemmas::notes_none))]
     pub(crate) fn evaluate(
         &self,
-        expr: &Expr,
+        expr: &'a Expr,
         depth: u32,
-        walked: &mut Walked,
+        walked: &mut Walked<'a>,
         target: &mut Target,
     ) -> Result<u64, Stopped>
         ensures gives { Means walked.new.held.end result (now walked.new target.new) (v.value (direct false) (calls_of self.now depth) (tree expr.now) (now walked.old target.old)) }
@@ -52,9 +52,9 @@ impl LoggedRunner<'_> {
     fn evaluate_unary(
         &self,
         op: UnaryOp,
-        operand: &Expr,
+        operand: &'a Expr,
         depth: u32,
-        walked: &mut Walked,
+        walked: &mut Walked<'a>,
         target: &mut Target,
     ) -> Result<u64, Stopped>
         ensures gives { Means walked.new.held.end result (now walked.new target.new) (v.of_unary (direct false) op (v.value (direct false) (calls_of self.now depth) (tree operand.now) (now walked.old target.old))) }
@@ -70,10 +70,10 @@ impl LoggedRunner<'_> {
     fn evaluate_strict(
         &self,
         op: BinaryOp,
-        left: &Expr,
-        right: &Expr,
+        left: &'a Expr,
+        right: &'a Expr,
         depth: u32,
-        walked: &mut Walked,
+        walked: &mut Walked<'a>,
         target: &mut Target,
     ) -> Result<u64, Stopped>
         ensures gives { Means walked.new.held.end result (now walked.new target.new) (v.strict_binary (direct false) op (v.value (direct false) (calls_of self.now depth) (tree left.now) (now walked.old target.old)) (v.value (direct false) (calls_of self.now depth) (tree right.now))) }
@@ -101,10 +101,10 @@ impl LoggedRunner<'_> {
     #[tactic(auto, unfolding(sequence_rules::specs::Values::conjunction, sequence_rules::specs::Values::used_now, sequence_rules::specs::Values::truth_of, sequence_rules::specs::Calls::use_now, sequence_rules::specs::Direct::direct), using(crate::proofs::Ends::ends_and, crate::proofs::Ends::ends_and_right))]
     fn evaluate_and(
         &self,
-        left: &Expr,
-        right: &Expr,
+        left: &'a Expr,
+        right: &'a Expr,
         depth: u32,
-        walked: &mut Walked,
+        walked: &mut Walked<'a>,
         target: &mut Target,
     ) -> Result<u64, Stopped>
         ensures gives { Means walked.new.held.end result (now walked.new target.new) (v.conjunction (direct false) (v.value (direct false) (calls_of self.now depth) (tree left.now) (now walked.old target.old)) (v.value (direct false) (calls_of self.now depth) (tree right.now))) }
@@ -129,10 +129,10 @@ impl LoggedRunner<'_> {
     #[tactic(auto, unfolding(sequence_rules::specs::Values::disjunction, sequence_rules::specs::Values::used_now, sequence_rules::specs::Values::truth_of, sequence_rules::specs::Calls::use_now, sequence_rules::specs::Direct::direct), using(crate::proofs::Ends::ends_or, crate::proofs::Ends::ends_or_right))]
     fn evaluate_or(
         &self,
-        left: &Expr,
-        right: &Expr,
+        left: &'a Expr,
+        right: &'a Expr,
         depth: u32,
-        walked: &mut Walked,
+        walked: &mut Walked<'a>,
         target: &mut Target,
     ) -> Result<u64, Stopped>
         ensures gives { Means walked.new.held.end result (now walked.new target.new) (v.disjunction (direct false) (v.value (direct false) (calls_of self.now depth) (tree left.now) (now walked.old target.old)) (v.value (direct false) (calls_of self.now depth) (tree right.now))) }
@@ -158,10 +158,10 @@ impl LoggedRunner<'_> {
     fn evaluate_binary(
         &self,
         op: BinaryOp,
-        left: &Expr,
-        right: &Expr,
+        left: &'a Expr,
+        right: &'a Expr,
         depth: u32,
-        walked: &mut Walked,
+        walked: &mut Walked<'a>,
         target: &mut Target,
     ) -> Result<u64, Stopped>
         ensures gives { Means walked.new.held.end result (now walked.new target.new) (v.of_binary (direct false) op (v.value (direct false) (calls_of self.now depth) (tree left.now) (now walked.old target.old)) (v.value (direct false) (calls_of self.now depth) (tree right.now))) }
@@ -179,11 +179,11 @@ impl LoggedRunner<'_> {
     #[tactic(auto, unfolding(sequence_rules::specs::Values::choice, sequence_rules::specs::Values::used_now, sequence_rules::specs::Calls::use_now, sequence_rules::specs::Direct::direct), using(crate::proofs::Ends::ends_choice))]
     fn evaluate_choice(
         &self,
-        test: &Expr,
-        first: &Expr,
-        second: &Expr,
+        test: &'a Expr,
+        first: &'a Expr,
+        second: &'a Expr,
         depth: u32,
-        walked: &mut Walked,
+        walked: &mut Walked<'a>,
         target: &mut Target,
     ) -> Result<u64, Stopped>
         ensures gives { Means walked.new.held.end result (now walked.new target.new) (v.choice (direct false) (v.value (direct false) (calls_of self.now depth) (tree test.now) (now walked.old target.old)) (v.value (direct false) (calls_of self.now depth) (tree first.now)) (v.value (direct false) (calls_of self.now depth) (tree second.now))) }
@@ -205,10 +205,10 @@ impl LoggedRunner<'_> {
     #[tactic(auto, unfolding(sequence_rules::specs::Values::assigned, sequence_rules::specs::Values::stored, sequence_rules::specs::Calls::guarded, sequence_rules::specs::Direct::direct), using(crate::proofs::Ends::ends_assigned))]
     fn assign(
         &self,
-        name: &Name,
-        right: &Expr,
+        name: &'a Name,
+        right: &'a Expr,
         depth: u32,
-        walked: &mut Walked,
+        walked: &mut Walked<'a>,
         target: &mut Target,
     ) -> Result<u64, Stopped>
         ensures gives { Means walked.new.held.end result (now walked.new target.new) (v.assigned (direct false) name.now (v.value (direct false) (calls_of self.now depth) (tree right.now) (now walked.old target.old))) }

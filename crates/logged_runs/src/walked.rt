@@ -13,7 +13,7 @@ ghost use Rattle.logged_runs.specs.Walk.{now, seen};
 use crate::places::Places;
 use dap_base::{NameText, OutOfMemory};
 use direct_calls::CallList;
-use log_lines::Log;
+use log_lines::EventLog;
 use logged_calls::{Held, LoggedEnd};
 use run_coverage::Coverage;
 use sequence_rules::{Globals, Locals};
@@ -22,8 +22,8 @@ use std::mem;
 
 // What a walk holds, and what was seen so far.
 #[derive(Drop)]
-pub(crate) struct Walked {
-    pub held: Held,
+pub(crate) struct Walked<'a> {
+    pub held: Held<'a>,
     pub places: Places,
     pub coverage: Coverage,
     /// Whether a loop timed out.
@@ -32,12 +32,12 @@ pub(crate) struct Walked {
     pub error_shown: bool,
 }
 
-impl Walked {
+impl<'a> Walked<'a> {
     /// What a run starts with: these variables, and nothing else.
-    pub fn new(alloc: Global, globals: Globals<u64>) -> Walked
+    pub fn new(alloc: Global, globals: Globals<u64>) -> Walked<'a>
         ensures state { (target : TargetState) → now result target
             ≡ record { globals = bindings_of globals; locals = []; units = 0; lines = 0; steps = 0; rest = now_at (start_world target None) None } }
-        ensures log { result.held.log ≡ record { text = []; depth = 0 } }
+        ensures log { result.held.log ≡ record { lines = []; depth = 0 } }
         ensures places { result.places ≡ [] }
         ensures coverage { IsOf result.coverage [] }
         ensures timed_out { result.timed_out ≡ false }
@@ -54,7 +54,7 @@ impl Walked {
                 large: Vec::new(alloc),
                 skipped: 0,
                 end: LoggedEnd::OutOfMemory,
-                log: Log::new(alloc),
+                log: EventLog::new(alloc),
             },
             places: Places::new(alloc),
             coverage: Coverage::new(alloc),

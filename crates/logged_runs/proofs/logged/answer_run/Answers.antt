@@ -1,4 +1,4 @@
-use Rattle.std.proofs.Common.{None}
+use Rattle.std.proofs.Common.{◌∙◌, None}
 use Rattle.run_events.specs.OfRuns.{events_in}
 use Rattle.sequence_rules.specs.Runs.{meaning}
 use Rattle.target_calls.specs.World.{start_world}
@@ -16,7 +16,7 @@ pub returns-clause-seen : goal.returns-clause-seen
 returns-clause-seen c = λ turns p start first none h.
     let n = at_end (Notes turns first (seen c.args.walked) (λ shows. events_in shows (start_world start None) p None)) c.args.walked.held.end c.args.ended c.in-Ok.ending c.args.walked.held.units c.in-Ok.ensures h in
     record {
-      log = log_at turns first (seen c.args.walked) (λ shows. events_in shows (start_world start None) p None) none n;
+      log = c.in-Ok-write_text.ensures ∙ log_at turns first (seen c.args.walked) (λ shows. events_in shows (start_world start None) p None) none n;
       coverage = covered_at turns first (seen c.args.walked) (λ shows. events_in shows (start_world start None) p None) none n;
       at = c.place_of_end.ensures _ (places_at turns first (seen c.args.walked) (λ shows. events_in shows (start_world start None) p None) none n);
       timed_out = timed_out_at turns first (seen c.args.walked) (λ shows. events_in shows (start_world start None) p None) none n;
