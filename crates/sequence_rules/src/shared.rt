@@ -17,9 +17,10 @@ pub trait VariableValue: Copy {
     fn zero() -> Self
         ensures { result ≡ zero };
 
-    /// Whether the other value is known to be the same one. Where it answers so, it is; contracts do not say when it answers so.
+    /// Whether the other value is the same one.
     fn is_same(self, other: Self) -> bool
-        ensures { result ≡ true → self ≡ other };
+        ensures same { result ≡ true → self ≡ other }
+        ensures only { self ≡ other → result ≡ true };
 }
 
 impl VariableValue for u64 {
