@@ -1,5 +1,5 @@
 -- The entries that were begun of a run that was left off are the first of the journal of the outcome's calls.
-use Rattle.std.proofs.Common.{◌≡◌, ◌∙◌, ◌⊎◌, inl, inr, ℕ, zero, suc, ◌<◌, ◌≤◌, List, [], ◌∷◌, ◌++◌, append-nil, length, take, Option, Some, refl, sym, ap, subst, arith}
+use Rattle.std.proofs.Common.{◌≡◌, ◌∙◌, ◌⊎◌, inl, inr, ℕ, zero, suc, ◌<◌, ◌≤◌, List, [], ◌∷◌, ◌++◌, append-nil, length, take, IfSome, Option, Some, refl, sym, ap, subst, arith}
 use Rattle.std.specs.List.{AllByRecursion}
 use Rattle.std.specs.Prelude.{slice_get}
 use Rattle.std.proofs.lemmas.Bool.{cases_lt}
@@ -21,7 +21,7 @@ use Rattle.sequence_rules.specs.Laws.{StopBy}
 use Rattle.sequence_rules.specs.Runs as runs
 use Rattle.sequence_rules.specs.Runs.{Ending}
 use Rattle.followed_runs.proofs.CallLemmas.{from_length}
-use Rattle.job_runs.proofs.FrontLemmas.{Meets, beyond, covers, goes_beyond, within}
+use Rattle.job_runs.proofs.FrontLemmas.{Meets, after_fewer, beyond, covers, goes_beyond, within}
 use Rattle.job_runs.proofs.SharedLemmas.{Common}
 
 -- ---- lists
@@ -31,6 +31,20 @@ get_taken zero [] = refl
 get_taken zero (x ∷ xs) = refl
 get_taken (suc k) [] = refl
 get_taken (suc k) (x ∷ xs) = get_taken k xs
+
+-- what is so of an entry of two lists, where there is one, is so in the first of them
+first_entry : (P : Entry → Type 0) (i : ℕ) (xs ys : List Entry) → IfSome (slice_get (xs ++ ys) i) P → IfSome (slice_get xs i) P
+first_entry P i [] ys h = tt
+first_entry P zero (x ∷ xs) ys h = h
+first_entry P (suc i) (x ∷ xs) ys h = first_entry P i xs ys h
+
+-- what is so in the first, and of all entries of the second
+both_entries : (P : Entry → Type 0) (i : ℕ) (xs ys : List Entry) → i ≤ length xs → IfSome (slice_get xs i) P → AllByRecursion P ys → IfSome (slice_get (xs ++ ys) i) P
+both_entries P i [] [] le h all = tt
+both_entries P zero [] (y ∷ ys) le h all = all.0
+both_entries P (suc i) [] (y ∷ ys) le h all = absurd (omega (arith, le))
+both_entries P zero (x ∷ xs) ys le h all = h
+both_entries P (suc i) (x ∷ xs) ys le h all = both_entries P i xs ys (omega (arith, le)) h all
 
 -- entries that are all issued for the first calls lie in front of those that are issued after them
 few_begun : (calls begun : ℕ) (front rest : List Entry) → AllByRecursion (IsAfter calls) rest → AllByRecursion (IsWithin calls) (take begun (front ++ rest)) → begun ≤ length (front ++ rest) → begun ≤ length front
@@ -108,6 +122,22 @@ module _ (journal : TargetState → List Ask → List Entry) (grows : JournalGro
           let g = (covers journal grows settles t asked calls m few).goes_on in
           let h = settles t calls in
           record { all = journal t (settled_last calls); their_rest = g.rest; own_rest = h.rest; their_all = g.joined; own_all = h.joined }
+
+  -- Where the first entry that is not confirmed was issued once so many calls were asked, so was that of the journal of the outcome's calls.
+  pub later_own : (asked calls : List Ask) (confirmed came : ℕ) → Meets asked calls → came ≤ length asked → confirmed ≤ length (journal t asked)
+      → IfSome (slice_get (journal t asked) confirmed) (IsAfter came) → IfSome (slice_get (journal t calls) confirmed) (IsAfter came)
+  later_own asked calls confirmed came m low le later = by_length (cases_lt (length calls) (length asked))
+    where
+      by_length : (length calls < length asked) ⊎ (length asked ≤ length calls) → IfSome (slice_get (journal t calls) confirmed) (IsAfter came)
+      by_length (inl more) =
+          let g = goes_beyond journal grows settles t asked calls m more in
+          first_entry (IsAfter came) confirmed (journal t calls) g.rest (subst (λ (es : List Entry). IfSome (slice_get es confirmed) (IsAfter came)) g.joined later)
+      by_length (inr few) =
+          let g = (covers journal grows settles t asked calls m few).goes_on in
+          let h = settles t calls in
+          first_entry (IsAfter came) confirmed (journal t calls) h.rest
+          (subst (λ (es : List Entry). IfSome (slice_get es confirmed) (IsAfter came)) (sym g.joined ∙ h.joined)
+          (both_entries (IsAfter came) confirmed (journal t asked) g.rest le later (after_fewer came (length asked) g.rest low g.later)))
 
 -- a part of one more entry, in lists whose first entries are the same
 pub part_shared : (theirs ours : List Entry) (count begun : ℕ) (b : Beginning) (m : BenchState) → take begun theirs ≡ take begun ours → IsAfterPart theirs count begun b m → IsAfterPart ours count begun b m

@@ -196,7 +196,7 @@ own_call asked calls all i c meet on less is = call_marked all i ∙ from_call c
 -- ---- entries
 
 -- entries that are issued after so many calls are issued after fewer
-after_fewer : (low high : ℕ) (es : List Entry) → low ≤ high → AllByRecursion (IsAfter high) es → AllByRecursion (IsAfter low) es
+pub after_fewer : (low high : ℕ) (es : List Entry) → low ≤ high → AllByRecursion (IsAfter high) es → AllByRecursion (IsAfter low) es
 after_fewer low high [] le h = tt
 after_fewer low high (e ∷ es) le h = ((let x = h.0 in omega (arith, x, le)), after_fewer low high es le h.1)
 

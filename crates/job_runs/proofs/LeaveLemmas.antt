@@ -1,5 +1,5 @@
 -- What an access and a run over it report together is what a run leaves.
-use Rattle.std.proofs.Common.{◌≡◌, ◌∙◌, ◌⊎◌, inl, inr, ℕ, suc, ◌+◌, ◌-◌, ◌*◌, ◌/◌, ◌<◌, ◌≤◌, if◌then◌else◌, List, length, take, Bool, true, false, Option, None, Some, refl, sym, ap, subst, arith}
+use Rattle.std.proofs.Common.{◌≡◌, ◌∙◌, ◌⊎◌, inl, inr, ℕ, ◌+◌, ◌-◌, ◌*◌, ◌/◌, ◌<◌, ◌≤◌, if◌then◌else◌, List, length, take, Bool, true, false, Option, None, Some, refl, sym, ap, subst, arith}
 use Rattle.std.specs.List.{AllByRecursion}
 use Rattle.std.specs.Prelude.{◌&&◌, is_none, option_map, slice_get}
 use Rattle.std.proofs.lemmas.List.{length-append}
@@ -14,7 +14,6 @@ use Rattle.target_calls.specs.Asks.{is_settled, settled_last}
 use Rattle.target_calls.specs.Journal.{Entry, lines_before, target_after}
 use Rattle.target_calls.specs.Journal.{settles as is_settling}
 use Rattle.target_calls.specs.NeedPoints.{Asks, finished, needed}
-use Rattle.target_calls.proofs.EntryLemmas.{weight_append}
 use Rattle.target_calls.specs.Weights.{commands_in, registers_in, weight_in}
 use Rattle.target_calls.specs.World.{start_world, world_after}
 use Rattle.target_calls.specs.World.{stop as call_stop}
@@ -22,7 +21,7 @@ use Rattle.target_calls.specs.declared.calls.Ask.{Ask}
 use Rattle.target_calls.proofs.MarkLemmas.{after_marked, marked_settled}
 use Rattle.access_calls.specs.Bounds.{AreNextWrites, KeepsBounds, KeepsBoundsIf, block_words, capacity, starting_since}
 use Rattle.access_calls.specs.Left.{IsLeft, IsLeftAt, answered_at, answered_by, answered_cut}
-use Rattle.access_calls.specs.Growing.{IsAfter, IsWithin, JournalGrows, JournalSettles}
+use Rattle.access_calls.specs.Growing.{IsWithin, JournalGrows, JournalSettles}
 use Rattle.access_calls.specs.Made.{HasMemory, units_made}
 use Rattle.access_calls.specs.Numbers.{HasNumbers, StopNumbers, lines_at, unit_at}
 use Rattle.access_calls.specs.Reported.{AccessView, began, world_from}
@@ -52,11 +51,11 @@ use Rattle.followed_runs.specs.Laws as laws
 use Rattle.followed_runs.specs.Laws.{IsCutShort}
 use Rattle.followed_runs.proofs.FollowLemmas.{limits_followed}
 use Rattle.followed_runs.proofs.MadeLemmas.{followed_made}
-use Rattle.job_runs.proofs.BegunLemmas.{Share, asked_stop, begun_share, count_begun, ends_how, in_common, part_shared}
+use Rattle.job_runs.proofs.BegunLemmas.{Share, asked_stop, begun_share, count_begun, ends_how, in_common, later_own, part_shared}
 use Rattle.job_runs.proofs.FrontLemmas.{Covers, Meeting, call_within, covered, covers, few_asked, get_some, meeting, meets, own_call, same_fault, same_first, same_made, same_numbers}
-use Rattle.job_runs.proofs.SharedLemmas.{Common, first_same, near_by, passes_same, same_entry, same_together, work_least, work_less, work_most}
+use Rattle.job_runs.proofs.SharedLemmas.{Common, first_same, near_by, passes_same, same_together, work_least, work_less}
 use Rattle.job_runs.proofs.WordsLemmas.{after_from, after_meets, same_made_units, short_target}
-use Rattle.job_runs.specs.Runs.{AccessKind, ComesTo, HasStopped, IsBroken, IsFaultStop, IsFew, IsFewIf, IsFront, IsLeftOff, IsNotOpened, IsRetryStop, IsStop, IsUnopened, IsWhole, Left, LeavesAs, Run, all_entries, calls_in, entries_in, is_bounded, known_after, needs_in, not_opened, opened, outcome_with, own_entries}
+use Rattle.job_runs.specs.Runs.{AccessKind, ComesTo, HasStopped, IsBroken, IsFaultStop, IsFew, IsFewIf, IsFront, IsLeftOff, IsNotOpened, IsRetryStop, IsStop, IsUnopened, IsWhole, KeepsIdleCycles, Left, LeavesAs, Run, all_entries, calls_in, entries_in, is_bounded, known_after, needs_in, not_opened, opened, outcome_with, own_entries}
 use Rattle.access_calls.specs.Endings.{ending_of}
 use Rattle.access_calls.specs.Opening.{HasTried, IsNotBegun, MayBegin, RefusedBy, opened_bench}
 
@@ -153,6 +152,7 @@ module _ (access : AccessKind) (grows : JournalGrows access.journal) (settles : 
     target = subst (λ (t : TargetState). Agree (target_of l.bench.probe) t) (settled_target a.asks.calls all.calls)
         (at.settled (subst (λ (c : List Ask). is_settled c ≡ true) (sym all.calls) (marked_settled whole.calls)));
     retries = at.retries;
+    idle_cycles = at.idle_cycles;
     packets = few;
   }
 
@@ -186,6 +186,7 @@ module _ (access : AccessKind) (grows : JournalGrows access.journal) (settles : 
         work = at.work ∙ ap (weight_in (target_of first.probe)) share.same;
         target = subst (λ (es : List Entry). Agree (target_of l.bench.probe) (target_after (target_of first.probe) es)) share.same at.performed.target;
         retries = at.retries;
+        idle_cycles = at.idle_cycles;
       }
 
   -- So it is in each world that is left, where it is neither done nor halted.
@@ -217,19 +218,16 @@ module _ (access : AccessKind) (grows : JournalGrows access.journal) (settles : 
         high = broken.high;
         near = near_by limits (entries a) issued confirmed apart broken.within broken.together;
         together = same_together limits (entries a) (own_entries run) confirmed issued both broken.within broken.together;
-        later = λ less. same_entry (entries a) (own_entries run) both (IsAfter a.came) confirmed (let within = broken.within in omega (arith, less, within)) fault.later;
+        later = later_own access.journal grows settles t0 a.asks.calls whole.calls confirmed a.came (meets a.asks.calls whole part.calls) fault.asked (let within = broken.within in omega (arith, apart, within)) fault.later;
         good = passes_same t0 broken.begun (broken.begun - 1) (entries a) (all_entries run) (omega arith) share.same broken.good;
         least = work_least t0 (entries a) broken.count n broken.count_is (all_entries run) (first_same broken.count broken.begun (entries a) (all_entries run) count_within share.same);
-        most = λ less.
-            let next : suc broken.count ≡ broken.count + 1 = omega arith in
-            subst (λ (k : ℕ). n ≤ weight_in t0 (take k (own_entries run))) next
-            (work_most t0 (entries a) broken.count n broken.count_is (own_entries run) both (omega (arith, count_within, begun_within)) less broken.no_more);
+        most = subst (λ (es : List Entry). n ≤ weight_in t0 es) share.same broken.up_to;
         part = λ less. subst (λ (es : List Entry). n < weight_in t0 es) share.same (work_less t0 (entries a) broken.count n broken.count_is broken.begun less begun_within);
         whole = λ ends.
             let few = covered_by a part.calls (few_asked a.asks.calls whole part.calls ends) in
             let long = ap length few.goes_on.joined ∙ length-append (entries a) few.goes_on.rest in
-            let heavy = ap (weight_in t0) few.goes_on.joined ∙ weight_append t0 (entries a) few.goes_on.rest in
-            ((let within = broken.within in omega (arith, within, long)), (let most = broken.no_more in omega (arith, most, heavy)));
+            (let within = broken.within in omega (arith, within, long));
+        idle_cycles = broken.idle_cycles;
         target = part_shared (entries a) (all_entries run) broken.count broken.begun (began first None) l.bench share.same broken.target;
       }
 
@@ -261,15 +259,16 @@ module _ (access : AccessKind) (grows : JournalGrows access.journal) (settles : 
   has_stopped : (answered : Option ℕ) (o : Outcome) (a : AccessView) (r : Report) (l : Left) (calls : List Ask) → EndsAtCut r.cause a.lines o (ran l.ended a.asks l.written) → l.ended.skipped ≡ a.skipped
       → HasNumbers (entries a) a.asks.calls a.skipped a.lines r → HasMemory (target_of first.probe) a.asks.calls (units_made r.cause (entries a) r a.lines) a.lines l.bench → Reaches a
       → HasPerformed (entries a) r.accesses (began first answered) l.bench
-      → grown_since (began first answered) l.bench ≤ weight_in (target_of first.probe) (take (r.confirmed + 1) (entries a)) → r.accesses ≤ r.confirmed + 1
+      → grown_since (began first answered) l.bench ≤ weight_in (target_of first.probe) (take (r.confirmed + 1) (entries a)) → KeepsIdleCycles run l → r.accesses ≤ r.confirmed + 1
       → Meeting r (entries a) (entries_in run calls) → option_map (λ (x : Ask). x.call) (slice_get calls (r.unit - 1)) ≡ Some r.what
       → HasStopped run answered o calls a.lines r l
-  has_stopped answered o a r l calls cut skipped numbers memory reaches performed up_to one meet what = record {
+  has_stopped answered o a r l calls cut skipped numbers memory reaches performed up_to idle one meet what = record {
     stops = cut.stops;
     written = cut.written;
     numbers = subst (λ (n : ℕ). HasNumbers (entries_in run calls) calls n a.lines r) (sym skipped)
         (same_numbers r (entries a) (entries_in run calls) meet one a.asks.calls calls a.skipped a.lines numbers what);
     performed = same_made r (entries a) (entries_in run calls) meet one (began first answered) l.bench performed up_to;
+    idle_cycles = idle;
     words =
         let n = units_made r.cause (entries a) r a.lines in
         memory.words ∙ ap (λ (t : TargetState). t.words) (reaches n memory.asked memory.few ∙ sym (short_target k (target_of first.probe) before n))
@@ -289,7 +288,7 @@ module _ (access : AccessKind) (grows : JournalGrows access.journal) (settles : 
       let what = own_call a.asks.calls whole.calls whole.calls (r.unit - 1) r.what m (from_same whole.calls) (let high = n.unit in omega (arith, units, high)) at.numbers.what in
       record {
         lines = a.lines;
-        stopped = has_stopped None whole a r l (calls_in run) cut skipped at.numbers memory (λ n few next. after_meets (target_of first.probe) n a.asks.calls whole.calls m few (omega (arith, next, units))) at.performed at.up_to one meet what;
+        stopped = has_stopped None whole a r l (calls_in run) cut skipped at.numbers memory (λ n few next. after_meets (target_of first.probe) n a.asks.calls whole.calls m few (omega (arith, next, units))) at.performed at.up_to at.idle_cycles one meet what;
         unit = own ∙ sym units;
         fault = same_fault r (entries a) (entries_in run (calls_in run)) meet one (target_of first.probe) at.first;
         confirmed = at.confirmed;
@@ -311,7 +310,7 @@ module _ (access : AccessKind) (grows : JournalGrows access.journal) (settles : 
       let one = retry_one r l.bench at.confirmed in
       record {
         lines = a.lines;
-        stopped = has_stopped (Some a.lines) (short a.lines) a r l (calls_in run) cut skipped at.numbers memory reaches at.performed at.up_to one meet what;
+        stopped = has_stopped (Some a.lines) (short a.lines) a r l (calls_in run) cut skipped at.numbers memory reaches at.performed at.up_to at.idle_cycles one meet what;
         confirmed = at.confirmed;
         retries = at.retries;
         over = at.over;

@@ -1,11 +1,8 @@
 -- What is true of entries of the calls that were asked is true of those that they share with the journal of the outcome's calls.
-use Rattle.std.proofs.Common.{◌≡◌, ◌∙◌, ◌⊎◌, inl, inr, ℕ, zero, suc, ◌+◌, ◌<◌, ◌≤◌, max, List, [], ◌∷◌, ◌++◌, length, take, drop, Option, None, IfSome, refl, sym, ap, subst, arith}
+use Rattle.std.proofs.Common.{◌≡◌, ◌∙◌, ◌⊎◌, inl, inr, ℕ, zero, suc, ◌+◌, ◌<◌, ◌≤◌, max, List, [], ◌∷◌, ◌++◌, length, take, drop, refl, sym, ap, subst, arith}
 use Rattle.std.specs.List.{AllByRecursion}
-use Rattle.std.specs.Prelude.{slice_get}
 use Rattle.std.proofs.lemmas.Bool.{cases_lt}
-use Rattle.std.proofs.Math.Seq.{take-length}
 use Rattle.std.proofs.lemmas.List.{length-append, length-drop, length-take-le, take-append-le, take-take}
-use Rattle.target_machine.specs.Plain.{acted}
 use Rattle.target_machine.specs.State.{TargetState}
 use Rattle.probe_core.specs.declared.job.Limits.{Limits}
 use Rattle.target_calls.specs.Journal.{Entry, Passes}
@@ -22,35 +19,6 @@ pub record Common (theirs own : List Entry) : Type 0 where
   pub own_rest : List Entry
   pub their_all : all ≡ theirs ++ their_rest
   pub own_all : all ≡ own ++ own_rest
-
--- a place in the first of two lists
-get_first : (i : ℕ) (xs ys : List Entry) → i < length xs → slice_get (xs ++ ys) i ≡ slice_get xs i
-get_first i [] ys less = absurd (omega (arith, less))
-get_first zero (x ∷ xs) ys less = refl
-get_first (suc i) (x ∷ xs) ys less = get_first i xs ys (omega (arith, less))
-
--- no place after the last
-get_none : (i : ℕ) (xs : List Entry) → length xs ≤ i → slice_get xs i ≡ None
-get_none i [] le = refl
-get_none zero (x ∷ xs) le = absurd (omega (arith, le))
-get_none (suc i) (x ∷ xs) le = get_none i xs (omega (arith, le))
-
-module _ (theirs own : List Entry) (h : Common theirs own) where
-  pub same_first : (n : ℕ) → n ≤ length theirs → n ≤ length own → take n theirs ≡ take n own
-  same_first n low high =
-      sym (take-append-le n theirs h.their_rest low) ∙ ap (take n) (sym h.their_all ∙ h.own_all) ∙ take-append-le n own h.own_rest high
-
-  same_place : (i : ℕ) → i < length theirs → i < length own → slice_get theirs i ≡ slice_get own i
-  same_place i low high =
-      sym (get_first i theirs h.their_rest low) ∙ ap (λ (l : List Entry). slice_get l i) (sym h.their_all ∙ h.own_all) ∙ get_first i own h.own_rest high
-
-  -- what is so of an entry there is so here, where there is one
-  pub same_entry : (P : Entry → Type 0) (i : ℕ) → i < length theirs → IfSome (slice_get theirs i) P → IfSome (slice_get own i) P
-  same_entry P i low k = by_length (cases_lt i (length own))
-    where
-      by_length : (i < length own) ⊎ (length own ≤ i) → IfSome (slice_get own i) P
-      by_length (inl high) = subst (λ (x : Option Entry). IfSome x P) (same_place i low high) k
-      by_length (inr none) = subst (λ (x : Option Entry). IfSome x P) (sym (get_none i own none)) tt
 
 -- ---- entries that were handed over together
 
@@ -94,11 +62,6 @@ near_by limits theirs issued confirmed low within both = by_kind both
 
 -- ---- work
 
-weight_more : (t : TargetState) (n : ℕ) (es : List Entry) → weight_in t (take n es) ≤ weight_in t (take (suc n) es)
-weight_more t zero es = omega arith
-weight_more t (suc n) [] = omega arith
-weight_more t (suc n) (e ∷ es) = (let h = weight_more (acted t e.action).next n es in omega (arith, h))
-
 module _ (t : TargetState) (theirs : List Entry) (count work : ℕ) (is : count ≡ performed t theirs work) where
   -- they weigh no more than the work
   pub work_least : (ours : List Entry) → take count theirs ≡ take count ours → weight_in t (take count ours) ≤ work
@@ -112,22 +75,6 @@ module _ (t : TargetState) (theirs : List Entry) (count work : ℕ) (is : count 
       by_order : (work < weight_in t (take begun theirs)) ⊎ (weight_in t (take begun theirs) ≤ work) → work < weight_in t (take begun theirs)
       by_order (inl less) = less
       by_order (inr fits) = absurd (let k = performed_most t theirs work begun long fits in omega (arith, k, is, more))
-
-  -- with the next one of another list that begins so they weigh as much at least
-  pub work_most : (own : List Entry) → Common theirs own → count ≤ length theirs → count < length own → work ≤ weight_in t theirs → work ≤ weight_in t (take (suc count) own)
-  work_most own h low high most = by_length (cases_lt count (length theirs))
-    where
-      by_length : (count < length theirs) ⊎ (length theirs ≤ count) → work ≤ weight_in t (take (suc count) own)
-      by_length (inl less) =
-          let k = work_less (suc count) (omega arith) less in
-          let s = ap (weight_in t) (same_first theirs own h (suc count) less high) in
-          omega (arith, k, s)
-      by_length (inr all) =
-          let same : count ≡ length theirs = omega (arith, low, all) in
-          let whole : take count theirs ≡ theirs = ap (λ (n : ℕ). take n theirs) same ∙ take-length theirs in
-          let s = ap (weight_in t) (sym whole ∙ same_first theirs own h count low (omega (arith, high))) in
-          let m = weight_more t count own in
-          omega (arith, most, s, m)
 
 -- ---- faults
 

@@ -20,7 +20,7 @@ use Rattle.access_calls.specs.Growing.{IsAfter}
 use Rattle.access_calls.specs.Made.{units_made}
 use Rattle.access_calls.specs.Numbers.{HasNumbers}
 use Rattle.access_calls.specs.Reported.{Beginning, began, start_of}
-use Rattle.access_calls.specs.Standing.{AreTogether, IsAfterPart, IsOver, flight_accesses, grown_since, number_of, pending_of, setting_of}
+use Rattle.access_calls.specs.Standing.{AreTogether, IsAfterPart, IsOver, flight_accesses, grown_since, idle_cycles_of, number_of, pending_of, setting_of}
 use Rattle.access_calls.specs.declared.ended.Ended.{Ended}
 use Rattle.access_calls.specs.declared.ended.Ending.{Ending}
 use Rattle.access_calls.specs.declared.ended.Ending.TheVariants as e
@@ -120,6 +120,10 @@ calls_in run = settled_last (outcome_in run).calls
 abbrev pub NoneEnded : Run → Left → Type 0
 NoneEnded run l = ended_retries_of l.bench.probe ≡ ended_retries_of run.first.probe
 
+-- the idle cycles of the probe are those with which the run began
+abbrev pub KeepsIdleCycles : Run → Left → Type 0
+KeepsIdleCycles run l = idle_cycles_of l.bench ≡ idle_cycles_of run.first
+
 -- ---- how few packets are sent
 
 -- how many need points its program has, one of them at its end
@@ -147,7 +151,7 @@ IsFewIf true run l = IsFew run l
 -- ---- done or halted
 
 -- The run came to the end of what it means: with the same variables, units, skipped units and lines, and the target agrees. No
--- retry ended, and the packets were few.
+-- retry ended, the idle cycles of the probe are those of the beginning, and the packets were few.
 pub record IsWhole (run : Run) (l : Left) : Type 0 where
   pub variables : variables_of l.ended.variables ≡ (outcome_in run).variables
   pub units : l.ended.units ≡ units_of (outcome_in run)
@@ -155,6 +159,7 @@ pub record IsWhole (run : Run) (l : Left) : Type 0 where
   pub written : l.written ≡ (outcome_in run).written
   pub target : Agree (target_of l.bench.probe) (outcome_in run).target
   pub retries : NoneEnded run l
+  pub idle_cycles : KeepsIdleCycles run l
   pub packets : IsFewIf (is_bounded run) run l
 
 -- ---- stopped by the target or the probe
@@ -169,12 +174,13 @@ pub record HasMade (entries : List Entry) (r : Report) (b : Beginning) (m : Benc
 
 -- The numbers of the report are those of a stop in the journal of these calls: exactly its accesses were performed, the target agrees
 -- with the one after them, and `lines` units have their lines before the stop, which are written. The memory is the one that the sequences
--- leave with exactly the units answered that were made.
+-- leave with exactly the units answered that were made. The idle cycles of the probe are those of the beginning.
 pub record HasStopped (run : Run) (answered : Option ℕ) (o : Outcome) (calls : List Ask) (lines : ℕ) (r : Report) (l : Left) : Type 0 where
   pub stops : StopsAfter r.cause lines o
   pub written : l.written ≡ o.written
   pub numbers : HasNumbers (entries_in run calls) calls l.ended.skipped lines r
   pub performed : HasMade (entries_in run calls) r (began run.first answered) l.bench
+  pub idle_cycles : KeepsIdleCycles run l
   pub words : (target_of l.bench.probe).words ≡ (outcome_with run (units_made r.cause (entries_in run calls) r lines)).target.words
 
 -- At a fault: the outcome ends at a fault of the next unit, which is the one that the report names, and the last performed access is the
@@ -225,11 +231,11 @@ pub record IsFront (run : Run) (begun : ℕ) (l : Left) : Type 0 where
   pub within : begun ≤ length (all_entries run)
 
 -- Where the bench failed, by the journal of the outcome's calls: at least the confirmed entries were performed, and perhaps a part of the next;
--- and at most those that were issued were begun. The probe's work has grown by what the performed ones weigh, and by at most the next one more.
--- Those between the two numbers were handed over together: in one flight, or one by itself. Where the outcome ends at a fault, more may have been
--- issued than the journal has: for calls after the one at which it ends. None of those that were begun gives a fault that its unit does not
--- forgive, except perhaps the last. So many calls have come, all of whose entries are confirmed; and what was written comes first in the lines of
--- the outcome with only so many units answered.
+-- and at most those that were issued were begun. The probe's work has grown by at least what the performed ones weigh, and by at most what those
+-- weigh that were begun. Those between the two numbers were handed over together: in one flight, or one by itself. Where the outcome ends at a
+-- fault, more may have been issued than the journal has: for calls after the one at which it ends. None of those that were begun gives a fault
+-- that its unit does not forgive, except perhaps the last. So many calls have come, all of whose entries are confirmed; and what was written comes
+-- first in the lines of the outcome with only so many units answered.
 pub record IsBroken (run : Run) (issued confirmed : ℕ) (l : Left) : Type 0 where
   pub came : ℕ
   pub count : ℕ
@@ -240,21 +246,24 @@ pub record IsBroken (run : Run) (issued confirmed : ℕ) (l : Left) : Type 0 whe
   pub high : begun ≤ issued
   pub near : issued ≤ confirmed + max 1 (flight_accesses run.limits)
   pub together : AreTogether run.limits (drop confirmed (take issued (own_entries run)))
-  pub later : confirmed < issued → IfSome (slice_get (own_entries run) confirmed) (IsAfter came)
+  pub later : IfSome (slice_get (own_entries run) confirmed) (IsAfter came)
   pub good : Passes (target_in run) (take (begun - 1) (all_entries run))
   pub least : weight_in (target_in run) (take count (all_entries run)) ≤ work_in run l
-  pub most : count < length (own_entries run) → work_in run l ≤ weight_in (target_in run) (take (count + 1) (own_entries run))
+  pub most : work_in run l ≤ weight_in (target_in run) (take begun (all_entries run))
   pub part : count < begun → work_in run l < weight_in (target_in run) (take begun (all_entries run))
-  pub whole : IsWholeEnd (outcome_in run).ending → (issued ≤ length (all_entries run)) × (work_in run l ≤ weight_in (target_in run) (all_entries run))
+  pub whole : IsWholeEnd (outcome_in run).ending → issued ≤ length (all_entries run)
+  pub idle_cycles : KeepsIdleCycles run l
   pub target : IsAfterPart (all_entries run) count begun (began run.first None) l.bench
 
--- Where the sink failed or memory was refused: exactly the entries that were sent were performed, and the work is what they weigh.
+-- Where the sink failed or memory was refused: exactly the entries that were sent were performed, and the work is what they weigh. The idle
+-- cycles of the probe are those of the beginning.
 pub record IsLeftOff (run : Run) (l : Left) : Type 0 where
   pub sent : ℕ
   pub front : IsFront run sent l
   pub work : work_in run l ≡ weight_in (target_in run) (take sent (all_entries run))
   pub target : Agree (target_of l.bench.probe) (target_after (target_in run) (take sent (all_entries run)))
   pub retries : NoneEnded run l
+  pub idle_cycles : KeepsIdleCycles run l
 
 -- ---- together
 
