@@ -40,7 +40,8 @@ abbrev pub ActionWait : Type 0
 ActionWait = (entries made : List Entry) (e : Entry) (rest : List Entry) (n : Option ℕ) (m0 m o : BenchState) (work : ℕ) (r : Report) (b : AccessView) →
     IsUnderWay entries made [] (e ∷ rest) [] m0 m →
     work_of o.probe ≡ work_of m.probe + work → work < weight (target_of m.probe) e.action → Agree (target_of o.probe) (target_of m.probe) →
-    idle_cycles_of o ≡ idle_cycles_of m → ended_retries_of o.probe ≡ ended_retries_of m.probe + 1 → IsOver (setting_of m) (number_of o) → number_of o ≤ number_of m + 2 * work + 1 → pending_of o ≡ false →
+    idle_cycles_of o ≡ idle_cycles_of m → ended_retries_of o.probe ≡ ended_retries_of m.probe + 1 → IsOver (setting_of m) (number_of o) →
+    number_of o ≤ number_of m + 2 * work + 1 → pending_of o ≡ false →
     r.accesses ≡ length made → r.confirmed ≡ length made → HasNumbers entries b.asks.calls b.skipped b.lines r →
     IsUnanswered entries r b (began m0 n) o
 

@@ -96,7 +96,8 @@ abbrev pub PollEnds : Type 0
 PollEnds = (p : Planner) (confirmed count : ℕ) (e : Entry) (rest : List Entry) (came : List ℕ) (m0 m o : BenchState) (work : ℕ) (r : Report) (b : AccessView) →
     IsSending p b.asks.calls confirmed count [] (e ∷ rest) [] came m0 m →
     work_of o.probe ≡ work_of m.probe + work → work < weight (target_of m.probe) e.action → Agree (target_of o.probe) (target_of m.probe) →
-    idle_cycles_of o ≡ idle_cycles_of m → ended_retries_of o.probe ≡ ended_retries_of m.probe + 1 → IsOver (setting_of m) (number_of o) → number_of o ≤ number_of m + 2 * work + 1 → pending_of o ≡ false →
+    idle_cycles_of o ≡ idle_cycles_of m → ended_retries_of o.probe ≡ ended_retries_of m.probe + 1 → IsOver (setting_of m) (number_of o) →
+    number_of o ≤ number_of m + 2 * work + 1 → pending_of o ≡ false →
     r.cause ≡ NoAnswer → r.accesses ≡ confirmed → r.confirmed ≡ confirmed → IsCutOff p r b m0 → EndsCut p r b count came m0 o
 
 -- ---- a bench that failed

@@ -82,8 +82,8 @@ pub record HasBegunSparing (p : Planner) (limits : Limits) (bench : BenchReporte
   pub needed : log.end ≡ None → AreNeeded p (target_of m0.probe) (asks_of log)
 
 -- So it is, and the access began with these idle cycles and this retry number, which polls set again.
-pub record HasBegunSet (idle retry : ℕ) (p : Planner) (limits : Limits) (bench : BenchReported) (state : Option BenchState) (log : LogState) (sent got : List ℕ) (kept : Kept)
-    (accesses : List RegAccess) (m0 : BenchState) : Type 0 where
+pub record HasBegunSet (idle retry : ℕ) (p : Planner) (limits : Limits) (bench : BenchReported) (state : Option BenchState) (log : LogState) (sent got : List ℕ)
+    (kept : Kept) (accesses : List RegAccess) (m0 : BenchState) : Type 0 where
   pub sparing : HasBegunSparing p limits bench state log sent got kept accesses m0
   pub set : IsSetTo idle retry m0
 
