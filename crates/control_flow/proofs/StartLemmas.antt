@@ -1,13 +1,12 @@
 -- What a run starts with.
 use Rattle.std.proofs.Common.{◌≡◌, ◌<◌, ◌≤◌, ℕ, zero, suc, ◌+◌, Bool, true, false, cond, List, [], ◌∷◌, ◌++◌, map, take, drop, length, get_or, slice_get, Option, Some, refl, sym, ap, subst, ◌∙◌, arith, bytes_eq}
-use Rattle.std.proofs.lemmas.List.{drop_all, drop_more, take_more, map-append}
+use Rattle.std.proofs.lemmas.List.{drop_all, drop_more, get_or-map, length-map, map-append, take_more}
 use Rattle.expr_grammar.specs.Tree as t
 use Rattle.expr_grammar.specs.Tree.{StmtTree, stmt_tree, code_trees}
 use Rattle.expr_grammar.specs.declared.code.Stmt as statement
 use Rattle.function_table.specs.Variables.{predefined}
 use Rattle.sequence_trees.specs.Trees.{SetTrees}
 use Rattle.target_machine.specs.declared.unit.Variable.{Variable}
-use Rattle.sequence_rules.proofs.PredefinedNames.{name_at, names_length}
 use Rattle.sequence_rules.specs.declared.bindings.Binding.{Binding}
 use Rattle.target_calls.specs.NeedPoints.{Costs, nothing_asked}
 use Rattle.target_calls.specs.Values.{number_of, IsAsked}
@@ -49,8 +48,8 @@ own_name (suc (suc (suc (suc (suc (suc (suc i))))))) h = absurd (omega arith)
 
 new_name : (vs : List Variable) (i : ℕ) (d : Variable) → map (λ v. v.name) vs ≡ predefined → i < length vs → has_in (as_values (variables_of (take i vs))) (get_or vs i d).name ≡ false
 new_name vs i d same h =
-    let seven : length vs ≡ 7 = sym (names_length vs) ∙ ap length same in
-    let named : (get_or vs i d).name ≡ get_or predefined i [] = name_at vs i d h ∙ ap (λ ns. get_or ns i []) same in
+    let seven : length vs ≡ 7 = sym (length-map vs (λ (v : Variable). v.name)) ∙ ap length same in
+    let named : (get_or vs i d).name ≡ get_or predefined i [] = sym (get_or-map (λ (v : Variable). v.name) vs i d [] h) ∙ ap (λ ns. get_or ns i []) same in
     has_is vs i (get_or vs i d).name ∙ ap (λ ns. has (take i ns) (get_or vs i d).name) same ∙ ap (has (take i predefined)) named ∙ own_name i (omega arith)
 
 -- one more of them
