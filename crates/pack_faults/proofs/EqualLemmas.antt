@@ -10,8 +10,8 @@ use Rattle.sequence_resolve.specs.declared.entry.LevelKind.{LevelKind}
 use Rattle.sequence_resolve.specs.declared.entry.LevelKind.TheVariants as kinds
 use Rattle.sequence_resolve.specs.declared.entry.SeqEntry.{SeqEntry}
 use Rattle.sequence_resolve.specs.declared.entry.SeqSet.{SeqSet}
+use Rattle.set_lines.proofs.SameLemmas.{both, text_equal}
 use Rattle.pack_faults.specs.Equal.{same_flag, same_number, same_steps, same_step, all_same, level_number, same_entry, same_set}
-use Rattle.pack_faults.proofs.SameLemmas.{both, text_equal}
 
 -- ---- item by item
 

@@ -11,6 +11,7 @@ use Rattle.std.proofs.lemmas.Map.Text.{is_eq-slice_cmp}
 use Rattle.std.proofs.lemmas.Slice.Eq.{bytes_eq-Decides}
 use Rattle.std.proofs.lemmas.Option.{same_Some}
 use Rattle.device_tree.specs.Same.{same_text}
+use Rattle.set_lines.proofs.SameLemmas.{both, text_equal}
 use Rattle.pack_faults.specs.declared.answer.Found.{Found}
 use Rattle.pack_faults.specs.declared.answer.PackFault.{PackFault}
 use Rattle.pack_faults.specs.declared.keys.FoundKey.{FoundKey}
@@ -19,7 +20,7 @@ use Rattle.pack_faults.specs.Keys.{KeyView, same_view, found_view, key_view, key
 use Rattle.pack_faults.specs.Merged.{same_found}
 use Rattle.pack_faults.specs.Lined.{lined_view}
 use Rattle.pack_faults.specs.Steps.{noted, with_found, with_each}
-use Rattle.pack_faults.proofs.SameLemmas.{both, and_true, text_equal, text_itself, number_itself}
+use Rattle.pack_faults.proofs.SameLemmas.{and_true, text_itself, number_itself}
 
 -- ---- what is the same is equal
 

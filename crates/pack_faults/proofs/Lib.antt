@@ -1,5 +1,4 @@
 pub mod SetLemmas
-pub mod LineLemmas
 pub mod SameLemmas
 pub mod EqualLemmas
 pub mod SharedLemmas

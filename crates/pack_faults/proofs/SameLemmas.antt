@@ -2,24 +2,20 @@
 use Rattle.std.proofs.Common.{◌≡◌, ◌∙◌, ℕ, ◌↔◌, ◌==◌, Bool, true, false, ◌&&◌, if◌then◌else◌, List, Option, Some, None, bytes_eq, refl, ap, sym, subst, true≢false, eq-eqb, eqb-true}
 use Rattle.std.proofs.lemmas.Slice.Eq.{bytes_eq-Decides}
 use Rattle.device_tree.specs.Same.{same_text}
-use Rattle.sequence_trees.specs.declared.spot.Part.{Part}
-use Rattle.sequence_trees.specs.declared.spot.Part.TheVariants as parts
 use Rattle.sequence_trees.specs.declared.spot.Spot.{Spot}
 use Rattle.code_check.specs.declared.fault.FaultKind.{FaultKind}
 use Rattle.code_check.specs.declared.fault.FaultKind.TheVariants as k
 use Rattle.code_check.specs.Order.{rank}
 use Rattle.dap_base.specs.declared.text.Place.{Place}
+use Rattle.set_lines.specs.Parts.{part_number}
+use Rattle.set_lines.proofs.SameLemmas.{both, same_part, text_equal}
 use Rattle.pack_faults.specs.declared.answer.Found.{Found}
-use Rattle.pack_faults.specs.Merged.{part_number, same_spot, same_found}
-
-pub both : (a b : Bool) → a && b ≡ true → (a ≡ true) × (b ≡ true)
-both true b e = (refl, e)
-both false b e = absurd (true≢false (sym e))
+use Rattle.pack_faults.specs.Merged.{same_spot, same_found}
 
 pub and_true : (a b : Bool) → a ≡ true → b ≡ true → a && b ≡ true
 and_true a b p q = rw (p, q) refl
 
--- ---- kinds and parts, by their numbers
+-- ---- kinds, by their numbers
 
 abbrev kind_at : ℕ → FaultKind
 kind_at n =
@@ -45,29 +41,10 @@ kind_again k.NestedTooDeep = refl
 kind_again k.CallCycle = refl
 kind_again k.CallsTooDeep = refl
 
-abbrev part_at : ℕ → Part
-part_at n = if n == 0 then parts.Debugvars else if n == 1 then parts.Control else if n == 2 then parts.Block else if n == 3 then parts.If else parts.While
-
-part_again : (part : Part) → part_at (part_number part) ≡ part
-part_again parts.Debugvars = refl
-part_again parts.Control = refl
-part_again parts.Block = refl
-part_again parts.If = refl
-part_again parts.While = refl
-
 same_kind : (x y : FaultKind) → rank x == rank y ≡ true → x ≡ y
 same_kind x y e = sym (kind_again x) ∙ ap kind_at (eqb-true (rank x) (rank y) e) ∙ kind_again y
 
-pub same_part : (x y : Part) → part_number x == part_number y ≡ true → x ≡ y
-same_part x y e = sym (part_again x) ∙ ap part_at (eqb-true (part_number x) (part_number y) e) ∙ part_again y
-
 -- ---- texts, places, spots
-
-pub text_equal : (x y : Option (List ℕ)) → same_text x y ≡ true → x ≡ y
-text_equal None None e = refl
-text_equal None (Some y) e = absurd (true≢false (sym e))
-text_equal (Some x) None e = absurd (true≢false (sym e))
-text_equal (Some x) (Some y) e = ap (λ t. Some t) ((bytes_eq-Decides x y).0 e)
 
 pub text_itself : (x : Option (List ℕ)) → same_text x x ≡ true
 text_itself None = refl

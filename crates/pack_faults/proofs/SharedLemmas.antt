@@ -18,6 +18,7 @@ use Rattle.sequence_resolve.specs.Levels.{LevelAt, path_of, deepest}
 use Rattle.sequence_resolve.specs.Effective.{Candidate, candidates_at, candidates, AreWinners}
 use Rattle.sequence_resolve.specs.Resolving.{IsSetAlong}
 use Rattle.sequence_resolve.specs.Views.{place_view}
+use Rattle.set_lines.proofs.SameLemmas.{both}
 use Rattle.pack_faults.specs.declared.request.Request.{Request}
 use Rattle.pack_faults.specs.declared.known.KnownSet.{KnownSet}
 use Rattle.pack_faults.specs.declared.shared.PnameSet.{PnameSet}
@@ -27,7 +28,6 @@ use Rattle.pack_faults.specs.Equal.{same_set}
 use Rattle.pack_faults.specs.Shared.{is_bare, trimmed, levels_above, IsSetOf, IsThere, IsNumbered, pname_view, AreSetsOf, AreShared, set_ref, IsFound, Grown}
 use Rattle.pack_faults.specs.Views.{set_view}
 use Rattle.pack_faults.proofs.EqualLemmas.{set_equal}
-use Rattle.pack_faults.proofs.SameLemmas.{both}
 
 -- ---- levels with nothing of their own
 

@@ -10,11 +10,11 @@ use Rattle.set_faults.specs.declared.phase.Phase.{Phase}
 use Rattle.set_faults.specs.declared.phase.Phase.TheVariants as phases
 use Rattle.set_faults.specs.declared.phase.SetFaults.{SetFaults}
 use Rattle.set_faults.specs.Answers.{AreSetFaults}
+use Rattle.set_lines.specs.Lines.{line_of}
 use Rattle.pack_faults.specs.declared.request.Request.{Request}
 use Rattle.pack_faults.specs.declared.answer.Found.{Found}
 use Rattle.pack_faults.specs.declared.answer.PackFaults.{PackFaults}
 use Rattle.pack_faults.specs.Sets.{SetAt, sets_of, devices_of, has_set, set_name}
-use Rattle.pack_faults.specs.Lines.{line_of}
 use Rattle.pack_faults.specs.Merged.{merged}
 
 -- a fault of a set, with its line

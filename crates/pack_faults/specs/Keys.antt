@@ -9,7 +9,7 @@ use Rattle.pack_faults.specs.declared.answer.Found.{Found}
 use Rattle.pack_faults.specs.declared.answer.PackFault.{PackFault}
 use Rattle.pack_faults.specs.declared.keys.FoundKey.{FoundKey}
 use Rattle.pack_faults.specs.contracts.keys.FoundKeyOrd.TheImpl as key_ord
-use Rattle.pack_faults.specs.Merged.{part_number}
+use Rattle.set_lines.specs.Parts.{part_number}
 use Rattle.pack_faults.specs.Steps.{noted}
 
 -- what distinguishes faults

@@ -1,10 +1,8 @@
 pub mod Sets
-pub mod Lines
 pub mod Merged
 pub mod Answers
 pub mod Equal
 pub mod Known
-pub mod Rests
 pub mod Lined
 pub mod Views
 pub mod Steps

@@ -3,20 +3,11 @@ use Rattle.std.specs.Prelude.{ℕ, ◌+◌, ◌==◌, ◌&&◌, Bool, List, [], 
 use Rattle.std.specs.List.{list_any}
 use Rattle.std.specs.Str.{bytes_eq}
 use Rattle.device_tree.specs.Same.{same_text}
-use Rattle.sequence_trees.specs.declared.spot.Part.{Part}
-use Rattle.sequence_trees.specs.declared.spot.Part.TheVariants as parts
 use Rattle.sequence_trees.specs.declared.spot.Spot.{Spot}
 use Rattle.code_check.specs.Order.{rank}
+use Rattle.set_lines.specs.Parts.{part_number}
 use Rattle.pack_faults.specs.declared.answer.Found.{Found}
 use Rattle.pack_faults.specs.declared.answer.PackFault.{PackFault}
-
--- a number for each part
-abbrev pub part_number : Part → ℕ
-part_number parts.Debugvars = 0
-part_number parts.Control = 1
-part_number parts.Block = 2
-part_number parts.If = 3
-part_number parts.While = 4
 
 -- one place in one part of one step
 abbrev pub same_spot : Spot → Spot → Bool

@@ -4,10 +4,10 @@ ghost use Rattle.std.specs.Str.{bytes_eq};
 ghost use Rattle.device_tree.specs.Same.{same_text};
 ghost use Rattle.pack_faults.specs.Equal.{same_flag, same_number, same_steps, same_step, all_same, level_number, same_entry, same_set};
 
-use crate::texts::{name_of, same_text};
 use dap_base::NameText;
 use device_tree::{Step, Steps};
 use sequence_resolve::{LevelKind, SeqEntry, SeqSet};
+use set_lines::{name_of, same_text};
 
 fn same_name(name: &NameText, other: &NameText) -> bool
     ensures { result ≡ bytes_eq name.now other.now }

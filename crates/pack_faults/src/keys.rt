@@ -1,13 +1,11 @@
 //! What distinguishes faults, as a key of a map.
 ghost use Rattle.std.specs.Prelude.{◌≡◌, option_map};
 ghost use Rattle.pack_faults.specs.Keys.{key_view, found_view};
-ghost use Rattle.pack_faults.specs.Merged.{part_number};
 ghost use Rattle.code_check.specs.Order.{rank};
 
-use crate::texts::name_of;
 use code_check::FaultKind;
-use sequence_trees::Part;
 use set_faults::Fault;
+use set_lines::{name_of, part_number};
 
 /// A fault and its line, lent: two keys are equal exactly where the faults are the same. The numbers come first, so that few texts are
 /// compared.
@@ -26,13 +24,6 @@ fn rank(kind: FaultKind) -> u8
     ensures { result ≡ rank kind }
 {
     kind as u8
-}
-
-/// A number for each part.
-pub fn part_number(part: Part) -> u8
-    ensures { result ≡ part_number part }
-{
-    part as u8
 }
 
 /// The key of a fault in this line.

@@ -7,10 +7,10 @@ ghost use Rattle.pack_faults.specs.Known.{IsKnown};
 ghost use Rattle.pack_faults.specs.Lined.{lined_view, checked_view, checked_of};
 
 use crate::known::KnownSet;
-use crate::lines::Lines;
 use dap_base::{ItemList, OutOfMemory};
 use sequence_resolve::SeqSet;
 use set_faults::{Fault, Phase};
+use set_lines::Lines;
 use std::alloc::Global;
 
 /// A fault of a set and its line, lent.

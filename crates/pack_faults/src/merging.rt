@@ -11,10 +11,11 @@ ghost use Rattle.pack_faults.specs.Steps.{noted, with_found, with_each};
 use crate::answer::{Found, PackFault};
 use crate::keys::{FoundKey, key_of};
 use crate::lined::LinedFault;
-use crate::texts::{copy_of, name_of};
+use crate::texts::copy_of;
 use dap_base::{ItemList, OutOfMemory};
 use sequence_trees::{Spot, StepPath};
 use set_faults::Fault;
+use set_lines::name_of;
 use std::alloc::Global;
 use std::collections::BTreeMap;
 

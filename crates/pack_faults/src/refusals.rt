@@ -11,9 +11,9 @@ use crate::devices::requested_devices;
 use crate::groups::groups_of;
 use crate::request::{PackRefusal, Request};
 use crate::sets::{DeviceSets, sets_of_groups};
-use crate::texts::name_of;
 use device_tree::Pack;
 use sequence_resolve::DevicePlace;
+use set_lines::name_of;
 use std::alloc::Global;
 
 fn has_variant(place: &DevicePlace, name: &str) -> bool

@@ -13,10 +13,10 @@ use crate::groups::Group;
 use crate::known::KnownSet;
 use crate::request::Request;
 use crate::shared::{PnameSet, is_bare, sets_along};
-use crate::texts::name_of;
 use dap_base::{ItemList, NameText, OutOfMemory};
 use device_tree::{Pack, Variant};
 use sequence_resolve::DevicePlace;
+use set_lines::name_of;
 use std::alloc::Global;
 
 /// A set: a device, a variant of it or none, a processor or none, and its number among the known sets.

@@ -12,10 +12,11 @@ ghost use Rattle.pack_faults.specs.Views.{options_view};
 use crate::known::{KnownSet, check_new, known_equal};
 use crate::pnames::processors_of;
 use crate::request::Request;
-use crate::texts::{name_of, text_of};
+use crate::texts::text_of;
 use dap_base::{ItemList, NameText, OutOfMemory};
 use device_tree::{Level, Pack, Variant};
 use sequence_resolve::{DevicePlace, SeqSet, levels_of, set_along};
+use set_lines::name_of;
 use std::alloc::Global;
 
 /// A processor or none, and the number of its set among those that were checked.

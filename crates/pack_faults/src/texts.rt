@@ -1,20 +1,8 @@
 //! Names as they are requested and held.
 ghost use Rattle.std.specs.Prelude.{◌≡◌, IfOk, option_map};
-ghost use Rattle.std.specs.Option.{option_copied};
-ghost use Rattle.device_tree.specs.Same.{same_text};
 
 use dap_base::{NameText, OutOfMemory};
 use std::alloc::Global;
-
-/// The name, lent without a copy.
-pub fn name_of(name: &Option<NameText>) -> Option<&str>
-    ensures { option_map (λ w. w.now) result ≡ name.now }
-{
-    match name {
-        Some(name) => Some(name.as_str()),
-        None => None,
-    }
-}
 
 /// The name as a text.
 pub fn text_of(name: Option<&NameText>) -> Option<&str>
@@ -33,16 +21,5 @@ pub fn copy_of(alloc: Global, text: Option<&str>) -> Result<Option<NameText>, Ou
     match text {
         Some(text) => Ok(Some(NameText::new(alloc, text)?)),
         None => Ok(None),
-    }
-}
-
-/// Whether both are absent, or both are the same text.
-pub fn same_text(text: Option<&str>, other: Option<&str>) -> bool
-    ensures { result ≡ same_text (option_map (λ w. w.now) text.entry) (option_map (λ w. w.now) other.entry) }
-{
-    match (text, other) {
-        (None, None) => true,
-        (Some(text), Some(other)) => text == other,
-        _ => false,
     }
 }

@@ -9,8 +9,9 @@ use Rattle.std.proofs.lemmas.Map.Text.{is_eq-slice_cmp}
 use Rattle.std.proofs.lemmas.Slice.Eq.{bytes_eq-Decides}
 use Rattle.std.proofs.lemmas.Option.{same_Some}
 use Rattle.device_tree.specs.Same.{same_text}
+use Rattle.set_lines.proofs.SameLemmas.{both, text_equal}
 use Rattle.pack_faults.specs.Steps.{noted}
-use Rattle.pack_faults.proofs.SameLemmas.{both, and_true, text_equal, text_itself, number_itself}
+use Rattle.pack_faults.proofs.SameLemmas.{and_true, text_itself, number_itself}
 use Rattle.pack_faults.proofs.KeyLemmas.{text_cmp, texts_tied, same_bools, field, some_suc, nowhere, within_at}
 use Rattle.pack_warnings.specs.declared.answer.FoundWarning.{FoundWarning}
 use Rattle.pack_warnings.specs.declared.answer.PackWarning.{PackWarning}

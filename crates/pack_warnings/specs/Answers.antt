@@ -7,7 +7,7 @@ use Rattle.set_warnings.specs.declared.warning.Warning.{Warning}
 use Rattle.set_warnings.specs.Answers.{AreSetWarnings}
 use Rattle.pack_faults.specs.declared.request.Request.{Request}
 use Rattle.pack_faults.specs.Sets.{SetAt, sets_of}
-use Rattle.pack_faults.specs.Lines.{line_of}
+use Rattle.set_lines.specs.Lines.{line_of}
 use Rattle.pack_warnings.specs.declared.answer.FoundWarning.{FoundWarning}
 use Rattle.pack_warnings.specs.declared.answer.PackWarning.{PackWarning}
 use Rattle.pack_warnings.specs.Merged.{merged}

@@ -4,7 +4,7 @@ use Rattle.std.specs.declared.cmp.Ordering.{Ordering}
 use Rattle.std.specs.BTreeMap.{BTreeMap, get}
 use Rattle.std.specs.Str.{bytes_eq}
 use Rattle.device_tree.specs.Same.{same_text}
-use Rattle.pack_faults.specs.Merged.{part_number}
+use Rattle.set_lines.specs.Parts.{part_number}
 use Rattle.pack_faults.specs.Steps.{noted}
 use Rattle.pack_warnings.specs.declared.answer.FoundWarning.{FoundWarning}
 use Rattle.pack_warnings.specs.declared.answer.PackWarning.{PackWarning}

@@ -1,11 +1,9 @@
 //! What distinguishes warnings, as a key of a map.
 ghost use Rattle.std.specs.Prelude.{◌≡◌, option_map};
-ghost use Rattle.pack_faults.specs.Merged.{part_number};
 ghost use Rattle.pack_warnings.specs.Keys.{key_view, found_view};
 ghost use Rattle.pack_warnings.specs.Merged.{kind_number};
 
-use crate::texts::name_of;
-use sequence_trees::Part;
+use set_lines::{name_of, part_number};
 use set_warnings::{Warning, WarningKind};
 
 /// A warning and its line, lent: two keys are equal exactly where the warnings are the same. The numbers come first, so that few
@@ -26,12 +24,6 @@ fn kind_number(kind: WarningKind) -> u8
     ensures { result ≡ kind_number kind }
 {
     kind as u8
-}
-
-fn part_number(part: Part) -> u8
-    ensures { result ≡ part_number part }
-{
-    part as u8
 }
 
 /// The key of a warning in this line.

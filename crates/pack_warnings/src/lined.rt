@@ -7,8 +7,9 @@ ghost use Rattle.pack_warnings.specs.Answers.{found_in};
 ghost use Rattle.pack_warnings.specs.Lined.{IsWarned, found_of, lined_view, found_view};
 
 use dap_base::{ItemList, OutOfMemory};
-use pack_faults::{KnownSet, Lines};
+use pack_faults::KnownSet;
 use sequence_resolve::SeqSet;
+use set_lines::Lines;
 use set_warnings::{Warning, set_warnings};
 use std::alloc::Global;
 

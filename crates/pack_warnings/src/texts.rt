@@ -1,19 +1,9 @@
-//! Names as they are held.
+//! Copies of texts and paths.
 ghost use Rattle.std.specs.Prelude.{◌≡◌, IfOk, option_map};
 
 use dap_base::{ItemList, NameText, OutOfMemory};
 use sequence_trees::StepPath;
 use std::alloc::Global;
-
-/// The name, lent without a copy.
-pub fn name_of(name: &Option<NameText>) -> Option<&str>
-    ensures { option_map (λ w. w.now) result ≡ name.now }
-{
-    match name {
-        Some(name) => Some(name.as_str()),
-        None => None,
-    }
-}
 
 /// A copy of the text.
 pub fn copy_of(alloc: Global, text: Option<&str>) -> Result<Option<NameText>, OutOfMemory>

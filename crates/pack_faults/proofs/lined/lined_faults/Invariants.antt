@@ -1,7 +1,7 @@
 use Rattle.std.proofs.Common.{◌≡◌, map, take}
 use Rattle.pack_faults.specs.Answers.{found_in}
 use Rattle.pack_faults.specs.Lined.{lined_view}
-use Rattle.pack_faults.specs.Rests.{AreLines}
+use Rattle.set_lines.specs.Rests.{AreLines}
 use Rattle.pack_faults.proofs.lined.lined_faults.Given as goal
 
 abbrev pub invariant-loop-fault : goal.invariant-loop-fault

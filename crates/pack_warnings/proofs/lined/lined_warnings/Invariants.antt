@@ -1,5 +1,5 @@
 use Rattle.std.proofs.Common.{◌≡◌, map, take}
-use Rattle.pack_faults.specs.Rests.{AreLines}
+use Rattle.set_lines.specs.Rests.{AreLines}
 use Rattle.pack_warnings.specs.Answers.{found_in}
 use Rattle.pack_warnings.specs.Lined.{lined_view}
 use Rattle.pack_warnings.proofs.lined.lined_warnings.Given as goal

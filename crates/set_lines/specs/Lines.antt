@@ -1,4 +1,4 @@
--- The line of a text that a fault of a set stands in.
+-- The line of a text that a place of a set stands in.
 use Rattle.std.specs.Prelude.{ℕ, zero, suc, ◌-◌, ◌==◌, List, [], ◌∷◌, find, Option, Some, None, option_map}
 use Rattle.std.specs.List.{before_first, after_first}
 use Rattle.std.specs.Option.{option_and_then}

@@ -1,8 +1,8 @@
 use Rattle.std.proofs.Common.{◌∙◌, ◌-◌, None, Some, ap, sym, refl}
-use Rattle.pack_faults.specs.Lines.{text_along}
-use Rattle.pack_faults.specs.Rests.{rest_after}
-use Rattle.pack_faults.proofs.LineLemmas.{rest_in, tail_of}
-use Rattle.pack_faults.proofs.lines.start_in.Goals as goal
+use Rattle.set_lines.specs.Lines.{text_along}
+use Rattle.set_lines.specs.Rests.{rest_after}
+use Rattle.set_lines.proofs.LineLemmas.{rest_in, tail_of}
+use Rattle.set_lines.proofs.lines.start_in.Goals as goal
 
 pub returns-in_err-sequences : goal.returns-in_err-sequences
 returns-in_err-sequences c =

@@ -11,10 +11,10 @@ use Rattle.sequence_resolve.specs.declared.entry.SeqEntry.{SeqEntry}
 use Rattle.sequence_resolve.specs.declared.entry.SeqSet.{SeqSet}
 use Rattle.sequence_trees.specs.declared.spot.Part.{Part}
 use Rattle.sequence_trees.specs.declared.spot.Spot.{Spot}
-use Rattle.pack_faults.specs.Lines.{line_after, text_along, text_in, line_of}
-use Rattle.pack_faults.specs.Merged.{part_number}
-use Rattle.pack_faults.specs.Rests.{rest_after, rest_of, follows, from_named, AreLast}
-use Rattle.pack_faults.proofs.SameLemmas.{both, text_equal, same_part}
+use Rattle.set_lines.specs.Lines.{line_after, text_along, text_in, line_of}
+use Rattle.set_lines.specs.Parts.{part_number}
+use Rattle.set_lines.specs.Rests.{rest_after, rest_of, follows, from_named, AreLast}
+use Rattle.set_lines.proofs.SameLemmas.{both, text_equal, same_part}
 
 pub next_rest : (n : ℕ) (text : List ℕ) → 0 < n → rest_after n text ≡ rest_after (n - 1) (after_first (λ b. b == 10) text)
 next_rest zero text some = absurd (omega arith)

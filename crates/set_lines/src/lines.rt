@@ -1,13 +1,13 @@
-//! The line that a fault stands in.
+//! The line that a place of a set stands in.
 ghost use Rattle.std.specs.Prelude.{◌≡◌, ◌==◌, ◌-◌, true, None, Some, map, option_map, MatchOption};
 ghost use Rattle.std.specs.List.{before_first, after_first, IsDistinct};
 ghost use Rattle.std.specs.Option.{option_copied};
 ghost use Rattle.std.specs.Str.{bytes_eq};
 ghost use Rattle.sequence_resolve.specs.declared.entry.SeqSet.{SeqSet};
-ghost use Rattle.pack_faults.specs.Lines.{part_text, text_along, line_of};
-ghost use Rattle.pack_faults.specs.Rests.{rest_after, rest_of, follows, from_named, AreLast, IsStart, AreLines};
+ghost use Rattle.set_lines.specs.Lines.{part_text, text_along, line_of};
+ghost use Rattle.set_lines.specs.Rests.{rest_after, rest_of, follows, from_named, AreLast, IsStart, AreLines};
 
-use crate::keys::part_number;
+use crate::parts::part_number;
 use crate::texts::{name_of, same_text};
 use dap_base::NameText;
 use device_tree::{Step, Steps};
@@ -194,7 +194,8 @@ pub struct Lines<'a> {
 }
 
 impl<'a> Lines<'a> {
-    /// Those of this set, of which none was sought. The names of the set must be distinct, as those of a known set are.
+    /// Those of this set, of which none was sought. The names of the set must be distinct, as those of
+    /// `sequence_resolve::set_along` are.
     pub fn new(set: &'a SeqSet) -> Lines<'a>
         requires { IsDistinct bytes_eq (map (λ e. e.name) set.now.entries) }
         ensures set { result.set.now ≡ set.now }

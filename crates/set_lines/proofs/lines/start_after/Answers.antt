@@ -1,6 +1,6 @@
 use Rattle.std.proofs.Common.{◌-◌, refl, arith}
-use Rattle.pack_faults.proofs.LineLemmas.{rest_later}
-use Rattle.pack_faults.proofs.lines.start_after.Goals as goal
+use Rattle.set_lines.proofs.LineLemmas.{rest_later}
+use Rattle.set_lines.proofs.lines.start_after.Goals as goal
 
 pub returns : goal.returns
 returns c = λ set is. record {

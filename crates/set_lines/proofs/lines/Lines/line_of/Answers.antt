@@ -1,6 +1,6 @@
 use Rattle.std.proofs.Common.{sym}
-use Rattle.pack_faults.proofs.LineLemmas.{line_at}
-use Rattle.pack_faults.proofs.lines.Lines.line_of.Goals as goal
+use Rattle.set_lines.proofs.LineLemmas.{line_at}
+use Rattle.set_lines.proofs.lines.Lines.line_of.Goals as goal
 
 pub returns-clause-line : goal.returns-clause-line
 returns-clause-line c =

@@ -6,10 +6,10 @@ use Rattle.device_tree.specs.Same.{same_text}
 use Rattle.sequence_resolve.specs.declared.entry.SeqEntry.{SeqEntry}
 use Rattle.sequence_resolve.specs.declared.entry.SeqSet.{SeqSet}
 use Rattle.sequence_trees.specs.declared.spot.Spot.{Spot}
-use Rattle.pack_faults.specs.declared.lines.LineStart.{LineStart}
-use Rattle.pack_faults.specs.declared.lines.Lines.{Lines}
-use Rattle.pack_faults.specs.Lines.{text_in}
-use Rattle.pack_faults.specs.Merged.{part_number}
+use Rattle.set_lines.specs.declared.lines.LineStart.{LineStart}
+use Rattle.set_lines.specs.declared.lines.Lines.{Lines}
+use Rattle.set_lines.specs.Lines.{text_in}
+use Rattle.set_lines.specs.Parts.{part_number}
 
 -- the text after this many line feeds
 abbrev pub rest_after : ℕ → List ℕ → List ℕ

@@ -1,5 +1,5 @@
 use Rattle.std.proofs.Common.{length}
-use Rattle.pack_faults.proofs.lines.+text_along.Given as goal
+use Rattle.set_lines.proofs.lines.+text_along.Given as goal
 
 abbrev pub decreases-text_along : goal.decreases-text_along
 decreases-text_along l = length l.path.now
