@@ -68,8 +68,11 @@ impl Target {
         }
     }
 
-    /// Reads CTRL/STAT until its value under the mask is the one that is requested, at most so many times. The reads are counted, and
+    /// Reads CTRL/STAT until its value under the mask is the one that is requested, at most `turns` times. The reads are counted, and
     /// not made one by one: CTRL/STAT shows one value until power-up is acknowledged, and one from then on.
+    ///
+    /// The outcome is `Value(1)` where a read matched, else `Value(0)`. With another DPBANKSEL than 0 each read gives 0, and nothing
+    /// changes. There, where STICKYERR is set, the first read is a `Fault`.
     pub fn poll(&mut self, mask: u32, requested: u32, turns: u32) -> PollEnd
         ensures { record { outcome = result.outcome; reads = result.reads; next = self.new } ≡ polled turns mask requested self.old }
     {
