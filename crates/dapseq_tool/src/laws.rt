@@ -64,21 +64,22 @@ pub fn a_kept_trace_is_accepted()
 {}
 
 /// Two runs of one sequence that are done or halted, by the same trees and settings on the same target, leave the same variables,
-/// units, lines, registers and memory, whatever the packet limits and the stalls of their benches, and whichever access each has.
+/// units, lines, memory, and registers except RDBUFF. So it is whatever the packet limits and the stalls of their benches are, and
+/// whichever access each has.
 pub fn packet_limits_do_not_matter()
     ensures { (access other : AccessKind) (x y : Run) (before : Option (List ℕ)) (p q : RunEnd) (a b : After) (m n : BenchState)
         → IsSameTask x y → IsRunTo access x before p a m → IsRunTo other y before q b n → CameToEnd p.ended.ending → CameToEnd q.ended.ending
         → LeavesSame before p q m n }
 {}
 
-/// A run of the mode `load` that is done, where the image may be loaded after the sequence, lays it over the memory that the sequence
-/// leaves, and no byte differs.
+/// A run of the mode `load` that is done, where the sequence by itself is done and the image may be loaded after it, lays the image over
+/// the memory that the sequence leaves, and no byte differs.
 pub fn runs_lay_images()
     ensures { RunsLay }
 {}
 
-/// A run of the mode `scan` that is done, where words can be read by the access port after the sequence, lists the components that the
-/// words of the target show, the first 1,024 where there are more, and is full exactly there.
+/// A run of the mode `scan` that is done, where the sequence by itself is done and words can be read by the access port after it, lists
+/// the components that the words of the target show. It lists the first 1,024 where there are more, and is full exactly there.
 pub fn runs_list_components()
     ensures { RunsList }
 {}

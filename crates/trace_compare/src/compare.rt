@@ -106,8 +106,9 @@ fn put_comparison<S: Source, A: Source, K: Sink>(
 }
 
 /// Writes the comparison of two traces: the first exchanges that are not the same, or that one trace ends first, or
-/// that all are the same; then how many packets and replies of each are none, and how many accesses of each register
-/// each has, where the numbers differ. Whether the exchanges are the same, and each packet and reply is one.
+/// that all are the same. Then how many packets and replies of each are none, unless neither has such a one, and how
+/// many accesses of each register each has, where the numbers differ. It answers whether the exchanges are the same, and
+/// each packet and reply is one.
 ///
 /// - `ReadFault` where the source of the trace failed, `AgainstFault` where the other failed, `WriteFault` where the
 ///   sink failed, `OutOfMemory` where memory is refused. Then a part of the text was written, from the front.
