@@ -35,9 +35,9 @@ AreNextWrites block size ap address (ask ∷ asks) = IsWriteAt block size ap add
 abbrev pub starting_since : Beginning → BenchState → ℕ
 starting_since b m = m.starting - b.state.starting
 
--- The starting packets are few: at most three for the opening, one for each need point, and one for each full flight of
--- register accesses; and for at least one write, all at neighbouring addresses of one block of 1,024 bytes below 2^32, with at
--- most two need points, at most six more than the blocks of writes that hold them.
+-- The starting packets are few: at most three for the opening, one for each need point, and k / c for k register accesses. Here a flight holds c
+-- of them. Let all calls be writes at neighbouring addresses of one block of 1,024 bytes below 2^32, one at least, with at most two need points.
+-- Then there are at most six more than the blocks of writes that hold them.
 pub record KeepsBounds (entries : List Entry) (a : AccessView) (b : Beginning) (m : BenchState) : Type 0 where
   pub few : starting_since b m ≤ 3 + a.asks.needs + registers_in entries / capacity a.bench.limits
   pub blocks : (size ap address : ℕ) → 0 < length a.asks.calls → AreNextWrites (address / 1024) size ap address a.asks.calls

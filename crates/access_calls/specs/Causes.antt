@@ -80,9 +80,8 @@ AllWholeBefore exchange place = (j : ℕ) → j < place → (shows : List Shown)
 abbrev pub SomeCutBefore : Exchange → ℕ → Type 0
 SomeCutBefore exchange place = (j : ℕ) × (j < place) × (shows : List Shown) × ShowsAt exchange j shows × (is_whole shows ≡ false)
 
--- Commands that hold each other off: a command of a queue does nothing unless the one before came to its end. The reply at
--- this place breaks this: it shows a command that did nothing though all before it are whole, or one that did something
--- though one before it is not.
+-- Commands that hold each other off: a command of a queue does nothing unless the one before came to its end. The reply at this place breaks
+-- this. It shows a command that did nothing though all before it are whole, or one that did something though one before it is not.
 pub record BreaksQueue (exchange : Exchange) (place : ℕ) : Type 0 where
   pub queue : is_queue exchange ≡ true
   pub shows : List Shown
@@ -116,8 +115,8 @@ abbrev pub code_of_cause : StopCause → ℕ
 code_of_cause Faulted = 0x04
 code_of_cause NoAnswer = 0x02
 
--- How an access came to its end, or to none: the bench failed only at BenchFault; a cut comes with its response, and
--- ReplyBad with a bad reply, in an exchange of these calls.
+-- How an access came to its end, or to none. The bench failed only at BenchFault. In an exchange of these calls, a cut comes with its response,
+-- and ReplyBad with a bad reply.
 abbrev pub EndedBy : AccessView → AccessView → Option Stop → Type 0
 EndedBy old new None = new.bench.faults ≡ old.bench.faults
 EndedBy old new (Some (Cut r)) = (new.bench.faults ≡ old.bench.faults) × EndedByReply (HasResponse (code_of_cause r.cause)) old new

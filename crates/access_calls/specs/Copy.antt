@@ -54,8 +54,8 @@ pub record IsDone (a : AccessView) (c : Copied) (old new : Option (List ℕ)) : 
   pub written : Appends old new c.written
   pub target : WhereObservable a.state (λ m. Agree (target_of m.probe) c.world.target)
 
--- It stopped at the call after those that have their lines, or, with both calls made, where a retry ended in the settling; and
--- wrote what comes before that.
+-- It stopped at the call after those that have their lines, or, with both calls made, where a retry ended in the settling. It wrote what comes
+-- before that.
 pub record IsStopped (a : AccessView) (c : Copied) (old new : Option (List ℕ)) : Type 0 where
   pub place : (c.stopped ≡ Some (a.lines + 1)) ⊎ ((c.stopped ≡ None) × (a.lines ≡ 2))
   pub written : Appends old new c.written

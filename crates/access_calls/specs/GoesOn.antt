@@ -15,9 +15,8 @@ abbrev pub StaysEnded : AccessView → AccessView → Option Stop → Type 0
 StaysEnded old new None = EndedBy old new new.end
 StaysEnded old new (Some s) = IsSameButAsks old new
 
--- What each call keeps, and so each row of calls: the limits of the bench; counts that never fall; whether the bench is
--- observable, and the runs that its log is; results that are known stay so; how many calls may be answered only becomes fewer;
--- and an end stays, and has its cause.
+-- What each call keeps, and so each row of calls. The limits of the bench and whether it is observable stay, no count falls, and the log goes
+-- on. Known results stay known, and the numbers of calls that may be answered only become fewer. An end stays, and has its cause.
 pub record GoesOn (old new : AccessView) : Type 0 where
   pub limits : new.bench.limits ≡ old.bench.limits
   pub faults : old.bench.faults ≤ new.bench.faults

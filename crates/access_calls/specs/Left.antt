@@ -12,7 +12,7 @@ abbrev pub IsLeftCut : StopCause → ℕ → ℕ → Option ℕ → Type 0
 IsLeftCut Faulted lines came answered = AtLeast came answered
 IsLeftCut NoAnswer lines came answered = answered ≡ Some lines
 
--- the same by the end
+-- by its end, so many calls may still be answered in a world that is left
 abbrev pub IsLeftAt : Option Stop → ℕ → ℕ → Option ℕ → Type 0
 IsLeftAt None lines came answered = AtLeast came answered
 IsLeftAt (Some (Cut r)) lines came answered = IsLeftCut r.cause lines came answered
@@ -30,7 +30,7 @@ abbrev pub answered_cut : StopCause → ℕ → Option ℕ
 answered_cut Faulted lines = None
 answered_cut NoAnswer lines = Some lines
 
--- the same by the end
+-- the same by the end of an access: without an ended retry all calls may be answered
 abbrev pub answered_at : Option Stop → ℕ → Option ℕ
 answered_at None lines = None
 answered_at (Some (Cut r)) lines = answered_cut r.cause lines

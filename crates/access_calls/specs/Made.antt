@@ -10,7 +10,7 @@ use Rattle.access_calls.specs.declared.stop.Report.{Report}
 use Rattle.access_calls.specs.declared.stop.StopCause.{StopCause}
 use Rattle.access_calls.specs.declared.stop.StopCause.TheVariants.{Faulted, NoAnswer}
 
--- the number of the unit that an entry makes, as it is the access that the unit is for, or its skip; the given one where it makes none
+-- the number of the unit that an entry makes, by the access that the unit is for or by its skip; where it makes none, the given number
 abbrev pub last_made_by : ℕ → Entry → ℕ
 last_made_by units e = if completes e.part || is_skip e.part then e.unit else units
 
@@ -24,8 +24,8 @@ abbrev pub units_made : StopCause → List Entry → Report → ℕ → ℕ
 units_made Faulted entries r lines = r.unit
 units_made NoAnswer entries r lines = max lines (last_made (take r.accesses entries))
 
--- Of these calls so many were made, which were asked and are at most one more than those that have their lines: the memory is the one
--- that they leave, each made alone and at once.
+-- Of these calls so many were made, which were asked and are at most one more than those that have their lines. The memory is the one that they
+-- leave, each made alone and at once.
 pub record HasMemory (t : TargetState) (calls : List Ask) (made lines : ℕ) (m : BenchState) : Type 0 where
   pub asked : made ≤ length calls
   pub few : made ≤ lines + 1

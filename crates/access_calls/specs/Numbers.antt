@@ -21,8 +21,7 @@ abbrev pub attempted_by : StopCause → ℕ → ℕ → ℕ
 attempted_by Faulted unit complete = unit
 attempted_by NoAnswer unit complete = complete
 
--- The numbers of a stop: the unit that it names, how many units were attempted and how many skipped, and how many units have
--- their lines before it.
+-- The numbers of a stop: the unit that it names, and how many units were attempted, were skipped, and have their lines before it.
 pub record StopNumbers : Type 0 where
   pub unit : ℕ
   pub attempted : ℕ

@@ -25,8 +25,8 @@ pub record IsNew (a : AccessView) : Type 0 where
   pub asks : a.asks ≡ nothing_asked
   pub unended : a.end ≡ None
 
--- A bench over which an access may begin, as a load leaves it: the match mask is 0, bit 0 of DPIDR is set, STICKYERR is clear, the numbers
--- of the target are in their ranges, and the counts of work and of ended retries have room.
+-- A bench over which an access may begin, as a load leaves it. The match mask is 0, bit 0 of DPIDR is set and STICKYERR is clear. The numbers of
+-- the target are in their ranges, and the counts of work and of ended retries have room.
 pub record MayBegin (m : BenchState) : Type 0 where
   pub mask : m.probe.executor.transfers.mask ≡ 0
   pub dpidr : (bit_and (target_of m.probe).dpidr 1 == 0) ≡ false
@@ -39,7 +39,7 @@ pub record MayBegin (m : BenchState) : Type 0 where
 abbrev pub opened : Config → ExecutorState → ExecutorState
 opened config e = record e { idle = config.idle; transfers = configured e.transfers config.retry 0 }
 
--- The state from which an access counts over a bench: the one before the opening exchanges, but for the settings that they make. The
+-- The state from which an access counts over a bench: the one before the opening exchanges, with the settings that they make. So the
 -- starting packets of the opening are counted.
 abbrev pub opened_bench : Config → BenchState → BenchState
 opened_bench config m = record m { probe = record m.probe { executor = opened config m.probe.executor } }
@@ -53,8 +53,8 @@ pub record HasOpened (config : Config) (m o : BenchState) : Type 0 where
 abbrev pub HasTried : Config → BenchState → BenchState → Type 0
 HasTried config m o = (o.probe.executor ≡ m.probe.executor) ⊎ (o.probe.executor ≡ opened config m.probe.executor)
 
--- What becomes of a bench in calls over it: the limits stay, exchanges are counted, whether it is observable stays so, and so do
--- the runs that its log is.
+-- What becomes of a bench in calls over it. The limits stay, and exchanges are counted. Whether it is observable stays so, and so do the runs
+-- that its log is.
 pub record GoesOnTo (old : Seen) (reported : BenchReported) (state : Option BenchState) : Type 0 where
   pub limits : reported.limits ≡ old.reported.limits
   pub exchanges : old.reported.exchanges ≤ reported.exchanges
@@ -68,8 +68,8 @@ pub record HasBadReply (old new : BenchReported) (sent got : List ℕ) : Type 0 
   pub reply : slice_get new.last.replies place ≡ Some got
   pub bad : IsBadReply new.last place
 
--- Why an access did not begin: the bench failed, before anything of the calls was issued; or a reply to an opening packet is bad,
--- which no bench gives that is observable and over which an access may begin; or memory was refused.
+-- Why an access did not begin. The bench failed, before anything of the calls was issued. Or a reply to an opening packet is bad, which an
+-- observable bench over which an access may begin never gives. Or memory was refused.
 abbrev pub RefusedBy : Stop → Seen → Seen → List ℕ → List ℕ → Type 0
 RefusedBy (Cut report) old new sent got = ⊥
 RefusedBy (BenchFault issued confirmed) old new sent got = (issued ≡ 0) × (confirmed ≡ 0) × Rose old.reported.faults new.reported.faults

@@ -8,26 +8,31 @@ use Rattle.target_calls.specs.NeedPoints.{Asks}
 use Rattle.target_calls.specs.World.{World, start_world}
 use Rattle.access_calls.specs.declared.stop.Stop.{Stop}
 
--- What an access reports at a moment: what its bench reports, and the state of the bench where that is observable; what was
--- asked; how many of the calls are known to have been answered; how many of the first results `value` answers from now on,
--- whatever comes; its end, where it has ended; at a cut, how many units have their lines before it; how many calls were skipped;
--- how many entries of the journal were issued, and how many of them are confirmed; and the packet and the reply that ended it.
+-- What an access reports at a moment.
 pub record AccessView : Type 0 where
+  -- what its bench reports, and the state of the bench where that is observable
   pub bench : BenchReported
   pub state : Option BenchState
+  -- what was asked
   pub asks : Asks
+  -- how many calls are known to have been answered
   pub came : ℕ
+  -- how many of the first results `value` answers from now on, whatever comes
   pub known : ℕ
+  -- its end, where it has ended, and at a cut how many units have their lines before it
   pub end : Option Stop
   pub lines : ℕ
+  -- how many calls were skipped
   pub skipped : ℕ
+  -- how many entries of the journal were issued, and how many of them are confirmed
   pub issued : ℕ
   pub confirmed : ℕ
+  -- the packet and the reply that ended it
   pub sent : List ℕ
   pub got : List ℕ
 
--- Where an access began: the state of its bench at that moment; and how many of its calls are answered, all, or so many,
--- after which a retry ends.
+-- Where an access began: the state of its bench at that moment, and how many of its calls are answered. All are, or so many, after which a retry
+-- ends.
 pub record Beginning : Type 0 where
   pub state : BenchState
   pub answered : Option ℕ

@@ -49,8 +49,8 @@ idle_cycles_of m = m.probe.executor.idle
 abbrev pub grown_since : Beginning → BenchState → ℕ
 grown_since b m = work_of m.probe - work_of b.state.probe
 
--- Exactly the first so many entries were performed, by the probe's work, which is at most that of all of them; and the target agrees
--- with the one after them.
+-- Exactly the first so many entries were performed, by the probe's work, which is at most that of all of them. The target agrees with the one
+-- after them.
 pub record HasPerformed (entries : List Entry) (count : ℕ) (b : Beginning) (m : BenchState) : Type 0 where
   pub count_is : count ≡ performed (start_of b) entries (grown_since b m)
   pub no_more : grown_since b m ≤ weight_in (start_of b) entries
@@ -91,8 +91,8 @@ pub record IsOpen (entries : List Entry) (a : AccessView) (b : Beginning) (m : B
   pub skipped : a.skipped ≡ skips (world_of b) a.asks.calls
   pub settled : is_settled a.asks.calls ≡ true → Agree (target_of m.probe) (world_after (world_of b) a.asks.calls).target
 
--- At a fault: the entries were performed up to the first that gives a fault which its unit does not forgive; those before it
--- are confirmed, and no more work was done. No retry ended, and the idle cycles are those of the beginning.
+-- At a fault the entries were performed up to the first that gives a fault which its unit does not forgive. Those before it are confirmed, and
+-- no more work was done. No retry ended, and the idle cycles are those of the beginning.
 pub record IsFaulted (entries : List Entry) (r : Report) (a : AccessView) (b : Beginning) (m : BenchState) : Type 0 where
   pub performed : HasPerformed entries r.accesses b m
   pub first : first_fault (start_of b) entries ≡ Some r.accesses
@@ -102,11 +102,10 @@ pub record IsFaulted (entries : List Entry) (r : Report) (a : AccessView) (b : B
   pub retries : ended_retries_of m.probe ≡ ended_retries_of b.state.probe
   pub idle_cycles : idle_cycles_of m ≡ idle_cycles_of b.state
 
--- Where a retry ended: the performed entries are confirmed, except the last where a read was outstanding or a write
--- unchecked; and no more work was done than up to the named entry. Just one retry ended. The transfer that it ended met
--- more WAITs than the retry number of the beginning allows, and has
--- at most the number of two for each register access and each read of a poll that was made: commands are no such transfers. The idle
--- cycles are those of the beginning.
+-- Where a retry ended. The performed entries are confirmed, except the last where a read was outstanding or a write unchecked. No more work was
+-- done than up to the named entry, and just one retry ended. The transfer that it ended met more WAITs than the retry number of the beginning
+-- allows. The number of this transfer is at most two for each register access and each read of a poll that was made; commands are no such
+-- transfers. The idle cycles are those of the beginning.
 pub record IsUnanswered (entries : List Entry) (r : Report) (a : AccessView) (b : Beginning) (m : BenchState) : Type 0 where
   pub performed : HasPerformed entries r.accesses b m
   pub confirmed : r.accesses ≡ r.confirmed + one_if (pending_of m)
@@ -117,8 +116,8 @@ pub record IsUnanswered (entries : List Entry) (r : Report) (a : AccessView) (b 
   pub over : IsOver (setting_of b.state) (number_of m)
   pub number : number_of m + 2 * commands_in (take r.accesses entries) ≤ number_of b.state + 2 * grown_since b m + 1
 
--- The target agrees with the one after the first `count` entries, and no more were begun; or the next one was begun too, and a part
--- of it was done.
+-- The target agrees with the one after the first `count` entries, and no more were begun. Or the next one was begun too, and a part of it was
+-- done.
 abbrev pub IsAfterPart : List Entry → ℕ → ℕ → Beginning → BenchState → Type 0
 IsAfterPart entries count begun b m =
     let t = target_after (start_of b) (take count entries) in
@@ -160,7 +159,7 @@ pub record HasBroken (limits : Limits) (entries : List Entry) (issued confirmed 
   pub idle_cycles : idle_cycles_of m ≡ idle_cycles_of b.state
   pub target : IsAfterPart entries count begun b m
 
--- So it is with the entries of these calls, the first of which have come. All entries of those that came are confirmed: the first one that is
+-- So it is with the entries of these calls, the first of which have come. All entries of those that came are confirmed. The first one that is
 -- not was issued once so many calls were asked, and no more have come than were asked. None that was begun is of a call after the first that
 -- ends at a fault.
 pub record IsBenchFault (limits : Limits) (asks : List Ask) (came : ℕ) (entries : List Entry) (issued confirmed : ℕ) (b : Beginning) (m : BenchState) : Type 0 where

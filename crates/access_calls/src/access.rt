@@ -24,17 +24,15 @@ use target_machine::{ProbeCall, Unit};
 
 /// An access to a target: calls are asked one after the other, and their results may come late.
 ///
-/// A call is a unit of a sequence or a command of the probe. What is asked comes to what it comes to
-/// alone and at once, each call on the target that the one before it left, whenever it is made.
-/// Where the bench is observable, an access knows where it *began*: then each answer is so in every
-/// *world* that is left, which is the target at the beginning and how many calls are answered before
-/// a retry ends. Before that end a world is left for each number from those that came.
+/// A call is a unit of a sequence or a command of the probe. What is asked comes to what it comes to alone and at once, each call on the
+/// target that the one before it left, whenever it is made. Where the bench is observable, an access knows where it *began*. Then each
+/// answer is so in every *world* that is left. A world is the target at the beginning and how many calls are answered before a retry ends.
+/// Before that end a world is left for each number from those that came.
 ///
-/// `Cut`, `BenchFault` and `ReplyBad` are ends: from then on each call that can answer the end
-/// answers it and sends nothing, and `value` answers on the results that came. `BenchFault` comes only
-/// where the bench failed in the call that ended the access, `Cut` only with the response 02 or 04,
-/// and `ReplyBad` only with a reply that its packet cannot have, received in that call. Where memory is
-/// refused nothing is asked and nothing sent, and the access goes on.
+/// `Cut`, `BenchFault` and `ReplyBad` are ends: from then on each call that can answer the end answers it and sends nothing, and `value`
+/// answers on the results that came. `BenchFault` comes only where the bench failed in the call that ended the access, and `Cut` only with
+/// the response 02 or 04. `ReplyBad` comes only with a reply that its packet cannot have, received in that call. Where memory is refused
+/// nothing is asked and nothing sent, and the access goes on.
 pub trait Access {
     /// What it reports at a moment.
     ghost reported: { Self → AccessView };

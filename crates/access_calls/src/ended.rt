@@ -49,8 +49,8 @@ impl From<Stop> for Ending {
 pub struct Ended {
     /// How it ended.
     pub ending: Ending,
-    /// How many units were asked, at most 1,000,000 of a sequence, and those of what follows it besides: after
-    /// `Done` and `Halted` all of them, else those before the call at which the run was left.
+    /// How many units were asked, at most 1,000,000 of a sequence, and those of what follows it besides. After `Done` and `Halted` they are
+    /// all of them, else those before the call at which the run was left.
     pub units: u32,
     /// How many of them were skipped: they forgive a fault, and met one.
     pub skipped: u32,

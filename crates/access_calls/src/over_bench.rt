@@ -12,8 +12,8 @@ use std::alloc::Global;
 pub trait OverBench<B: Bench>: Access {
     /// Opens the probe, and begins with nothing asked. The bench has these limits, it holds no packet, and no reply waits.
     ///
-    /// Refused where the bench failed, where a reply is bad, which no bench gives that is observable
-    /// and over which an access may begin, and where memory is refused; the bench is handed back.
+    /// Refused where the bench failed, where a reply is bad, and where memory is refused; the bench is handed back. An observable bench
+    /// over which an access may begin never gives a bad reply.
     fn begin(alloc: Global, bench: B, config: Config, limits: Limits) -> Result<Self, NotBegun<B>>
         requires idle { IsIdle (B.reported bench) }
         requires limits { limits ≡ (B.reported bench).limits }

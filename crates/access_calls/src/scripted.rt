@@ -13,9 +13,9 @@ const FAULT: Stop = Stop::BenchFault {
     confirmed: 0,
 };
 
-/// An access for tests of what runs over an access. It answers the given results in the order of the calls, and 0 after them,
-/// and fails as its bench would from the call on that has the number `fails_at`, counted from 0 over all calls but `value`.
-/// Its bench is not observable: what it says of a run is what any access says.
+/// An access for tests of what runs over an access. It answers the given results in the order of the calls, and 0 after them. It fails as
+/// its bench would from the call on that has the number `fails_at`, counted from 0 over all calls but `value`. Its bench is not observable:
+/// what it says of a run is what any access says.
 #[derive(Drop)]
 pub struct Scripted {
     /// What was asked, in order.

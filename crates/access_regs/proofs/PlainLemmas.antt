@@ -42,7 +42,7 @@ next_after : (t : TargetState) (large : List ℕ) (forgive : Bool) (call : Call)
 unfolding call_done
 next_after t large forgive call = ended_next _ _ _ _ t (in_order t (call_actions t large call)).next _ (issued t (call_actions t large call)) (after_issued (call_actions t large call) t)
 
--- the same but for the list of APs
+-- the same except for the list of APs
 ended_other : (b f s : Bool) (v : ℕ) (t : TargetState) (l m : List ℕ) (xs : List Action) → (ended b f s v t l xs).actions ≡ (ended b f s v t m xs).actions
 ended_other true true s v t l m xs = refl
 ended_other true false s v t l m xs = refl

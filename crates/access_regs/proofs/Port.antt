@@ -17,7 +17,7 @@ pub record Selects (t : TargetState) (ap : ℕ) : Type 0 where
   pub here : t.select / 2 ^ 24 ≡ ap
   pub bank : bit_and t.select 0xF0 ≡ 0
 
--- From t the port of one AP, where it is there, became what f makes of it, and but for RDBUFF nothing else changed.
+-- From t the port of one AP, where it is there, became what f makes of it, and nothing else changed except RDBUFF.
 pub record Turns (t : TargetState) (ap : ℕ) (f : ApState → ApState) (u : TargetState) : Type 0 where
   pub rest : u ≡ record t { rdbuff = u.rdbuff; aps = u.aps }
   pub port : map.get u.aps ap ≡ option_map f (map.get t.aps ap)

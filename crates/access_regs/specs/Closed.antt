@@ -26,15 +26,14 @@ closed_by units e = if closes e.part then e.unit else units
 abbrev pub closed_after : ℕ → List Entry → ℕ
 closed_after units entries = fold closed_by units entries
 
--- Whatever the first entries are, where none of them gives a fault that its unit does not forgive: the memory after them is the
--- one that the calls leave up to the last one whose own access or skip is among them. Neither settling nor what comes before
--- that access changes it.
+-- Let none of the first entries give a fault that its unit does not forgive. Then the memory after them is the one that the calls leave up to
+-- the last one whose own access or skip is among them. Neither settling nor what comes before that access changes it.
 abbrev pub MemoryFollowsCalls : Type 0
 MemoryFollowsCalls = (p : Planner) (t : TargetState) (calls : List Ask) (front more : List Entry) → IsFresh t → AreAskable calls → Passes t front →
     issued p t calls ≡ front ++ more →
     (target_after t front).words ≡ (alone_after t [] (take (closed_after 0 front) calls)).words
 
--- How many units these entries made, where so many units have their lines before the next entry: those, and the next unit where its own
+-- How many units these entries made, where so many units have their lines before the next entry. They are those, and the next unit where its own
 -- access or skip is among the entries.
 abbrev pub made_by : ℕ → List Entry → ℕ
 made_by lines entries = max lines (closed_after 0 entries)

@@ -78,7 +78,7 @@ abbrev pub cost_by : Planner → TargetState → List Ask → Ask → Cost
 cost_by Managed t asks ask = planned_cost t asks ask
 cost_by Plain t asks ask = record { before = 0; after = 0 }
 
--- Reads of CSW and CFG of a unit that is not made alone: CFG where it is needed, and CSW where it is not known, except after a CFG
+-- Reads of CSW and CFG of a unit that is not made alone. CFG is read where it is needed. CSW is read where it is not known, except after a CFG
 -- that shows no large addresses.
 abbrev pub PlannedReads : Type 0
 PlannedReads = (t : TargetState) (k : Kept) (asked : AccessUnit) →

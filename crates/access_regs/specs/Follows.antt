@@ -43,8 +43,8 @@ FollowsPort n (Some tar) (Some plain) (Some planned) = IsUnsettledPort n tar pla
 FollowsPort n unsettled None (Some planned) = ⊥
 FollowsPort n unsettled (Some plain) None = ⊥
 
--- The target after planned units differs from the one after the units alone at most in RDBUFF, and in CSW and TAR of the
--- unsettled AP, which SELECT has and which is powered. What is kept is so.
+-- The target after planned units differs from the one after the units alone at most in RDBUFF, and in CSW and TAR of the unsettled AP. SELECT
+-- has this AP, and it is powered. What is kept is so.
 pub record Follows (k : Kept) (large : List ℕ) (plain planned : TargetState) : Type 0 where
   pub rest : planned ≡ record plain { rdbuff = planned.rdbuff; aps = planned.aps }
   pub clear : plain.sticky ≡ false

@@ -34,8 +34,8 @@ abbrev pub CallLeaves : Type 0
 CallLeaves = (p : Planner) (k : Kept) (large : List ℕ) (t u : TargetState) (c : Ask) → Follows k large t u → IsAskable c → (alone t large c).end ≢ Faulted →
     Follows (kept_at p u k c) (alone t large c).large (alone t large c).next (target_at p u k c)
 
--- Where no call ends at a fault, the target after the journal differs from the one after the calls alone at most in RDBUFF,
--- and in CSW and TAR of the AP that is unsettled.
+-- Let no call end at a fault. Then the target after the journal differs from the one after the calls alone at most in RDBUFF, and in CSW and TAR
+-- of the AP that is unsettled.
 abbrev pub JournalFollows : Type 0
 JournalFollows = (p : Planner) (t : TargetState) (calls : List Ask) → IsFresh t → AreAskable calls → NoneFaults t [] calls →
     Follows (kept_from p nothing_kept t calls) (large_of_all t [] calls) (alone_after t [] calls) (target_after t (issued p t calls))
@@ -49,8 +49,8 @@ JournalAgrees = (p : Planner) (t : TargetState) (calls : List Ask) → IsFresh t
 abbrev pub JournalPasses : Type 0
 JournalPasses = (p : Planner) (t : TargetState) (calls : List Ask) → IsFresh t → AreAskable calls → NoneFaults t [] calls → Passes t (issued p t calls)
 
--- Where the last call ends at a fault, and none before it, the first entry that gives a fault which its unit does not forgive is
--- an own one of that call, and leaves the memory that the call alone leaves.
+-- Let the last call end at a fault, and none before it. Then the first entry that gives a fault which its unit does not forgive is an own one of
+-- that call. It leaves the memory that the call alone leaves.
 abbrev pub JournalStops : Type 0
 JournalStops = (p : Planner) (t : TargetState) (calls : List Ask) (last : Ask) → IsFresh t → AreAskable calls → IsAskable last → NoneFaults t [] calls →
     (alone (alone_after t [] calls) (large_of_all t [] calls) last).end ≡ Faulted →
@@ -99,8 +99,8 @@ abbrev pub PortKept : Type 0
 PortKept = (t : TargetState) (k : Kept) (forgive read : Bool) (ap addr value : ℕ) → t.sticky ≡ false → ap < 256 → addr < 256 →
     (alone_at forgive (unit.Ap read ap addr value) t k).kept ≡ kept_alone k ap (addr / 16) (known k ap).large
 
--- What is known after a unit that is made alone is noted so: its writes of SELECT, the CFG that it reads, and at the end that nothing
--- else is known of its AP.
+-- What is known after a unit that is made alone is noted. That is its writes of SELECT, the CFG that it reads, and at the end that nothing else
+-- is known of its AP.
 abbrev pub KeptBySelect : Type 0
 KeptBySelect = (k : Kept) (ap bank : ℕ) → forget (selected k (select_value ap bank)) ap ≡ kept_alone k ap bank (known k ap).large
 
@@ -114,8 +114,7 @@ abbrev pub KeptAfterCfg : Type 0
 KeptAfterCfg = (k : Kept) (select ap cfg bank : ℕ) → length k.ports ≡ 256 → ap < 256 →
     forget (selected (learned_cfg (selected k select) ap cfg) (select_value ap bank)) ap ≡ kept_alone k ap bank ((known k ap).large || has_bit cfg cfg_la)
 
--- By the plain planner calls issue what they issue when each is made alone, in order, and leave the very same target; faults of any
--- call with them.
+-- By the plain planner calls issue what they issue when each is made alone, in order. They leave the very same target, also where calls fault.
 abbrev pub PlainIsAlone : Type 0
 PlainIsAlone = (t : TargetState) (calls : List Ask) → AreAskable calls →
     (actions_in (issued Plain t calls) ≡ actions_alone t [] calls) × (target_after t (issued Plain t calls) ≡ alone_after t [] calls)

@@ -27,13 +27,13 @@ abbrev pub AreNeighbours : ℕ → ℕ → ℕ → List Ask → Type 0
 AreNeighbours size ap address [] = Unit {0}
 AreNeighbours size ap address (c ∷ cs) = IsUnitAt size ap address c × AreNeighbours size ap (address + size) cs
 
--- How many own entries neighbouring units have at most besides one each: more on an AP with large addresses, and most where CFG
--- is read to learn of them.
+-- How many own entries neighbouring units have at most besides one each. They have more on an AP with large addresses, and most where CFG is
+-- read to learn of them.
 abbrev pub more_than_one_each : Bool → ℕ → ℕ
 more_than_one_each large address = if large then 5 else (if nat_lt address (2 ^ 32) then 4 else 7)
 
--- Within one KiB n units have at most n + 4 own entries; n + 5 on an AP that is known to have large addresses; and n + 7 at
--- addresses over 0xFFFFFFFF on an AP of which that is not known.
+-- Within one KiB n units have at most n + 4 own entries. They have at most n + 5 on an AP that is known to have large addresses. At addresses
+-- over 0xFFFFFFFF on an AP of which that is not known, they have at most n + 7.
 abbrev pub NeighboursAreFew : Type 0
 NeighboursAreFew = (units : ℕ) (k : Kept) (t : TargetState) (size ap address : ℕ) (calls : List Ask) →
     length k.ports ≡ 256 → ap < 256 → ((size ≡ 1) ⊎ ((size ≡ 2) ⊎ (size ≡ 4))) → address % size ≡ 0 → address % 1024 + size * length calls ≤ 1024 →

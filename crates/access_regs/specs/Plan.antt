@@ -80,8 +80,8 @@ after_drw n size address = record {
   large = n.large;
 }
 
--- The plan was made. A memory unit leaves its AP unsettled; of the AP of an AP unit CSW, TAR and its upper word are no longer
--- known; and of a write of SELECT the value as it was written is noted.
+-- The plan was made. A memory unit leaves its AP unsettled. Of the AP of an AP unit CSW, TAR and its upper word are no longer known. Of a write
+-- of SELECT the value as it was written is noted.
 abbrev pub made : Kept → AccessUnit → Kept
 made k (unit.Memory size read ap address value) =
     record (with_known k ap (after_drw (known k ap) size address)) { select = Some (select_value ap 0); unsettled = Some (record { ap = ap; tar = address % 2 ^ 32 }) }
@@ -104,7 +104,7 @@ first_plan k ap = select_needed k ap 0 ++ ap_access_of true csw_register 0 ∷ [
 abbrev pub learned : Kept → ℕ → ℕ → Kept
 learned k ap csw = record (with_known k ap (record (known k ap) { csw = Some csw })) { select = Some (select_value ap 0) }
 
--- ---- an address past 32 bits
+-- ---- an address of more than 32 bits
 
 -- CFG of the unit's AP is read before its plan.
 abbrev pub needs_cfg : Kept → AccessUnit → Bool

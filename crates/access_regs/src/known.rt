@@ -1,7 +1,7 @@
 //! What is known of the registers of an access port.
 
-/// What is known of an access port: CSW, TAR and the upper word of TAR as they were last read,
-/// written or left by an increment, and whether it has large physical addresses.
+/// What is known of an access port: whether it has large physical addresses, and CSW, TAR and the upper word of TAR. These are as they were
+/// last read, written or left by an increment.
 #[derive(Clone, Copy, Debug, PartialEq, Eq)]
 pub struct Known {
     pub csw: Option<u32>,
@@ -10,8 +10,8 @@ pub struct Known {
     pub large: bool,
 }
 
-/// The access port whose CSW and TAR are not those that its units leave when each is made alone,
-/// and the low 32 bits of the address of the last one.
+/// The access port whose CSW and TAR are not those that its units leave when each is made alone. It has the low 32 bits of the address of
+/// its last unit.
 #[derive(Clone, Copy, Debug, PartialEq, Eq)]
 pub struct Unsettled {
     pub ap: u8,

@@ -14,8 +14,8 @@ use std::marker::Model;
 use target_machine::Unit;
 use target_machine::registers::{CTRL_STAT, DPBANKSEL, SELECT};
 
-/// SELECT as it was written last, what is known of each of 256 access ports, and which of them is
-/// unsettled: at most one, and then SELECT has it with bank 0.
+/// SELECT as it was written last, what is known of each of 256 access ports, and which of them is unsettled. At most one is, and then
+/// SELECT has it with bank 0.
 #[derive(Debug, Drop)]
 pub struct Managed {
     select: Option<u32>,
@@ -83,8 +83,8 @@ impl Managed {
         }
     }
 
-    /// Whether CFG of the unit's access port has to be read first, by `cfg_plan`: before a memory
-    /// unit whose address is over 0xFFFFFFFF, where the port is not known to have large addresses.
+    /// Whether CFG of the unit's access port has to be read first, by `cfg_plan`. It has to before a memory unit whose address is over
+    /// 0xFFFFFFFF, where the port is not known to have large addresses.
     pub fn needs_cfg(&self, unit: &Unit) -> bool
         ensures { result ≡ needs_cfg self.now unit.now }
     {
@@ -94,8 +94,8 @@ impl Managed {
         }
     }
 
-    /// Whether an access port is unsettled, and has to be settled before this unit: one that changes
-    /// SELECT or reads CFG, an AP unit, and a write of SELECT or of CTRL/STAT.
+    /// Whether an access port is unsettled, and has to be settled before this unit. The unit is one that changes SELECT or reads CFG, an AP
+    /// unit, and a write of SELECT or of CTRL/STAT.
     pub fn needs_settle(&self, unit: &Unit) -> bool
         ensures { result ≡ needs_settle self.now unit.now }
     {

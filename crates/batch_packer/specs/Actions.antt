@@ -53,7 +53,7 @@ abbrev pub is_one : ProbeCall → Bool
 is_one (probe.Delay micros) = nat_le micros 65535
 is_one c = true
 
--- that command
+-- the CMSIS-DAP command that makes a probe call for which one is enough
 abbrev pub command_of : ProbeCall → CommandValue
 command_of (probe.Delay micros) = Delay micros
 command_of (probe.Abort value) = Abort value

@@ -33,8 +33,8 @@ abbrev pub is_mismatch : Response → Bool
 is_mismatch Mismatch = true
 is_mismatch _ = false
 
--- What was shown so far, and by the next reply: as long as commands came to their end, the next makes accesses; after one that did not,
--- no value match is met any more.
+-- What was shown so far, and by the next reply. As long as commands came to their end, the next makes accesses. After one that did not, no value
+-- match is met any more.
 abbrev pub joined_if : Bool → Bool → Part → Part → Option Part
 joined_if true false sofar next = Some (joined_as Good sofar next)
 joined_if false true sofar next = Some sofar
@@ -52,14 +52,14 @@ readings_after (Some sofar) [] [] = Some sofar
 readings_after (Some sofar) (accesses ∷ parts) (reply ∷ replies) = readings_after (then_reading sofar (guarded_reading accesses reply)) parts replies
 readings_after (Some sofar) _ _ = None
 
--- the number of the reply at which a chain ended, by this reply of this number: this one where it breaks the rules, and where all before it
--- were OK
+-- The number of the reply at which a chain ended, by this reply of this number. It is this number where the reply breaks the rules, and where
+-- all before it were OK.
 abbrev pub noted_at : ℕ → ℕ → Bool → Option Part → ℕ
 noted_at i at good None = i
 noted_at i at good (Some part) = if good then i else at
 
--- The number of the reply at which a chain ended: that of the first that breaks the rules, or else of the first that is not OK, or
--- else of the last. The replies are numbered from i on, and what those before them showed, and their number so far, come first.
+-- The number of the reply at which a chain ended. It is the first that breaks the rules, or else the first that is not OK, or else the last. The
+-- replies are numbered from i on, and what those before them showed, and their number so far, come first.
 abbrev pub ended_at : Option Part → ℕ → ℕ → List (List RegAccess) → List (List ℕ) → ℕ
 ended_at None i at parts replies = at
 ended_at (Some sofar) i at (accesses ∷ parts) (reply ∷ replies) =

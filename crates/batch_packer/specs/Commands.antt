@@ -25,8 +25,8 @@ abbrev pub end_in : {A : Type 0} → Result A FlightEnd → Option FlightEnd
 end_in (Ok answer) = None
 end_in (Err end) = Some end
 
--- The number that a reply shows: the packet count in one byte or the packet size in two, the low byte first, after their number; the
--- levels of the pins; and else 0.
+-- The number that a reply shows. After its length that is the packet count in one byte, or the packet size in two, the low byte first. Of pins
+-- it is their levels, and else it is 0.
 abbrev pub number_in : CommandValue → Shown → ℕ
 number_in (command.Info id) view = slice_index view.bytes 1 + 256 * slice_index view.bytes 2
 number_in (command.Pins output select wait) view = slice_index view.bytes 0

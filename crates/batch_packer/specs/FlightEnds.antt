@@ -30,7 +30,7 @@ abbrev pub unless_mismatch : Option Part → Option Part
 unless_mismatch None = None
 unless_mismatch (Some part) = if is_mismatch part.response then None else Some part
 
--- What the replies to a flight of these accesses show, in packets of this size at most; none where one breaks the rules of replies, or
+-- What the replies to a flight of these accesses show, in packets of this size at most. They show none where one breaks the rules of replies, or
 -- those on chains.
 abbrev pub flight_reading : Form → ℕ → List RegAccess → List (List ℕ) → Option Part
 flight_reading form size accesses replies = unless_mismatch (form_reading form size accesses replies)

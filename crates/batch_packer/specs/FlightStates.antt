@@ -1,4 +1,4 @@
--- What is kept of a flight.
+-- The state of a flight, and what its parts keep.
 use Rattle.std.specs.Prelude.{◌≡◌, ◌==◌, ℕ, ◌*◌, ◌<◌, ◌≤◌, true, false, Bool, is_some, List, [], ◌++◌, ◌∷◌, length, slice_get, Option, Some, None}
 use Rattle.target_machine.specs.declared.access.RegAccess.{RegAccess}
 use Rattle.probe_core.specs.Bench.{BenchState}
@@ -16,13 +16,15 @@ use Rattle.batch_packer.specs.FlightEnds.{EndsBy, Flew, flight_reading}
 use Rattle.batch_packer.specs.declared.ends.FlightEnd.{FlightEnd}
 use Rattle.batch_packer.specs.declared.ends.FlightEnd.TheVariants as ends
 
--- The limits of a flight, the accesses that were pushed and not sent, how it ended, whether it can be used again after that, and the
--- packets and replies of its end with the number of the one that it ended at.
+-- What is kept of a flight.
 pub record FlightState : Type 0 where
   pub limits : Limits
+  -- the accesses that were pushed and not sent
   pub accesses : List RegAccess
+  -- how it ended, and whether it can be used again after that
   pub end : Option FlightEnd
   pub resumable : Bool
+  -- the packets and the replies of its end, with the number of the one at which it ended
   pub packets : List (List ℕ)
   pub replies : List (List ℕ)
   pub at : ℕ
@@ -44,8 +46,8 @@ item_at items at = bytes_or_none (slice_get items at)
 abbrev pub has_room : Limits → List RegAccess → RegAccess → Bool
 has_room limits accesses next = is_some (form_of limits.packet_size limits.packet_count (accesses ++ next ∷ []))
 
--- What the parts of a flight keep: some form holds the accesses, each of them is one that a flight takes, and there is room for what the
--- limits allow.
+-- What the parts of a flight keep. Some form holds the accesses, each of them is one that a flight takes, and there is room for what the limits
+-- allow.
 pub record IsSoundFlight (limits : Limits) (size : FlightSize) (accesses : Accesses) (packets replies : Packets) : Type 0 where
   pub in_range : AreLimits limits
   pub packet_size : size.packet_size ≡ limits.packet_size
@@ -78,6 +80,7 @@ abbrev pub can_resume : Form → Option FlightEnd → Bool
 can_resume Transfer (Some (ends.Cut cut)) = cut.response == 0x04
 can_resume form end = false
 
+-- the same; a flight that sent nothing cannot
 abbrev pub can_resume_by : Option Form → Option FlightEnd → Bool
 can_resume_by None end = false
 can_resume_by (Some form) end = can_resume form end

@@ -27,8 +27,8 @@ pub record Flies (accesses : List RegAccess) (part : Part) (m o : BenchState) : 
   pub does : DoesPart (transfers_of m) (transfers_of o) accesses part
   pub idle_cycles : o.probe.executor.idle ≡ m.probe.executor.idle
 
--- A bench over which a flight does what is said of it: match mask and match retry are 0, bit 0 of DPIDR is set, STICKYERR is clear,
--- and the numbers of the target fit their registers and words.
+-- A bench over which a flight does what is said of it. Match mask and match retry are 0, bit 0 of DPIDR is set, and STICKYERR is clear. The
+-- numbers of the target fit their registers and words.
 pub record CanFly (m : BenchState) : Type 0 where
   pub guard : IsGuardOpen (transfers_of m)
   pub in_range : IsInRange (target_of m.probe)
@@ -61,8 +61,8 @@ pub record ReadsOnce (part : Part) (p q : TransferState) : Type 0 where
 abbrev pub OnceBy : Form → List RegAccess → Part → TransferState → TransferState → Type 0
 OnceBy form accesses part p q = form ≡ Transfer → accesses ≡ dp_read_of 0x4 ∷ [] → ReadsOnce part p q
 
--- After a flight in this form whose replies were taken, and which did this part of its accesses: one starting packet was sent, and
--- nothing but the transfers changed.
+-- After a flight in this form whose replies were taken, and which did this part of its accesses. One starting packet was sent, and nothing but
+-- the transfers changed.
 pub record HasFlown (form : Form) (accesses : List RegAccess) (part : Part) (m n : BenchState) : Type 0 where
   pub does : DoesPart (transfers_of m) (transfers_of n) accesses part
   pub mask : may_stay_shut form (is_good part.response) ≡ false → (transfers_of n).mask ≡ 0

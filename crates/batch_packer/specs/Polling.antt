@@ -34,8 +34,8 @@ is_read c reply = is_some (shown_in (reply_read c reply))
 abbrev pub is_of_four : List ℕ → Bool
 is_of_four reply = (length reply == 12) && ((slice_index reply 0 == 0x7F) && (slice_index reply 1 == 4))
 
--- Whether the replies to the commands around the value match are ones that these may get: to the two settings of match retry, before
--- and after it, and to the mask that is set back.
+-- Whether the replies to the commands around the value match are ones that these may get. The commands are the two settings of match retry,
+-- before and after it, and the mask that is set back.
 abbrev pub is_framed : Config → PollAsk → List ℕ → Bool
 is_framed config ask reply =
     is_of_four reply

@@ -35,8 +35,8 @@ abbrev pub part_in : ℕ → List Request → Option Shown → Option Part
 part_in before requests None = None
 part_in before requests (Some view) = part_as before requests view (response_of view.response)
 
--- What the reply to a command shows of these requests, where so many others come before them in the command; none where it is no
--- reply that the command may get.
+-- What the reply to a command shows of these requests, where so many others come before them in the command. It shows none where it is no reply
+-- that the command may get.
 abbrev pub reading : CommandValue → ℕ → List Request → List ℕ → Option Part
 reading command before requests reply = part_in before requests (shown_in (reply_read command reply))
 

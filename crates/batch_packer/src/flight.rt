@@ -124,9 +124,8 @@ impl Flight {
         self.size = FlightSize::new(limits.packet_size, limits.packet_count);
     }
 
-    /// Whether some form holds the flight with this access more: a block of writes, one Transfer, or a
-    /// guarded chain. The access is one that a flight takes: of an access port any, of the debug port a
-    /// read of 0x0 or 0x4, or a write of 0x0, 0x4, 0x8 or 0xC.
+    /// Whether some form holds the flight with this access more: a block of writes, one Transfer, or a guarded chain. The access is one
+    /// that a flight takes. That is any of an access port, and of the debug port a read of 0x0 or 0x4, or a write of 0x0, 0x4, 0x8 or 0xC.
     pub fn room(&self, next: RegAccess) -> bool
         requires { IsTaken next }
         ensures { result ≡ has_room self.now.limits self.now.accesses next }
@@ -241,9 +240,8 @@ impl Flight {
         end
     }
 
-    /// Sends the flight in the first form that holds it, a block of writes, one Transfer, or a guarded
-    /// chain, reads every reply, and gives the slots the values of its confirmed accesses. The flight is
-    /// empty afterwards. An empty flight sends nothing.
+    /// Sends the flight in the first form that holds it: a block of writes, one Transfer, or a guarded chain. Reads every reply, and gives
+    /// the slots the values of its confirmed accesses. The flight is empty afterwards. An empty flight sends nothing.
     ///
     /// It needs a bench that holds no packet, in which no reply waits, and whose limits are at least the
     /// flight's; and slots with room for the flight's limits. After `Ok` the bench again holds no packet,

@@ -19,24 +19,23 @@ ghost use Rattle.batch_packer.specs.Commands.{number_given};
 ghost use Rattle.batch_packer.specs.FlightEnds.{whole_part};
 ghost use Rattle.batch_packer.specs.Flying.{CanFly, HasFlown, transfers_of};
 
-/// After a flight that came to its end the bench can do another: match mask and match retry are 0, bit 0 of
-/// DPIDR is set, STICKYERR is clear, and the numbers of the target are in range.
+/// After a flight that came to its end the bench can do another. Match mask and match retry are 0, bit 0 of DPIDR is set, and STICKYERR is
+/// clear. The numbers of the target are in range.
 pub fn another_flight_may_follow()
     ensures { (form : Form) (accesses : List RegAccess) (values : List (Option ℕ)) (m n : BenchState) → CanFly m → HasFlown form accesses (whole_part accesses values) m n → CanFly n }
 {}
 
-/// A command of the probe in one packet is its call: what it does is the action (`acts`), it leaves the settings of
-/// the transfers (`setting`), and the number that it answers is what the action gives (`number`). One is enough for all but a delay of more than
-/// 65,535 microseconds.
+/// A command of the probe in one packet is its call. What it does is the action (`acts`), and it leaves the settings of the transfers
+/// (`setting`). The number that it answers is what the action gives (`number`). One is enough for all but a delay of more than 65,535
+/// microseconds.
 pub fn a_command_is_its_call()
     ensures acts { (e : ExecutorState) (c : ProbeCall) → is_one c ≡ true → IsCommand (command_of c) → Acts (Commands c) e.transfers (done e (command_of c)).next.transfers }
     ensures setting { (e : ExecutorState) (c : ProbeCall) → (done e (command_of c)).next.transfers.setting ≡ e.transfers.setting }
     ensures number { (e : ExecutorState) (c : ProbeCall) → number_given e (command_of c) ≡ given (acted e.transfers.line.target (Commands c)).outcome }
 {}
 
-/// A delay of more than 65,535 microseconds is several commands, all but the last of 65,535: the state after so
-/// many of these is `delayed_by` (`none`, `next`), and with the last, which has something left, the whole
-/// delay was made (`last`).
+/// A delay of more than 65,535 microseconds is several commands, all but the last of 65,535. The state after so many of these is
+/// `delayed_by` (`none`, `next`). With the last, which has something left, the whole delay was made (`last`).
 pub fn a_delay_is_its_commands()
     ensures none { (p : TransferState) → IsInRange p.line.target → delayed_by p 0 ≡ p }
     ensures next { (p : TransferState) (count : ℕ) → delayed (delayed_by p count) 65535 ≡ delayed_by p (count + 1) }

@@ -32,8 +32,8 @@ fn is_own(request: Request) -> bool
     request.byte & APNDP != 0 || request.byte & RNW == 0 || request.byte & ADDRESS_BITS != 0xC
 }
 
-// Adds the value of one executed request, if it is an access of the flight's own, where so many words were
-// before it; and answers how many words there were after it.
+// Adds the value of one executed request, if it is an access of the flight's own, where so many words were before it. Answers how many
+// words there were after it.
 fn put_value(request: Request, word: u16, view: &ReplyView<'_>, slots: &mut Slots) -> u16
     requires few { word < 2 ^ 15 }
     requires room { length slots.old.values < slots.old.room }
@@ -61,8 +61,8 @@ fn is_write_after(request: Request, is_write: bool) -> bool
     }
 }
 
-// Adds the values that the words of a reply give to the accesses among the executed requests, and
-// answers how many words there should be, and whether the last access is a write.
+// Adds the values that the words of a reply give to the accesses among the executed requests. Answers how many words there should be, and
+// whether the last access is a write.
 fn put_values(executed: &[Request], view: &ReplyView<'_>, slots: &mut Slots) -> (u16, bool)
     requires normal { AreNormal executed.now }
     requires few { length executed.now ≤ 255 }

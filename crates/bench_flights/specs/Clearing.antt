@@ -11,7 +11,7 @@ use Rattle.batch_packer.specs.declared.ends.FlightEnd.{FlightEnd}
 use Rattle.batch_packer.specs.declared.ends.FlightEnd.TheVariants as ends
 use Rattle.bench_flights.specs.Flown.{DidLess, HasDone}
 
--- it ended at a fault
+-- a flight ended at a transfer that was answered FAULT (04)
 abbrev pub is_fault_end : FlightEnd → Bool
 is_fault_end (ends.Cut cut) = cut.response == 0x04
 is_fault_end ends.BenchFault = false

@@ -71,8 +71,8 @@ pub record IsSetTo (idle retry : ℕ) (m : BenchState) : Type 0 where
   pub idle_is : idle_cycles_of m ≡ idle
   pub retry_is : (setting_of m).retry ≡ retry
 
--- A bench over which a poll by value matches does what is said of it: SELECT has DPBANKSEL 0, and the probe has the idle cycles and the
--- retry number that the poll sets again.
+-- A bench over which a poll by value matches does what is said of it. SELECT has DPBANKSEL 0, and the probe has the idle cycles and the retry
+-- number that the poll sets again.
 pub record CanMatch (idle retry : ℕ) (m : BenchState) : Type 0 where
   pub bank_zero : bank (target_of m.probe) ≡ 0
   pub set : IsSetTo idle retry m
@@ -113,8 +113,8 @@ pub record DidLess (x : Action) (m o : BenchState) : Type 0 where
   pub idle_cycles : idle_cycles_of o ≡ idle_cycles_of m
   pub target : ((work ≡ 0) × Agree (target_of o.probe) (target_of m.probe)) ⊎ IsPart x (target_of m.probe) (target_of o.probe)
 
--- A retry ended in a poll that is made read by read, whose reads changed nothing: at a transfer that met more WAITs than the retry number
--- allows. The idle cycles stay.
+-- A retry ended in a poll that is made read by read, whose reads changed nothing. It ended at a transfer that met more WAITs than the retry
+-- number allows. The idle cycles stay.
 pub record WasUnanswered (x : Action) (m o : BenchState) : Type 0 where
   pub work : ℕ
   pub work_is : CanCount x m → work_of o.probe ≡ work_of m.probe + work

@@ -9,8 +9,8 @@ use Rattle.flight_forms.specs.Forms.{all_write_drw}
 abbrev pub transfer_accesses : Limits → ℕ
 transfer_accesses limits = (limits.packet_size - 3) / 6
 
--- A flight for which there is no room for this access more: it has the capacity of accesses, at least as many as one Transfer holds, and a
--- block of them where all are writes of DRW.
+-- A flight for which there is no room for this access more. It has the capacity of accesses, at least as many as one Transfer holds, and a block
+-- of them where all are writes of DRW.
 pub record IsFull (limits : Limits) (accesses : List RegAccess) (next : RegAccess) : Type 0 where
   pub many : capacity limits ≤ length accesses
   pub wide : transfer_accesses limits ≤ length accesses

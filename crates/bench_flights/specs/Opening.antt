@@ -29,8 +29,8 @@ pub record ShowsNone (sent got : List ℕ) : Type 0 where
   pub sent_none : sent ≡ []
   pub got_none : got ≡ []
 
--- Why an access did not begin, by what its bench reports before and afterwards, and by the packet and the reply that are handed back: memory was
--- refused, before anything was sent; a call of the bench failed, and its count of faults rose; or a reply of these exchanges is none that its
+-- Why an access did not begin, by what its bench reports before and afterwards, and by the packet and the reply that are handed back. Memory was
+-- refused before anything was sent. Or a call of the bench failed, and its count of faults rose. Or a reply of these exchanges is none that its
 -- packet may get.
 abbrev pub IsRefusal : Stop → BenchReported → BenchReported → List ℕ → List ℕ → Type 0
 IsRefusal stop.OutOfMemory old new sent got = (new ≡ old) × ShowsNone sent got

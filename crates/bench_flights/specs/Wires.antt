@@ -24,8 +24,8 @@ pub record IsFree (flight : FlightState) : Type 0 where
   pub usable : flight.end ≡ None
   pub empty : flight.accesses ≡ []
 
--- What each function of a wire keeps, and how it ends: nothing is left that was pushed, the bench goes on as each call of it does, and it
--- is the same loan. Where it answers there is no end, and the bench counts no fault more. An end that it answers has its cause.
+-- What each function of a wire keeps, and how it ends. Nothing is left that was pushed, the bench goes on as each call of it does, and it is the
+-- same loan. Where it answers there is no end, and the bench counts no fault more. An end that it answers has its cause.
 pub record KeepsWire {B T : Type 0} (reported : B → Reported) (state : B → Option BenchState) (identity : B → ℕ) (result : Result T FlightEnd)
     (old new : B) (flight : FlightState) : Type 0 where
   pub empty : flight.accesses ≡ []

@@ -23,9 +23,9 @@ use std::alloc::Global;
 
 /// Flights over a bench that they own.
 pub trait FlightsOver<B: Bench>: Flights {
-    /// Flights over a bench with these limits, which holds no packet, and in which no reply waits. The probe is opened
-    /// with three exchanges: the packet size and the packet count that the probe answers, where these are smaller,
-    /// limit the packets, and `config` is set, with match retry 0.
+    /// Flights over a bench with these limits, which holds no packet, and in which no reply waits. The probe is opened with three
+    /// exchanges. The packet size and the packet count that the probe answers limit the packets, where these are smaller. The third sets
+    /// `config`, with match retry 0.
     ///
     /// At an error the bench is handed back as its calls left it, with the reason:
     ///

@@ -12,11 +12,10 @@ use crate::ranks::{fall, level_callers, ranks_of};
 use dap_base::OutOfMemory;
 use std::alloc::Global;
 
-/// The first call, by node and then by place, of the node that it stands in or of a node from which
-/// calls lead back to that. `None` exactly where there is none. `OutOfMemory` where memory is
-/// refused. The calls are gone through `TOO_DEEP` times. Where there is a chain of `TOO_DEEP` nodes,
-/// they are gone through a few times more, to number the nodes by components of calls and for one
-/// search, from the node of the answer.
+/// The first call, by node and then by place, of the node that it stands in or of a node from which calls lead back to that. `None` exactly
+/// where there is none. `OutOfMemory` where memory is refused. The calls are gone through `TOO_DEEP` times. Where there is a chain of
+/// `TOO_DEEP` nodes, they are gone through a few times more. That numbers the nodes by components of calls, and makes one search from the
+/// node of the answer.
 pub fn first_cycle(alloc: Global, graph: &CallGraph) -> Result<Option<CallSpot>, OutOfMemory>
     ensures { IfOk result (FindsFirst (IsInCycle graph.now)) }
 {

@@ -14,9 +14,11 @@ use Rattle.check_lines.specs.Counts.{block_count, control_count, atomic_count}
 
 -- ---- a valid set
 
+-- the line with the number of sequences
 abbrev pub head_line : ℕ → List ℕ
 head_line sequences = codes "check ok sequences " ++ decimal sequences ++ codes "\n"
 
+-- how many blocks, controls and atomic blocks the steps have, at all depths
 abbrev pub counts_words : StepTree → List ℕ
 counts_words steps =
     codes " blocks " ++ decimal (block_count steps) ++ codes " controls " ++ decimal (control_count steps) ++ codes " atomic " ++ decimal (atomic_count steps)
@@ -30,14 +32,17 @@ sequence_line e =
 abbrev pub check_lines : SeqSet → List (List ℕ)
 check_lines set = head_line (length set.entries) ∷ map sequence_line set.entries
 
+-- the text of a valid set: its lines, one after another
 abbrev pub check_text : SeqSet → List ℕ
 check_text set = flat_map (λ line. line) (check_lines set)
 
 -- ---- a fault
 
+-- a line and a column of a text
 abbrev pub place_words : Place → List ℕ
 place_words place = codes " " ++ decimal place.line ++ codes ":" ++ decimal place.column
 
+-- the name of a sequence, the numbers of a step in it, and a part of the step
 abbrev pub step_words : List ℕ → List ℕ → Part → List ℕ
 step_words name path part = codes " " ++ shown name ++ codes " " ++ dotted path ++ codes " " ++ part_word part
 
@@ -50,6 +55,7 @@ where_words (Some name) path part = step_words name path part
 abbrev pub fault_words : FaultKind → Spot → List ℕ
 fault_words kind spot = kind_word kind ++ where_words spot.sequence spot.path spot.part ++ place_words spot.place
 
+-- the line of a refused set: what is wrong, and where
 abbrev pub fault_line : FaultKind → Spot → List ℕ
 fault_line kind spot =
     codes "refused check " ++ kind_word kind ++ where_words spot.sequence spot.path spot.part ++ place_words spot.place ++ codes "\n"

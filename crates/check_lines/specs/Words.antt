@@ -11,6 +11,7 @@ use Rattle.hex_image.specs.declared.fault.ImageKind.TheVariants as images
 use Rattle.job_check.specs.declared.answer.DbgconfKind.{DbgconfKind}
 use Rattle.job_check.specs.declared.answer.DbgconfKind.TheVariants as values
 
+-- the name of a level
 abbrev pub level_word : LevelKind → List ℕ
 level_word levels.Defaults = codes "defaults"
 level_word levels.Family = codes "family"
@@ -18,6 +19,7 @@ level_word levels.SubFamily = codes "subFamily"
 level_word levels.Device = codes "device"
 level_word levels.Variant = codes "variant"
 
+-- the name of a part of a step, or of the debug variables: their key in the job
 abbrev pub part_word : Part → List ℕ
 part_word parts.Debugvars = codes "debugvars"
 part_word parts.Control = codes "control"
@@ -25,6 +27,7 @@ part_word parts.Block = codes "block"
 part_word parts.If = codes "if"
 part_word parts.While = codes "while"
 
+-- the name of a kind of fault of a set
 abbrev pub kind_word : FaultKind → List ℕ
 kind_word kinds.Syntax = codes "Syntax"
 kind_word kinds.UndefinedName = codes "UndefinedName"
@@ -42,6 +45,7 @@ kind_word kinds.NestedTooDeep = codes "NestedTooDeep"
 kind_word kinds.CallCycle = codes "CallCycle"
 kind_word kinds.CallsTooDeep = codes "CallsTooDeep"
 
+-- the name of what is wrong with the text of an image
 abbrev pub image_word : ImageKind → List ℕ
 image_word images.AfterEnd = codes "AfterEnd"
 image_word images.BadRecord = codes "BadRecord"
@@ -51,12 +55,14 @@ image_word images.BadLength = codes "BadLength"
 image_word images.TooMany = codes "TooMany"
 image_word images.NoEnd = codes "NoEnd"
 
+-- the name of what is wrong with the starting values of `dbgconf`
 abbrev pub dbgconf_word : DbgconfKind → List ℕ
 dbgconf_word values.BadToken = codes "BadToken"
 dbgconf_word values.Unexpected = codes "Unexpected"
 dbgconf_word values.Repeated = codes "Repeated"
 dbgconf_word values.UndefinedName = codes "UndefinedName"
 
+-- a sequence with `disable` is marked as disabled
 abbrev pub disabled_word : Bool → List ℕ
 disabled_word true = codes " disabled"
 disabled_word false = []

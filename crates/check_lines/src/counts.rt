@@ -15,7 +15,7 @@ pub struct StepCounts {
     pub atomic: u64,
 }
 
-// A number of steps past 64 bits, for which no memory is large enough, is out of memory.
+// A number of steps of more than 64 bits, for which no memory is large enough, is out of memory.
 fn sum(a: u64, b: u64) -> Result<u64, OutOfMemory>
     ensures { IfOk result (λ s. s ≡ a + b) }
 {

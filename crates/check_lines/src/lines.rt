@@ -72,9 +72,9 @@ pub fn with_place(line: Line, place: Place) -> Result<Line, OutOfMemory>
     line.labelled(" ", place.line)?.labelled(":", place.column)
 }
 
-/// The line with what is wrong and where it stands added: the kind, the sequence, the numbers of the steps that lead to
-/// the step with dots between them, its part, and line and column there; in the code of the debug variables `debugvars`
-/// in place of sequence, steps and part. `OutOfMemory` where memory is refused; the line is then dropped.
+/// The line, with what is wrong and where added. That is the kind, the sequence, the numbers of the steps that lead to the step with dots
+/// between them, its part, and line and column there. In the code of the debug variables `debugvars` is in place of sequence, steps and
+/// part. `OutOfMemory` where memory is refused; the line is then dropped.
 pub fn with_fault(line: Line, kind: FaultKind, spot: &Spot) -> Result<Line, OutOfMemory>
     ensures { IfOk result (λ l. l ≡ line ++ fault_words kind spot.now) }
 {

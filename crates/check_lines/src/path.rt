@@ -49,9 +49,9 @@ fn with_steps(line: Line, steps: &[PathStep]) -> Result<Line, OutOfMemory>
     Ok(line)
 }
 
-/// The line with the text of the path added, each byte as names are shown: `#`, and for each step `/`
-/// and the key, with `~` as `~0` and `/` as `~1`, or the number of the item in decimal, as in
-/// `#/bench/target/words/3/value`. `OutOfMemory` where memory is refused; the line is then dropped.
+/// The line, with the text of the path added, each byte as names are shown. The text is `#`, and for each step `/` and the key, or the
+/// number of the item in decimal, as in `#/bench/target/words/3/value`. In a key `~` is `~0` and `/` is `~1`. `OutOfMemory` where memory is
+/// refused; the line is then dropped.
 pub fn with_path(line: Line, path: &Path) -> Result<Line, OutOfMemory>
     ensures { IfOk result (λ l. l ≡ line ++ shown (path_text path.now)) }
 {

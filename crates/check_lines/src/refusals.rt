@@ -47,10 +47,12 @@ fn dbgconf_fault_text(alloc: Global, kind: DbgconfKind, at: Place) -> Result<Lin
     with_place(line, at)?.text("\n")
 }
 
-/// Puts the line of a refusal by one `put`: `refused` and its name; for a fault of the job its name and
-/// the path, each byte as names are shown; for a fault of an image `image`, its name and the number of the line in
-/// its text; for a fault of the starting values `dbgconf`, its name, and line
-/// and column in their text; for a fault of the set `check`, its name and its place.
+/// Puts the line of a refusal by one `put`. That is `refused`, and then one of these:
+/// - of a fault of the job its name and its path, each byte as names are shown;
+/// - of a fault of an image `image`, its name and the number of the line in its text;
+/// - of a fault of the starting values `dbgconf`, its name, and line and column in their text;
+/// - of a fault of the set `check`, its name and its place;
+/// - of any other refusal its name.
 ///
 /// `Failed` where the sink failed, `OutOfMemory` where memory is refused, or was while the job was
 /// read; a prefix of the line was then appended.

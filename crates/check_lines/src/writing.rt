@@ -30,9 +30,9 @@ fn write_sequences<K: Sink>(
     Ok(())
 }
 
-/// Puts what `check` writes of a valid set, each line by one `put`: how many sequences it has, and
-/// then for each, in the set's order, its name, the level that it comes from, how many blocks,
-/// controls and atomic blocks it has at all depths, and whether it is disabled.
+/// Puts what `check` writes of a valid set, each line by one `put`: how many sequences it has, and then a line for each in the set's order.
+/// That has its name, the level that it comes from, and the numbers of its blocks, controls and atomic blocks at all depths. Last it says
+/// whether the sequence is disabled.
 ///
 /// `Failed` where the sink failed, `OutOfMemory` where memory is refused, as it is for 2^64 steps; a
 /// prefix of the text was then appended.
@@ -46,9 +46,9 @@ pub fn write_check<K: Sink>(alloc: Global, set: &SeqSet, sink: &mut K) -> Result
     }
 }
 
-/// Puts the line of a fault of a set by one `put`: what is wrong, the sequence, the numbers of the
-/// steps that lead to the step, its part, and line and column there; in the code of the debug
-/// variables, which belongs to no sequence, `debugvars` in place of sequence, steps and part.
+/// Puts the line of a fault of a set by one `put`. It has what is wrong, the sequence, the numbers of the steps that lead to the step, its
+/// part, and line and column there. The code of the debug variables belongs to no sequence: there `debugvars` is in place of sequence,
+/// steps and part.
 ///
 /// `Failed` where the sink failed, `OutOfMemory` where memory is refused; a prefix of the line was
 /// then appended.

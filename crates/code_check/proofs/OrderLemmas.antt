@@ -81,7 +81,7 @@ first_of_here {P} {Q} {r} h k = first_of_two r r None (alone r) h k where
 pub first_of_there : {P Q : CodeFault → Type 0} {r : Option CodeFault} → IsFirst is_before P None → IsFirst is_before Q r → IsFirst is_before (InEither P Q) r
 first_of_there {P} {Q} {r} h k = first_of_two r None r refl h k
 
--- where the same faults stand, the first is the same
+-- where there are the same faults, the first is the same
 pub first_of_same : {P Q : CodeFault → Type 0} {r : Option CodeFault} → ((f : CodeFault) → P f → Q f) → ((f : CodeFault) → Q f → P f) → IsFirst is_before P r → IsFirst is_before Q r
 first_of_same {P} {Q} {r} to from h = record { holds = carried r h.holds; none_before = λ g s. h.none_before g (from g s) } where
   carried : (o : Option CodeFault) → IfSome o P → IfSome o Q

@@ -1,4 +1,4 @@
-//! The first fault of a call, what stands inside its arguments aside.
+//! The first fault of a call itself, apart from what is inside its arguments.
 ghost use Rattle.std.specs.Prelude.{◌≡◌, ◌↔◌, IsTrue, Some, false, slice_get};
 ghost use Rattle.std.specs.Option.{option_copied};
 ghost use Rattle.expr_grammar.specs.Tree.{arg_tree, arg_trees};

@@ -1,4 +1,4 @@
-//! The faults that stand in one text of a debug access sequence: names, calls and their arguments,
+//! The faults of one text of a debug access sequence: names, calls and their arguments,
 //! declarations.
 #![tactic(auto)]
 

@@ -71,7 +71,7 @@ kind_left e kinds none h = go (subst (λ (ks : Kinds). HasKind ks e) none h)
     go (inl is) = is
     go (inr among) = absurd among
 
--- clap refuses words that it takes only for want of memory
+-- clap refuses words that it takes only where memory is refused
 pub refused : (app : App) (words : List Text) (e : Error) → app ≡ command_line → (is_simple_and_free app ≡ true → HasKind (fault_of app words) e) → IsTaken words → kind_of e ≡ kind.OutOfMemory
 unfolding IsTaken
 refused app words e is h none = kind_left e (fault_of app words) (ap (λ (a : App). fault_of a words) is ∙ none) (h (ap is_simple_and_free is ∙ is_free))

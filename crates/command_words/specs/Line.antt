@@ -13,6 +13,7 @@ mode_rule = record (new_rule (codes "mode")) { required = true }
 abbrev pub option_rule : Text → Rule
 option_rule name = record (new_rule name) { long = Some name }
 
+-- the arguments of the command line: the mode, and five options with a value
 abbrev pub the_rules : List Rule
 the_rules =
     mode_rule ∷ option_rule (codes "device") ∷ option_rule (codes "variant") ∷ option_rule (codes "pname")

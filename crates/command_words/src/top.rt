@@ -71,9 +71,8 @@ fn options_of(alloc: Global, matches: &ArgMatches<'_>) -> Result<Options, OutOfM
 /// five decimal digits of a value of at most 65,535. The mode `scan` takes a number too, of at most 255: that of an
 /// access port, 0 where it is absent. The mode `audit` takes no option. The values of the command are copies.
 ///
-/// `Usage` exactly where `clap` refuses the words for another cause than memory, which its answers
-/// to `--help` and `-h` are, or where the mode or the options are none of these. `OutOfMemory` where
-/// memory is refused.
+/// `Usage` exactly where `clap` refuses the words for another cause than memory, or where the mode or the options are none of these. The
+/// answers of `clap` to `--help` and `-h` are such refusals. `OutOfMemory` where memory is refused.
 pub fn command_of(alloc: Global, words: &Words) -> Result<Command, WordsError>
     ensures answer { IfOk result (IsCommand words.now) }
     ensures only { (c : _) → IsCommand words.now c → MatchResult result (λ r. r ≡ c) (λ e. e ≡ errors.OutOfMemory) }

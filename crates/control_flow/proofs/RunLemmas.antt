@@ -433,7 +433,7 @@ stopped_ends w st a last r now out q p answered left end same calls written =
     let first : AtCut st (λ r. stop w now.rest.asks.calls ≡ Some (a.lines + 1)) = subst (λ (e : Option Stop). AtEnd e (λ r. stop w now.rest.asks.calls ≡ Some (a.lines + 1))) end left.first.so in
     stopped_by w st last.lines r now out q p answered (subst (λ n. LeftBy w n st now out) (sym lines) (record { later = left.later; first = first })) calls written
 
--- no need points are told of a stop
+-- no need points are reported of a stop
 pub no_needs : (st : Stop) (asks : Asks) (out : L) → HasNeeds (ending_of st) asks out
 no_needs (Cut report) asks out = tt
 no_needs (BenchFault issued confirmed) asks out = tt

@@ -28,7 +28,7 @@ pub record Ran : Type 0 where
   pub asks : Asks
   pub written : Option (List ℕ)
 
--- the same of an answer
+-- what a run with this answer has done, where this was asked and written
 abbrev pub ran : Ended → Asks → Option (List ℕ) → Ran
 ran ended asks written =
     record { variables = variables_of ended.variables; units = ended.units; skipped = ended.skipped; asks = asks; written = written }
@@ -70,8 +70,8 @@ pub record IsPart (o : Outcome) (r : Ran) : Type 0 where
   pub written : Grows r.written o.written
   pub calls : SharesCalls r.asks.calls o
 
--- Where the target or the probe stopped the calls, so many of which have their lines before it: the outcome ends at a fault of the
--- next unit; or at the next unit, which is not answered; or it comes to its end with so many units, and a retry ended after them.
+-- Let the target or the probe stop the calls, and so many units have their lines before that. Then the outcome ends at a fault of the next unit,
+-- or at the next unit, which is not answered. Or it comes to its end with so many units, and a retry ended after them.
 abbrev pub StopsAfter : StopCause → ℕ → Outcome → Type 0
 StopsAfter cause.Faulted lines o = IsFaulted o.ending × (units_of o ≡ lines + 1)
 StopsAfter cause.NoAnswer lines o = ((o.ending ≡ runs.Unanswered) × (units_of o ≡ lines + 1)) ⊎ (IsWhole o.ending × (units_of o ≡ lines))

@@ -44,7 +44,7 @@ OutIs e.ReplyBad s out = ⊥
 OutIs e.WriteFault s out = ⊥
 OutIs e.OutOfMemory s out = ⊥
 
--- it is Done or Halted
+-- the run is Done or Halted
 abbrev pub ComesToEnd : Ending → Type 0
 ComesToEnd e.Done = Unit {0}
 ComesToEnd (e.Halted cause) = Unit {0}

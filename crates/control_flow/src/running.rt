@@ -27,10 +27,10 @@ use target_machine::Settings;
 /// Runs the sequence `start` of a checked set over an access that has no end and of which nothing was asked. It starts with the
 /// starting values of the settings and with the debug variables; where the set does not have the sequence, there are no steps.
 ///
-/// A value that may not have come is looked up only where it is used: by an operator, as an argument, or in a condition, and never
-/// by an assignment, a branch of `?:` or parentheses. A line is written only after all earlier units were confirmed. Before the run
-/// is `Done` or `Halted` all units are settled and confirmed, so that a fault of an earlier unit comes first. Each line is written
-/// whole; only where the sink failed a part of one may be written.
+/// A value that may not have come is looked up only where it is used. An operator, an argument and a condition use it; an assignment, a
+/// branch of `?:` and parentheses do not. A line is written only after all earlier units were confirmed. Before the run is `Done` or
+/// `Halted` all units are settled and confirmed, so that a fault of an earlier unit comes first. Each line is written whole; only where the
+/// sink failed a part of one may be written.
 ///
 /// `Cut`, `BenchFault` and `ReplyBad` are the end of the access. `WriteFault` comes only where the sink failed, and `OutOfMemory`
 /// where memory is refused; after both nothing more was sent, and the access has no end.
@@ -53,8 +53,8 @@ pub fn run<A: Access, K: Sink>(
         (outcome_of (meaning (world_from m (answered_by (A.reported access.new))) (program_of (checked_trees checked.now) start.now settings.now)
         (known_part known (K.written sink.old))))
         (ran result (A.reported access.new).asks (known_part known (K.written sink.new))) }
-    // Where it is neither done nor halted, what is written comes first in the lines of each world that is left: all calls before a line had
-    // come when it was written.
+    // Where it is neither done nor halted, what is written comes first in the lines of each world that is left. All calls before a line
+    // had come when it was written.
     ensures part { (m : BenchState) (answered : Option ℕ) (known : Bool) → A.begun access.old m → IsLeft (A.reported access.new) answered → Knows known (K.written sink.old)
         → (ComesToEnd result.ending → ⊥)
         → IsPart (outcome_of (meaning (world_from m answered) (program_of (checked_trees checked.now) start.now settings.now) (known_part known (K.written sink.old))))

@@ -21,8 +21,8 @@ fn put_through<S: Sink>(sink: &mut S, piece: &[u8]) -> Result<(), Failed>
     sink.put(piece)
 }
 
-/// What the trait says of a source that is observable holds of one in memory: a take through the
-/// bound moves the first bytes that are left, and its count of faults is the one that is seen.
+/// What the trait says of a source that is observable is true of one in memory. A take through the bound moves the first bytes that are
+/// left, and its count of faults is the one that is seen.
 pub fn a_memory_source_is_observable(
     source: &mut MemorySource,
     buf: &mut [u8],
@@ -33,8 +33,8 @@ pub fn a_memory_source_is_observable(
     taken_through(source, buf)
 }
 
-/// What the trait says of a sink that is observable holds of one in memory: a put through the bound
-/// appends to the bytes that were written, and its count of faults is the one that is seen.
+/// What the trait says of a sink that is observable is true of one in memory. A put through the bound appends to the bytes that were
+/// written, and its count of faults is the one that is seen.
 pub fn a_memory_sink_is_observable(sink: &mut MemorySink, piece: &[u8]) -> Result<(), Failed>
     ensures bytes { PutAppends (Some sink.old.written) (Some sink.new.written) result piece.now }
     ensures cause { HasCause sink.old.faults sink.new.faults result }

@@ -4,12 +4,14 @@ use Rattle.dap_messages.specs.declared.command_value.CommandValue.{CommandValue}
 use Rattle.dap_messages.specs.Words.{word_bytes, words_in}
 use Rattle.dap_messages.specs.Replies.{ReplyValue, Info, Status, Pins, Transfer, Block, Answers, IsReply, reply_bytes}
 
--- what a view of a reply shows: the executed number and the response of a transfer or a block, else 0; the bytes of the
--- words of a transfer, none of a block, else all bytes after the id; and the words that these bytes make
+-- What a view of a reply shows.
 pub record Shown : Type 0 where
+  -- the executed number and the response of a transfer or a block; else 0
   pub count : ℕ
   pub response : ℕ
+  -- the bytes of the words of a transfer, none of a block; else all bytes after the id
   pub bytes : List ℕ
+  -- the words that these bytes make
   pub words : List ℕ
 
 -- the view of a reply other than to a transfer or a block

@@ -91,7 +91,7 @@ fetch_reports s l i m w waits after own plain back count =
     (leaves_rdbuff a.response l.target a.line.target (run_one s false l f tt))
     (run_written s false l (f ∷ [])) plain back count)
 
--- what the wire transfers of one request tell: `waits` where its own access waits
+-- what the wire transfers of one request report: `waits` where its own access waits
 pub between_reports : (k : RequestKind) → IsNormalKind k → (o b : Bool) (s : Setting) (l : WireState) (i m : ℕ) (r : Request) → kind r ≡ k → (o && b) ≡ false → (waits : Bool) →
     (waits ≡ true → is_free l.target (access_of r) ≡ false) →
     Reports o b l.target waits (one_if (is_posted k)) (word_of k) (run s b l (between k o i m r))

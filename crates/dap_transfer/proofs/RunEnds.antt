@@ -49,7 +49,7 @@ one_as Mismatch s before l w = (refl, refl, refl)
 pub one_ends : (s : Setting) (before : Bool) (l : WireState) (w : Wire) → IsPlain w.role → OneAs (ends s l w.access) before l w (run s before l (w ∷ []))
 one_ends s before l w plain = subst (OneAs (ends s l w.access) before l w) (sym (one_is s before l w plain)) (one_as (ends s l w.access) s before l w)
 
--- What the wire transfers of a request, or the end of a command, tell, with a read outstanding or a write unchecked before
+-- What the wire transfers of a request, or the end of a command, report, with a read outstanding or a write unchecked before
 -- them: whether STICKYERR was clear, and how many words came.
 abbrev pub ReportsAs : Response → Bool → Bool → TargetState → Bool → ℕ → ℕ → RunResult → Type 0
 ReportsAs Good outstanding before t waits after own ran = ((outstanding || waits) ≡ true → t.sticky ≡ false) × (length ran.words + after ≡ one_if outstanding + own)

@@ -70,8 +70,8 @@ pub record EndsAt (t : TargetState) (outstanding unchecked : Bool) (rs : List Re
 abbrev pub Ends : TransferState → List Request → Type 0
 Ends p rs = let d = transferred p rs in EndsAt p.line.target false false rs (length d.words) d.executed d.response (in_doubt d)
 
--- what a command with a mask after its last request does, by what it does without: where it ended well one request more is
--- executed, and the mask is set
+-- What a command with a mask after its last request does, by what it does without. Where it ended well one request more is executed, and the
+-- mask is set.
 abbrev pub masked_by : Response → Transferred → ℕ → Transferred
 masked_by Good d mask = record d { executed = d.executed + 1; next = record d.next { mask = mask } }
 masked_by _ d mask = d
@@ -88,17 +88,17 @@ counted_from k d = record d { executed = k + d.executed }
 abbrev pub posted_in : List Request → ℕ
 posted_in rs = count_by (λ r. is_posted (kind r)) rs
 
--- Whether one transfer more was made at the end of a command, by how it ended and what its last executed request is: the
--- check of a write, the one that met more WAITs than the retry number allows, or the one that met FAULT, unless it was to
--- fetch the word of a posted read.
+-- Whether one transfer more was made at the end of a command, by how it ended and what its last executed request is. It is the check of a write,
+-- or the one that met more WAITs than the retry number allows. Or it is the one that met FAULT, unless it was to fetch the word of a posted
+-- read.
 abbrev pub one_at_end : Response → Bool → Bool → Bool
 one_at_end Good posted written = written
 one_at_end Wait posted written = true
 one_at_end Fault posted written = not posted
 one_at_end Mismatch posted written = true
 
--- So many transfers that may wait are numbered where n requests are executed: one for each of them, one for each posted read
--- to fetch its word, and one at the end.
+-- So many transfers that may wait are numbered where n requests are executed. They are one for each request, one for each posted read to fetch
+-- its word, and one at the end.
 abbrev pub IsNumbered : ℕ → Bool → Bool → ℕ → List Request → Response → ℕ → Type 0
 IsNumbered before outstanding unchecked n rs response number =
     number ≤ before + n + posted_in (take n rs) + one_if outstanding

@@ -53,7 +53,7 @@ abbrev pub wire_ending_as : Response → WireState → RegAccess → Ending
 wire_ending_as Good l a = record { response = Good; line = made l a; count = 1 }
 wire_ending_as r l a = record { response = r; line = refused l a; count = 0 }
 
--- one wire transfer
+-- how one wire transfer of this access ends
 abbrev pub wire_ending : Setting → WireState → RegAccess → Ending
 wire_ending s l a = wire_ending_as (ends s l a) l a
 

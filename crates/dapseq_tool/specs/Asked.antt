@@ -68,6 +68,7 @@ abbrev pub of_check : Result SeqSet Refusal → What
 of_check (Ok set) = whats.Answer (answers.CheckOk set)
 of_check (Err r) = whats.Answer (answers.Refused r)
 
+-- a check of the bytes asks for its answer: the valid set of the selection, or a refusal
 abbrev pub AsksOfCheck : Selection → List ℕ → What → Type 0
 AsksOfCheck s bytes what = (answer : Result SeqSet Refusal) × IsAnswer bytes s answer × (what ≡ of_check answer)
 
@@ -146,10 +147,12 @@ pub record IsSoundAudit (audit : Audit) : Type 0 where
   pub bench : IsBenchJob audit.job.bench
   pub watch : AreWatched audit.job.bench.target.memory audit.job.watch
 
+-- the job of an accepted trace is in its ranges; any other answer has no job
 unfoldable pub IsSoundAnswer : Answer → Type 0
 IsSoundAnswer (answers.Audited audit) = IsSoundAudit audit
 IsSoundAnswer other = ⊤
 
+-- the job of a run, or of the answer, is in its ranges
 unfoldable pub IsSoundWhat : What → Type 0
 IsSoundWhat (whats.Run run) = IsSoundRun run
 IsSoundWhat (whats.Answer answer) = IsSoundAnswer answer

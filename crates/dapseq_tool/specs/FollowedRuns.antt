@@ -47,8 +47,8 @@ RunsLay = (access : AccessKind) (run : Run) (before : Option (List ℕ)) (r : Ru
     → run.purpose ≡ purposes.Load → run.valid.image ≡ Some i → IsRunTo access run before r a n → r.ended.ending ≡ e.Done
     → IsDoneAlone run before → CanLoad (left_world run before) i.ap i.image → IsLaid run before i r n
 
--- The lines of the components that the words of the target show were written after those of the sequence, of the first 1,024 where there
--- are more, and the scan is full exactly there. The words are those that the sequence leaves.
+-- The lines of the components that the words of the target show were written after those of the sequence. Where there are more than 1,024, those
+-- of the first 1,024 were written, and the scan is full exactly there. The words are those that the sequence leaves.
 pub record IsListed (run : Run) (before : Option (List ℕ)) (ap : ℕ) (r : RunEnd) (n : BenchState) : Type 0 where
   pub written : known_after before r.written
       ≡ option_map (λ bytes. bytes ++ lines_of (take 1024 (shown (first_world run) (program_by run) before ap)))

@@ -27,8 +27,8 @@ pub record IsFit (runs : Type 0) (what : What) : Type 0 where
   pub run : OnRun what (λ run. runs)
   pub used : what ≢ whats.Answer answers.Usage
 
--- The words and the bytes of a source ask for it: the usage exactly where they are no command, and a run only where they are a command
--- that runs. It is in its ranges.
+-- The words and the bytes of a source ask for it. They ask for the usage exactly where they are no command, and for a run only where they are a
+-- command that runs. It is in its ranges.
 pub record IsAsked (words : List (List ℕ)) (left : Option (List ℕ)) (asked : Requested) : Type 0 where
   pub asks : (bytes : List ℕ) × AreBytesOf left bytes × Asks words bytes asked
   pub usage : asked.what ≡ whats.Answer answers.Usage → IsUsage words
@@ -43,20 +43,20 @@ pub record CountsSink (old new : ℕ) (end : Status) : Type 0 where
   pub cause : end ≡ statuses.WriteFault → Rose old new
   pub counted : (new ≡ old) ⊎ (end ≡ statuses.WriteFault)
 
--- The same of the bench.
+-- A fault of the bench has its cause; one that comes is reported, unless writing fails.
 pub record CountsBench (old new : ℕ) (end : Status) : Type 0 where
   pub cause : end ≡ statuses.BenchFault → Rose old new
   pub counted : (new ≡ old) ⊎ FailsWriting end
 
--- The status is one that what is asked for can have: a run has its own, the usage comes where it is asked for, and no source is read.
+-- The status is one that what is asked for can have. A run has its own, the usage comes where it is asked for, and no source is read.
 pub record IsStatusFor (what : What) (end : Status) : Type 0 where
   pub run : OnRun what (λ run. IsRunStatus end)
   pub usage : end ≡ statuses.Usage → what ≡ whats.Answer answers.Usage
   pub usage_only : what ≡ whats.Answer answers.Usage → (end ≡ statuses.Usage) ⊎ (end ≡ statuses.WriteFault) ⊎ (end ≡ statuses.OutOfMemory)
   pub unread : end ≢ statuses.ReadFault
 
--- What is done of what is asked for: the first line was written, and then the rest was done; or it was not written whole, and the bench
--- is the one that it was.
+-- What is done of what is asked for. The first line was written, and then the rest was done. Or it was not written whole, and the bench is the
+-- one that it was.
 pub data IsFulfilled (access : AccessKind) (asked : Requested) (old : Seen) (unchanged : Type 0) (before : Option (List ℕ)) (after : After) : Type 0 where
   performed : (mid : Option (List ℕ)) → Appends before mid (head_text asked.number) →
       DoesAfter access asked.what old unchanged mid after → IsStatusFor asked.what after.end
@@ -64,14 +64,14 @@ pub data IsFulfilled (access : AccessKind) (asked : Requested) (old : Seen) (unc
   not_headed : IsSome asked.number → FailsPutting after.end → AppendsPrefix before after.written (head_text asked.number) →
       unchanged → IsFulfilled access asked old unchanged before after
 
--- What is written where it is not known what is asked for, and the status: nothing, where memory was refused, and else the line of a
+-- What is written where it is not known what is asked for, and the status. Nothing is written where memory was refused, and else the line of a
 -- source that failed.
 pub data IsUnasked (end : Unasked) (before now : Option (List ℕ)) (status : Status) : Type 0 where
   memory : end ≡ unasked.OutOfMemory → status ≡ statuses.OutOfMemory → now ≡ before → IsUnasked end before now status
   source : end ≡ unasked.ReadFault → IsPut before now fault_text statuses.ReadFault status → (status ≡ statuses.ReadFault) ⊎ (status ≡ statuses.WriteFault)
       → IsUnasked end before now status
 
--- What is done of what was found out of the words and the source: what is asked for, or the end where that is not known, with the bench
+-- What is done of what was found out of the words and the source. That is what is asked for, or the end where this is not known, with the bench
 -- as it was.
 pub data IsFinished (access : AccessKind) (asked : Result Requested Unasked) (old : Seen) (unchanged : Type 0) (before : Option (List ℕ)) (after : After) : Type 0 where
   known : (x : Requested) → asked ≡ Ok x → IsFulfilled access x old unchanged before after → IsFinished access asked old unchanged before after

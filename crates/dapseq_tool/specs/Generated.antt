@@ -35,9 +35,10 @@ back_text =
 abbrev pub job_text : ℕ → List ℕ
 job_text n = front_text ++ blocks_text (n + 1) ++ back_text
 
--- what is selected of it, and the sequence that runs
+-- what is selected of it: its device
 abbrev pub its_device : Selection
 its_device = record { device = codes "G"; variant = None; pname = None }
 
+-- the sequence that runs
 abbrev pub its_sequence : List ℕ
 its_sequence = codes "Main"

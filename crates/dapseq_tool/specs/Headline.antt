@@ -32,8 +32,8 @@ use Rattle.dapseq_tool.specs.declared.status.Status.TheVariants as status
 
 -- ---- a call
 
--- What is known of a source, a sink and a bench at a moment: the bytes that are left, those that were written and the
--- state, each where the object is observable, and what every object reports.
+-- What is known of a source, a sink and a bench at a moment. That is the bytes that are left, those that were written and the state, each where
+-- the object is observable, and what every object reports.
 pub record Moment : Type 0 where
   pub left : Option (List ℕ)
   pub source_faults : ℕ
@@ -122,10 +122,10 @@ pub record IsRunTo (access : AccessKind) (run : Run) (before : Option (List ℕ)
   pub text : IsWritten r.written a.written (whole_text (shows_packets run.purpose) r.ended r.close r.sent r.got run.valid.job n) (run_status r.ended.ending r.close) a.end
   pub log : IsWholeRun (fresh_probe run.valid.job.bench) n
 
--- A run that ended so, from a bench that reported this: what it came to where the bench is observable; its text where the report
--- does not show the target; and its status. Of any bench: the run wrote whole lines, except perhaps where the sink failed; and the
--- lines of its ending come first of what was written after it. A cut comes with a reply of its response, and a bad reply is the one
--- that is reported.
+-- A run that ended so, from a bench that reported this. On an observable bench it came to what the run means, and its report was written. On any
+-- bench, a report that does not show the target was written. The status is that of the run, unless writing failed. The run wrote whole lines,
+-- except perhaps where the sink failed, and the lines of its ending come first of what was written after it. A cut comes with a reply of its
+-- response, and a bad reply is the one that is reported.
 pub record HasRun (access : AccessKind) (run : Run) (observable : Type 0) (old : Reported) (before : Option (List ℕ)) (r : RunEnd) (a : After) : Type 0 where
   pub comes : observable → (n : BenchState) × IsRunTo access run before r a n
   pub alone : shows_target r.ended.ending ≡ false →
@@ -142,7 +142,7 @@ pub record HasRun (access : AccessKind) (run : Run) (observable : Type 0) (old :
 abbrev pub after_of : Moment → Status → After
 after_of m end = record { written = m.written; end = end; bench = record { reported = m.reported; state = m.state } }
 
--- What is done of a run: there is a head, and it is not written whole; or the bench was not loaded, and is as it was; or it ran.
+-- What is done of a run. There is a head, and it is not written whole; or the bench was not loaded, and is as it was; or it ran.
 pub data Runs (access : AccessKind) (call : Call) (unchanged : Type 0) (number : Option ℕ) (run : Run) : Type 0 where
   not_headed : IsSome number → FailsPutting call.end → AppendsPrefix call.old.written call.new.written (head_text number) →
       unchanged → Runs access call unchanged number run

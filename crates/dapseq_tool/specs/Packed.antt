@@ -5,7 +5,7 @@ use Rattle.access_regs.specs.Journal.{issued}
 use Rattle.access_regs.specs.declared.planner.Planner.TheVariants.{Managed}
 use Rattle.job_runs.specs.Runs.{AccessKind, access_kind}
 
--- The access that packs: its journal is what the plans issue that know the registers, a call has the need points of these plans, and
--- it keeps the bounds on starting packets.
+-- The access that packs. Its journal is what the plans issue that know the registers. A call has the need points of these plans, and the access
+-- keeps the bounds on starting packets.
 abbrev pub packed : AccessKind
 packed = access_kind (issued Managed) (cost_by Managed) true

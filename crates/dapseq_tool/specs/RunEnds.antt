@@ -14,7 +14,7 @@ pub data AskedRun (access : AccessKind) (run : Run) (old : Seen) (before : Optio
   not_loaded : (a.end ≡ status.BenchFault) ⊎ (a.end ≡ status.OutOfMemory) → a.written ≡ before → a.bench.state ≡ old.state → AskedRun access run old before a
   ran : (r : RunEnd) → HasRun access run (IsSome old.state) old.reported before r a → AskedRun access run old before a
 
--- What is done of what is asked for, after the first line: an answer is written, and the bench is the one that it was; or a run.
+-- What is done of what is asked for, after the first line. It is a run, or an answer is written and the bench is the one that it was.
 abbrev pub DoesAfter : AccessKind → What → Seen → Type 0 → Option (List ℕ) → After → Type 0
 DoesAfter access (whats.Answer answer) old unchanged before a = IsPut before a.written (answer_text answer) (answer_status answer) a.end × unchanged
 DoesAfter access (whats.Run run) old unchanged before a = AskedRun access run old before a

@@ -43,13 +43,12 @@ pub record IsAnswered (call : Call) (number : Option ℕ) (answer : Answer) : Ty
 abbrev pub run_from : AccessKind → Run → Option (List ℕ) → runs.Run
 run_from access run before = run_of access (config_of run.valid.job.settings) run.valid.job.bench (task_by run) before
 
--- what it left
+-- what a run left that ended so, over this bench
 abbrev pub left_by : Option (List ℕ) → RunEnd → BenchState → Left
 left_by before r n = record { ended = r.ended; written = known_after before r.written; bench = n }
 
--- The run ended as it is meant to, from the target of its job on; its report, and the trace where it is requested, was written
--- whole after the head and the lines of the run; and the status is that of how it ended. Where no stall of the job is over its retry
--- number, no retry ended.
+-- The run ended as it is meant to, from the target of its job on. Its report, and the trace where it is requested, was written whole after the
+-- head and the lines of the run. The status is that of how it ended. Where no stall of the job is over its retry number, no retry ended.
 pub record HasRunAsMeant (access : AccessKind) (call : Call) (number : Option ℕ) (run : Run) : Type 0 where
   pub before : Option (List ℕ)
   pub head : Appends call.old.written before (head_text number)
@@ -67,8 +66,8 @@ abbrev pub IsDone : AccessKind → Call → Option ℕ → What → Type 0
 IsDone access call number (whats.Answer answer) = IsAnswered call number answer
 IsDone access call number (whats.Run run) = HasRunAsMeant access call number run
 
--- Where nothing outside failed and the bench is observable: there are bytes, those of the source where it is observable, of which
--- the words ask for something, and that was done.
+-- Let nothing outside fail, and the bench be observable. Then there are bytes, those of the source where it is observable, of which the words
+-- ask for something, and that was done.
 abbrev pub Success : AccessKind → Call → Type 0
 Success access call = IsQuietCall call → IsSome call.old.state
     → (bytes : List ℕ) × (asked : Requested) × AreBytesOf call.old.left bytes × Asks call.words bytes asked × IsDone access call asked.number asked.what

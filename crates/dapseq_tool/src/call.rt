@@ -164,9 +164,9 @@ pub fn make_call<S: Source, K: Sink, B: Bench, A: OverBench<B>>(
     over
 }
 
-/// Does all that [`dapseq`](crate::dapseq) does, by any access that is begun over the bench, which it owns and hands back:
-/// the program runs by `Packed`, and tests run jobs by `Single` too. What a run leaves is said of that access: its
-/// journal, the need points of its calls, and whether it keeps the bounds on packets. The statuses are those of `dapseq`.
+/// Does all that [`dapseq`](crate::dapseq) does, by any access that is begun over the bench, which it owns and hands back. The program runs
+/// by `Packed`, and tests run jobs by `Single` too. What a run leaves is said of that access: its journal, the need points of its calls,
+/// and whether it keeps the bounds on packets. The statuses are those of `dapseq`.
 pub fn dapseq_over<S: Source, K: Sink, B: Bench, A: OverBench<B>>(
     alloc: Global,
     words: &Words,

@@ -49,9 +49,8 @@ fn with_blocks(line: Line, count: u64) -> Result<Line, OutOfMemory>
     Ok(line)
 }
 
-/// The JSON text of the job of a number: one device `G` with a sequence `Main`, in which for each i
-/// from 0 to the number a word is written and another one is read and added to a sum, and at last the
-/// sum is written as a message.
+/// The JSON text of the job of a number: one device `G` with a sequence `Main`. For each i from 0 to the number the sequence writes a word,
+/// and reads another one and adds it to a sum. At last it writes the sum as a message.
 pub fn job_of_number(alloc: Global, number: u16) -> Result<Line, OutOfMemory>
     ensures { IfOk result (λ line. line ≡ job_text number) }
 {

@@ -50,8 +50,8 @@ pub fn a_printed_entry_is_read()
     ensures { (printed read : Entry) → IsEntryText (entry_text printed) read → read ≡ printed }
 {}
 
-/// What the mode `trace` prints of a run whose log was kept whole, put under the key `trace` of a job with its bench and its watched
-/// words, is accepted by an audit, with the target that the run reports.
+/// Put what the mode `trace` prints of a run whose log was kept whole under the key `trace` of a job with its bench and its watched words.
+/// An audit accepts it, with the target that the run reports.
 pub fn a_kept_trace_is_accepted()
     // The trace is the lines that are put under the key, and the line of their numbers.
     ensures printed { (log : Log) → trace log ≡ flat_map (λ text. text ++ codes "\n") (kept_texts log) ++ kept_line (length log.kept) log.count }
@@ -63,23 +63,23 @@ pub fn a_kept_trace_is_accepted()
         → answer_text (Answer.Audited (kept_audit job n)) ≡ audit_ok_line (kept_audit job n).audited ++ target_part true run.valid.job (target_of n.probe) }
 {}
 
-/// Two runs of one sequence that are done or halted, by the same trees and settings on the same target, leave the same variables,
-/// units, lines, memory, and registers except RDBUFF. So it is whatever the packet limits and the stalls of their benches are, and
-/// whichever access each has.
+/// Let two runs of one sequence be done or halted, by the same trees and settings on the same target. They leave the same variables, units,
+/// lines, memory, and registers except RDBUFF. So it is whatever the packet limits and the stalls of their benches are, and whichever
+/// access each has.
 pub fn packet_limits_do_not_matter()
     ensures { (access other : AccessKind) (x y : Run) (before : Option (List ℕ)) (p q : RunEnd) (a b : After) (m n : BenchState)
         → IsSameTask x y → IsRunTo access x before p a m → IsRunTo other y before q b n → CameToEnd p.ended.ending → CameToEnd q.ended.ending
         → LeavesSame before p q m n }
 {}
 
-/// A run of the mode `load` that is done, where the sequence by itself is done and the image may be loaded after it, lays the image over
-/// the memory that the sequence leaves, and no byte differs.
+/// Let a run of the mode `load` be done, the sequence by itself be done, and the image be one that may be loaded after it. Then the run
+/// lays the image over the memory that the sequence leaves, and no byte differs.
 pub fn runs_lay_images()
     ensures { RunsLay }
 {}
 
-/// A run of the mode `scan` that is done, where the sequence by itself is done and words can be read by the access port after it, lists
-/// the components that the words of the target show. It lists the first 1,024 where there are more, and is full exactly there.
+/// Let a run of the mode `scan` be done, the sequence by itself be done, and words be readable by the access port after it. Then the run
+/// lists the components that the words of the target show. It lists the first 1,024 where there are more, and is full exactly there.
 pub fn runs_list_components()
     ensures { RunsList }
 {}

@@ -30,13 +30,11 @@ fn call_lent<S: Source, K: Sink, B: Bench>(
     over.status
 }
 
-/// Does all that the program does. `check` reads a job of at most 16,777,216 bytes from the source, checks the
-/// sequences of a device, and writes what it found. `run` and `trace` run one of them over the bench, and write its
-/// lines, its report and, in `trace`, its packets; `gen` runs a job that is made by its number, and reads nothing.
-/// `load` runs a sequence, and then writes the image of the job through an access port and reads it back. `scan` runs
-/// one, and then lists the components of an access port, at most 1,024, by its ROM tables.
-/// `audit` compares the trace of a job with what its probe does, and writes the target after it or the first entry that
-/// cannot come.
+/// Does all that the program does. `check` reads a job of at most 16,777,216 bytes from the source, checks the sequences of a device, and
+/// writes what it found. `run` and `trace` run one of them over the bench, and write its lines, its report and, in `trace`, its packets.
+/// `gen` runs a job that is made by its number, and reads nothing. `load` runs a sequence, and then writes the image of the job through an
+/// access port and reads it back. `scan` runs one, and then lists the components of an access port, at most 1,024, by its ROM tables.
+/// `audit` compares the trace of a job with what its probe does, and writes the target after it or the first entry that cannot come.
 ///
 /// - `Done`: the set of sequences is valid, the run came to its end, or the trace is accepted.
 /// - `Stopped`: a rule of the sequences halted the run, or the target or the probe stopped it. The report says which,

@@ -71,8 +71,8 @@ abbrev pub flag : Bool → List Lexeme → Bool
 flag after [] = after
 flag after (k ∷ ts) = flag (is_mark (codes "__var") k) ts
 
--- The text up to a token is put out, with its values; what is left of the text begins at or before the tokens that are left, which
--- are statements.
+-- The text up to a token is put out, with its values. What is left of the text begins at or before the tokens that are left, which are
+-- statements.
 pub record Splicing (text out rest : List ℕ) (all : List Lexeme) (n : ℕ) (set : List Setting) : Type 0 where
   pub some : n ≤ length all
   pub utf8 : IsUtf8 rest

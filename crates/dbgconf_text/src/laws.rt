@@ -63,8 +63,8 @@ pub fn replacement_or_place()
         → ((new : List ℕ) × Replaces text conf (Ok new)) ⊎ ((at : Place) × Replaces text conf (Err (UndefinedName at))) }
 {}
 
-/// The text of code, with a number in the place of the value in the first declaration of each name, reads as the code with these values
-/// replaced, apart from places.
+/// Put a number in the place of the value in the first declaration of each name, in a text of code. The text reads as the code with these
+/// values replaced, apart from places.
 pub fn replaced_text_reads_as_replaced_code()
     ensures { (text : List ℕ) (set : List Setting) (ts : List Lexeme) (code : List StmtTree) → AreSmall set → AreTokensOf text ts
         → IsAccepted ReadsCode Statement ts code
@@ -80,8 +80,8 @@ pub fn replaced_text_is_short()
         → length new ≤ length text + 19 * length conf }
 {}
 
-/// Values that code has already change nothing. Replaced values leave the code as it was exactly where each number that is set for a name is the
-/// literal of the first declaration of this name; the text with the values then reads as the code did, apart from places.
+/// Values that code has already change nothing. Replaced values leave the code as it was exactly where each number that is set for a name
+/// is the literal of the first declaration of this name. The text with the values then reads as the code did, apart from places.
 pub fn values_that_are_there_change_nothing()
     ensures code { (set : List Setting) (code : List StmtTree) → AreThere set code → with_values set code ≡ code }
     ensures only { (set : List Setting) (code : List StmtTree) → with_values set code ≡ code → AreThere set code }

@@ -104,9 +104,9 @@ fn read_text(alloc: Global, text: &str) -> Result<Conf, ConfFault>
 /// The names and values of a text: `name = number ;` any number of times, with the tokens, blanks and comments of code.
 ///
 /// `BadToken` exactly where some place of the text is reached from which no token, blank or comment can be taken, with the first such
-/// place. Else `Unexpected` exactly where some token is such that no such text begins with the tokens up to it, at the first such, or
-/// just past the last token where the end is missing (1:1 where there is no token); and `Repeated` exactly where a name stands before,
-/// at the first such. Of these two the earlier place. `OutOfMemory` where memory is refused.
+/// place. Else `Unexpected` exactly where some token is such that no such text begins with the tokens up to it, at the first such. Where
+/// the end is missing it is just past the last token (1:1 where there is no token). `Repeated` exactly where a name stands before, at the
+/// first such. Of these two the earlier place counts. `OutOfMemory` where memory is refused.
 pub fn conf_of(alloc: Global, text: &str) -> Result<Conf, ConfFault>
     ensures answer { AnswersText text.now result }
     ensures names { IfOk result AreNames }

@@ -130,11 +130,11 @@ fn replace_in_text(alloc: Global, text: &str, conf: &[ConfItem]) -> Result<NameT
     }
 }
 
-/// The text of debug variables with these values: in the first declaration of each name, a space and the value, as `0x` and its digits in
-/// lower case without leading zeros, stand in the place of what stood between `=` and `;`. All else stays, byte for byte. A text that is no
-/// code is answered as it is. Where a name stands twice in the list, its first value counts.
+/// The text of debug variables with these values. In the first declaration of each name, a space and the value take the place of what stood
+/// between `=` and `;`. The value is `0x` and its digits in lower case without leading zeros. All else stays, byte for byte. A text that is
+/// no code is answered as it is. Where a name stands twice in the list, its first value counts.
 ///
-/// `UndefinedName` exactly where the text is code and some name of the list is declared by no `__var` of it, with the place of the first
+/// `UndefinedName` exactly where the text is code and some name of the list is declared by no `__var` of it. The place is that of the first
 /// such name in the text of the names and values. `OutOfMemory` where memory is refused.
 pub fn replace(alloc: Global, debugvars: &str, conf: &Conf) -> Result<NameText, ReplaceFault>
     ensures answer { Replaces debugvars.now conf.now result }

@@ -17,6 +17,7 @@ use Rattle.device_tree.specs.declared.pack.Pack.{Pack}
 
 -- ---- sequences
 
+-- an item of `sequences`: a debug access sequence; its `info` has to be a text, and is not kept
 unfoldable pub sequence_in : Data → Result SeqText JobFault
 sequence_in d = do
   known ← only_keys sequence_keys d
@@ -36,11 +37,13 @@ level_in d = do
 
 -- ---- levels
 
+-- the value of `defaults`: the level above all families
 unfoldable pub defaults_in : Data → Result Level JobFault
 defaults_in d = do
   known ← only_keys level_keys d
   level_in d
 
+-- an item of `variants`: a variant with its level
 unfoldable pub variant_in : Data → Result Variant JobFault
 variant_in d = do
   known ← only_keys variant_keys d
@@ -48,6 +51,7 @@ variant_in d = do
   own ← level_in d
   Ok (record { name = name; level = own })
 
+-- an item of `devices`: a device with its level and its variants
 unfoldable pub device_in : Data → Result Device JobFault
 device_in d = do
   known ← only_keys device_keys d
@@ -56,6 +60,7 @@ device_in d = do
   variants ← or_else (codes "variants") (list_of None (alone variant_in) (repeats_by same_variant)) [] d
   Ok (record { name = name; level = own; variants = variants })
 
+-- an item of `subFamilies`: a subfamily with its level and its devices
 unfoldable pub sub_family_in : Data → Result SubFamily JobFault
 sub_family_in d = do
   known ← only_keys sub_family_keys d
@@ -64,6 +69,7 @@ sub_family_in d = do
   devices ← or_else (codes "devices") (list_of None (alone device_in) never) [] d
   Ok (record { name = name; level = own; devices = devices })
 
+-- an item of `families`: a family with its level, its subfamilies and its devices
 unfoldable pub family_in : Data → Result Family JobFault
 family_in d = do
   known ← only_keys family_keys d
@@ -73,6 +79,7 @@ family_in d = do
   devices ← or_else (codes "devices") (list_of None (alone device_in) never) [] d
   Ok (record { name = name; level = own; sub_families = subs; devices = devices })
 
+-- the value of `pack`: the level `defaults`, if there is one, and the families
 unfoldable pub pack_in : Data → Result Pack JobFault
 pack_in d = do
   known ← only_keys pack_keys d

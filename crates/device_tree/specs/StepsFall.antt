@@ -8,6 +8,7 @@ use Rattle.device_tree.specs.declared.steps.Step.{Step}
 use Rattle.device_tree.specs.declared.steps.Step.TheVariants.{Block, Control}
 use Rattle.device_tree.specs.declared.steps.Steps.TheDeep.{deep-Step}
 
+-- the measure of each step of a list is at most the number of steps, those inside controls too
 pub most_le-tree_size : (ss : List Step) → most deep-Step ss ≤ tree_size (steps_view ss)
 most_le-tree_size [] = omega arith
 most_le-tree_size (Block code atomic ∷ ss) = omega (arith, most_le-tree_size ss)

@@ -29,5 +29,6 @@ AreSteps (block code atomic rest) items = (d : Data) × (more : Items) × (items
 AreSteps (control cond repeat timeout steps rest) items =
     (d : Data) × (more : Items) × (inner : Items) × (items ≡ item d more) × IsControl d cond repeat timeout inner × AreSteps steps inner × AreSteps rest more
 
+-- the value of `steps` or `control` is a list that stands for the steps
 abbrev pub IsStepList : Data → StepTree → Type 0
 IsStepList d steps = (items : Items) × (d ≡ array items) × AreSteps steps items

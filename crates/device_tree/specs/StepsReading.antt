@@ -17,6 +17,7 @@ use Rattle.device_tree.specs.StepsView.{then_step, tree_len}
 use Rattle.device_tree.specs.declared.steps.Step.{Step}
 use Rattle.device_tree.specs.declared.steps.Step.TheVariants.{Block, Control}
 
+-- an object with the key `block`: a step that is a text of statements
 unfoldable pub block_step : Data → Result Step JobFault
 block_step d = do
   known ← only_keys block_keys d
@@ -38,6 +39,7 @@ control_after steps d = do
   info ← optional (codes "info") text d
   Ok (Control cond repeat timeout steps)
 
+-- any other object: a control, whose key `control` reads as this
 unfoldable pub control_step : Option (Result StepTree JobFault) → Data → Result Step JobFault
 control_step inner d = do
   known ← only_keys control_keys d
@@ -49,6 +51,7 @@ unfoldable pub step_with : Option (Result StepTree JobFault) → Data → Result
 step_with inner d = if is_some (get (codes "block") d) then block_step d else control_step inner d
 
 unfoldable mutual
+  -- the value of `steps` or `control`: a list of steps
   pub steps_in : Data → Result StepTree JobFault
   steps_in null = Err (WrongKind [])
   steps_in (boolean b) = Err (WrongKind [])
@@ -57,12 +60,14 @@ unfoldable mutual
   steps_in (array ds) = items_in no_steps ds
   steps_in (object ms) = Err (WrongKind [])
 
+  -- the earlier steps, and then those of these items
   pub items_in : StepTree → Items → Result StepTree JobFault
   items_in earlier no_items = Ok earlier
   items_in earlier (item d ds) = do
     s ← at (Index (tree_len earlier)) (step_in d)
     items_in (then_step earlier s) ds
 
+  -- an item of a list of steps: a block where it has the key `block`, else a control
   pub step_in : Data → Result Step JobFault
   step_in null = Err (WrongKind [])
   step_in (boolean b) = Err (WrongKind [])
@@ -71,6 +76,7 @@ unfoldable mutual
   step_in (array ds) = Err (WrongKind [])
   step_in (object ms) = step_with (control_in ms) (object ms)
 
+  -- what the member `control` of an object reads as, or none
   pub control_in : Members → Option (Result StepTree JobFault)
   control_in no_members = None
   control_in (member k d ms) = match_ordering (slice_cmp nat_cmp (codes "control") k) (control_in ms) (Some (steps_in d)) (control_in ms)

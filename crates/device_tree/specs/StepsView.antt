@@ -4,10 +4,12 @@ use Rattle.device_tree.specs.StepTree.{StepTree, no_steps, block, control}
 use Rattle.device_tree.specs.declared.steps.Step.{Step}
 use Rattle.device_tree.specs.declared.steps.Step.TheVariants.{Block, Control}
 
+-- the steps, with one more in front
 abbrev pub cons_step : Step → StepTree → StepTree
 cons_step (Block code atomic) rest = block code atomic rest
 cons_step (Control cond repeat timeout steps) rest = control cond repeat timeout steps rest
 
+-- the steps of a list, as a tree
 abbrev pub steps_view : List Step → StepTree
 steps_view [] = no_steps
 steps_view (s ∷ ss) = cons_step s (steps_view ss)
@@ -24,6 +26,7 @@ tree_len no_steps = 0
 tree_len (block code atomic rest) = suc (tree_len rest)
 tree_len (control cond repeat timeout steps rest) = suc (tree_len rest)
 
+-- the step of this number in the list itself, from 0
 abbrev pub step_at : StepTree → ℕ → Option Step
 step_at no_steps i = None
 step_at (block code atomic rest) zero = Some (Block code atomic)

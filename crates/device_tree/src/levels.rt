@@ -231,12 +231,13 @@ fn first_pack(alloc: Global, value: &Value) -> Result<Pack, JobFault>
     }
 }
 
-/// The pack that `value`, the member `pack` of a job, stands for, or its first fault: in an object
-/// that the value is none (`WrongKind`), then the first other key in byte order (`UnknownKey`),
-/// then each key in the order of docs/JOB.md, a required one that is absent (`Missing`) or its value
-/// wholly; in a list that the value is none (`WrongKind`), then each item wholly, and after it
-/// whether it is the same as an earlier one (`Repeated`). The path begins with the key `pack`.
-/// `OutOfMemory` where memory is refused.
+/// The pack that `value`, the member `pack` of a job, stands for, or its first fault, in this order:
+/// - in an object that the value is none (`WrongKind`), and the first other key in byte order (`UnknownKey`). Then comes each key in the
+///   order of docs/JOB.md: a required one that is absent (`Missing`), or its value wholly;
+/// - in a list that the value is none (`WrongKind`); then each item wholly, and after it whether it is the same as an earlier one
+///   (`Repeated`).
+///
+/// The path begins with the key `pack`. `OutOfMemory` where memory is refused.
 pub fn pack_of(alloc: Global, value: &Value) -> Result<Pack, JobFault>
     // What is read is what the value stands for.
     ensures found { IfOk result (IsPack (view value.now)) }

@@ -93,7 +93,7 @@ at_moves at (k ∷ ts) (u ∷ us) b m = (u.at, refl)
 
 -- ---- trees
 
--- The tokens read as a tree that is the same but for its places: an expression, an argument, arguments.
+-- The tokens read as a tree that is the same except for its places: an expression, an argument, arguments.
 pub record Again (l : ℕ) (us : List Lexeme) (e : Tree) : Type 0 where
   pub tree : Tree
   pub reads : Reads l us tree

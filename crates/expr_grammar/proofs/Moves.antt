@@ -39,13 +39,13 @@ token_moves text new t there is s = record {
   place = refl;
 }
 
--- tokens of a text from one offset to another that are these but for their places
+-- tokens of a text from one offset to another that are these except for their places
 pub record MovedTo (new : List ℕ) (c d : ℕ) (ts : List Lexeme) : Type 0 where
   pub us : List Lexeme
   pub divides : Divides new c us d
   pub moved : AreMoved ts us
 
--- where two texts agree on a length and one byte more, the tokens of that length are the same but for their places
+-- where two texts agree on a length and one byte more, the tokens of that length are the same except for their places
 pub divides_moves : (text new : List ℕ) (a b c len : ℕ) (ts : List Lexeme) → Divides text a ts b → b ≡ a + len → SameFront (suc len) (drop a text) (drop c new) → MovedTo new c (c + len) ts
 divides_moves text new a b c len [] d e s = record { us = []; divides = gap_moves d new c len e s; moved = tt }
 divides_moves text new a b c len (t ∷ ts) d e s =

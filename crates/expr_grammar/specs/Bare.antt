@@ -13,6 +13,7 @@ nowhere = record { line = 0; column = 0 }
 abbrev pub bare_name : Name → Name
 bare_name n = record n { at = nowhere }
 
+-- expressions and their arguments without their places
 abbrev mutual
   -- an expression without its places
   pub bare : Tree → Tree

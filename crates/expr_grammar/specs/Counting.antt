@@ -18,7 +18,7 @@ pub record IsCountOf (count : Count) (ts : List Lexeme) : Type 0 where
   pub opened : count.opened ≡ count_by (is_mark (codes "(")) ts
   pub closed : count.closed ≡ count_by (is_mark (codes ")")) ts
 
--- no room for this token
+-- the token would be the 513th, or the 65th parenthesis that is open at once
 abbrev pub is_full : Count → Lexeme → Bool
 is_full count k = count.tokens == 512 || (is_mark (codes "(") k && count.opened - count.closed == 64)
 
@@ -27,7 +27,7 @@ abbrev pub ends : Span → Lexeme → Bool
 ends Text k = false
 ends Statement k = is_mark (codes ";") k
 
--- with one more token
+-- what is counted with this token more
 abbrev pub counted : Count → Lexeme → Count
 counted count k = record {
   tokens = count.tokens + 1;

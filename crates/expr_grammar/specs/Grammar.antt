@@ -136,6 +136,7 @@ BeginsAt at (k ∷ ts) = k.at ≡ at
 
 -- ---- the grammar
 
+-- The grammar of expressions and of their arguments.
 abbrev mutual
   -- The tokens are those of the expression, at this level: one case for each form of expression.
   pub Reads : ℕ → List Lexeme → Tree → Type 0
@@ -148,6 +149,7 @@ abbrev mutual
   Reads l ts (Assign n a) = (l ≤ 0) × Joined (Single (IsName n)) (codes "=") (λ right. Reads 0 right a) ts
   Reads l ts (Call n args) = (l ≤ 12) × Joined (Single (IsName n)) (codes "(") (Ended (λ inner. ReadsArgs inner args) (codes ")")) ts
 
+  -- an argument: an expression with the place where it begins, or a string
   pub ReadsArg : List Lexeme → ArgTree → Type 0
   ReadsArg ts (ExprArg at e) = Reads 0 ts e × BeginsAt at ts
   ReadsArg ts (TextArg s) = Single (IsString s) ts

@@ -1,4 +1,4 @@
--- Texts that begin alike, and tokens that are the same but for their places.
+-- Texts that begin alike, and tokens that are the same except for their places.
 use Rattle.std.specs.Prelude.{◌≡◌, ℕ, List, [], ◌∷◌, take}
 use Rattle.expr_grammar.specs.Lexeme.{Lexeme}
 

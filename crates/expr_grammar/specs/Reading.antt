@@ -19,11 +19,12 @@ use Rattle.expr_grammar.specs.Tree.{Tree, Number, Named, Group, Unary, Binary, C
 use Rattle.expr_grammar.specs.Tree.{TextArg, ArgTrees, NoArgs, MoreArgs, StmtTree, Empty, Declare, Plain}
 use Rattle.expr_grammar.specs.Grammar.{level}
 
--- What a function returned, seen by view, is what reading gives, unless memory ran out.
+-- the fault is that of reading, with as many tokens left, unless memory ran out
 abbrev pub Fails : {Y : Type 0} → Fault → Result Y ℕ → Type 0
 Fails faults.Memory read = Unit {0}
 Fails (faults.Unexpected left) read = read ≡ Err left
 
+-- What a function returned, seen by view, is what reading gives, unless memory ran out.
 abbrev pub Gives : {X Y : Type 0} → (X → Y) → Result X Fault → Result Y ℕ → Type 0
 Gives view (Ok x) read = read ≡ Ok (view x)
 Gives view (Err e) read = Fails e read
@@ -32,26 +33,32 @@ Gives view (Err e) read = Fails e read
 abbrev pub Front : Type 0 → Type 0
 Front A = Result (A × List Lexeme) ℕ
 
+-- the same of an expression
 abbrev pub Read : Type 0
 Read = Front Tree
 
 -- ---- single tokens
 
+-- whether a token of this kind is a mark
 abbrev pub is_mark_kind : TokenKind → Bool
 is_mark_kind kinds.Mark = true
 is_mark_kind _ = false
 
+-- whether a token of this kind is a name
 abbrev pub is_name_kind : TokenKind → Bool
 is_name_kind kinds.Name = true
 is_name_kind _ = false
 
+-- whether a token of this kind is a string
 abbrev pub is_text_kind : TokenKind → Bool
 is_text_kind kinds.Text = true
 is_text_kind _ = false
 
+-- whether the token is this mark
 abbrev pub is_mark : List ℕ → Lexeme → Bool
 is_mark text k = is_mark_kind k.kind && bytes_eq k.text text
 
+-- the operator before an operand that is spelled so, if there is one
 abbrev pub unary_of : List ℕ → Option UnaryOp
 unary_of text =
     if bytes_eq text (codes "!") then Some u.Not
@@ -60,6 +67,7 @@ unary_of text =
     else (if bytes_eq text (codes "+") then Some u.Plus
     else None)))
 
+-- the operator between two operands that is spelled so, if there is one
 abbrev pub operator_of : List ℕ → Option BinaryOp
 operator_of text =
     if bytes_eq text (codes "*") then Some b.Mul
@@ -82,12 +90,15 @@ operator_of text =
     else (if bytes_eq text (codes "||") then Some b.Or
     else None)))))))))))))))))
 
+-- the operator between two operands that the token is, if it is one
 unfoldable pub binary_of : Lexeme → Option BinaryOp
 binary_of k = if is_mark_kind k.kind then operator_of k.text else None
 
+-- the name that a token spells, with its place
 abbrev pub name_of : Lexeme → Name
 name_of k = record { text = k.text; at = k.at }
 
+-- the bytes with one more in front, where there are bytes
 abbrev pub put_before : ℕ → Option (List ℕ) → Option (List ℕ)
 put_before b None = None
 put_before b (Some bs) = Some (b ∷ bs)
@@ -116,12 +127,14 @@ pub data Aim : Type 0 where
   Further : Aim
   Statements : Aim
 
+-- what is read so: arguments, statements, or else an expression
 abbrev pub Made : Aim → Type 0
 Made Arguments = ArgTrees
 Made Further = ArgTrees
 Made Statements = List StmtTree
 Made _ = Tree
 
+-- this mark
 unfoldable pub expect : List ℕ → List Lexeme → Front (Unit {0})
 expect text [] = Err 0
 expect text (k ∷ ts) = if is_mark text k then Ok (tt, ts) else Err (suc (length ts))
@@ -137,6 +150,7 @@ abbrev pub IsNotNext : List ℕ → List Lexeme → Type 0
 IsNotNext text [] = Unit {0}
 IsNotNext text (k ∷ ts) = is_mark text k ≡ false
 
+-- a name
 unfoldable pub name_first : List Lexeme → Front Name
 name_first [] = Err 0
 name_first (k ∷ ts) = if is_name_kind k.kind then Ok (name_of k, ts) else Err (suc (length ts))
@@ -153,6 +167,7 @@ quoted (Some text) at ts = Ok (TextArg (record { text = text; at = at }), ts)
 
 -- how each part is read, by p on shorter lists
 module _ (p : (aim : Aim) → List Lexeme → Front (Made aim)) where
+  -- an expression in parentheses, after the opening one
   abbrev pub grouped : List Lexeme → Read
   grouped ts = do
     x ← p Whole ts
@@ -165,6 +180,7 @@ module _ (p : (aim : Aim) → List Lexeme → Front (Made aim)) where
     x ← p Operand ts
     Ok (Unary op x.0, x.1)
 
+  -- an operator before its operand, or an expression in parentheses
   abbrev pub marked : Option UnaryOp → Lexeme → List Lexeme → Read
   marked (Some op) k ts = signed op ts
   marked None k ts = if bytes_eq k.text (codes "(") then grouped ts else Err (suc (length ts))
@@ -178,20 +194,24 @@ module _ (p : (aim : Aim) → List Lexeme → Front (Made aim)) where
         x ← p Arguments (k ∷ ts)
         Ok (Call n x.0, x.1))
 
+  -- a call, where `(` comes after the name, else the name
   abbrev pub named : Name → List Lexeme → Read
   named n [] = Ok (Named n, [])
   named n (k ∷ ts) = if is_mark (codes "(") k then called n ts else Ok (Named n, k ∷ ts)
 
+  -- an operand, by the kind of its first token
   abbrev pub operand_by : TokenKind → Lexeme → List Lexeme → Read
   operand_by kinds.Number k ts = numbered (number_value k.text) ts
   operand_by kinds.Name k ts = named (name_of k) ts
   operand_by kinds.Text k ts = Err (suc (length ts))
   operand_by kinds.Mark k ts = marked (unary_of k.text) k ts
 
+  -- an operand: a number, a name, a call, an expression in parentheses, or an operator before an operand
   unfoldable pub operand : List Lexeme → Read
   operand [] = Err 0
   operand (k ∷ ts) = operand_by k.kind k ts
 
+  -- goes on with the operator that comes next, if it is of this level or tighter
   abbrev pub climb_by : ℕ → Tree → Option BinaryOp → Lexeme → List Lexeme → Read
   climb_by l e None k ts = Ok (e, k ∷ ts)
   climb_by l e (Some op) k ts =
@@ -205,6 +225,7 @@ module _ (p : (aim : Aim) → List Lexeme → Front (Made aim)) where
   climb l e [] = Ok (e, [])
   climb l e (k ∷ ts) = climb_by l e (binary_of k) k ts
 
+  -- an expression of operators of this level and tighter
   unfoldable pub at_level : ℕ → List Lexeme → Read
   at_level l ts = do
     x ← operand ts
@@ -218,15 +239,18 @@ module _ (p : (aim : Aim) → List Lexeme → Front (Made aim)) where
     y ← p Choice rest.1
     Ok (Cond e x.0 y.0, y.1)
 
+  -- a choice, where `?` comes after the condition, else the condition
   unfoldable pub asked : Tree → List Lexeme → Read
   asked e [] = Ok (e, [])
   asked e (k ∷ ts) = if is_mark (codes "?") k then chosen e ts else Ok (e, k ∷ ts)
 
+  -- a choice `? :`, or an expression of tighter operators
   unfoldable pub choice : List Lexeme → Read
   choice ts = do
     c ← at_level 2 ts
     asked c.0 c.1
 
+  -- an assignment to the name, where `=` comes next, else the name
   abbrev pub set_to : Name → List Lexeme → Read
   set_to n [] = Ok (Named n, [])
   set_to n (k ∷ ts) =
@@ -235,15 +259,18 @@ module _ (p : (aim : Aim) → List Lexeme → Front (Made aim)) where
         Ok (Assign n x.0, x.1))
       else Ok (Named n, k ∷ ts)
 
+  -- an assignment, where the expression is a name and `=` comes next, else the expression
   unfoldable pub assigned : Tree → List Lexeme → Read
   assigned (Named n) ts = set_to n ts
   assigned e ts = Ok (e, ts)
 
+  -- an expression of any level
   unfoldable pub whole : List Lexeme → Read
   whole ts = do
     e ← choice ts
     assigned e.0 e.1
 
+  -- an argument: a string, or an expression with its place
   unfoldable pub argument : List Lexeme → Front ArgTree
   argument [] = Err 0
   argument (k ∷ ts) =
@@ -259,6 +286,7 @@ module _ (p : (aim : Aim) → List Lexeme → Front (Made aim)) where
     more ← p Further a.1
     Ok (MoreArgs a.0 more.0, more.1)
 
+  -- the closing parenthesis
   abbrev pub closed : List Lexeme → Front ArgTrees
   closed ts = do
     rest ← expect (codes ")") ts
@@ -285,12 +313,14 @@ module _ (p : (aim : Aim) → List Lexeme → Front (Made aim)) where
     rest ← expect (codes ";") x.1
     Ok (Plain at x.0, rest.1)
 
+  -- a statement: `;` alone, a declaration, or an expression with its semicolon
   unfoldable pub statement : List Lexeme → Front StmtTree
   statement [] = Err 0
   statement (k ∷ ts) =
       if is_mark (codes ";") k then Ok (Empty k.at, ts)
       else (if is_mark (codes "__var") k then declared ts else plain k.at (k ∷ ts))
 
+  -- statements, up to the end of the tokens
   unfoldable pub statements : List Lexeme → Front (List StmtTree)
   statements [] = Ok ([], [])
   statements (k ∷ ts) = do
@@ -298,6 +328,7 @@ module _ (p : (aim : Aim) → List Lexeme → Front (Made aim)) where
     more ← p Statements s.1
     Ok (s.0 ∷ more.0, more.1)
 
+  -- what the aim says
   abbrev pub step : (aim : Aim) → List Lexeme → Front (Made aim)
   step Whole ts = whole ts
   step Choice ts = choice ts
@@ -308,11 +339,12 @@ module _ (p : (aim : Aim) → List Lexeme → Front (Made aim)) where
   step Further ts = further ts
   step Statements ts = statements ts
 
--- with lists of fewer than this many tokens
+-- reads lists of fewer than this many tokens
 unfoldable pub read_within : ℕ → (aim : Aim) → List Lexeme → Front (Made aim)
 read_within zero aim ts = Err 0
 read_within (suc n) aim ts = step (read_within n) aim ts
 
+-- reads at the front of the tokens, all of them if need be
 unfoldable pub read : (aim : Aim) → List Lexeme → Front (Made aim)
 read aim ts = read_within (suc (length ts)) aim ts
 

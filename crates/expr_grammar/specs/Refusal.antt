@@ -87,6 +87,7 @@ pub record IsDeepFirst {X : Type 0} (R : List Lexeme → X → Type 0) (span : S
 
 -- What a parser answers. R reads lists of tokens, `view` gives what a value of the program stands for.
 module _ {V X : Type 0} (view : V → X) (R : List Lexeme → X → Type 0) (span : Span) (ts : List Lexeme) where
+  -- the tree of the tokens, the first token that is unexpected or too deep, or that memory ran out
   abbrev pub Answers : Result V ParseError → Type 0
   Answers (Ok v) = IsAccepted R span ts (view v)
   Answers (Err (Unexpected at)) = (i : ℕ) × IsUnexpectedFirst R span ts i × (at ≡ place_of ts i)

@@ -31,7 +31,7 @@ is_single b = is_among (codes "(),;?:!~+-*/%<>&^|=") b
 abbrev pub is_pair : ℕ → ℕ → Bool
 is_pair a b = (b == 61 && is_among (codes "<>=!") a) || (a == b && is_among (codes "<>&|") a)
 
--- the one keyword
+-- the one keyword, which begins a declaration
 abbrev pub keyword : List ℕ
 keyword = codes "__var"
 

@@ -41,8 +41,8 @@ pub fn pieces_are_local()
     ensures token { (kind : TokenKind) (n : ℕ) (bs cs : List ℕ) → SameFront (suc n) bs cs → IsTokenFront kind n bs → IsTokenFront kind n cs }
 {}
 
-/// Where two texts agree from two offsets on, on some length and one byte more, the tokens of that length are the same in both but for
-/// their places.
+/// Let two texts agree from two offsets on, on some length and one byte more. Then the tokens of that length are the same in both except
+/// for their places.
 pub fn tokens_move()
     ensures { (text new : List ℕ) (from to len : ℕ) (ts : List Lexeme) → Divides text from ts (from + len) → SameFront (suc len) (drop from text) (drop to new)
         → (us : List Lexeme) × Divides new to us (to + len) × AreMoved ts us }
@@ -62,8 +62,8 @@ pub fn expressions_are_plain()
     ensures { (ts : List Lexeme) (e : Tree) → ReadsExpr ts e → ArePlain ts }
 {}
 
-/// Whether a token of statements is too deep is said token by token, with the tokens of its statement so far; so each statement
-/// counts for itself, and places do not count.
+/// Whether a token of statements is too deep is said token by token, with the tokens of its statement so far. So each statement counts for
+/// itself, and places do not count.
 pub fn tokens_fit()
     ensures fits { (ts : List Lexeme) → NoneDeepBefore Statement ts (length ts) → Fits [] ts }
     ensures none_deep { (ts : List Lexeme) → Fits [] ts → NoneDeepBefore Statement ts (length ts) }

@@ -24,8 +24,8 @@ use std::alloc::Global;
 /// Why tokens are no code, or no expression.
 #[derive(Clone, Copy, Debug, PartialEq, Eq)]
 pub enum ParseError {
-    /// The first token such that no code (or expression) begins with the tokens up to it; where
-    /// the end is missing, the place just past the last token, or 1:1 where there is no token.
+    /// The first token such that no code (or expression) begins with the tokens up to it. Where the end is missing, the place just past the
+    /// last token, or 1:1 where there is no token.
     Unexpected(Place),
     /// The 65th parenthesis that is open at once, or the 513th token of a statement or of an
     /// expression.
@@ -52,10 +52,9 @@ pub fn parse_expr(alloc: Global, tokens: &Tokens<'_>) -> Result<Expr, ParseError
 
 /// The code that the tokens are: their statements, in order.
 ///
-/// `Unexpected` exactly where some token is unexpected, at the first such. `TooDeep` exactly at the
-/// 65th parenthesis that is open at once or at the 513th token of a statement, whichever is first,
-/// where no earlier token is unexpected; the tokens of a statement are counted from its first one,
-/// `__var` and `;` among them. `OutOfMemory` where memory is refused.
+/// `Unexpected` exactly where some token is unexpected, at the first such. `TooDeep` exactly at the 65th parenthesis that is open at once
+/// or at the 513th token of a statement, whichever is first, where no earlier token is unexpected. The tokens of a statement are counted
+/// from its first one, `__var` and `;` among them. `OutOfMemory` where memory is refused.
 pub fn parse_code(alloc: Global, tokens: &Tokens<'_>) -> Result<Code, ParseError>
     ensures answer { Answers code_trees ReadsCode Statement tokens.now result }
     ensures only { (code : List StmtTree) → IsAccepted ReadsCode Statement tokens.now code

@@ -4,9 +4,11 @@ use Rattle.std.specs.Str.Lossy.{utf8_lossy}
 use Rattle.serde_json.specs.Data.{Data, null, number, unsigned, string, array}
 use Rattle.serde_json.specs.View.{items_of}
 
+-- a number
 abbrev pub count : ℕ → Data
 count n = number (unsigned n)
 
+-- a list
 abbrev pub list : List Data → Data
 list ds = array (items_of ds)
 

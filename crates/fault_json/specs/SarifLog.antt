@@ -28,6 +28,7 @@ line_text line = string (utf8_lossy line)
 
 -- ---- the program
 
+-- all kinds of faults
 abbrev pub all_kinds : List FaultKind
 all_kinds =
     k.Syntax ∷ k.UndefinedName ∷ k.Redeclared ∷ k.UndefinedSequence ∷ k.UndefinedFunction ∷ k.ArgumentCount ∷ k.TextExpected ∷ k.NumberExpected
@@ -37,16 +38,18 @@ all_kinds =
 abbrev pub rule_data : FaultKind → Data
 rule_data kind = one_member (codes "id") (string (kind_word kind))
 
+-- the program: its name, and a rule for each kind of fault
 abbrev pub tool_data : Data
 tool_data = one_member (codes "driver") (object (put (codes "rules") (list (map rule_data all_kinds)) (put (codes "name") (string (codes "dapseq_faults")) no_members)))
 
--- ---- where a fault stands
+-- ---- where a fault is
 
 -- the sequence, the step and its part, or the debug variables
 abbrev pub step_name : Option (List ℕ) → List ℕ → Part → List ℕ
 step_name None path part = codes "debugvars"
 step_name (Some name) path part = shown name ++ codes " " ++ dotted path ++ codes " " ++ part_word part
 
+-- a place in the pack, by its name: the sequence, the step and its part, or the debug variables
 abbrev pub logical_data : Spot → Data
 logical_data spot = one_member (codes "fullyQualifiedName") (line_text (step_name spot.sequence spot.path spot.part))
 
@@ -64,6 +67,7 @@ abbrev pub with_physical : Option (List ℕ) → Place → Members → Members
 with_physical None place ms = ms
 with_physical (Some line) place ms = put (codes "physicalLocation") (physical_data line place) ms
 
+-- where a fault is: in the pack, and in a text of the job where it has a line there
 abbrev pub location_data : Found → Data
 location_data found = object (with_physical found.line found.fault.spot.place (put (codes "logicalLocations") (list (logical_data found.fault.spot ∷ [])) no_members))
 
@@ -73,6 +77,7 @@ location_data found = object (with_physical found.line found.fault.spot.place (p
 abbrev pub with_rule : Found → Members → Members
 with_rule found ms = put (codes "level") (string (codes "error")) (put (codes "ruleId") (string (kind_word found.fault.kind)) ms)
 
+-- what is wrong, where, and in which sets
 abbrev pub message_data : List SetName → PackFault → Data
 message_data sets f = one_member (codes "text") (line_text (message_words sets f))
 
@@ -85,6 +90,7 @@ abbrev pub run_data : PackFaults → Data
 run_data p = object (put (codes "columnKind") (string (codes "unicodeCodePoints"))
     (put (codes "results") (list (map (result_data p.sets) p.faults)) (put (codes "tool") tool_data no_members)))
 
+-- the log: its schema, its version, and one run
 abbrev pub sarif_data : PackFaults → Data
 sarif_data p = object (put (codes "runs") (list (run_data p ∷ []))
     (put (codes "version") (string (codes "2.1.0")) (put (codes "$schema") (string (codes "https://json.schemastore.org/sarif-2.1.0.json")) no_members)))

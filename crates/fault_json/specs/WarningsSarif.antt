@@ -16,6 +16,7 @@ use Rattle.fault_json.specs.SarifLog.{one_member, line_text, all_kinds, rule_dat
 
 -- ---- the program
 
+-- all kinds of warnings
 abbrev pub all_warning_kinds : List WarningKind
 all_warning_kinds = k.AssignedDebugVariable ∷ k.WaitByName ∷ k.UncalledSequence ∷ k.LongWait ∷ []
 
@@ -27,10 +28,11 @@ warning_rule kind = one_member (codes "id") (string (kind_word kind))
 abbrev pub all_rules : List Data
 all_rules = map rule_data all_kinds ++ map warning_rule all_warning_kinds
 
+-- the program: its name, and a rule for each kind of fault and of warning
 abbrev pub warned_tool : Data
 warned_tool = one_member (codes "driver") (object (put (codes "rules") (list all_rules) (put (codes "name") (string (codes "dapseq_faults")) no_members)))
 
--- ---- where a warning stands
+-- ---- where a warning is
 
 -- a sequence itself
 abbrev pub sequence_name : Option (List ℕ) → List ℕ
@@ -42,9 +44,11 @@ abbrev pub name_along : List ℕ → Spot → List ℕ
 name_along [] spot = sequence_name spot.sequence
 name_along (n ∷ path) spot = step_name spot.sequence spot.path spot.part
 
+-- a place in the pack, by its name: the sequence, the step and its part, or a sequence itself
 abbrev pub warning_logical : Spot → Data
 warning_logical spot = one_member (codes "fullyQualifiedName") (line_text (name_along spot.path spot))
 
+-- what a warning is of: a place in the pack, and in a text of the job where it has a line there
 abbrev pub warning_location : FoundWarning → Data
 warning_location found =
     object (with_physical found.line found.warning.spot.place (put (codes "logicalLocations") (list (warning_logical found.warning.spot ∷ [])) no_members))
@@ -55,6 +59,7 @@ warning_location found =
 abbrev pub with_warning_rule : FoundWarning → Members → Members
 with_warning_rule found ms = put (codes "level") (string (codes "warning")) (put (codes "ruleId") (string (kind_word found.warning.kind)) ms)
 
+-- what is warned of, where, and in which sets
 abbrev pub warning_message_data : List SetName → PackWarning → Data
 warning_message_data sets w = one_member (codes "text") (line_text (warning_message sets w))
 
@@ -72,6 +77,7 @@ abbrev pub warned_run : PackFaults → List PackWarning → Data
 warned_run p warnings = object (put (codes "columnKind") (string (codes "unicodeCodePoints"))
     (put (codes "results") (list (all_results p warnings)) (put (codes "tool") warned_tool no_members)))
 
+-- the log: its schema, its version, and one run
 abbrev pub warned_log : PackFaults → List PackWarning → Data
 warned_log p warnings = object (put (codes "runs") (list (warned_run p warnings ∷ []))
     (put (codes "version") (string (codes "2.1.0")) (put (codes "$schema") (string (codes "https://json.schemastore.org/sarif-2.1.0.json")) no_members)))

@@ -23,7 +23,7 @@ unchecked_words unread unreached = unchecked (codes "; names of ") unread (codes
 abbrev pub counts_line : ℕ → ℕ → ℕ → ℕ → ℕ → List ℕ
 counts_line faults devices sets unread unreached = checked_words faults devices sets ++ unchecked_words unread unreached ++ codes "\n"
 
--- the same, with the warnings
+-- the line of counts, with the number of warnings
 abbrev pub warned_counts_line : ℕ → ℕ → ℕ → ℕ → ℕ → ℕ → List ℕ
 warned_counts_line faults devices sets unread unreached warnings =
     checked_words faults devices sets ++ unchecked_words unread unreached ++ codes "; " ++ counted warnings (codes " warning\n") (codes " warnings\n")

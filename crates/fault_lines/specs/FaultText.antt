@@ -52,6 +52,7 @@ after_blank (Some name) = codes " " ++ shown name
 abbrev pub first_words : Found → List ℕ
 first_words found = fault_words found.fault.kind found.fault.spot ++ after_blank (name_of found)
 
+-- the first line of a fault
 abbrev pub first_line : Found → List ℕ
 first_line found = first_words found ++ codes "\n"
 
@@ -86,6 +87,7 @@ for_words sets [] = []
 for_words sets (first ∷ []) = set_at sets first
 for_words sets (first ∷ second ∷ more) = set_at sets first ++ codes ", " ++ set_at sets second ++ more_words more
 
+-- the line that names the sets in which a fault is
 abbrev pub for_line : List SetName → List ℕ → List ℕ
 for_line sets places = codes "    for " ++ for_words sets places ++ codes "\n"
 

@@ -1,4 +1,4 @@
--- The line that a fault stands in as it is shown, the caret below it, and the name that begins at its place.
+-- The line in which a fault is, as it is shown, the caret below it, and the name that begins at its place.
 use Rattle.std.specs.Prelude.{ℕ, ◌-◌, ◌==◌, nat_lt, nat_le, Bool, true, false, not, ◌&&◌, ◌||◌, List, [], ◌∷◌}
 use Rattle.std.specs.Prelude.{◌++◌, take, drop, map, codes, Option, Some, None, option_map, if◌then◌else◌}
 use Rattle.std.specs.Char.{is_ascii_alphanumeric}

@@ -33,6 +33,7 @@ abbrev pub words_along : List ℕ → Spot → List ℕ
 words_along [] spot = sequence_words spot.sequence
 words_along (n ∷ path) spot = where_words spot.sequence spot.path spot.part ++ check.place_words spot.place
 
+-- where a warning is, by the numbers of its step, if it has one
 abbrev pub spot_words : Spot → List ℕ
 spot_words spot = words_along spot.path spot
 

@@ -1,4 +1,4 @@
-//! The line that a fault stands in, and the caret below its place.
+//! The line in which a fault is, and the caret below its place.
 ghost use Rattle.std.specs.Prelude.{◌≡◌, ◌++◌, ◌-◌, codes, map, take, IfOk, OnOk};
 ghost use Rattle.std.specs.List.{flat_map};
 ghost use Rattle.std.specs.Str.Lines.{strip_carriage_return};

@@ -86,8 +86,8 @@ fn write_rest<K: Sink>(
     }
 }
 
-/// Puts the text of the faults of a pack as `write_faults` does, with the warnings after the faults, each with the word
-/// `warning` before it, and their number at the end of the line of counts.
+/// Puts the text of the faults of a pack as `write_faults` does, with the warnings after the faults. Each has the word `warning` before it,
+/// and their number is at the end of the line of counts.
 ///
 /// `Failed` where the sink failed, `OutOfMemory` where memory is refused; a prefix of the text was then appended.
 pub fn write_warned<K: Sink>(

@@ -14,7 +14,7 @@ use pack_faults::{PackFault, PackFaults, SetName};
 use std::alloc::Global;
 use text_lines::{Line, TextError, put_line, put_text};
 
-/// The line that a fault stands in and the caret, where there is one.
+/// The line in which a fault is and the caret, where there is one.
 pub fn place_text(
     alloc: Global,
     line: &Option<NameText>,
@@ -89,9 +89,9 @@ fn counts_of(alloc: Global, faults: &PackFaults) -> Result<Line, OutOfMemory>
     )
 }
 
-/// Puts the text of the faults of a pack, the lines of each fault by one `put`: what is wrong and where, and the name
-/// that it is about; the line that it stands in, and a caret below its place; the first two sets that have it, and how
-/// many there are more. Last comes the line of counts.
+/// Puts the text of the faults of a pack, the lines of each fault by one `put`. They are what is wrong and where, with the name that it is
+/// about, and its line in the text with a caret below its place. Then come the first two sets that have it, and how many there are more.
+/// Last comes the line of counts.
 ///
 /// `Failed` where the sink failed, `OutOfMemory` where memory is refused; a prefix of the text was then appended.
 pub fn write_faults<K: Sink>(

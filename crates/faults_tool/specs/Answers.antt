@@ -49,7 +49,7 @@ formatted formats.Text faults = faults_text faults
 formatted formats.Json faults = faults_json faults
 formatted formats.Sarif faults = faults_sarif faults
 
--- the same, and all warnings
+-- all faults and all warnings, in this format
 abbrev pub warned_in : Format → PackFaults → List PackWarning → List ℕ
 warned_in formats.Text faults warnings = warned_text faults warnings
 warned_in formats.Json faults warnings = warned_json faults warnings

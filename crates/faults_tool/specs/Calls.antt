@@ -14,7 +14,7 @@ use Rattle.faults_tool.specs.declared.status.Status.TheVariants as status
 
 -- ---- a call
 
--- What is known of a source and a sink at a moment: the bytes that are left and those that were written, each where the object is
+-- What is known of a source and a sink at a moment. That is the bytes that are left and those that were written, each where the object is
 -- observable, and the counts of faults.
 pub record Moment : Type 0 where
   pub left : Option (List ℕ)
@@ -82,8 +82,8 @@ IsDisturbed status.WriteFault = Unit {0}
 IsDisturbed status.OutOfMemory = Unit {0}
 IsDisturbed other = ⊥
 
--- The status that names an object comes only where the object's count of faults rose, or stands at its last value; a count changes only
--- with that status.
+-- The status that names an object comes only where the object's count of faults rose, or is at its last value. A count changes only with that
+-- status.
 pub record Blames (fault end : Status) (before now : ℕ) : Type 0 where
   pub failed : end ≡ fault → Rose before now
   pub else : (now ≡ before) ⊎ (end ≡ fault)

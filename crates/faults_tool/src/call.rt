@@ -61,10 +61,10 @@ fn finish<K: Sink>(alloc: Global, asked: &Result<Answer, Unasked>, sink: &mut K)
 /// Checks the set of every device, variant and processor of a pack, or of those that the words name, and writes every fault
 /// once, with the sets that have it.
 ///
-/// `words` are those after the program's name: `--device`, `--variant` and `--pname` with a name, `--format` with
-/// `text`, `json` or `sarif`, and `--warnings`, each at most once; `text` where no format is given. With `--warnings` the
-/// warnings of these sets are written after the faults. They never change the status. The source has the job, one JSON text of at
-/// most 16,777,216 bytes. Its pack alone is read; a job without `bench` is taken.
+/// `words` are those after the program's name: `--device`, `--variant` and `--pname` with a name, `--format` with `text`, `json` or
+/// `sarif`, and `--warnings`. Each comes at most once, and the format is `text` where none is given. With `--warnings` the warnings of
+/// these sets are written after the faults. They never change the status. The source has the job, one JSON text of at most 16,777,216
+/// bytes. Its pack alone is read; a job without `bench` is taken.
 ///
 /// | Status | What was written |
 /// |---|---|

@@ -14,6 +14,7 @@ option_rule name = record (new_rule name) { long = Some name }
 abbrev pub flag_rule : Text → Rule
 flag_rule name = record (new_rule name) { long = Some name; action = Some SetTrue }
 
+-- the arguments of the command line: four options with a value, and the flag `--warnings`
 abbrev pub the_rules : List Rule
 the_rules =
     option_rule (codes "device") ∷ option_rule (codes "variant") ∷ option_rule (codes "pname") ∷ option_rule (codes "format")

@@ -37,7 +37,7 @@ abbrev pub chain_replies : TransferState → List (List RegAccess) → List Tran
 chain_replies p [] = []
 chain_replies p (accesses ∷ parts) = let d = transferred p (guarded_requests accesses) in d ∷ chain_replies d.next parts
 
--- the state after them
+-- the state after the guarded commands of these parts
 abbrev pub chain_after : TransferState → List (List RegAccess) → TransferState
 chain_after p [] = p
 chain_after p (accesses ∷ parts) = let d = transferred p (guarded_requests accesses) in chain_after d.next parts
@@ -87,8 +87,8 @@ abbrev pub IsCutOnce : List Transferred → Type 0
 IsCutOnce [] = Unit {0}
 IsCutOnce (d ∷ replies) = CutAs d.response replies (IsCutOnce replies)
 
--- A chain of these parts does a part of its accesses, which its replies show; the guard is open after it where it came to its end,
--- and else shut.
+-- A chain of these parts does a part of its accesses, which its replies show. The guard is open after it where it came to its end, and else
+-- shut.
 pub record DoesChain (p : TransferState) (parts : List (List RegAccess)) : Type 0 where
   pub part : DoesPart p (chain_after p parts) (all_of parts) (chain_part parts (chain_replies p parts))
   pub guard : LeavesGuard (chain_part parts (chain_replies p parts)).response (chain_after p parts)

@@ -27,8 +27,8 @@ abbrev pub slot_values : TargetState → List RegAccess → List (Option ℕ)
 slot_values t [] = []
 slot_values t (a ∷ rest) = (if a.read then Some (value_now t a) else None) ∷ slot_values (attempt t a).next rest
 
--- What a flight did that was answered so: exactly the first of its accesses were made, one at a time, and the first of these are
--- known to have been good.
+-- What a flight did that was answered so. Exactly the first of its accesses were made, one at a time, and the first of these are known to have
+-- been good.
 pub record Performs (t u : TargetState) (accesses : List RegAccess) (performed confirmed : ℕ) (response : Response) : Type 0 where
   pub most : performed ≤ length accesses
   -- whether it is not known of the last that was performed
@@ -92,8 +92,8 @@ seen_values (r ∷ rs) words =
 abbrev pub seen_one : Request → Option ℕ → List (Option ℕ)
 seen_one r found = if reads_value (kind r) then (if is_own (access_of r) then found ∷ [] else []) else None ∷ []
 
--- whether it is not known of the last executed request that it was good: the command did not end well, and the request is a write
--- or its word is missing
+-- Whether it is not known of the last executed request that it was good. The command did not end well, and the request is a write or its word is
+-- missing.
 abbrev pub doubts : Response → List Request → ℕ → Bool
 doubts response executed given = not (is_good response) && (write_after false executed || nat_lt given (reads_in executed))
 
@@ -109,8 +109,8 @@ part_of executed response words =
       values = take confirmed (seen_values executed words);
     }
 
--- What a reply to so many accesses shows that may come, whatever was done: all are confirmed where it is OK, and fewer where it
--- is not; the values are those of the confirmed ones.
+-- What a reply to so many accesses shows that may come, whatever was done. All are confirmed where it is OK, and fewer where it is not. The
+-- values are those of the confirmed ones.
 pub record IsPartOf (count : ℕ) (part : Part) : Type 0 where
   pub most : part.performed ≤ count
   pub within : part.confirmed ≤ part.performed

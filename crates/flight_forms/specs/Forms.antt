@@ -33,8 +33,8 @@ fits_transfer size accesses =
     let requests = requests_for false accesses in
     nat_le (3 + bytes_in requests) size && nat_le (3 + 4 * reads_in requests) size && nat_le (length requests) 255
 
--- A guarded Transfer has 21 bytes besides those of its accesses and of the checks between them, 4 requests besides, and one read
--- at most besides, the check of a last write. Its reply has 5 bytes besides the words.
+-- A guarded Transfer has 21 bytes besides those of its accesses and of the checks between them. It has 4 requests besides, and one read at most
+-- besides, the check of a last write. Its reply has 5 bytes besides the words.
 abbrev pub fits_guarded : ℕ → List RegAccess → Bool
 fits_guarded size accesses =
     let requests = requests_for false accesses in

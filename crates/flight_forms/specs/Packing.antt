@@ -7,12 +7,13 @@ use Rattle.dap_messages.specs.declared.request.Request.{Request}
 use Rattle.dap_messages.specs.Requests.{mask_request, match_request, read_request, write_request}
 use Rattle.dap_transfer.specs.CommandEnds.{may_be_free, writes_ap}
 
--- An access that a flight takes: each access of an access port; and of the debug port a read of DPIDR (0x0) or CTRL/STAT (0x4),
--- or a write of ABORT (0x0), CTRL/STAT (0x4), SELECT (0x8) or address 0xC.
+-- An access that a flight takes. It takes each access of an access port. Of the debug port it takes a read of DPIDR (0x0) or CTRL/STAT (0x4),
+-- and a write of ABORT (0x0), CTRL/STAT (0x4), SELECT (0x8) or address 0xC.
 pub record IsTaken (a : RegAccess) : Type 0 where
   pub read : a.ap ≡ false → a.read ≡ true → (a.addr ≡ 0x0) ⊎ (a.addr ≡ 0x4)
   pub write : a.ap ≡ false → a.read ≡ false → (a.addr ≡ 0x0) ⊎ ((a.addr ≡ 0x4) ⊎ ((a.addr ≡ 0x8) ⊎ (a.addr ≡ 0xC)))
 
+-- a flight takes each of these accesses
 abbrev pub AreTaken : List RegAccess → Type 0
 AreTaken accesses = AllByRecursion IsTaken accesses
 

@@ -44,8 +44,8 @@ poll_cleared p retry mask requested turns = transferred (poll_matched p retry ma
 abbrev pub poll_after : TransferState → ℕ → ℕ → ℕ → ℕ → TransferState
 poll_after p retry mask requested turns = configured (poll_cleared p retry mask requested turns).next retry 0
 
--- A portion of a poll reads CTRL/STAT one read at a time until it matches. Its replies say whether it did. After it the target is
--- that after these reads, the match mask and match retry are 0, and each read is one of the work; nothing else changed.
+-- A portion of a poll reads CTRL/STAT one read at a time until it matches. Its replies say whether it did. After it the target is that after
+-- these reads, the match mask and match retry are 0, and each read is one of the work. Nothing else changed.
 pub record DoesPoll (p : TransferState) (retry mask requested turns : ℕ) (x : Polled) (d u : Transferred) : Type 0 where
   pub passes : is_fault x.outcome ≡ false
   pub response : d.response ≡ (if has_matched x then Good else Mismatch)

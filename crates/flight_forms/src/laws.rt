@@ -31,9 +31,8 @@ pub fn a_block_does_a_part()
     ensures { (p : TransferState) (size : ℕ) (accesses : List RegAccess) → fits_block size accesses ≡ true → p.line.target.sticky ≡ false → DoesBlock p accesses }
 {}
 
-/// A guarded chain makes the first of its accesses, and its replies show how many, and what they
-/// gave: a command makes accesses only where the one before came to its end, with its last write
-/// checked.
+/// A guarded chain makes the first of its accesses, and its replies show how many, and what they gave. A command makes accesses only where
+/// the one before came to its end, with its last write checked.
 pub fn a_chain_does_a_part()
     ensures { (p : TransferState) (parts : List (List RegAccess)) → AllTaken parts → IsGuardOpen p → DoesChain p parts }
 {}
@@ -47,8 +46,8 @@ pub fn parts_are_the_flight()
     ensures words { (size : ℕ) (accesses : List RegAccess) → AreWords accesses → AllByRecursion AreWords (parts_of size accesses) }
 {}
 
-/// What fits a form fits its packets, with its command and the longest reply: a block, one
-/// Transfer, a guarded Transfer with the two bytes before it, and each part of a chain.
+/// What fits a form fits its packets, with its command and the longest reply. The forms are a block, one Transfer, a guarded Transfer with
+/// the two bytes before it, and each part of a chain.
 pub fn what_fits_can_be_sent()
     ensures block { (size : ℕ) (accesses : List RegAccess) → size < 2 ^ 16 → AreWords accesses → fits_block size accesses ≡ true → FitsPacket size 0 (block_command accesses) }
     ensures transfer { (size : ℕ) (a : RegAccess) (rest : List RegAccess) → AreWords (a ∷ rest) → fits_transfer size (a ∷ rest) ≡ true → FitsPacket size 0 (transfer_command (a ∷ rest)) }
@@ -56,9 +55,8 @@ pub fn what_fits_can_be_sent()
     ensures chain { (size : ℕ) (accesses : List RegAccess) → 64 ≤ size → size ≤ 1024 → AreWords accesses → FitChain size (parts_of size accesses) }
 {}
 
-/// What a reply shows of the accesses of its command, where it is one that the command may get,
-/// whatever the probe did: all are confirmed where it is OK, and else fewer. So it is of two parts
-/// in a row.
+/// What a reply shows of the accesses of its command, where it is one that the command may get, whatever the probe did. All are confirmed
+/// where it is OK, and else fewer. So it is of two parts in a row.
 pub fn what_a_reply_shows()
     ensures block { (size : ℕ) (accesses : List RegAccess) (n : ℕ) (x : Response) → fits_block size accesses ≡ true → Answers (block_command accesses) (reply.Block n (code_of x))
         → IsPartOf (length accesses) (part_of (take n (requests_for false accesses)) x []) }
@@ -69,8 +67,8 @@ pub fn what_a_reply_shows()
     ensures joined { (m n : ℕ) (a b : Part) → IsPartOf m a → IsPartOf n b → IsPartOf (m + n) (joined_as a.response a b) }
 {}
 
-/// How many accesses a form holds: each single one; where none holds a list, this list has more than
-/// the capacity, and where it is writes of DRW more than a block; and never more than 255 for each packet.
+/// How many accesses a form holds. A form holds each single one, and never more than 255 for each packet. Where none holds a list, this
+/// list has more than the capacity, and where it is writes of DRW more than a block.
 pub fn how_many_fit()
     ensures single { (size count : ℕ) (a : RegAccess) → 64 ≤ size → size ≤ 1024 → form_of size count (a ∷ []) ≡ Some Form.Transfer }
     ensures full { (size count : ℕ) (accesses : List RegAccess) → 21 ≤ size → size ≤ 1024 → form_of size count accesses ≡ None → capacity size count < length accesses }
@@ -79,9 +77,8 @@ pub fn how_many_fit()
     ensures most { (size count : ℕ) (accesses : List RegAccess) (f : Form) → 64 ≤ size → size ≤ 1024 → 1 ≤ count → form_of size count accesses ≡ Some f → length accesses ≤ 255 * count }
 {}
 
-/// The reply to each form is one that its commands may get: from a probe that lets a guarded command
-/// make its accesses, or without a guard from one where STICKYERR is clear, and whose target has
-/// numbers in their ranges.
+/// The reply to each form is one that its commands may get. The probe lets a guarded command make its accesses, or STICKYERR is clear where
+/// there is no guard. The target has numbers in their ranges.
 pub fn replies_may_come()
     ensures block { (p : TransferState) (size : ℕ) (accesses : List RegAccess) → fits_block size accesses ≡ true → p.line.target.sticky ≡ false
         → Answers (block_command accesses) (block_answer (blocked p 0x0D (words_of accesses))) }
@@ -91,9 +88,8 @@ pub fn replies_may_come()
         → AnswerChain parts (chain_replies p parts) }
 {}
 
-/// A portion of a poll in one packet is the polled reads, one at a time: its replies say whether the
-/// register matched, and after it the match mask and match retry are 0. This needs DPBANKSEL 0, so
-/// that address 0x4 is CTRL/STAT, whose reads never wait.
+/// A portion of a poll in one packet is the polled reads, one at a time. Its replies say whether the register matched, and after it the
+/// match mask and match retry are 0. This needs DPBANKSEL 0, so that address 0x4 is CTRL/STAT, whose reads never wait.
 pub fn a_poll_is_its_reads()
     ensures reads { (p : TransferState) (retry mask requested turns : ℕ) → bank p.line.target ≡ 0 → 1 ≤ turns → PollsAtOnce p retry mask requested turns }
     ensures fits { (idle retry mask requested turns : ℕ) → idle < 2 ^ 8 → retry < 2 ^ 16 → mask < 2 ^ 32 → requested < 2 ^ 32 → turns ≤ 2 ^ 16

@@ -46,9 +46,8 @@ pub(crate) fn writes_ap(access: RegAccess) -> bool
     access.ap && !access.read
 }
 
-/// Puts the requests of accesses at the front of a buffer, with the checks between them, and
-/// answers how many they are: one for each access, and one for each check. The rest of the buffer
-/// has any requests.
+/// Puts the requests of accesses at the front of a buffer, with the checks between them. Answers how many they are: one for each access,
+/// and one for each check. The rest of the buffer has any requests.
 pub fn put_requests(accesses: &[RegAccess], requests: &mut [Request]) -> usize
     requires { length (requests_for false accesses.now) ≤ length requests.old }
     ensures count { result ≡ length (requests_for false accesses.now) }

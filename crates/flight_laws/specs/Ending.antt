@@ -71,8 +71,8 @@ pub record IsCutOff (p : Planner) (r : Report) (b : AccessView) (m0 : BenchState
   pub numbers : HasNumbers (issued p (target_of m0.probe) b.asks.calls) b.asks.calls b.skipped b.lines r
   pub came : b.came ≡ b.lines
 
--- at a fault the calls stop right after those that have their lines before it; where a retry ended they do, or all have and a
--- `finish` was made after the last
+-- At a fault the calls stop right after those that have their lines before it. Where a retry ended they do, or all have and a `finish` was made
+-- after the last.
 abbrev pub StopsBy : StopCause → World → List Ask → ℕ → Type 0
 StopsBy Faulted w asks lines = stop w asks ≡ Some (lines + 1)
 StopsBy NoAnswer w asks lines = (stop w asks ≡ Some (lines + 1)) ⊎ ((stop w asks ≡ None) × ((lines ≡ length asks) × (is_settled asks ≡ true)))

@@ -48,7 +48,7 @@ pub record IsFaultAt (entries : List Entry) (k : ℕ) (t : TargetState) : Type 0
   pub bad : is_fault (acted (target_after t cut.front) cut.entry.action).outcome ≡ true
   pub strict : cut.entry.forgiving ≡ false
 
--- A flight that met a fault stands at the first entry that is not confirmed, as a report of its numbers says.
+-- A flight that met a fault is at the first entry that is not confirmed, as a report of its numbers says.
 abbrev pub FaultFlies : Type 0
 FaultFlies = (entries made flying rest : List Entry) (accesses : List RegAccess) (n : Option ℕ) (m0 m o : BenchState) (part : Part) (r : Report) (b : AccessView) →
     IsUnderWay entries made flying rest accesses m0 m → Flies accesses part m o → part.response ≡ Fault → AreStrict flying →

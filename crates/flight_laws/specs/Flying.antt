@@ -17,10 +17,9 @@ use Rattle.access_calls.specs.Standing.{IsOpen}
 use Rattle.flight_laws.specs.Flights.{AreStrict}
 use Rattle.flight_laws.specs.UnderWay.{IsUnderWay}
 
--- Without an end: of the entries of all calls the first were made, and the next lie in the flight as these accesses, which are of
--- units that forgive nothing. What is kept of the registers is what is known after all of them. The first calls, all of
--- whose entries were made, came to these results and so many skips. Once a `finish` was made after the last call, nothing lies
--- in the flight.
+-- The access has no end. Of the entries of all calls the first were made, and the next lie in the flight as these accesses, which are of units
+-- that forgive nothing. What is kept of the registers is what is known after all of them. The first calls, all of whose entries were made, came
+-- to these results and so many skips. Once a `finish` was made after the last call, nothing lies in the flight.
 pub record IsFlying (p : Planner) (a : AccessView) (kept : Kept) (accesses : List RegAccess) (came : List ℕ) (m0 m : BenchState) : Type 0 where
   pub fresh : IsFresh (target_of m0.probe)
   pub askable : AreAskable a.asks.calls

@@ -29,9 +29,9 @@ pub record BeginsWith (steps : List Step) (asked : AccessUnit) (accesses : List 
 abbrev pub after_fault : Bool → AccessUnit → List RegAccess → List Step
 after_fault forgive asked accesses = if forgive then abort_after asked accesses ∷ [] else []
 
--- Where the accesses before one do not fault, the steps of a unit made alone begin with them and that one: where it faults, the
--- write of ABORT follows for a unit that forgives it, and nothing else; and where it does not, the rest follows. So a flight may be
--- sent after it, before it is known how the unit goes on.
+-- Let the accesses before one not fault. Then the steps of a unit made alone begin with them and that one. Where it faults, the write of ABORT
+-- follows for a unit that forgives it, and nothing else; where it does not, the rest follows. So a flight may be sent after it, before it is
+-- known how the unit goes on.
 abbrev pub AloneFlight : Type 0
 AloneFlight = (forgive : Bool) (asked : AccessUnit) (t : TargetState) (k : Kept) (lead : List RegAccess) (a : RegAccess) (rest : List Action) →
     may_forgive (Access asked) ≡ true →

@@ -19,8 +19,8 @@ use Rattle.access_calls.specs.Bounds as bounds
 use Rattle.probe_core.specs.Ranges.{AreLimits}
 use Rattle.access_calls.specs.Reported.{AccessView, Beginning}
 
--- Each starting packet is one of the three of the opening, one at a need point, or one of so many flights that were sent
--- because there was no room; these had at least the capacity of accesses each.
+-- Each starting packet is one of the three of the opening, one at a need point, or one of so many flights that were sent because there was no
+-- room. These had at least the capacity of accesses each.
 pub record IsSparing (full capacity needs : ℕ) (made : List Entry) (b : Beginning) (m : BenchState) : Type 0 where
   pub some : 0 < capacity
   pub few : starting_since b m ≤ 3 + needs + full
@@ -54,9 +54,9 @@ is_drw_write (Commands c) = false
 abbrev pub drw_writes_in : List Entry → ℕ
 drw_writes_in entries = sum_by (λ (e : Entry). one_if (is_drw_write e.action)) entries
 
--- Each starting packet is one of the three of the opening, one at a need point, or one of a flight that was sent because there was
--- no room: the first of these has a write of DRW, where there was one; the settling may have split one; and each of so many others
--- has a block of such writes.
+-- Each starting packet is one of the three of the opening, one at a need point, or one of a flight that was sent because there was no room. The
+-- first of these flights has a write of DRW, where there was one. The settling may have split one. Each of so many others has a block of such
+-- writes.
 pub record IsBlockwise (full block needs : ℕ) (first split : Bool) (made : List Entry) (b : Beginning) (m : BenchState) : Type 0 where
   pub some : 0 < block
   pub few : starting_since b m ≤ 3 + needs + one_if first + one_if split + full
@@ -73,7 +73,7 @@ abbrev pub FirstBlock : Type 0
 FirstBlock = (full block needs : ℕ) (split : Bool) (made flying : List Entry) (b : Beginning) (m o : BenchState) → IsBlockwise full block needs false split made b m →
     1 ≤ drw_writes_in flying → starting_since b o ≤ starting_since b m + 1 → IsBlockwise full block needs true split (made ++ flying) b o
 
--- the settling splits it
+-- One more flight was sent because there was no room: the settling splits its block of writes.
 abbrev pub SplitBlock : Type 0
 SplitBlock = (full block needs : ℕ) (first : Bool) (made flying : List Entry) (b : Beginning) (m o : BenchState) → IsBlockwise full block needs first false made b m →
     starting_since b o ≤ starting_since b m + 1 → IsBlockwise full block needs first true (made ++ flying) b o

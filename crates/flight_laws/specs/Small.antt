@@ -28,8 +28,8 @@ NotSmall = (p : Planner) (a : AccessView) (kept : Kept) (accesses : List RegAcce
     IsFlying p a kept accesses came m0 m → AtLeast a.came n → IsUnitInRange asked → needs_cfg kept asked ≡ false →
     small_now (world_from m0 n) a.asks.calls (unit_ask asked forgive) ≡ false
 
--- After calls that do not stop, a memory unit for which CFG is read once the unsettled port is settled, and whose read does not
--- fault, ends so exactly where bit 1 of CFG is clear.
+-- Let CFG be read for a memory unit after calls that do not stop, once the unsettled port is settled, and let the read not fault. Then the unit
+-- ends so exactly where bit 1 of CFG is clear.
 abbrev pub SmallByCfg : Type 0
 SmallByCfg = (p : Planner) (t : TargetState) (asks : List Ask) (n : Option ℕ) (size : ℕ) (read : Bool) (ap address value : ℕ) (forgive : Bool) → IsFresh t →
     AreAskable asks →

@@ -20,8 +20,8 @@ StopsAtFault = (p : Planner) (t : TargetState) (asks : List Ask) (r : Report) (s
     IsFaultAt (issued p t asks) r.confirmed t → HasNumbers (issued p t asks) asks skipped lines r → AtLeast lines n →
     stop (start_world t n) asks ≡ Some (lines + 1)
 
--- Where a retry ended, and just so many calls are answered as have their lines before it, they stop right after these; or all
--- of them have, and the retry ended in the settling after the last.
+-- Let a retry end, and just so many calls be answered as have their lines before it. Then the calls stop right after these. Or all of them have
+-- their lines, and the retry ended in the settling after the last.
 abbrev pub StopsAtWait : Type 0
 StopsAtWait = (p : Planner) (t : TargetState) (asks : List Ask) (r : Report) (skipped lines : ℕ) → IsFresh t → AreAskable asks →
     IsCutAt (issued p t asks) r.confirmed t → HasNumbers (issued p t asks) asks skipped lines r →

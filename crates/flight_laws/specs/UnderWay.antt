@@ -9,10 +9,10 @@ use Rattle.access_regs.specs.Journal.{making}
 use Rattle.access_calls.specs.Reported.{began}
 use Rattle.access_calls.specs.Standing.{HasPerformed, idle_cycles_of, number_of, setting_of}
 
--- Of these entries the first were made and are confirmed, the next lie in a flight as these accesses, and the rest is still to
--- be pushed. None of those made gives a fault that its unit does not forgive; the target is the one after them, with STICKYERR
--- clear; the work has grown by what they weigh; no retry ended; the settings of the transfers and the idle cycles are the same; and the
--- transfers are at most two for each register access and each read of a poll.
+-- Of these entries the first were made and are confirmed, the next lie in a flight as these accesses, and the rest is still to be pushed. None
+-- of those made gives a fault that its unit does not forgive. The target is the one after them, with STICKYERR clear, and the work has grown by
+-- what they weigh. No retry ended, and the settings of the transfers and the idle cycles are the same. The transfers are at most two for each
+-- register access and each read of a poll.
 pub record IsUnderWay (entries made flying rest : List Entry) (accesses : List RegAccess) (m0 m : BenchState) : Type 0 where
   pub are : entries ≡ made ++ (flying ++ rest)
   pub weighty : AreWeighty entries

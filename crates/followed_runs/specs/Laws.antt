@@ -9,8 +9,8 @@ use Rattle.sequence_rules.specs.Runs.{Outcome, units_of}
 use Rattle.sequels.specs.Limits.{GoesOnFrom}
 use Rattle.followed_runs.specs.Followed.{Task, outcome_in, task_outcome, task_within}
 
--- The outcome with at most m units answered is cut short: it ends where unit m + 1 is asked, the whole goes on from its calls, and what
--- it wrote comes first in what the whole wrote.
+-- The outcome with at most m units answered is cut short. It ends where unit m + 1 is asked, and the whole goes on from its calls. What it wrote
+-- comes first in what the whole wrote.
 pub record IsCutShort (m : ℕ) (whole short : Outcome) : Type 0 where
   pub ending : short.ending ≡ runs.Unanswered
   pub units : units_of short ≡ m + 1
@@ -22,7 +22,7 @@ pub record IsWhole (m : ℕ) (whole short : Outcome) : Type 0 where
   pub units : units_of whole ≤ m
   pub same : short ≡ whole
 
--- one of the two
+-- with at most m units answered, the outcome is the same or is cut short
 abbrev pub IsLimited : ℕ → Outcome → Outcome → Type 0
 IsLimited m whole short = IsWhole m whole short ⊎ IsCutShort m whole short
 

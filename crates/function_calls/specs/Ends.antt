@@ -35,8 +35,8 @@ AtEnd (Some s) P = AtCut s P
 pub record StopsHere (w : World) (calls : List Ask) (a : AccessView) : Type 0 where
   pub so : AtEnd a.end (λ r. stop w calls ≡ Some (a.lines + 1))
 
--- The access ended, and so the code left the meaning in its middle: what was asked and written comes first in what the meaning asks and
--- writes; and at a cut the calls stop right after those whose lines come before it.
+-- The access ended, and so the code left the meaning in its middle. What was asked and written comes first in what the meaning asks and writes.
+-- At a cut the calls stop right after those whose lines come before it.
 pub record Left {A : Type 0} (w : World) (a : AccessView) (now : State Value Late) (out : Out Value Late A) : Type 0 where
   pub later : Later w now.rest (end_state out).rest
   pub first : StopsHere w now.rest.asks.calls a

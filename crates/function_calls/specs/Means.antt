@@ -13,8 +13,8 @@ use Rattle.function_calls.specs.declared.held.Held.{Held}
 use Rattle.function_calls.specs.Ends.{MeansLate, MeansLateAs, MeansLateBy}
 use Rattle.function_calls.specs.Held.{seen, state_of}
 
--- A call without a sink. The world is that of a state in which the access began and of a number of calls that may still be answered
--- after the call; the meaning goes from the state before the call to the one after it.
+-- A call without a sink. The world is that of a state in which the access began and of a number of calls that may still be answered after the
+-- call. The meaning goes from the state before the call to the one after it.
 abbrev pub MeansCall : {S A : Type 0} → (S → BenchState → Type 0) → (S → AccessView) → S → S → Held → Held → Result A End →
     (World → State Value Late → Out Value Late A) → Type 0
 MeansCall begun reported old new before now result meaning =

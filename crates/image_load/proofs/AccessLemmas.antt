@@ -130,7 +130,7 @@ module _ (ls : List ℕ) (n : ℕ) (lt : n < 256) (t : TargetState) (aims : Aims
   at_word : drw_address ready_port ≡ address / 4 * 4
   at_word = ap (λ (x : ℕ). x + ready_port.tar / 4 * 4) upper ∙ ap (λ (x : ℕ). 0 + x / 4 * 4) pointed ∙ omega arith
 
-  -- the target after DRW, but for the memory
+  -- the target after an access by DRW, except for the memory
   abbrev after : TargetState
   after = advanced ready_target ready_port size
 

@@ -72,7 +72,7 @@ abbrev pub EndIs : {A : Type 0} → Result A Stop → Option Stop → Type 0
 EndIs (Ok x) end = end ≡ None
 EndIs (Err e) end = EndsBy e end
 
--- The same of a load.
+-- A load leaves the access without an end, except where it stopped.
 abbrev pub LoadEndIs : {A : Type 0} → Result A LoadEnd → Option Stop → Type 0
 LoadEndIs (Ok x) end = end ≡ None
 LoadEndIs (Err (e.Differs address wanted found)) end = end ≡ None

@@ -1,5 +1,4 @@
--- A job has one list of starting values, or one fault of their text; and a set has one set with these values, or one name that it does
--- not declare.
+-- A job has one list of starting values, or one fault of their text. A set has one set with these values, or one name that it does not declare.
 use Rattle.std.proofs.Common.{◌≡◌, ◌≢◌, ◌∙◌, ℕ, List, Option, Some, None, Result, Ok, Err, ap, refl, sym, subst}
 use Rattle.dap_base.specs.declared.text.Place.{Place}
 use Rattle.expr_grammar.specs.declared.token_list.TokenError.TheVariants as tokens

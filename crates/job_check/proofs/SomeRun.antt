@@ -1,4 +1,4 @@
--- A job, a selection and a name have a valid set with a sequence of the name, or a reason why none runs; and so have the bytes of a job.
+-- A job, a selection and a name have a valid set with a sequence of the name, or a reason why none runs. So have the bytes of a job.
 use Rattle.std.proofs.Common.{◌≡◌, ◌⊎◌, inl, inr, ℕ, ◌<◌, ◌^◌, Bool, true, false, List, length, Option, Result, Ok, Err, codes, refl, sym, subst, ◌∙◌, arith}
 use Rattle.serde_json.specs.Read.{read}
 use Rattle.device_tree.specs.PackForm.{IsPack}

@@ -62,7 +62,7 @@ pub data AnswersSet (set : SeqSet) (answer : Result SeqSet Refusal) : Type 0 whe
   valid : IsValid set → answer ≡ Ok set → AnswersSet set answer
   not_valid : (r : Refusal) → NoValid set r → answer ≡ Err r → AnswersSet set answer
 
--- The answer to the set of a selection, before the values of the job are put into it: that to the set with the values, and else why
+-- The answer to the set of a selection, before the values of the job are put into it. It is the answer to the set with the values, and else why
 -- they can not be put in.
 pub data AnswersPlain (dbgconf : Option (List ℕ)) (items : List ConfItem) (plain : SeqSet) (answer : Result SeqSet Refusal) : Type 0 where
   with_values : (set : SeqSet) → HasValues dbgconf items plain set → AnswersSet set answer → AnswersPlain dbgconf items plain answer

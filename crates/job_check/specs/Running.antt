@@ -41,14 +41,14 @@ pub record IsSetOfJob (job : Job) (s : Selection) (set : SeqSet) : Type 0 where
   pub of : HasPlain job s items plain
   pub replaced : HasValues job.dbgconf items plain set
 
--- The set is that of the selection, with the values of the job; a sequence of the set has the name; and the trees are those of the
--- set, in which nothing is wrong.
+-- The set is that of the selection, with the values of the job, and a sequence of it has the name. The trees are those of the set, in which
+-- nothing is wrong.
 pub record IsRunOfJob (s : Selection) (name : List ℕ) (r : ValidRun) : Type 0 where
   pub set : IsSetOfJob r.job s r.set
   pub named : has_sequence r.set name ≡ true
   pub trees : AreTreesOf r.set r.trees
 
--- The set of the selection, with the values of the job, is valid, and a sequence of it has the name: all of a run, except where its
+-- The set of the selection, with the values of the job, is valid, and a sequence of it has the name. That is all of a run, except where its
 -- trees lie in memory.
 pub record HasRunOf (job : Job) (s : Selection) (name : List ℕ) : Type 0 where
   pub set : SeqSet
@@ -56,8 +56,8 @@ pub record HasRunOf (job : Job) (s : Selection) (name : List ℕ) : Type 0 where
   pub named : has_sequence set name ≡ true
   pub valid : IsValid set
 
--- Why no sequence of a job runs: the values of the job can not be read; the job has no set for the selection; no sequence of the set
--- has the name; the values can not be put into the set; or the set with the values is not valid.
+-- Why no sequence of a job runs. The starting values of the job can not be read, or it has no set for the selection. Or no sequence of the set
+-- has the name. Or the values can not be put into the set, or the set with the values is not valid.
 pub data IsRefusedRunOf (job : Job) (s : Selection) (name : List ℕ) (end : RunRefusal) : Type 0 where
   no_conf : (r : Refusal) → NoConf job.dbgconf r → end ≡ ends.Refused r → IsRefusedRunOf job s name end
   not_resolved : (items : List ConfItem) (r : Refusal) → HasConf job.dbgconf items → NoSet job.pack s r → end ≡ ends.Refused r → IsRefusedRunOf job s name end

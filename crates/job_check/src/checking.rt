@@ -103,14 +103,17 @@ fn find_valid_set_of(
     check_set(alloc, set)
 }
 
-/// The set of sequences that a job has for the selected device, with the starting values of the job in its debug
-/// variables, where it is valid, and the trees of its texts.
+/// The set of sequences that a job has for the selected device, where it is valid, and the trees of its texts. The set has the starting
+/// values of the job in its debug variables.
 ///
-/// Else the first refusal of these: `Dbgconf` exactly where the starting values can not be read, with their first
-/// fault; `NoDevice`, `AmbiguousDevice` and `NoVariant` exactly where no device, two or more devices, and no
-/// variant of the one device have the names; `Dbgconf` with `UndefinedName` exactly where the debug variables are
-/// code that does not declare each name of the starting values; `Check` exactly where the set with the values is
-/// not valid, with its first fault. `OutOfMemory` where memory is refused.
+/// Else the first refusal of these:
+/// - `Dbgconf` exactly where the starting values can not be read, with their first fault;
+/// - `NoDevice`, `AmbiguousDevice` and `NoVariant` exactly where no device, two or more devices, and no variant of the one device have the
+///   names;
+/// - `Dbgconf` with `UndefinedName` exactly where the debug variables are code that does not declare each name of the starting values;
+/// - `Check` exactly where the set with the values is not valid, with its first fault.
+///
+/// `OutOfMemory` where memory is refused.
 pub fn valid_set_of(
     alloc: Global,
     job: &Job,
@@ -138,12 +141,12 @@ fn find_valid_set(
     find_valid_set_of(alloc, &job, selection)
 }
 
-/// The set of sequences that the job of these bytes has for the selected device, with the starting values of the
-/// job in its debug variables, where it is valid, and the trees of its texts.
+/// The set of sequences that the job of these bytes has for the selected device, where it is valid, and the trees of its texts. The set has
+/// the starting values of the job in its debug variables.
 ///
-/// Else the first refusal of these: `BadJson` exactly where the bytes are no JSON text; `Job` exactly where the
-/// value is no job, with its first fault; and then those of `valid_set_of`. `OutOfMemory` where memory is refused.
-/// The limit on the number of bytes is the caller's.
+/// Else the first refusal of these: `BadJson` exactly where the bytes are no JSON text, and `Job` exactly where the value is no job, with
+/// its first fault. Then come those of `valid_set_of`. `OutOfMemory` where memory is refused. The limit on the number of bytes is the
+/// caller's.
 pub fn valid_set(
     alloc: Global,
     bytes: &[u8],

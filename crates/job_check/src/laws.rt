@@ -79,8 +79,8 @@ pub fn run_or_reason_of_a_job()
         → ((run : ValidRun) × (run.job ≡ job) × IsRunFor own selection name run) ⊎ ((end : RunRefusal) × IsRefusedRunFor job own selection name end) }
 {}
 
-/// Where the debug variables of a selection are code as they are, those of a run are this code with the starting values of the job, apart from
-/// places; and the trees of its sequences are as they are.
+/// Let the debug variables of a selection be code as they are. Then those of a run are this code with the starting values of the job, apart
+/// from places. The trees of its sequences are as they are.
 pub fn values_are_put_in()
     ensures debugvars { (selection : Selection) (name : List ℕ) (run : ValidRun) → IsRunOfJob selection name run
         → (items : List ConfItem) (plain : SeqSet) → HasPlain run.job selection items plain → (code : List StmtTree) → IsCodeOf plain.debugvars code

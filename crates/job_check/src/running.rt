@@ -95,14 +95,17 @@ fn run_with(
     }
 }
 
-/// The job with what the mode needs of it, and with the set that it has for the selected device, with the starting
-/// values of the job in its debug variables, where a sequence of the set has the name and the set is valid, and with
-/// the trees of its texts.
+/// The job with what the mode needs of it, with its set for the selected device and with the trees of its texts. The set has the starting
+/// values of the job in its debug variables, a sequence of the name, and is valid.
 ///
-/// Else the first of these: where the mode needs an image, `Job` with `Missing` at `image` exactly where the job has
-/// none, and `Image` exactly where its text is none, with its first fault; the refusals of `valid_set_of` up to
-/// `NoVariant`; `NoSequence` exactly where no sequence of the set has the name; `Dbgconf` with `UndefinedName`, and
-/// `Check`, as in `valid_set_of`. `OutOfMemory` where memory is refused.
+/// Else the first of these:
+/// - where the mode needs an image, `Job` with `Missing` at `image` exactly where the job has none, and `Image` exactly where its text is
+///   none, with its first fault;
+/// - the refusals of `valid_set_of` up to `NoVariant`;
+/// - `NoSequence` exactly where no sequence of the set has the name;
+/// - `Dbgconf` with `UndefinedName`, and `Check`, as in `valid_set_of`.
+///
+/// `OutOfMemory` where memory is refused.
 pub fn valid_run_of(
     alloc: Global,
     job: Job,

@@ -38,9 +38,8 @@ pub record HasNoAnswer (run : Run) (l : Left) : Type 0 where
   pub cause : report.cause ≡ NoAnswer
   pub stop : IsRetryStop run report l
 
--- Where no retry ended, a run that is meant to be done or to halt does so, with all that it means, and one that is meant to end at
--- a fault is stopped there. Where a retry ended, the run is stopped there; where no transfer meets more WAITs than the retry number
--- allows, none ends.
+-- Where no retry ended, a run that is meant to be done or to halt does so, with all that it means. One that is meant to end at a fault is then
+-- stopped there. Where a retry ended, the run is stopped there; where no transfer meets more WAITs than the retry number allows, none ends.
 pub record EndsAsMeant (run : Run) (l : Left) : Type 0 where
   pub whole : answers.IsWhole (outcome_in run).ending → NoneEnded run l → IsSameEnd (outcome_in run).ending l.ended.ending × IsWhole run l
   pub faulted : IsFaulted (outcome_in run).ending → NoneEnded run l → HasFaulted run l

@@ -40,24 +40,29 @@ use Rattle.sequels.specs.Sequel.{Sequel}
 
 -- ---- what is run, and what it leaves
 
--- What is known of an access: the journal of the calls that it was asked, how many need points calls make by themselves, and
--- whether it keeps the bounds on starting packets.
+-- What is known of an access.
 pub record AccessKind : Type 0 where
+  -- the journal of the calls that it was asked
   pub journal : TargetState → List Ask → List Entry
+  -- how many need points calls make by themselves
   pub cost : Costs
+  -- whether it keeps the bounds on starting packets
   pub is_sparing : Bool
 
 -- an access of this kind
 abbrev pub access_kind : (TargetState → List Ask → List Entry) → Costs → Bool → AccessKind
 access_kind journal cost is_sparing = record { journal = journal; cost = cost; is_sparing = is_sparing }
 
--- A run: its access, the packet limits of its job, its program with what follows it, the state of its bench where the access began, and
--- what was written before, where that is known.
+-- A run of a job.
 pub record Run : Type 0 where
   pub access : AccessKind
+  -- the packet limits of its job
   pub limits : Limits
+  -- its program, with what follows it
   pub task : Task
+  -- the state of its bench where the access began
   pub first : BenchState
+  -- what was written before, where that is known
   pub before : Option (List ℕ)
 
 -- What a run left: its answer, what is written, where that is known, and the state of the bench.
@@ -130,9 +135,9 @@ KeepsIdleCycles run l = idle_cycles_of l.bench ≡ idle_cycles_of run.first
 abbrev pub needs_in : Run → ℕ
 needs_in run = needs run.access.cost run.task.program (target_in run)
 
--- The starting packets since the load are few: at most three for the opening, one for each need point, and one for each full
--- flight of register accesses; and for at least one write, all at neighbouring addresses of one block of 1,024 bytes below 2^32,
--- with at most two need points, at most six more than the blocks of writes that hold them.
+-- The starting packets since the load are few: at most three for the opening, one for each need point, and k / c for k register accesses. Here a
+-- flight holds c of them. Let all calls be writes at neighbouring addresses of one block of 1,024 bytes below 2^32, one at least, with at most
+-- two need points. Then there are at most six more than the blocks of writes that hold them.
 pub record IsFew (run : Run) (l : Left) : Type 0 where
   pub few : l.bench.starting ≤ 3 + needs_in run + registers_in (entries_in run (calls_in run)) / capacity run.limits
   pub blocks : (size ap address : ℕ) → 0 < length (calls_in run) → AreNextWrites (address / 1024) size ap address (calls_in run)
@@ -143,7 +148,7 @@ pub record IsFew (run : Run) (l : Left) : Type 0 where
 abbrev pub is_bounded : Run → Bool
 is_bounded run = run.access.is_sparing && is_none run.task.sequel
 
--- such a run keeps them
+-- a run that is bounded sends few starting packets
 abbrev pub IsFewIf : Bool → Run → Left → Type 0
 IsFewIf false run l = ⊤
 IsFewIf true run l = IsFew run l
@@ -172,9 +177,9 @@ pub record HasMade (entries : List Entry) (r : Report) (b : Beginning) (m : Benc
   pub part : r.accesses ≡ r.confirmed → grown_since b m < weight_in (start_of b) (take (r.confirmed + 1) entries)
   pub target : Agree (target_of m.probe) (target_after (start_of b) (take r.accesses entries))
 
--- The numbers of the report are those of a stop in the journal of these calls: exactly its accesses were performed, the target agrees
--- with the one after them, and `lines` units have their lines before the stop, which are written. The memory is the one that the sequences
--- leave with exactly the units answered that were made. The idle cycles of the probe are those of the beginning.
+-- The numbers of the report are those of a stop in the journal of these calls. Exactly its accesses were performed, and the target agrees with
+-- the one after them. `lines` units have their lines before the stop, which are written. The memory is the one that the sequences leave with
+-- exactly the units answered that were made. The idle cycles of the probe are those of the beginning.
 pub record HasStopped (run : Run) (answered : Option ℕ) (o : Outcome) (calls : List Ask) (lines : ℕ) (r : Report) (l : Left) : Type 0 where
   pub stops : StopsAfter r.cause lines o
   pub written : l.written ≡ o.written
@@ -183,8 +188,8 @@ pub record HasStopped (run : Run) (answered : Option ℕ) (o : Outcome) (calls :
   pub idle_cycles : KeepsIdleCycles run l
   pub words : (target_of l.bench.probe).words ≡ (outcome_with run (units_made r.cause (entries_in run calls) r lines)).target.words
 
--- At a fault: the outcome ends at a fault of the next unit, which is the one that the report names, and the last performed access is the
--- first that gives a fault which its unit does not forgive, in the journal of the outcome's calls. No retry ended.
+-- At a fault the outcome ends at a fault of the next unit, which is the one that the report names. In the journal of the outcome's calls, the
+-- last performed access is the first that gives a fault which its unit does not forgive. No retry ended.
 pub record IsFaultStop (run : Run) (r : Report) (l : Left) : Type 0 where
   pub lines : ℕ
   pub stopped : HasStopped run None (outcome_in run) (calls_in run) lines r l
@@ -193,9 +198,9 @@ pub record IsFaultStop (run : Run) (r : Report) (l : Left) : Type 0 where
   pub confirmed : r.accesses ≡ r.confirmed + 1
   pub retries : NoneEnded run l
 
--- Where a retry ended: the outcome is the one with so many units answered, which comes first in the whole one; the journal is that
--- of the whole one's calls. The performed accesses are confirmed, except the last where a read was outstanding or a write unchecked.
--- Just one retry ended: at a transfer that met more WAITs than the retry number allows, and that is one of the run's.
+-- Where a retry ended, the outcome is the one with so many units answered, which comes first in the whole one. The journal is that of the whole
+-- one's calls. The performed accesses are confirmed, except the last where a read was outstanding or a write unchecked. Just one retry ended: at
+-- a transfer that met more WAITs than the retry number allows, and that is one of the run's.
 pub record IsRetryStop (run : Run) (r : Report) (l : Left) : Type 0 where
   pub lines : ℕ
   pub stopped : HasStopped run (Some lines) (outcome_with run lines) (calls_in run) lines r l
@@ -224,17 +229,17 @@ all_entries run = entries_in run (calls_in run)
 abbrev pub work_in : Run → Left → ℕ
 work_in run l = grown_since (began run.first None) l.bench
 
--- What was written comes first in the lines of the outcome. The entries that were begun are the first of the journal of the outcome's
--- calls: none is of a call after the one that the outcome ends at.
+-- What was written comes first in the lines of the outcome. The entries that were begun are the first of the journal of the outcome's calls.
+-- None is of a call after the one at which the outcome ends.
 pub record IsFront (run : Run) (begun : ℕ) (l : Left) : Type 0 where
   pub written : Grows l.written (outcome_in run).written
   pub within : begun ≤ length (all_entries run)
 
--- Where the bench failed, by the journal of the outcome's calls: at least the confirmed entries were performed, and perhaps a part of the next;
--- and at most those that were issued were begun. The probe's work has grown by at least what the performed ones weigh, and by at most what those
+-- Where the bench failed, by the journal of the outcome's calls. At least the confirmed entries were performed, and perhaps a part of the next;
+-- at most those that were issued were begun. The probe's work has grown by at least what the performed ones weigh, and by at most what those
 -- weigh that were begun. Those between the two numbers were handed over together: in one flight, or one by itself. Where the outcome ends at a
 -- fault, more may have been issued than the journal has: for calls after the one at which it ends. None of those that were begun gives a fault
--- that its unit does not forgive, except perhaps the last. So many calls have come, all of whose entries are confirmed; and what was written comes
+-- that its unit does not forgive, except perhaps the last. So many calls have come, all of whose entries are confirmed. What was written comes
 -- first in the lines of the outcome with only so many units answered.
 pub record IsBroken (run : Run) (issued confirmed : ℕ) (l : Left) : Type 0 where
   pub came : ℕ
@@ -283,8 +288,8 @@ IsUnopened (e.BenchFault issued confirmed) = (issued ≡ 0) × (confirmed ≡ 0)
 IsUnopened e.OutOfMemory = Unit {0}
 IsUnopened other = ⊥
 
--- The access did not begin: nothing was written, no work was done, and of the probe as it was after the load the settings have changed
--- or nothing. So the target is the one after the load.
+-- The access did not begin. Nothing was written, no work was done, and of the probe as it was after the load the settings have changed or
+-- nothing. So the target is the one after the load.
 pub record IsNotOpened (config : Config) (job : BenchJob) (before : Option (List ℕ)) (l : Left) : Type 0 where
   pub ending : IsUnopened l.ended.ending
   pub written : l.written ≡ before

@@ -82,7 +82,7 @@ fn end_begin<B: Bench>(alloc: Global, refused: NotBegun<B>) -> Ran<B>
     }
 }
 
-/// Runs a sequence of a job over its bench, which was just loaded, with what follows it (`run_task` of `task_runs`): the access is begun,
+/// Runs a sequence of a job over its bench, which was just loaded, with what follows it (`run_task` of `task_runs`). The access is begun,
 /// and hands the bench back in the end. The lines of the run are written to the sink.
 ///
 /// At `ReplyBad` the packet and the bad reply are answered. A run whose access did not begin ends with

@@ -14,6 +14,7 @@ use Rattle.job_text.specs.RunReading.{default_settings}
 use Rattle.job_text.specs.RunForm.{IsRun}
 use Rattle.job_text.specs.TargetForm.{IsAddress, IsBench}
 
+-- the value is an item of `watch`: 1 to 65,536 words from an address on, each in a region
 pub record IsWatchItem (regions : List RegionJob) (d : Data) (x : WatchItem) : Type 0 where
   pub known : HasOnly (codes "address" ∷ codes "words" ∷ []) d
   pub address : Has (codes "address") (Such is_aligned IsAddress) d x.address
@@ -29,6 +30,7 @@ pub record IsImageJob (d : Data) (x : ImageJob) : Type 0 where
   pub ap : HasOr (codes "ap") (IsNumber 0 255) 0 d x.ap
   pub hex : Has (codes "hex") IsText d x.hex
 
+-- the value stands for the job: each key of docs/JOB.md has its value, or its default where it is absent
 pub record IsJob (d : Data) (job : Job) : Type 0 where
   pub known : HasOnly (codes "pack" ∷ codes "run" ∷ codes "bench" ∷ codes "watch" ∷ codes "image" ∷ codes "dbgconf" ∷ codes "trace" ∷ []) d
   pub pack : Has (codes "pack") IsPack d job.pack

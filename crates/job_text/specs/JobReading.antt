@@ -17,6 +17,7 @@ use Rattle.job_text.specs.Tests.{is_aligned, are_words_in}
 use Rattle.job_text.specs.RunReading.{run_in, default_settings}
 use Rattle.job_text.specs.TargetReading.{address_number, bench_in}
 
+-- an item of `watch`: an address, and how many words from it on are printed
 unfoldable pub watch_item_in : List RegionJob → Data → Result WatchItem JobFault
 watch_item_in regions d = do
   known ← only_keys watch_keys d
@@ -24,9 +25,11 @@ watch_item_in regions d = do
   words ← required (codes "words") (such (are_words_in regions address) (number 1 65536)) d
   Ok (record { address = address; words = words })
 
+-- the value of `watch`: at most 1,024 watched stretches, none where the key is absent
 unfoldable pub watch_in : List RegionJob → Data → Result (List WatchItem) JobFault
 watch_in regions d = or_else (codes "watch") (list_of (Some 1024) (alone (watch_item_in regions)) never) [] d
 
+-- the value of `image`: the access port through which it is written, 0 where that is absent, and the Intel HEX records
 unfoldable pub image_job_in : Data → Result ImageJob JobFault
 image_job_in d = do
   known ← only_keys image_keys d
@@ -34,9 +37,11 @@ image_job_in d = do
   hex ← required (codes "hex") text d
   Ok (record { ap = ap; hex = hex })
 
+-- the image of memory, where the job has the key `image`
 unfoldable pub image_in : Data → Result (Option ImageJob) JobFault
 image_in d = optional (codes "image") image_job_in d
 
+-- the text with starting values of debug variables, where the job has the key `dbgconf`
 unfoldable pub dbgconf_in : Data → Result (Option (List ℕ)) JobFault
 dbgconf_in d = optional (codes "dbgconf") text d
 
@@ -46,6 +51,7 @@ entry_text_in d = do
   word ← text d
   if is_entry_text word then Ok word else Err (WrongKind [])
 
+-- the at most 65,536 entries of a kept trace, where the job has the key `trace`
 unfoldable pub trace_in : Data → Result (Option (List (List ℕ))) JobFault
 trace_in d = optional (codes "trace") (list_of (Some 65536) (alone entry_text_in) never) d
 
@@ -58,6 +64,7 @@ optional_in regions d = do
   trace ← trace_in d
   Ok (record { watch = watch; image = image; dbgconf = dbgconf; trace = trace })
 
+-- a job: its keys, then the values of `pack`, `run`, `bench`, `watch`, `image`, `dbgconf` and `trace`, in this order
 unfoldable pub job_in : Data → Result Job JobFault
 job_in d = do
   known ← only_keys job_keys d

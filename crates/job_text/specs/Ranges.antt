@@ -21,6 +21,7 @@ pub record IsWatched (regions : List RegionJob) (item : WatchItem) : Type 0 wher
   pub few : item.words ≤ 65536
   pub inside : are_words_in regions item.address item.words ≡ true
 
+-- at most 1,024 stretches are watched, each within the regions
 pub record AreWatched (regions : List RegionJob) (watch : List WatchItem) : Type 0 where
   pub few : length watch ≤ 1024
   pub each : All (IsWatched regions) watch

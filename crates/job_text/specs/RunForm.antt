@@ -13,10 +13,12 @@ HasValues [] d variables = variables ≡ []
 HasValues (name ∷ names) d variables =
     (value : ℕ) × (rest : List Variable) × (variables ≡ with_value value name ∷ rest) × HasOr name (IsNumber 0 (2 ^ 64 - 1)) 0 d value × HasValues names d rest
 
+-- the value of `variables` has no keys other than the predefined variables, which start at its numbers, or at 0
 pub record AreVariables (d : Data) (variables : List Variable) : Type 0 where
   pub known : HasOnly predefined d
   pub values : HasValues predefined d variables
 
+-- the value of `run` stands for the settings: each key has its number, or its default where it is absent
 pub record IsRun (d : Data) (settings : Settings) : Type 0 where
   pub known : HasOnly (codes "turn_us" ∷ codes "retry" ∷ codes "idle" ∷ codes "variables" ∷ []) d
   pub turn_us : HasOr (codes "turn_us") (IsNumber 1 60000000) 10 d settings.turn_us

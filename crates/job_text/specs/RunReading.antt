@@ -9,6 +9,7 @@ use Rattle.target_machine.specs.declared.unit.Settings.{Settings}
 use Rattle.function_table.specs.Variables.{predefined}
 use Rattle.job_text.specs.Keys.{run_keys}
 
+-- the variable of this name starts at this value
 abbrev pub with_value : ℕ → List ℕ → Variable
 with_value value name = record { name = name; value = value }
 
@@ -25,6 +26,7 @@ values_after earlier (name ∷ names) d = do
   variable ← variable_in name d
   values_after (earlier ++ variable ∷ []) names d
 
+-- the value of `variables`: a starting value for each predefined variable, in their order
 unfoldable pub variables_in : Data → Result (List Variable) JobFault
 variables_in d = do
   known ← only_keys predefined d
@@ -34,6 +36,7 @@ variables_in d = do
 abbrev pub zeros : List Variable
 zeros = map (with_value 0) predefined
 
+-- the value of `run`: how sequences are run
 unfoldable pub run_in : Data → Result Settings JobFault
 run_in d = do
   known ← only_keys run_keys d

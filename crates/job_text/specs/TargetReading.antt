@@ -16,12 +16,15 @@ use Rattle.probe_core.specs.declared.job.BenchJob.{BenchJob}
 use Rattle.job_text.specs.Keys.{ap_keys, region_keys, word_keys, script_keys, target_keys, bench_keys}
 use Rattle.job_text.specs.Tests.{has_bit_0, lacks_bits_4_and_6, is_aligned, is_word_in, is_length_after, same_ap, overlap, same_word, repeats_script, is_filled}
 
+-- a number of 32 bits
 abbrev pub word_number : Data → Result ℕ JobFault
 word_number = number 0 (2 ^ 32 - 1)
 
+-- a number of 64 bits
 abbrev pub address_number : Data → Result ℕ JobFault
 address_number = number 0 (2 ^ 64 - 1)
 
+-- an item of `aps`: an access port
 unfoldable pub ap_in : Data → Result ApJob JobFault
 ap_in d = do
   known ← only_keys ap_keys d
@@ -32,6 +35,7 @@ ap_in d = do
   la ← or_else (codes "la") flag false d
   Ok (record { ap = ap; idr = idr; base = base; csw = csw; la = la })
 
+-- an item of `memory`: a region, whose length depends on the earlier ones
 unfoldable pub region_in : List RegionJob → Data → Result RegionJob JobFault
 region_in earlier d = do
   known ← only_keys region_keys d
@@ -40,6 +44,7 @@ region_in earlier d = do
   read_only ← or_else (codes "kind") (choice (codes "rw") (codes "ro")) false d
   Ok (record { address = address; length = length; read_only = read_only })
 
+-- an item of `words` or `reset`: the value of a word in a region
 unfoldable pub word_in : List RegionJob → Data → Result WordJob JobFault
 word_in regions d = do
   known ← only_keys word_keys d
@@ -53,6 +58,7 @@ values_in d = do
   values ← list_of (Some 4096) (alone word_number) never d
   if is_filled values then Ok values else Err (Missing [])
 
+-- an item of `scripts`: the values that a word in a region shows one after another
 unfoldable pub script_in : List RegionJob → Data → Result ScriptJob JobFault
 script_in regions d = do
   known ← only_keys script_keys d
@@ -60,6 +66,7 @@ script_in regions d = do
   values ← required (codes "values") values_in d
   Ok (record { address = address; values = values })
 
+-- the value of `power_reads`: how many reads of CTRL/STAT after a power request show no acknowledgement
 unfoldable pub power_reads_in : Data → Result ℕ JobFault
 power_reads_in d = or_else (codes "power_reads") (number 0 1000000) 0 d
 
@@ -73,9 +80,11 @@ port_in d = do
   carry ← or_else (codes "edge") (choice (codes "wrap") (codes "carry")) false d
   Ok (record { dpidr = dpidr; powered = powered; power_reads = power_reads; pins = pins; carry = carry })
 
+-- the value of `aps`: at most 16 access ports of different numbers
 unfoldable pub aps_in : Data → Result (List ApJob) JobFault
 aps_in d = required (codes "aps") (list_of (Some 16) (alone ap_in) (repeats_by same_ap)) d
 
+-- the value of `memory`: at most 64 regions, none of which overlap
 unfoldable pub regions_in : Data → Result (List RegionJob) JobFault
 regions_in d = required (codes "memory") (list_of (Some 64) region_in (repeats_by overlap)) d
 
@@ -83,15 +92,19 @@ regions_in d = required (codes "memory") (list_of (Some 64) region_in (repeats_b
 unfoldable pub words_in : List ℕ → ℕ → List RegionJob → Data → Result (List WordJob) JobFault
 words_in key limit regions d = or_else key (list_of (Some limit) (alone (word_in regions)) (repeats_by same_word)) [] d
 
+-- the value of `words`: at most 65,536 words that do not start at 0, at different addresses
 unfoldable pub listed_in : List RegionJob → Data → Result (List WordJob) JobFault
 listed_in regions d = words_in (codes "words") 65536 regions d
 
+-- the value of `reset`: at most 1,024 words that a reset sets, at different addresses
 unfoldable pub reset_in : List RegionJob → Data → Result (List WordJob) JobFault
 reset_in regions d = words_in (codes "reset") 1024 regions d
 
+-- the value of `scripts`: at most 1,024 scripts, at different addresses and at none of `words`
 unfoldable pub scripts_in : List RegionJob → List WordJob → Data → Result (List ScriptJob) JobFault
 scripts_in regions words d = or_else (codes "scripts") (list_of (Some 1024) (alone (script_in regions)) (repeats_script words)) [] d
 
+-- the value of `target`: the debug port and the lines, then the access ports, and then the memory
 unfoldable pub target_in : Data → Result TargetJob JobFault
 target_in d = do
   known ← only_keys target_keys d
@@ -114,18 +127,22 @@ target_in d = do
     reset = reset;
   })
 
+-- the value of `packet_size`: the bytes of a packet
 unfoldable pub packet_size_in : Data → Result ℕ JobFault
 packet_size_in d = required (codes "packet_size") (number 64 1024) d
 
+-- the value of `packet_count`: how many packets the probe takes before a reply is read
 unfoldable pub packet_count_in : Data → Result ℕ JobFault
 packet_count_in d = required (codes "packet_count") (number 1 64) d
 
+-- the limits of the probe: the bytes of a packet, and the number of packets
 unfoldable pub limits_in : Data → Result Limits JobFault
 limits_in d = do
   packet_size ← packet_size_in d
   packet_count ← packet_count_in d
   Ok (record { packet_size = packet_size; packet_count = packet_count })
 
+-- the value of `bench`: the limits of the probe, its WAIT answers, and its target
 unfoldable pub bench_in : Data → Result BenchJob JobFault
 bench_in d = do
   known ← only_keys bench_keys d

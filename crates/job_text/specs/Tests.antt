@@ -16,14 +16,17 @@ has_bit_0 n = n % 2 == 1
 abbrev pub lacks_bits_4_and_6 : ℕ → Bool
 lacks_bits_4_and_6 n = bit_and n 0x50 == 0
 
+-- a multiple of 4
 abbrev pub is_aligned : ℕ → Bool
 is_aligned n = n % 4 == 0
 
 -- ---- memory
 
+-- the region holds the byte at the address
 abbrev pub holds : ℕ → RegionJob → Bool
 holds address region = nat_le region.address address && nat_lt address (region.address + region.length)
 
+-- one of the regions holds the byte at the address
 abbrev pub is_held : List RegionJob → ℕ → Bool
 is_held regions address = list_any (holds address) regions
 
@@ -42,6 +45,7 @@ is_length_after earlier address n = is_aligned n && nat_le (address + n) (2 ^ 63
 
 -- ---- the same
 
+-- access ports of one number
 abbrev pub same_ap : ApJob → ApJob → Bool
 same_ap a b = a.ap == b.ap
 
@@ -49,9 +53,11 @@ same_ap a b = a.ap == b.ap
 abbrev pub overlap : RegionJob → RegionJob → Bool
 overlap a b = nat_lt a.address (b.address + b.length) && nat_lt b.address (a.address + a.length)
 
+-- words at one address
 abbrev pub same_word : WordJob → WordJob → Bool
 same_word a b = a.address == b.address
 
+-- scripts at one address
 abbrev pub same_script : ScriptJob → ScriptJob → Bool
 same_script a b = a.address == b.address
 
@@ -59,6 +65,7 @@ same_script a b = a.address == b.address
 abbrev pub repeats_script : List WordJob → List ScriptJob → ScriptJob → Bool
 repeats_script words earlier x = list_any (λ other. same_script other x) earlier || list_any (λ word. word.address == x.address) words
 
+-- the list has an item
 abbrev pub is_filled : {A : Type 0} → List A → Bool
 is_filled [] = false
 is_filled (x ∷ xs) = true

@@ -121,11 +121,9 @@ fn answer_of(alloc: Global, bytes: &[u8]) -> Result<Job, JobRefusal>
     }
 }
 
-/// The job that `bytes` describe, or why they describe none: `BadJson` exactly where `serde_json`
-/// reads no value from them, at most 127 arrays and objects within one another; `Fault` with the
-/// first fault of the value, by the rules and the order of docs/JOB.md; `OutOfMemory` where memory
-/// is refused. The bytes are read once, in near-linear time. The limit on their number is the
-/// caller's.
+/// The job that `bytes` describe, or why they describe none. `BadJson` exactly where `serde_json` reads no value from them, at most 127
+/// arrays and objects within one another. `Fault` with the first fault of the value, by the rules and the order of docs/JOB.md.
+/// `OutOfMemory` where memory is refused. The bytes are read once, in near-linear time. The limit on their number is the caller's.
 pub fn job_of(alloc: Global, bytes: &[u8]) -> Result<Job, JobRefusal>
     // The job is one that the bytes describe.
     ensures found { IfOk result (Describes bytes.now) }

@@ -12,7 +12,7 @@ pub record Reads {A : Type 0} (reads : Data → Result A JobFault) (R : Data →
   pub sound : (d : Data) (x : A) → reads d ≡ Ok x → R d x
   pub complete : (d : Data) (x : A) → R d x → reads d ≡ Ok x
 
--- the same for an item that is read with the earlier ones in hand
+-- the same for an item that is read after the earlier ones
 pub record ReadsAfter {A : Type 0} (reads : List A → Data → Result A JobFault) (R : List A → Data → A → Type 0) : Type 0 where
   pub after : (earlier : List A) → Reads (reads earlier) (R earlier)
 

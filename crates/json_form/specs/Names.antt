@@ -11,6 +11,7 @@ abbrev pub names : Members → List (List ℕ)
 names no_members = []
 names (member name d rest) = name ∷ names rest
 
+-- whether the name is one of these
 abbrev pub is_among : List (List ℕ) → List ℕ → Bool
 is_among known name = list_any (bytes_eq name) known
 

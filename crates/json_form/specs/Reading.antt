@@ -15,9 +15,11 @@ use Rattle.json_form.specs.Names.{names, least_unknown}
 
 -- ---- leaves
 
+-- a JSON text; any other value is `WrongKind`
 abbrev pub text : Data → Result (List ℕ) JobFault
 text d = ok_or (as_str d) (WrongKind [])
 
+-- `true` or `false`; any other value is `WrongKind`
 abbrev pub flag : Data → Result Bool JobFault
 flag d = ok_or (as_bool d) (WrongKind [])
 
@@ -32,6 +34,7 @@ unfoldable pub any_number : Data → Result ℕ JobFault
 any_number d = option_map_or (λ n. ok_or (as_u64 n) (BadNumber [])) (as_number d)
     (option_map_or (λ s. ok_or (number_value s) (BadNumber [])) (as_str d) (Err (WrongKind [])))
 
+-- a number in this range, both ends included; a number outside it is `BadNumber`
 unfoldable pub number : ℕ → ℕ → Data → Result ℕ JobFault
 number low high d = do
   n ← any_number d
@@ -50,16 +53,20 @@ unfoldable pub only_keys : List (List ℕ) → Data → Result (Unit {0}) JobFau
 only_keys known d =
     option_map_or (λ members. option_map_or (λ name. Err (UnknownKey (Key name ∷ []))) (least_unknown known (names members)) (Ok tt)) (as_object d) (Err (WrongKind []))
 
+-- the value of a key that the object has to have; without the key it is `Missing`
 unfoldable pub required : {A : Type 0} → List ℕ → (Data → Result A JobFault) → Data → Result A JobFault
 required key reads d = option_map_or (λ v. at (Key key) (reads v)) (get key d) (Err (Missing (Key key ∷ [])))
 
+-- what a key that is there reads as, as the value of a key that may be absent
 abbrev pub some_of : {A : Type 0} → Result A JobFault → Result (Option A) JobFault
 some_of (Ok x) = Ok (Some x)
 some_of (Err fault) = Err fault
 
+-- the value of a key that the object may have, or none
 unfoldable pub optional : {A : Type 0} → List ℕ → (Data → Result A JobFault) → Data → Result (Option A) JobFault
 optional key reads d = option_map_or (λ v. some_of (at (Key key) (reads v))) (get key d) (Ok None)
 
+-- the value of a key that the object may have, or its default
 unfoldable pub or_else : {A : Type 0} → List ℕ → (Data → Result A JobFault) → A → Data → Result A JobFault
 or_else key reads other d = option_map_or (λ v. at (Key key) (reads v)) (get key d) (Ok other)
 
@@ -78,6 +85,7 @@ items_after reads repeats earlier (item d rest) = do
   x ← item_after reads repeats earlier d
   items_after reads repeats (earlier ++ x ∷ []) rest
 
+-- the number of items of a list
 abbrev pub items_len : Items → ℕ
 items_len no_items = 0
 items_len (item d rest) = suc (items_len rest)
@@ -87,6 +95,7 @@ abbrev pub has_room : Option ℕ → ℕ → Bool
 has_room None n = true
 has_room (Some limit) n = nat_le n limit
 
+-- a list of items, each read after the earlier ones; a list over its limit is `TooMany`
 unfoldable pub list_of : {A : Type 0} → Option ℕ → (List A → Data → Result A JobFault) → (List A → A → Bool) → Data → Result (List A) JobFault
 list_of limit reads repeats d =
     option_map_or (λ items. if has_room limit (items_len items) then items_after reads repeats [] items else Err (TooMany [])) (as_array d) (Err (WrongKind []))

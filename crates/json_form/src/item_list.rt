@@ -145,8 +145,8 @@ fn is_within(limit: Option<usize>, count: usize) -> bool
     }
 }
 
-/// Reads a list: `WrongKind` where the value is none, `TooMany` where it is longer than the limit,
-/// and then each item wholly, and after it `Repeated` where it is the same as an earlier one.
+/// Reads a list: `WrongKind` where the value is none, and `TooMany` where it is longer than the limit. Then each item is read wholly, and
+/// after it `Repeated` comes where it is the same as an earlier one.
 #[derive(Clone, Copy)]
 pub struct ListOf<R> {
     pub limit: Option<usize>,

@@ -39,8 +39,8 @@ fn first_unknown<'a>(members: &'a Map<String, Value>, known: &[&str]) -> Option<
     None
 }
 
-/// That the value is an object with no other keys than the known ones: `WrongKind` where it is
-/// no object, and else `UnknownKey` for the first other key in byte order.
+/// That the value is an object with no other keys than the known ones. `WrongKind` where it is no object, and else `UnknownKey` for the
+/// first other key in byte order.
 #[tactic(auto, unfolding(crate::specs::Reading::only_keys))]
 pub fn only_keys_of(alloc: Global, value: &Value, known: &[&str]) -> Result<(), JobFault>
     ensures { Gives result (only_keys (map (λ k. k.now) known.now) (view value.now)) }

@@ -52,10 +52,9 @@ pub fn tested<N: Drop>(alloc: Global, number: N, passes: bool) -> Result<N, JobF
     }
 }
 
-/// Reads a number from `low` to `high`, both included: a JSON number without fraction and
-/// exponent, or a text that is one number token of the sequence language (decimal without leading
-/// zeros, or hexadecimal after `0x`). A value that is neither number nor text is `WrongKind`, any
-/// other is `BadNumber`.
+/// Reads a number from `low` to `high`, both included. It is a JSON number without fraction and exponent, or a text that is one number
+/// token of the sequence language (decimal without leading zeros, or hexadecimal after `0x`). A value that is neither number nor text is
+/// `WrongKind`, any other is `BadNumber`.
 #[derive(Clone, Copy)]
 pub struct Number<N> {
     pub low: N,

@@ -41,7 +41,7 @@ binary_mark b.Or = codes " || "
 abbrev pub number_text : ℕ → List ℕ
 number_text n = if nat_lt n 10 then decimal n else hex n
 
--- a comma before an argument, but for the first
+-- a comma before an argument, except the first
 abbrev pub comma_text : Bool → List ℕ
 comma_text is_first = if is_first then [] else codes ", "
 

@@ -20,7 +20,7 @@ fn with_number(alloc: Global, line: Line, number: u64) -> Result<Line, OutOfMemo
     }
 }
 
-// A comma before an argument, but for the first.
+// A comma before an argument, except the first.
 fn with_comma(line: Line, is_first: bool) -> Result<Line, OutOfMemory>
     ensures { IfOk result (λ l. l ≡ line ++ comma_text is_first) }
 {

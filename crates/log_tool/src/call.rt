@@ -60,8 +60,8 @@ fn finish<K: Sink>(alloc: Global, asked: &Result<Answer, Unasked>, sink: &mut K)
 
 /// Runs a sequence of a job on the target of the job, each unit alone and at once, and writes the log of the run.
 ///
-/// `words` are those after the program's name: `--device` and `--sequence` with a name, `--variant` and `--pname` with a name,
-/// `--turns` with a number from 0 to 1,000,000 (2 where it is absent), and `--fail`, each at most once. The source has the
+/// `words` are those after the program's name: `--device` and `--sequence` with a name, `--variant` and `--pname` with a name, `--turns`
+/// with a number from 0 to 1,000,000, and `--fail`. Each comes at most once, and the turns are 2 where they are absent. The source has the
 /// job, one JSON text of at most 16,777,216 bytes. Of each loop the first turns are shown, so many, and the last one.
 ///
 /// | Status | What was written |
@@ -87,8 +87,8 @@ pub fn dapseq_log<S: Source, K: Sink>(
         IsQuiet (S.faults source.old) (S.faults source.new) → IsQuiet (K.faults sink.old) (K.faults sink.new) → result ≢ Status.OutOfMemory
         → IsDone (record { words = words.now; old = at source.old sink.old; new = at source.new sink.new; end = result }) }
 
-    // The status of a run comes only where a sequence of the job runs, and is that of its run; and where one runs, it is no other
-    // without a fault outside.
+    // The status of a run comes only where a sequence of the job runs, and is that of its run. Where one runs, it is no other without a
+    // fault outside.
     ensures run { IsOfRun result → RunsTo words.now (S.left source.old) result }
     ensures run_only { (bytes : List ℕ) (end : Status) → S.left source.old ≡ Some bytes → Runs words.now bytes end → (result ≡ end) ⊎ IsDisturbed result }
 

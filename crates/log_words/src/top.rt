@@ -88,9 +88,8 @@ fn asked_by(alloc: Global, matches: &ArgMatches<'_>) -> Result<Asked, WordsError
 /// and the flag `--fail`, each at most once. A device and a sequence must be given. The turns are one to seven decimal
 /// digits that write a number from 0 to 1,000,000, and 2 where none are given. The names are copies.
 ///
-/// `Usage` exactly where `clap` refuses the words for another cause than memory, which its answers to `--help` and
-/// `-h` are, where the device or the sequence is not given, or where the turns are no such number. `OutOfMemory` where
-/// memory is refused.
+/// `Usage` exactly where `clap` refuses the words for another cause than memory, where the device or the sequence is not given, or where
+/// the turns are no such number. The answers of `clap` to `--help` and `-h` are such refusals. `OutOfMemory` where memory is refused.
 pub fn asked_of(alloc: Global, words: &Words) -> Result<Asked, WordsError>
     ensures answer { IfOk result (Asks words.now) }
     ensures only { (a : _) → Asks words.now a → MatchResult result (λ r. r ≡ a) (λ e. e ≡ errors.OutOfMemory) }

@@ -58,7 +58,7 @@ fn call_unit(
     }
 }
 
-/// A call of a function, but for `Sequence`, with its text and the numbers among its arguments: each unit is made alone and at once.
+/// A call of a function other than `Sequence`, with its text and the numbers among its arguments: each unit is made alone and at once.
 /// Its units and its line are noted in the log.
 ///
 /// An `Err` has its cause in `held.end`. Nothing is said of a run where memory was refused.

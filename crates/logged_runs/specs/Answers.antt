@@ -45,8 +45,8 @@ pub record IsRun (p : Program) (start left : TargetState) (run : Logged) : Type 
   pub skipped : run.skipped ≡ (outcome p start None).skipped
   pub target : left ≡ (outcome p start None).target
 
--- What was seen is what is seen of that run: the log is the text of the events that are shown, where of each loop so many turns and the
--- last are; the rest is of all events.
+-- What was seen is what is seen of that run. The log is the text of the events that are shown, where of each loop so many turns and the last
+-- are. The rest is of all events.
 pub record IsSeen (turns : ℕ) (p : Program) (start : TargetState) (run : Logged) : Type 0 where
   pub log : run.log ≡ noted_all (record { text = []; depth = 0 }) (shown_events turns p start None)
   pub coverage : IsOf run.coverage (events p start None)

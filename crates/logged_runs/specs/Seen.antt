@@ -24,7 +24,7 @@ has_timeout events = list_any is_timeout events
 abbrev pub is_error_line : List ℕ → Bool
 is_error_line line = bytes_eq (take 10 line) (codes "message 2 ")
 
--- such a line is written
+-- the event writes the line of an error
 abbrev pub is_error : Event → Bool
 is_error (Writes line) = is_error_line line
 is_error e = false

@@ -43,7 +43,7 @@ seen walked = record {
 abbrev pub calls_of : LoggedRunner → ℕ → List ℕ → State ℕ Now → Out ℕ Now (Unit {0})
 calls_of runner depth name s = sequence_at (direct false) runner.turn_us (checked_trees runner.set.now) depth name s
 
--- what is seen of them
+-- what is seen of a run of one of these sequences
 abbrev pub events_of : (ℕ → Bool) → LoggedRunner → ℕ → List ℕ → State ℕ Now → List Event
 events_of shows runner depth name s = sequence_events shows runner.turn_us (checked_trees runner.set.now) depth name s
 
@@ -75,11 +75,12 @@ debugged_one runner (t.Empty at) s = Ok (tt, s)
 debugged_one runner (t.Declare name e) s = defined runner name e s
 debugged_one runner (t.Plain at e) s = Ok (tt, s)
 
--- what is seen of a debug variable that gets its value, and of one statement of the debug variables
+-- what is seen of a debug variable that gets its value
 abbrev pub defined_events : (ℕ → Bool) → LoggedRunner → Name → Tree → State ℕ Now → List Event
 defined_events shows runner name e s =
     value_events (calls_of runner 0) (events_of shows runner 0) e s ++ after (value (direct false) (calls_of runner 0) e s) (λ n r. Assigns name.text n ∷ [])
 
+-- what is seen of one statement of the debug variables
 abbrev pub one_events : (ℕ → Bool) → LoggedRunner → StmtTree → State ℕ Now → List Event
 one_events shows runner (t.Empty at) s = []
 one_events shows runner (t.Declare name e) s = Begins (spot_at at_debugvars part.Debugvars name.at) (t.Declare name e) ∷ defined_events shows runner name e s

@@ -130,10 +130,10 @@ fn answer_run(ended: Result<(), Stopped>, walked: Walked) -> Result<Logged, OutO
     })
 }
 
-/// Runs the sequence `start` of a checked set over a target, each access alone and at once, and notes what is seen: in a log, where of each loop
-/// the first `turns` turns and the last are shown; and the coverage, the place where it ended, whether a loop timed out and whether a message of
-/// type 2 was written, which are of all turns. It starts with the starting values of the settings and with the debug variables; where the set does
-/// not have the sequence, there are no steps.
+/// Runs the sequence `start` of a checked set over a target, each access alone and at once, and notes what is seen. The log shows of each
+/// loop the first `turns` turns and the last. Of all turns are the coverage, the place where the run ended, whether a loop timed out, and
+/// whether a message of type 2 was written. It starts with the starting values of the settings and with the debug variables; where the set
+/// does not have the sequence, there are no steps.
 ///
 /// `OutOfMemory` comes where memory is refused. Nothing is said of the target then.
 pub fn run_logged(

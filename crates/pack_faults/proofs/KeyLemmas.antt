@@ -1,4 +1,4 @@
--- Keys of faults, and where each stands.
+-- Keys of faults, and where each is.
 use Rattle.std.proofs.Common.{◌≡◌, ◌∙◌, ℕ, zero, suc, ◌+◌, ◌<◌, ◌==◌, Bool, true, false, cond, ◌&&◌, List, [], ◌∷◌, ◌++◌, length, drop, drop-cons, add-one, map, get_or, slice_set, Option, Some, None, option_map, Bor, bytes_eq, refl, ap, sym, subst, true≢false, eqb-true, arith}
 use Rattle.std.specs.Ordering.{is_eq, ordering_then, nat_cmp}
 use Rattle.std.specs.declared.cmp.Ordering.{Ordering}
@@ -121,7 +121,7 @@ key_tied p q =
     (is_eq-slice_cmp p.path.now q.path.now) (texts_tied p.text q.text))))))
     ∙ reordered (key_view p) (key_view q)
 
--- ---- where a fault stands
+-- ---- where a fault is
 
 pub some_suc : (o : Option ℕ) (i : ℕ) → option_map (λ j. suc j) o ≡ Some i → (j : ℕ) × (o ≡ Some j) × (i ≡ suc j)
 some_suc None i e = absurd cc

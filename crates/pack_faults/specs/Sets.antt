@@ -114,8 +114,8 @@ abbrev pub lacks_variant : Option (List ℕ) → List DevicePlace → Bool
 lacks_variant None places = false
 lacks_variant (Some name) places = not (list_any (has_variant name) places)
 
--- Why there is no set: a device is requested that the pack has not, else a variant that no such device has, else a processor that none
--- of the sequences for these devices and variants is for.
+-- Why there is no set. A device is requested that the pack has not, or else a variant that no such device has. Or else a processor is requested
+-- that none of the sequences for these devices and variants is for.
 abbrev pub refusal : Pack → Request → Option PackRefusal
 refusal pack r =
     if is_some r.device && is_empty (devices_of pack r) then Some refusals.NoDevice

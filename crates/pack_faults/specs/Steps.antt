@@ -22,7 +22,7 @@ abbrev pub with_found : ℕ → Found → List PackFault → List PackFault
 with_found number f [] = record { found = f; sets = number ∷ [] } ∷ []
 with_found number f (p ∷ ps) = if same_found f p.found then record { found = p.found; sets = noted number p.sets } ∷ ps else p ∷ with_found number f ps
 
--- and then each of these
+-- what was found, and each of these faults of the set with this number
 abbrev pub with_each : ℕ → List Found → List PackFault → List PackFault
 with_each number [] faults = faults
 with_each number (f ∷ fs) faults = with_each number fs (with_found number f faults)

@@ -3,7 +3,7 @@ use crate::request::SetName;
 use dap_base::{ItemList, NameText};
 use set_faults::Fault;
 
-/// A fault, and the line that it stands in.
+/// A fault, and the line in which it is.
 #[derive(Debug, Drop)]
 pub struct Found {
     pub fault: Fault,

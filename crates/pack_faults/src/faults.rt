@@ -85,9 +85,8 @@ fn count_unfinished(phases: &[Phase]) -> usize
 /// The devices come in the order of the pack: in each family those of its subfamilies first. The processors of a device
 /// are the `Pname`s of the sequences along its path of levels; where there is none, it has one set without a processor.
 ///
-/// `NoDevice` comes exactly where a device is requested that the pack has not; else `NoVariant` where none of the devices
-/// has the requested variant; else `NoPname` where no sequence for them has the requested `Pname`. `OutOfMemory` where memory
-/// is refused.
+/// `NoDevice` comes exactly where a device is requested that the pack has not. Else `NoVariant` comes where none of the devices has the
+/// requested variant, and else `NoPname` where no sequence for them has the requested `Pname`. `OutOfMemory` where memory is refused.
 pub fn pack_faults(alloc: Global, pack: &Pack, request: &Request) -> Result<PackFaults, PackRefusal>
     ensures answer { IfOk result (ArePackFaults pack.now request.now) }
     ensures only { (other : PackFaults) → ArePackFaults pack.now request.now other → IfOk result (λ answer. answer ≡ other) }

@@ -1,4 +1,4 @@
--- What distinguishes warnings, and where each stands in a list: what private contracts cite.
+-- What distinguishes warnings, and where each is in a list: what private contracts cite.
 use Rattle.std.specs.Prelude.{◌≡◌, ℕ, suc, ◌==◌, ◌&&◌, Bool, List, [], ◌∷◌, Option, None, Some, option_map, slice_index_or, slice_set, if◌then◌else◌}
 use Rattle.std.specs.declared.cmp.Ordering.{Ordering}
 use Rattle.std.specs.BTreeMap.{BTreeMap, get}
@@ -28,6 +28,7 @@ abbrev pub same_view : KeyView → KeyView → Bool
 same_view v w = v.kind == w.kind && ((same_text v.sequence w.sequence && (bytes_eq v.path w.path && (v.part == w.part
     && (v.line == w.line && v.column == w.column)))) && (same_text v.name w.name && same_text v.text w.text))
 
+-- what distinguishes this warning: its kind, its spot, its name, and the line in which it is
 abbrev pub found_view : FoundWarning → KeyView
 found_view f = record {
   kind = kind_number f.warning.kind;

@@ -20,12 +20,13 @@ abbrev pub same_warning : FoundWarning → FoundWarning → Bool
 same_warning f g = kind_number f.warning.kind == kind_number g.warning.kind
     && (same_spot f.warning.spot g.warning.spot && (same_text f.warning.name g.warning.name && same_text f.line g.line))
 
--- The warnings of sets, and this one of the set with this number: one that is there gets the number, unless it is its last one; another goes last.
+-- The warnings of sets, and this one of the set with this number. One that is there gets the number, unless it is its last one; another goes
+-- last.
 abbrev pub with_warning : ℕ → FoundWarning → List PackWarning → List PackWarning
 with_warning number f [] = record { found = f; sets = number ∷ [] } ∷ []
 with_warning number f (p ∷ ps) = if same_warning f p.found then record { found = p.found; sets = noted number p.sets } ∷ ps else p ∷ with_warning number f ps
 
--- and then each of these
+-- what was found, and each of these warnings of the set with this number
 abbrev pub with_each : ℕ → List FoundWarning → List PackWarning → List PackWarning
 with_each number [] warnings = warnings
 with_each number (f ∷ fs) warnings = with_each number fs (with_warning number f warnings)

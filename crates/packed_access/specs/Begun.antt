@@ -48,10 +48,9 @@ pub record IsGivenAt (p : Planner) (t : TargetState) (calls : List Ask) (index p
   pub large : small_now (start_world t None) asks ask ≡ false
   pub place_is : place + 1 ≡ length (issued p t asks) + length (issue_of p (target_by p t asks) (kept_by p t asks) ask).steps
 
--- Of the entries of the calls the first are confirmed, the next lie in the flight as these accesses, and the rest is still to be issued.
--- The calls that came have all their entries among those that are confirmed, and these results; those that were issued whole have all
--- their entries among those that were issued; a settling after the last call is none of these. The bench can make the flight, and its
--- work can be counted.
+-- Of the entries of the calls the first are confirmed, the next lie in the flight as these accesses, and the rest is still to be issued. The
+-- calls that came have all their entries among those that are confirmed, and these results. Those that were issued whole have all their entries
+-- among those that were issued. A settling after the last call is none of these. The bench can make the flight, and its work can be counted.
 pub record IsIssuing (p : Planner) (log : LogState) (accesses : List RegAccess) (rest : List Entry) (m0 m : BenchState) : Type 0 where
   pub flying : List Entry
   pub sending : IsSending p log.calls log.confirmed log.came flying rest accesses (take log.known log.results) m0 m
@@ -111,7 +110,7 @@ pub record HasBegun (p : Planner) (bench : BenchReported) (state : Option BenchS
     (accesses : List RegAccess) (m0 : BenchState) : Type 0 where
   pub so : WhereObservable state (λ m. IsSince p log.end (reported_by bench state log sent got) log kept accesses m0 m)
 
--- It has ended.
+-- The access has ended so, as the laws of calls in flight say it.
 pub record HasEnded (p : Planner) (s : Stop) (a : AccessView) (log : LogState) (m0 : BenchState) : Type 0 where
   pub so : WhereObservable a.state (λ m. IsEnded p s a (take log.known log.results) m0 m)
 

@@ -26,9 +26,9 @@ changes_after before (e ∷ entries) = differs before (is_drw_write e.action) + 
 abbrev pub changes_in : List Entry → ℕ
 changes_in entries = changes_after false entries
 
--- Of so many flights that were sent because there was no room, whose accesses are among the first, confirmed entries: some have a block of
--- writes of DRW; in others, or where the next entry follows them, writes of DRW and something else follow each other; and the rest have the
--- capacity of accesses that are no such writes. Those without a block have as many accesses as one Transfer holds.
+-- So many flights were sent because there was no room, and their accesses are among the first, confirmed entries. Some have a block of writes of
+-- DRW. In others, or where the next entry follows them, writes of DRW and something else follow each other. The rest have the capacity of
+-- accesses that are no such writes. Those without a block have as many accesses as one Transfer holds.
 pub record AreBlocks (full : ℕ) (limits : Limits) (entries : List Entry) (confirmed : ℕ) : Type 0 where
   pub blocks : ℕ
   pub mixed : ℕ

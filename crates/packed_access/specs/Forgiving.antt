@@ -131,8 +131,8 @@ abbrev pub EndsTo : (p : Planner) (forgive : Bool) → Bool → Option ℕ → O
 EndsTo p forgive true w state log asked k t m0 = (w ≡ Some 0) × HasAllMade p forgive state log asked k t m0
 EndsTo p forgive false w state log asked k t m0 = CameTo p forgive w state log asked k t m0
 
--- So a unit ended, with so many reads of CFG and CSW before its access; after what is noted of the registers, all but whether its access
--- port has large addresses is forgotten of that.
+-- So a unit ended, with so many reads of CFG and CSW before its access. What is noted of the registers is what its plan keeps, once all of its
+-- access port is forgotten except whether that has large addresses.
 pub record IsDoneBy (p : Planner) (forgive : Bool) (small : Bool) (w : Option ℕ) (reads : ℕ) (noted : Kept) (state : Option BenchState) (log : LogState)
     (asked : AccessUnit) (k : Kept) (t : TargetState) (m0 : BenchState) : Type 0 where
   pub came : EndsTo p forgive small w state log asked k t m0

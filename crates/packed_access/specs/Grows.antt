@@ -1,4 +1,5 @@
--- The journal of more calls, and of a `finish` after them, begins with that of the calls: the laws `grows` and `settles`.
+-- The proofs of the laws `grows` and `settles`: the journal of more calls, and of a `finish` after them, begins with that of the calls.
+-- These are lemmas, which a reader of definitions may skip.
 use Rattle.std.specs.Prelude.{◌≡◌, ℕ, ◌+◌, false, List, [], ◌∷◌, length}
 use Rattle.std.specs.List.{AllByRecursion}
 use Rattle.std.proofs.Common.{subst, arith}
@@ -16,6 +17,7 @@ use Rattle.access_regs.proofs.EntryLemmas.{journal_marks}
 use Rattle.access_regs.proofs.Joins.{journal_joins, later_entries}
 use Rattle.access_calls.specs.Growing.{IsAfter, JournalGrows, JournalSettles}
 
+-- The journal of more calls is that of the first calls, and entries of later calls after it.
 pub grows_packed : (p : Planner) → JournalGrows (issued p)
 grows_packed p t asks more =
     let n : ℕ = 0 + length asks in
@@ -33,6 +35,7 @@ settling_later : (n : ℕ) (accesses : List RegAccess) → AllByRecursion (IsAft
 settling_later n [] = tt
 settling_later n (a ∷ accesses) = (omega arith, settling_later n accesses)
 
+-- The journal of calls that a `finish` follows is that of the calls, and what settles them after it.
 pub settles_packed : (p : Planner) → JournalSettles (issued p)
 settles_packed p t asks = record {
   rest = numbered (length asks) false (steps_of Settles (settle (kept_by p t asks)));

@@ -26,24 +26,29 @@ use Rattle.batch_packer.specs.declared.ends.FlightEnd.TheVariants as ends
 use Rattle.packed_access.specs.Counted.{IsCountOf}
 use Rattle.packed_access.specs.declared.confirmed.Confirmed.{Confirmed}
 
--- The calls that were asked, with a result for each, of which the first `known` have come, and the number of the entry that gives it;
--- the entries that were issued, for how many there is room, and how many of them are confirmed; how many calls were issued whole, and
--- how many are known to have been answered; the need points, and how many calls had been asked at the last of them; the end, and how
--- many units have their lines before it; how many calls were skipped.
+-- What is kept of the calls.
 pub record LogState : Type 0 where
+  -- the calls that were asked, with a result for each, and the number of the entry that gives it
   pub calls : List Ask
   pub results : List ℕ
   pub places : List ℕ
+  -- the entries that were issued, for how many there is room, and how many of them are confirmed
   pub entries : List Issued
   pub room : ℕ
   pub confirmed : ℕ
+  -- how many calls were issued whole
   pub whole : ℕ
+  -- how many calls are known to have been answered
   pub came : ℕ
+  -- how many of the first results have come
   pub known : ℕ
+  -- the need points, and how many calls had been asked at the last of them
   pub needs : ℕ
   pub fence : ℕ
+  -- the end, and how many units have their lines before it
   pub end : Option Stop
   pub lines : ℕ
+  -- how many calls were skipped
   pub skipped : ℕ
 
 -- how many entries of the journal a call has at most, with a settling after it
@@ -54,8 +59,8 @@ most_entries = 13
 abbrev pub IsOfCall : ℕ → Issued → Type 0
 IsOfCall calls entry = (0 < entry.unit) × (entry.unit ≤ calls)
 
--- What is kept is within its room: there is a result and a place for each call, the entries have room, each is of one of the calls,
--- and the calls may be asked. Of calls that came, all but the last were let go; of the entries that are confirmed, their numbers are kept.
+-- What is kept is within its room. There is a result and a place for each call, the entries have room, each is of one of the calls, and the
+-- calls may be asked. Of calls that came, all but the last were let go; of the entries that are confirmed, their numbers are kept.
 pub record IsSoundLog (calls : List Ask) (results places : List ℕ) (room : ℕ) (entries : List Issued) (confirmed whole came known fence : ℕ)
     (end : Option Stop) (calls_gone places_gone memory : ℕ) (counted : Confirmed) : Type 0 where
   pub few : length calls ≤ 10000000
@@ -247,6 +252,7 @@ IsStopped ends.ReplyBad old new s = (s ≡ ReplyBad) × (new ≡ record old { en
 
 -- ---- a packet and a reply are kept only where one was the end
 
+-- a lemma: so it is at each end
 keeps_at : (end : Option Stop) (a : AccessView) (sent got : List ℕ) → a.sent ≡ kept_at end sent → a.got ≡ kept_at end got → KeepsReplyAt end a
 keeps_at None a sent got s g = record { sent = s; got = g }
 keeps_at (Some (Cut r)) a sent got s g = tt

@@ -17,6 +17,7 @@ unmarked_same [] h = refl
 unmarked_same (a ∷ []) h = ap (λ m. record a { settled = m } ∷ []) (sym h)
 unmarked_same (a ∷ b ∷ calls) h = ap (λ cs. a ∷ cs) (unmarked_same (b ∷ calls) h)
 
+-- a lemma: calls are the same, where the last of them has no mark
 pub unmarked_append : (calls : List Ask) (ask : Ask) → ask.settled ≡ false → unmarked_last (calls ++ ask ∷ []) ≡ calls ++ ask ∷ []
 unmarked_append calls ask unmarked = unmarked_same (calls ++ ask ∷ []) (settled_append calls ask ∙ unmarked)
 
@@ -27,12 +28,14 @@ unmarked_marked (a ∷ []) = refl
 unmarked_marked (a ∷ b ∷ []) = refl
 unmarked_marked (a ∷ b ∷ c ∷ calls) = ap (λ cs. a ∷ cs) (unmarked_marked (b ∷ c ∷ calls))
 
+-- a lemma: a mark that is taken off and put on again is there
 pub marked_unmarked : (calls : List Ask) → settled_last (unmarked_last calls) ≡ settled_last calls
 marked_unmarked [] = refl
 marked_unmarked (a ∷ []) = refl
 marked_unmarked (a ∷ b ∷ []) = refl
 marked_unmarked (a ∷ b ∷ c ∷ calls) = ap (λ cs. a ∷ cs) (marked_unmarked (b ∷ c ∷ calls))
 
+-- a lemma: there are as many calls
 pub length_unmarked : (calls : List Ask) → length (unmarked_last calls) ≡ length calls
 length_unmarked [] = refl
 length_unmarked (a ∷ []) = refl

@@ -1,4 +1,5 @@
--- What calls issue that write memory at neighbouring addresses: few accesses besides their writes of DRW, and these in few places.
+-- Calls that write memory at neighbouring addresses issue few accesses besides their writes of DRW, and these in few places.
+-- These are lemmas for the law `spares`, which a reader of definitions may skip.
 use Rattle.std.proofs.Common.{◌≡◌, ◌⊎◌, inl, inr, ◌∙◌, ℕ, zero, suc, ◌+◌, ◌*◌, ◌/◌, ◌%◌, ◌^◌, ◌<◌, ◌≤◌, Bool, true, false, cond, not, ◌&&◌, ◌||◌, List, [], ◌∷◌}
 use Rattle.std.proofs.Common.{◌++◌, length, Option, Some, None, refl, sym, ap, subst, arith, append_assoc}
 use Rattle.std.proofs.lemmas.Bool.{eq-eqb, le-ltb}
@@ -40,14 +41,17 @@ use Rattle.packed_access.specs.Sparing.{marks_in}
 abbrev AreBare : List RegAccess → Type 0
 AreBare accesses = AllByRecursion (λ a. is_drw_write (Makes a) ≡ false) accesses
 
+-- accesses and more of them are no writes of DRW, where both are none
 bare_both : (xs ys : List RegAccess) → AreBare xs → AreBare ys → AreBare (xs ++ ys)
 bare_both [] ys h k = k
 bare_both (x ∷ xs) ys h k = (h.0, bare_both xs ys h.1 k)
 
+-- an access that is no write of DRW, which may be left out
 bare_unless : (b : Bool) (a : RegAccess) → is_drw_write (Makes a) ≡ false → AreBare (unless b a)
 bare_unless true a e = tt
 bare_unless false a e = (e, tt)
 
+-- the first entry counts, unless it is a write of DRW
 others_cons : (e : Entry) (es : List Entry) → others_in (e ∷ es) ≡ one_if (not (is_drw_write e.action)) + others_in es
 others_cons e es = sum_by-cons (λ (x : Entry). one_if (not (is_drw_write x.action))) e es
 
@@ -58,6 +62,7 @@ bare_changes n f part [] es h = refl
 bare_changes n f part (x ∷ xs) es h =
     ap (λ (b : Bool). one_if b + changes_after b (numbered n f (steps_of part xs) ++ es)) h.0 ∙ (let r = bare_changes n f part xs es h.1 in omega (arith, r))
 
+-- each access that is no write of DRW counts
 bare_others : (n : ℕ) (f : Bool) (part : Part) (xs : List RegAccess) (es : List Entry) → AreBare xs →
     others_in (numbered n f (steps_of part xs) ++ es) ≡ length xs + others_in es
 bare_others n f part [] es h = omega arith
@@ -70,10 +75,12 @@ bare_others n f part (x ∷ xs) es h =
 
 -- ---- one write and its settling
 
+-- the steps of accesses and more of them are those of the first, and then those of the others
 steps_both : (part : Part) (xs ys : List RegAccess) → steps_of part (xs ++ ys) ≡ steps_of part xs ++ steps_of part ys
 steps_both part [] ys = refl
 steps_both part (x ∷ xs) ys = ap (λ (l : List Step). record { part = part; action = Makes x } ∷ l) (steps_both part xs ys)
 
+-- a write of DRW is one change after what leads to it, and none directly after another write of DRW
 lead_changes : (b : Bool) (n : ℕ) (xs : List RegAccess) (d : Step) (rest : List Entry) → AreBare xs → is_drw_write d.action ≡ true → (b ≡ true → xs ≡ []) →
     changes_after b (numbered n false (steps_of Leads xs ++ d ∷ []) ++ rest) ≡ one_if (not b) + changes_after true rest
 lead_changes true n [] d rest h is none = ap (λ (x : Bool). differs true x + changes_after x rest) is
@@ -83,6 +90,7 @@ lead_changes false n (x ∷ xs) d rest h is none =
     ap (λ (b : Bool). one_if b + changes_after b (numbered n false (steps_of Leads xs ++ d ∷ []) ++ rest)) h.0
     ∙ (let r = lead_changes false n xs d rest h.1 is (λ e. absurd (cc)) in omega (arith, r))
 
+-- what leads to a write of DRW counts, and the write does not
 lead_others : (n : ℕ) (xs : List RegAccess) (d : Step) (rest : List Entry) → AreBare xs → is_drw_write d.action ≡ true →
     others_in (numbered n false (steps_of Leads xs ++ d ∷ []) ++ rest) ≡ length xs + others_in rest
 lead_others n [] d rest h is =
@@ -101,9 +109,11 @@ record HasFew (b : Bool) (entries : List Entry) (changes others : ℕ) : Type 0 
   bare : others_in entries ≤ others
 
 module _ (size m address value n : ℕ) (from : Kept) where
+  -- the unit that writes the value at the address
   abbrev here : AccessUnit
   here = unit.Memory size false m address value
 
+  -- its write of DRW
   abbrev write : Step
   write = record { part = Ends; action = Makes (drw_of false address value) }
 
@@ -160,17 +170,21 @@ record IsPlanned (b : Bool) (size m address value most : ℕ) (i : Issue) : Type
   table : m < length from.ports
   large : (known from m).large ≡ false
 
+-- two facts of which the second is false are not both true
 and_none : (b : Bool) → (b && false) ≡ false
 and_none true = refl
 and_none false = refl
 
 module _ (size m address value : ℕ) (t : TargetState) where
+  -- the unit that writes the value at the address
   abbrev asked : AccessUnit
   asked = unit.Memory size false m address value
 
+  -- its write of DRW
   abbrev end : Step
   end = record { part = Ends; action = Makes (drw_of false address value) }
 
+  -- where the access port is ready for the address, the plan is the write of DRW alone
   ready_planned : (k : Kept) → IsAt true size m address k → IsPlanned true size m address value 0 (planned t k asked)
   ready_planned k h = record {
     lead = [];
@@ -185,18 +199,22 @@ module _ (size m address value : ℕ) (t : TargetState) where
     large = h.1;
   }
 
+  -- an address of 32 bits needs no large addresses
   narrow_port : (k : Kept) → address < 2 ^ 32 → (nat_lt 0xFFFF_FFFF address && not (known k m).large) ≡ false
   narrow_port k low = ap (λ (b : Bool). b && not (known k m).large) (le-ltb 0xFFFF_FFFF address (omega (arith, low)))
 
+  -- where SELECT is known, only writes of the port's CSW and TAR lead to the write of DRW
   half_leads : (k : Kept) → IsHalfReady m k → leads k asked ≡ port_writes (known k m) size address
   half_leads k h = ap (λ (b : Bool). unless b (select_of m 0) ++ port_writes (known k m) size address) h.select
 
+  -- the writes of CSW and TAR are no writes of DRW
   port_bare : (a : Known) → AreBare (port_writes a size address)
   port_bare a =
       bare_both (csw_needed a size) (high_needed a address ++ tar_needed a address) (bare_unless (is_known a.csw (planned_csw (csw_of a) size)) _ refl)
       (bare_both (high_needed a address) (tar_needed a address) (bare_unless (not a.large || is_known a.high (address / 2 ^ 32)) _ refl)
       (bare_unless (is_known a.tar (address % 2 ^ 32)) _ refl))
 
+  -- a port without large addresses needs at most two of them
   port_few : (a : Known) → a.large ≡ false → length (port_writes a size address) ≤ 2
   port_few a narrow =
       let c = few_unless (is_known a.csw (planned_csw (csw_of a) size)) (ap_access_of false 0 (planned_csw (csw_of a) size)) in
@@ -207,6 +225,7 @@ module _ (size m address value : ℕ) (t : TargetState) where
       let g = length-append (high_needed a address) (tar_needed a address) in
       omega (arith, c, d, e, f, g)
 
+  -- where SELECT and CSW are known, at most two accesses lead to the write of DRW
   half_planned : (k : Kept) → address < 2 ^ 32 → IsHalfReady m k → IsPlanned false size m address value 2 (planned t k asked)
   half_planned k low h = record {
     lead = port_writes (known k m) size address;
@@ -232,12 +251,15 @@ module _ (size m address value : ℕ) (t : TargetState) where
           (by_csw t k asked)) (narrow_port k low)
           ∙ ap (λ (b : Bool). cond b (before (steps_of Leads (first_plan k m)) (by_plan (learned k m (gives t (first_plan k m))) asked)) (by_plan k asked)) h.some
 
+  -- the CSW that is read before the first write
   abbrev csw_first : ℕ
   csw_first = gives t (first_plan nothing_kept m)
 
+  -- what is known after this read
   abbrev first_kept : Kept
   first_kept = learned nothing_kept m csw_first
 
+  -- after this read SELECT and CSW are known
   first_half : m < 256 → IsHalfReady m first_kept
   first_half lt =
       let same : known first_kept m ≡ record (known nothing_kept m) { csw = Some csw_first } =
@@ -249,6 +271,7 @@ module _ (size m address value : ℕ) (t : TargetState) where
         large = ap (λ (a : Known). a.large) same ∙ ap (λ (a : Known). a.large) (known_nothing m);
       }
 
+  -- the first write of all reads CSW, and is then planned by what was read
   first_is : address < 2 ^ 32 → planned t nothing_kept asked ≡ before (steps_of Leads (first_plan nothing_kept m)) (by_plan first_kept asked)
   first_is low =
       ap (λ (b : Bool). cond b (before (steps_of Leads (cfg_plan nothing_kept m))
@@ -257,9 +280,11 @@ module _ (size m address value : ℕ) (t : TargetState) where
       ∙ ap (λ (a : Known). cond (is_none a.csw) (before (steps_of Leads (first_plan nothing_kept m)) (by_plan first_kept asked)) (by_plan nothing_kept asked))
       (known_nothing m)
 
+  -- what leads to the first write has no writes of DRW
   first_bare : AreBare (first_plan nothing_kept m ++ port_writes (known first_kept m) size address)
   first_bare = bare_both (first_plan nothing_kept m) (port_writes (known first_kept m) size address) (refl, (refl, tt)) (port_bare (known first_kept m))
 
+  -- at most four accesses lead to the first write
   first_few : m < 256 → length (first_plan nothing_kept m ++ port_writes (known first_kept m) size address) ≤ 4
   first_few lt = (let a = length-append (first_plan nothing_kept m) (port_writes (known first_kept m) size address) in let d =
       port_few (known first_kept m) (first_half lt).large in omega (arith, a, d))
@@ -288,20 +313,25 @@ abbrev Begins : ℕ → ℕ → List Ask → Type 0
 Begins block address [] = ⊥
 Begins block address (c ∷ cs) = address / 1024 ≡ block
 
+-- where the calls begin in a block, the address of the first is in it
 begins_near : (block address : ℕ) (cs : List Ask) → Begins block address cs → address / 1024 ≡ block
 begins_near block address [] h = absurd h
 begins_near block address (c ∷ cs) h = h
 
+-- what is few is few by larger bounds too
 more_few : (b : Bool) (entries : List Entry) (x y x' y' : ℕ) → HasFew b entries x y → x ≤ x' → y ≤ y' → HasFew b entries x' y'
 more_few b entries x y x' y' h le le' = record { changing = (let c = h.changing in omega (arith, c, le)); bare = (let o = h.bare in omega (arith, o, le')) }
 
 module _ (size m address value : ℕ) where
+  -- the unit that writes the value at the address
   abbrev this : AccessUnit
   this = unit.Memory size false m address value
 
+  -- a unit is inside its block, where the next address is in the block too
   inside : (block : ℕ) → address / 1024 ≡ block → (address + size) / 1024 ≡ block → address % 1024 + size < 1024
   inside block near next = omega (arith, near, next)
 
+  -- after a write the port is ready for the next address, where that is in the block
   made_at : (block : ℕ) (from : Kept) → 0 < size → block < 2 ^ 22 → m < length from.ports → (known from m).large ≡ false → address / 1024 ≡ block →
       (address + size) / 1024 ≡ block → IsAt true size m (address + size) (made from this)
   made_at block from some low table narrow near next = (
@@ -309,6 +339,7 @@ module _ (size m address value : ℕ) where
     made_large size m address false value from table ∙ narrow,
   )
 
+  -- after a write and its settling, SELECT and CSW are known
   settled_at : (from : Kept) → m < length from.ports → (known from m).large ≡ false → IsHalfReady m (settled (made from this))
   settled_at from table narrow =
       let k : Kept = made from this in
@@ -362,6 +393,7 @@ module _ (size m address value : ℕ) where
       ++ numbered (n + 1) false (finish c.settled l).steps) ++ issued_from Managed (n + 1) (finish c.settled l).kept u cs)
       (one_if (not b) + 2 * (one_if c.settled + marks_in cs)) (most + 4 * (one_if c.settled + marks_in cs))) (sym p.kept) all))
 
+-- a write of memory that forgives no fault was not asked to forgive one
 pub mild_write : (c : Ask) (size m address value : ℕ) → c.call ≡ Access (unit.Memory size false m address value) → is_forgiving c ≡ false → c.forgive ≡ false
 mild_write c size m address value call mild = by_forgive c.forgive ((λ j. c.forgive && may_forgive (sym call j)) ∙ mild)
   where
@@ -369,6 +401,7 @@ mild_write c size m address value call mild = by_forgive c.forgive ((λ j. c.for
     by_forgive true e = e
     by_forgive false e = refl
 
+-- the first call's mark counts, where it has one
 marks_cons : (c : Ask) (cs : List Ask) → marks_in (c ∷ cs) ≡ one_if c.settled + marks_in cs
 marks_cons c cs = sum_by-cons (λ (a : Ask). one_if a.settled) c cs
 
@@ -390,8 +423,8 @@ writes_few b (c ∷ cs) n k t size m address block some low are at =
     by_kept true ready value fits = ready_planned size m address value t k ready
     by_kept false half value fits = half_planned size m address value t k fits half
 
--- The journal of such calls: at most four accesses besides writes of DRW, and four more for each mark of a `finish`; and one place where these
--- become writes of DRW, and two more for each mark.
+-- The journal of such calls. It has at most four accesses besides writes of DRW, and four more for each mark of a `finish`. These change to
+-- writes of DRW, or back, at most once, and twice more for each mark.
 pub journal_few : (t : TargetState) (size m address : ℕ) (calls : List Ask) → 0 < size → m < 256 → address < 2 ^ 32 →
     AreNextWrites (address / 1024) size m address calls →
     (changes_in (issued Managed t calls) ≤ 1 + 2 * marks_in calls) × (others_in (issued Managed t calls) ≤ 4 + 4 * marks_in calls)

@@ -18,11 +18,11 @@ use Rattle.access_regs.specs.Plan.{cfg_plan, learned_cfg, needs_cfg, needs_csw, 
 abbrev pub settle_before : Kept → AccessUnit → List RegAccess
 settle_before k asked = if needs_settle k asked then settle k else []
 
--- what is known after it
+-- what is known of the registers after that settling
 abbrev pub settled_before : Kept → AccessUnit → Kept
 settled_before k asked = if needs_settle k asked then settled k else k
 
--- the target after it
+-- the target after that settling
 abbrev pub target_before : TargetState → Kept → AccessUnit → TargetState
 target_before t k asked = after t (making (settle_before k asked))
 

@@ -1,4 +1,5 @@
--- How few starting packets an access sends, as the contract of accesses says: the law `spares`.
+-- The proof of the law `spares`: an access sends few starting packets, as the contract of accesses says.
+-- These are lemmas, which a reader of definitions may skip.
 use Rattle.std.proofs.Common.{◌≡◌, inl, inr, ◌∙◌, ℕ, zero, suc, ◌+◌, ◌-◌, ◌*◌, ◌/◌, ◌^◌, ◌<◌, ◌≤◌, min, Bool, true, false, cond, not, ◌&&◌, ◌⊎◌, List, [], ◌∷◌, ◌++◌}
 use Rattle.std.proofs.Common.{take, drop, length, Option, Some, None, refl, sym, ap, subst, arith}
 use Rattle.std.proofs.Math.Nat.{le-div_iff_mul-le}
@@ -63,6 +64,7 @@ paid_few : (before after paid full left needs : ℕ) → after ≤ before + 3 + 
     after - before ≤ 3 + needs + full
 paid_few before after paid full left needs few counts covers = omega (arith, few, counts, covers)
 
+-- at most three starting packets, one for each need point, and k / c for k register accesses, of which a flight holds c
 spared_few : (limits given : Limits) (log : LogState) (paid left : ℕ) (m0 m : BenchState) (n : Option ℕ) → IsSpared Managed limits given log paid m0 m →
     min (paid + left) (2 ^ 64 - 1) ≤ log.needs →
     starting_since (began m0 n) m ≤ 3 + log.needs + registers_in (issued Managed (target_of m0.probe) log.calls) / capacity given
@@ -78,17 +80,20 @@ spared_few limits given log paid left m0 m n h covers =
 
 -- ---- the bound for neighbouring writes
 
+-- the first entries have no more changes than all of them
 changes_take : (b : Bool) (n : ℕ) (es : List Entry) → changes_after b (take n es) ≤ changes_after b es
 changes_take b zero es = omega arith
 changes_take b (suc n) [] = omega arith
 changes_take b (suc n) (e ∷ es) = (let r = changes_take (is_drw_write e.action) n es in omega (arith, r))
 
+-- the first entries have no more that are no writes of DRW
 others_take : (n : ℕ) (es : List Entry) → others_in (take n es) ≤ others_in es
 others_take n es =
     let a = sum_by-append (λ (e : Entry). one_if (not (is_drw_write e.action))) (take n es) (drop n es) in
     let b = ap others_in (take-append-drop n es) in
     omega (arith, a, b)
 
+-- the first entries have no more writes of DRW
 writes_take : (n : ℕ) (es : List Entry) → drw_writes_in (take n es) ≤ drw_writes_in es
 writes_take n es =
     let a = sum_by-append (λ (e : Entry). one_if (is_drw_write e.action)) (take n es) (drop n es) in
@@ -146,6 +151,7 @@ blocks_few full confirmed limits entries writes fits h few bare most any =
 
 -- ---- the calls are such writes
 
+-- the unit that writes the value at the address
 abbrev write_at : ℕ → ℕ → ℕ → ℕ → AccessUnit
 write_at size m address value = unit.Memory size false m address value
 
@@ -160,6 +166,7 @@ first_reads t size m address value low =
     (le-ltb 0xFFFF_FFFF address (omega (arith, low)))
     ∙ ap (λ (a : Known). one_if (is_none a.csw)) (known_nothing m)
 
+-- so the first of the calls has one need point
 first_needs : (t : TargetState) (c : Ask) (cs : List Ask) (size m address value : ℕ) → c.call ≡ Access (write_at size m address value) →
     is_forgiving c ≡ false → address < 2 ^ 32 → first_cost Managed t (c ∷ cs) ≡ 1
 first_needs t c cs size m address value call mild low =
@@ -179,6 +186,7 @@ asked_write c size m address value is sound range =
     by_size (inr (inl e)) = omega (arith, e)
     by_size (inr (inr e)) = omega (arith, e)
 
+-- six starting packets, and as many as blocks hold the calls' writes of DRW
 spared_blocks : (limits given : Limits) (log : LogState) (paid left : ℕ) (m0 m : BenchState) (n : Option ℕ) (size ap_ address : ℕ) →
     IsSpared Managed limits given log paid m0 m → min (paid + left) (2 ^ 64 - 1) ≤ log.needs → AreNeeded Managed (target_of m0.probe) (asks_of log) →
     AreAskable log.calls →
@@ -210,6 +218,7 @@ spared_blocks limits given log paid left m0 m n size ap_ address h covers needed
 
 -- ---- the law of the contract
 
+-- both bounds, where the bench is observable
 keeps_where : (x : Option BenchState) (limits : Limits) (a : BenchReported) (state : Option BenchState) (log : LogState) (sent got : List ℕ) (kept : Kept)
     (accesses : List RegAccess) (paid left : ℕ) (m0 : BenchState) (n : Option ℕ) → WhereObservable x (λ m. IsOpenAt Managed log kept accesses m0 m) →
     WhereObservable x (λ m. IsSpared Managed limits a.limits log paid m0 m) → min (paid + left) (2 ^ 64 - 1) ≤ log.needs →
@@ -222,6 +231,7 @@ keeps_where (Some m) limits a state log sent got kept accesses paid left m0 n h 
       some are low two;
 }
 
+-- The law `spares` by the managed planner.
 pub spares_packed : (limits : Limits) (bench : BenchReported) (state : Option BenchState) (log : LogState) (sent got : List ℕ) (kept : Kept)
     (accesses : List RegAccess) (m0 : BenchState) (n : Option ℕ) → HasBegunSparing Managed limits bench state log sent got kept accesses m0 →
     KeepsBoundsIf true (issued Managed (target_of m0.probe) log.calls) (reported_by bench state log sent got) (began m0 n)

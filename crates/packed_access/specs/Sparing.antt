@@ -25,9 +25,9 @@ use Rattle.packed_access.specs.Logs.{LogState, asks_of}
 use Rattle.access_regs.specs.declared.planner.Planner.{Planner}
 use Rattle.access_regs.specs.declared.planner.Planner.TheVariants.{Managed, Plain}
 
--- Since the beginning there were at most so many starting packets, besides the three of the opening and one for each flight that was sent
--- because there was no room; these had at least the capacity of accesses each, which are confirmed, and a block where all were writes of
--- DRW. Flights are held to the limits that the bench has.
+-- Since the beginning there were at most so many starting packets, besides the three of the opening and one for each full flight. A full flight
+-- is one that was sent because there was no room. It had at least the capacity of accesses, which are confirmed, and a block where all were
+-- writes of DRW. Flights are held to the limits that the bench has.
 pub record IsSpared (p : Planner) (limits given : Limits) (log : LogState) (points : ℕ) (m0 m : BenchState) : Type 0 where
   pub full : ℕ
   pub few : m.starting ≤ m0.starting + 3 + points + full

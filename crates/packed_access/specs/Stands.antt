@@ -1,4 +1,5 @@
--- So far has an access come as the contract of accesses says.
+-- The proof of the law `stands`: an access has come so far as the contract of accesses says.
+-- These are lemmas, which a reader of definitions may skip.
 use Rattle.std.specs.Prelude.{◌≡◌, ℕ, zero, suc, ◌+◌, ◌-◌, ◌<◌, ◌≤◌, Bool, true, false, List, [], ◌∷◌, ◌++◌, length, take, drop, slice_index, Option, Some, None, refl}
 use Rattle.std.specs.List.{AllByRecursion}
 use Rattle.std.proofs.Common.{◌∙◌, sym, ap, subst, arith, append-nil, append_assoc, length-append}
@@ -48,6 +49,7 @@ mild_tail c cs i h = by_asks h.asks h.are h.at
     by_asks [] are at = absurd (omega (arith, at))
     by_asks (x ∷ xs) are at = record { asks = xs; ask = h.ask; more = h.more; are = (cc); at = omega (arith, at); mild = h.mild }
 
+-- the first call forgives nothing, where the call of number 0 does not
 mild_head : (c : Ask) (cs : List Ask) → IsMildAt (c ∷ cs) 0 → is_forgiving c ≡ false
 mild_head c cs h = by_asks h.asks h.are h.at
   where
@@ -55,6 +57,7 @@ mild_head c cs h = by_asks h.asks h.are h.at
     by_asks [] are at = (let same : c ≡ h.ask = cc in ap is_forgiving same ∙ h.mild)
     by_asks (x ∷ xs) are at = absurd (omega (arith, at))
 
+-- calls from a number on forgive nothing, where none of them does
 pub mild_from : (calls : List Ask) (n : ℕ) → ((i : ℕ) → n ≤ i → i < length calls → IsMildAt calls i) → ForgiveNothing (drop n calls)
 mild_from [] zero h = tt
 mild_from [] (suc n) h = tt
@@ -78,28 +81,35 @@ none_flying (e ∷ es) h = absurd (cc)
 
 module _ (p : Planner) (bench : BenchReported) (state : Option BenchState) (log : LogState) (sent got : List ℕ) (kept : Kept) (accesses : List RegAccess)
     (m0 m : BenchState) (h : IsOpenAt p log kept accesses m0 m) where
+  -- the target when the access began
   abbrev t0 : TargetState
   t0 = target_of m0.probe
 
+  -- how far the journal of the calls is issued
   abbrev i : IsIssuing p log accesses [] m0 m
   i = h.issuing
 
+  -- no more calls came than were asked
   within : log.came ≤ length log.calls
   within = (let a = i.in_order in let b = i.within in omega (arith, a, b))
 
+  -- the calls are those that came, and then the others
   split : log.calls ≡ take log.came log.calls ++ drop log.came log.calls
   split = sym (take-append-drop log.came log.calls)
 
+  -- the journal is that of the calls that came, and then that of the others
   joined : issued p t0 log.calls ≡ issued p t0 (take log.came log.calls)
       ++ issued_from p (0 + length (take log.came log.calls)) (kept_from p nothing_kept t0 (take log.came log.calls))
       (target_after t0 (issued p t0 (take log.came log.calls))) (drop log.came log.calls)
   joined = ap (issued p t0) split ∙ journal_joins p 0 nothing_kept t0 (take log.came log.calls) (drop log.came log.calls)
 
+  -- a call that has not come forgives nothing
   mild_at : (index : ℕ) → log.came ≤ index → index < length log.calls → IsMildAt log.calls index
   mild_at index low less =
       let g = i.given index low (let w = h.whole_is in omega (arith, w, less)) in
       record { asks = g.asks; ask = g.ask; more = g.more; are = g.are; at = g.at; mild = g.mild }
 
+  -- after a `finish` all calls came, and no entry is in flight
   calm_here : is_settled log.calls ≡ true → (drop log.came log.calls ≡ []) × (i.flying ≡ [])
   calm_here settled = (
     ap (λ n. drop n log.calls) (h.calm settled).0 ∙ drop_all log.calls,
@@ -119,14 +129,17 @@ module _ (p : Planner) (bench : BenchReported) (state : Option BenchState) (log 
       let c = i.sending.confirmed_is in
       omega (arith, e, f, j, c)
 
+  -- the calls that came have all their entries among those that are confirmed, with a `finish` or without
   came_by : (b : Bool) → is_settled log.calls ≡ b → length (issued p (target_of m0.probe) (take log.came log.calls)) ≤ log.confirmed
   came_by true settled = all_confirmed settled
   came_by false unsettled = (let a = i.came_made in let e = ap (λ (l : List Ask). length (issued p t0 (take log.came l))) (unmarked_same log.calls unsettled) in
       omega (arith, a, e))
 
+  -- the calls that came have all their entries among those that are confirmed
   pub came_there : length (issued p (target_of m0.probe) (take log.came log.calls)) ≤ log.confirmed
   came_there = came_by (is_settled log.calls) refl
 
+  -- an open access is as the laws of calls in flight say it
   pub open_flying : IsFlying p (reported_by bench state log sent got) kept accesses (take log.known log.results) m0 m
   open_flying = record {
     fresh = i.sending.fresh;
@@ -155,6 +168,7 @@ module _ (p : Planner) (bench : BenchReported) (state : Option BenchState) (log 
 
 -- ---- the law of the contract
 
+-- an access, open or ended, is as the laws of calls in flight say it
 since_begun : (p : Planner) (bench : BenchReported) (state : Option BenchState) (log : LogState) (sent got : List ℕ) (kept : Kept) (accesses : List RegAccess)
     (e : Option Stop) (m0 m : BenchState) →
     IsSince p e (reported_by bench state log sent got) log kept accesses m0 m →
@@ -162,6 +176,7 @@ since_begun : (p : Planner) (bench : BenchReported) (state : Option BenchState) 
 since_begun p bench state log sent got kept accesses None m0 m h = open_flying p bench state log sent got kept accesses m0 m h
 since_begun p bench state log sent got kept accesses (Some s) m0 m h = h
 
+-- the same where its bench is observable
 begun_where : (p : Planner) (x : Option BenchState) (bench : BenchReported) (state : Option BenchState) (log : LogState) (sent got : List ℕ) (kept : Kept)
     (accesses : List RegAccess) (m0 : BenchState) →
     WhereObservable x (λ m. IsSince p log.end (reported_by bench state log sent got) log kept accesses m0 m) →
@@ -175,6 +190,7 @@ pub is_begun : (p : Planner) (bench : BenchReported) (state : Option BenchState)
     HasBegun p bench state log sent got kept accesses m0 → IsBegun p (reported_by bench state log sent got) kept accesses (take log.known log.results) m0
 is_begun p bench state log sent got kept accesses m0 h = record { so = begun_where p state bench state log sent got kept accesses m0 h.so }
 
+-- The law `stands`.
 pub stands_packed : (p : Planner) (bench : BenchReported) (state : Option BenchState) (log : LogState) (sent got : List ℕ) (kept : Kept)
     (accesses : List RegAccess) (m0 : BenchState) (n : Option ℕ) →
     HasBegun p bench state log sent got kept accesses m0 → IsLeft (reported_by bench state log sent got) n →

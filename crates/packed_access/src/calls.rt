@@ -33,7 +33,7 @@ fn may_forgive(unit: &Unit) -> bool
     matches!(unit, Unit::Memory { .. } | Unit::Ap { .. })
 }
 
-// Whether the unit is a memory access of an address past 32 bits.
+// Whether the unit is a memory access of an address of more than 32 bits.
 fn is_wide(unit: &Unit) -> bool
     ensures { result ≡ is_wide unit.now }
 {

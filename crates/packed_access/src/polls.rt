@@ -34,8 +34,8 @@ struct MadePoll {
     points: u64,
 }
 
-// Makes a poll: by value matches of the probe where DPBANKSEL is known to be 0, a need point for each of their
-// portions, and else read by read, a need point for each read. One more comes for the send before it.
+// Makes a poll. Where DPBANKSEL is known to be 0 it is made by value matches of the probe, with a need point for each of their portions.
+// Else it is made read by read, with a need point for each read. One more comes for the send before it.
 fn make_poll<F: Flights>(
     flights: &mut F,
     config: Config,

@@ -51,7 +51,7 @@ fate_of left r = if left.read then (if left.done == 0 then fates.Skipped else ex
 abbrev pub words_after : Left → Request → List ℕ
 words_after left r = if left.done == 0 then left.words else if gives_word (kind r) then rest_of left.words else left.words
 
--- what is left after it
+-- what a reply says of the requests after this one
 unfoldable pub left_after : Left → Request → Left
 left_after left r = record { read = left.read; done = left.done - 1; words = words_after left r }
 
@@ -178,7 +178,7 @@ request_lines known left [] = []
 request_lines known left (r ∷ rs) =
     request_line known r (fate_of left r) ++ request_lines (after_request known r (fate_of left r)) (left_after left r) rs
 
--- what is known after them
+-- what is known of the registers after these requests
 abbrev pub after_requests : Known → Left → List Request → Known
 after_requests known left [] = known
 after_requests known left (r ∷ rs) = after_requests (after_request known r (fate_of left r)) (left_after left r) rs

@@ -16,8 +16,8 @@ fn sent_through<B: Bench>(bench: &mut B, packet: &[u8]) -> Result<(), Failed>
     bench.send(packet)
 }
 
-/// What the trait says of the state of a bench that is observable holds of one in memory: a packet
-/// that is sent through the bound is received, and its state is then `served`.
+/// What the trait says of the state of a bench that is observable is true of one in memory. A packet that is sent through the bound is
+/// received, and its state is then `served`.
 pub fn a_memory_bench_is_observable(bench: &mut MemoryBench, packet: &[u8]) -> Result<(), Failed>
     requires { CanSend (reported_of bench.old) packet.now }
     ensures sent { IsOk result }

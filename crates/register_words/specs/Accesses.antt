@@ -4,8 +4,8 @@ use Rattle.register_words.specs.declared.access.Access.{Access}
 use Rattle.register_words.specs.declared.register.Register.{Register}
 use Rattle.register_words.specs.declared.register.Register.TheVariants as at
 
--- The place of a register: 0 to 11 are those of the debug port, 12 to 15 those at 0x0, 0x4, 0x8 and 0xC of an access port that is not
--- known, and each access port has 64 places.
+-- The place of a register. 0 to 11 are those of the debug port, and 12 to 15 those at 0x0, 0x4, 0x8 and 0xC of an access port that is not known.
+-- Each access port has 64 places.
 unfoldable pub register_place : Register → ℕ
 register_place at.Dpidr = 0
 register_place at.Abort = 1

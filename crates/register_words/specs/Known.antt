@@ -30,7 +30,7 @@ with_port known ap port = record known { ports = slice_set known.ports ap port }
 
 -- ---- TAR after an access of DRW
 
--- TAR after an access of so many bytes, within the same 1,024 bytes; past them it is not known
+-- TAR after an access of so many bytes, within the same 1,024 bytes; at their end it is not known
 abbrev pub moved : ℕ → ℕ → Option ℕ
 moved tar size = if nat_lt (tar % 1024 + size) 1024 then Some (tar + size) else None
 
@@ -38,6 +38,7 @@ moved tar size = if nat_lt (tar % 1024 + size) 1024 then Some (tar + size) else 
 abbrev pub bytes_of : ℕ → Option ℕ
 bytes_of size = if size == 0 then Some 1 else if size == 1 then Some 2 else if size == 2 then Some 4 else None
 
+-- the same where the bytes of the access may not be known
 abbrev pub moved_by : ℕ → Option ℕ → Option ℕ
 moved_by tar None = None
 moved_by tar (Some size) = moved tar size

@@ -12,17 +12,19 @@ use Rattle.report_lines.specs.Calls.{call_words}
 use Rattle.report_lines.specs.Lines.{units_line, variable_line}
 use Rattle.report_lines.specs.Words.{halt_word, stop_word}
 
--- a run that came to its end, or was halted
+-- a run that came to its end
 abbrev pub done_line : List ℕ
 done_line = codes "end done\n"
 
+-- a run that was halted, and its cause
 abbrev pub halted_line : HaltCause → List ℕ
 halted_line cause = codes "end halted " ++ halt_word cause ++ codes "\n"
 
--- how many units were skipped, where there are any
+-- how many units were skipped
 abbrev pub skipped_line : ℕ → List ℕ
 skipped_line skipped = codes "skipped " ++ decimal skipped ++ codes "\n"
 
+-- the same, where any were skipped
 abbrev pub skipped_part : ℕ → List ℕ
 skipped_part skipped = if skipped == 0 then [] else skipped_line skipped
 

@@ -23,23 +23,23 @@ pub record KeepsBench {B : Type 0} (reported : B → Reported) (state : B → Op
   pub same : IsAsBefore (seen reported state old) (seen reported state new)
   pub same_bench : identity new ≡ identity old
 
--- How a call ends that asks no bench: what the sink held stays in front; no answer says that a bench failed; and the sink's count of
--- faults rose where the answer says that it failed, and else it is the same.
+-- How a call ends that asks no bench. What the sink held stays in front, and no answer says that a bench failed. The sink's count of faults rose
+-- where the answer says that it failed, and else it is the same.
 pub record EndsPutting {T K : Type 0} (written : K → Option (List ℕ)) (faults : K → ℕ) (result : Result T TextEnd) (old new : K) : Type 0 where
   pub some : AppendsSome (written old) (written new)
   pub bench : IfErr result (λ e. e ≢ ends.BenchFault)
   pub sink : NamesFault ends.WriteFault (faults old) (faults new) result
 
--- How a call ends that asks a bench: the same, and the bench's count of faults rose where the answer says that it failed, and else it
--- is the same.
+-- How a call ends that asks a bench. The same is true, and the bench's count of faults rose where the answer says that it failed, and else it
+-- stays.
 pub record EndsShowing {T K : Type 0} (written : K → Option (List ℕ)) (faults : K → ℕ) (result : Result T TextEnd)
     (bench_old bench_new : Reported) (old new : K) : Type 0 where
   pub some : AppendsSome (written old) (written new)
   pub bench : NamesFault ends.BenchFault bench_old.faults bench_new.faults result
   pub sink : NamesFault ends.WriteFault (faults old) (faults new) result
 
--- What a call keeps that asks what shows a target, and how it ends: all that is known of what shows it is as it was except the count of
--- faults of its bench; and it ends as a call that asks that bench.
+-- What a call keeps that asks what shows a target, and how it ends. All that is known of what shows it is as it was, except the count of faults
+-- of its bench. It ends as a call that asks that bench.
 pub record ShowsView {S T K : Type 0} (known : S → View) (written : K → Option (List ℕ)) (faults : K → ℕ) (result : Result T TextEnd)
     (shower_old shower_new : S) (old new : K) : Type 0 where
   pub keeps : IsViewedAsBefore (known shower_old) (known shower_new)

@@ -22,6 +22,7 @@ dp_line image =
     codes "dp select " ++ hex8 image.select ++ codes " ctrl " ++ hex8 image.ctrl ++
     codes " sticky " ++ bit_word image.sticky ++ codes " reads " ++ decimal image.reads ++ codes "\n"
 
+-- TAR's upper word, where the access port has large physical addresses
 abbrev pub high_part : Option ℕ → List ℕ
 high_part None = []
 high_part (Some high) = codes " high " ++ hex8 high
@@ -36,6 +37,7 @@ lines_line image =
     codes "lines pins " ++ hex2 image.pins ++ codes " bits " ++ decimal image.bits ++ codes " last " ++ hex16 image.last ++
     codes " clock " ++ decimal image.clock ++ codes " delay " ++ decimal image.delay ++ codes "\n"
 
+-- the place that the next read takes in the script of the word, where that has several values
 abbrev pub place_part : Option ℕ → List ℕ
 place_part None = []
 place_part (Some place) = codes " at " ++ decimal place

@@ -33,8 +33,8 @@ LinePut entry (Ok seen.NotKept) old new = ⊥
 LinePut entry (Ok seen.Past) old new = ⊥
 LinePut entry (Err end) old new = AppendsPrefix old new (entry_line entry)
 
--- What was put for the entry of a number: its line where it is kept; nothing where it is not, or where there is none; at an error
--- nothing, or a part of its line.
+-- What was put for the entry of a number. It is its line where the entry is kept, and nothing where it is not, or where there is none. At an
+-- error it is nothing, or a part of its line.
 abbrev pub EntryPut : Log → ℕ → Result Seen TextEnd → Option (List ℕ) → Option (List ℕ) → Type 0
 EntryPut log index (Ok seen.Kept) old new = (entry : Entry) × (slice_get log.kept index ≡ Some entry) × Appends old new (entry_line entry)
 EntryPut log index (Ok seen.NotKept) old new = (length log.kept ≤ index) × (index < log.count) × (new ≡ old)

@@ -30,7 +30,7 @@ no_bench = record {
 abbrev pub own_view : TargetState → View
 own_view t = record { target = Some t; bench = no_bench; identity = 0 }
 
--- all is as it was but for the count of faults
+-- all is as it was except for the count of faults
 pub record IsViewedAsBefore (old new : View) : Type 0 where
   pub target : new.target ≡ old.target
   pub bench : IsAsBefore old.bench new.bench

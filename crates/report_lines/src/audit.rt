@@ -20,9 +20,8 @@ use target_machine::Target;
 use text_lines::Line;
 use trace_audit::{AuditFault, Audited};
 
-/// Puts the lines of a target, each by one `put`, as a report has them: the debug port, the access ports of the job in rising
-/// order, the lines of the probe, and the watched words, whose addresses are below 2^64. A part that is not in the target has no
-/// line.
+/// Puts the lines of a target, each by one `put`, as a report has them. They are the debug port, the access ports of the job in rising
+/// order, the lines of the probe, and the watched words, whose addresses are below 2^64. A part that is not in the target has no line.
 ///
 /// `WriteFault` where the sink failed, `OutOfMemory` where memory is refused: a prefix of the lines was then appended. Never
 /// `BenchFault`.
@@ -57,7 +56,7 @@ fn audit_ok_text(alloc: Global, audited: &Audited) -> Result<Line, OutOfMemory>
         .text("\n")
 }
 
-/// Puts the text of a trace that is accepted, each line by one `put`: how many of its entries are packets and replies, and the
+/// Puts the text of a trace that is accepted, each line by one `put`. It says how many of its entries are packets and replies, and the
 /// target that it leads to, as `target_text` has it.
 ///
 /// `WriteFault` where the sink failed, `OutOfMemory` where memory is refused: a prefix of the text was then appended. Never

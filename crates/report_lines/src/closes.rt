@@ -17,8 +17,8 @@ use probe_core::Bench;
 use std::alloc::Global;
 use text_lines::Line;
 
-/// Puts the lines of the target of a bench, each by one `put`, as a report has them: the debug port, the access ports of the job in
-/// rising order, the lines of the probe, and the watched words. Each part is requested directly before its line. A part that the bench
+/// Puts the lines of the target of a bench, each by one `put`, as a report has them. They are the debug port, the access ports of the job
+/// in rising order, the lines of the probe, and the watched words. Each part is requested directly before its line. A part that the bench
 /// does not show has no line.
 ///
 /// `WriteFault` where the sink failed, `BenchFault` where the bench failed, `OutOfMemory` where memory is refused: a prefix of the lines
@@ -80,8 +80,9 @@ fn differs_line(alloc: Global, address: u32, wanted: u8, found: u8) -> Result<Li
     line.text(" found ")?.hex2(found)?.text("\n")
 }
 
-/// Puts the text of an image that was read back as another one, each line by one `put`: the first byte that differs, with its address, the
-/// byte of the image and the byte that was read; and then the target of the bench, as `target_lines` has it. Its line comes first, over any bench.
+/// Puts the text of an image that was read back as another one, each line by one `put`. First comes the first byte that differs, with its
+/// address, the byte of the image and the byte that was read. Then comes the target of the bench, as `target_lines` has it. Its line comes
+/// first, over any bench.
 ///
 /// `WriteFault` where the sink failed, `BenchFault` where the bench failed, `OutOfMemory` where memory is refused: a prefix of the text
 /// was then appended. The bench stays as it was, except its count of faults at `BenchFault`.

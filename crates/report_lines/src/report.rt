@@ -57,13 +57,11 @@ fn write_shown<K: Sink, B: Bench>(
     }
 }
 
-/// Puts the report of a run of a job, each line by one `put`: how it ended, and, where it came to its
-/// end, was halted, or was stopped by the target or the probe, what the bench shows of its target.
-/// `sent` and `got` are the packet and the reply that ended it, and count after `ReplyBad` alone.
-/// Each part of the target is requested directly before its line: the debug port, the access ports of
-/// the job in rising order, the lines of the probe, and the watched words in their order, whose
-/// addresses are below 2^64. A part that the bench does not show has no line. After `WriteFault` and
-/// `OutOfMemory` nothing is put.
+/// Puts the report of a run of a job, each line by one `put`. It says how the run ended. Where it came to its end, was halted, or was
+/// stopped by the target or the probe, it has what the bench shows of its target. `sent` and `got` are the packet and the reply that ended
+/// it, and count after `ReplyBad` alone. Each part of the target is requested directly before its line. The parts are the debug port, the
+/// access ports of the job in rising order, the lines of the probe, and the watched words in their order, whose addresses are below 2^64. A
+/// part that the bench does not show has no line. After `WriteFault` and `OutOfMemory` nothing is put.
 ///
 /// `WriteFault` where the sink failed, `BenchFault` where the bench failed, `OutOfMemory` where memory
 /// is refused: a prefix of the report was then appended. The bench stays as it was, except its count

@@ -86,8 +86,8 @@ fn write_entry<K: Sink, B: Bench>(
     }
 }
 
-// Puts the line of the packet or reply of a number, where it is kept, and answers how many are kept
-// with it, or that there is none of the number.
+// Puts the line of the packet or reply of a number, where it is kept. Answers how many are kept with it, or that there is none of the
+// number.
 #[tactic(auto, unfolding(crate::specs::Trace::StepPut))]
 fn write_next<K: Sink, B: Bench>(
     alloc: Global,
@@ -132,10 +132,9 @@ fn write_entries<K: Sink, B: Bench>(
     Ok((kept, u32::MAX))
 }
 
-/// Puts the trace of a run, each line by one `put`: the packets that the bench received and the
-/// replies that it handed out, in order, as far as they were kept, and how many of how many they are.
-/// Each is requested by its number, from 0 on, directly before its line, until there is none of the
-/// number, or until 4,294,967,295 were requested.
+/// Puts the trace of a run, each line by one `put`. It has the packets that the bench received and the replies that it handed out, in
+/// order, as far as they were kept. Last it has how many of how many they are. Each is requested by its number, from 0 on, directly before
+/// its line. That ends where there is none of the number, or where 4,294,967,295 were requested.
 ///
 /// `WriteFault` where the sink failed, `BenchFault` where the bench failed, `OutOfMemory` where memory
 /// is refused: a prefix of the trace was then appended. The bench stays as it was, except its count of

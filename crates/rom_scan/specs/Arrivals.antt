@@ -29,7 +29,7 @@ ScanEndIs (Err e.Full) end = end ≡ None
 ScanEndIs (Err e.WriteFault) end = end ≡ None
 ScanEndIs (Err (e.Stop s)) end = EndsBy s end
 
--- the sink's count of faults rose, or stands at its last value, where the sink failed, and else it is the same
+-- the sink's count of faults rose, or is at its last value, where the sink failed, and else it is the same
 abbrev pub HasSinkCause : Result ℕ ScanEnd → ℕ → ℕ → Type 0
 HasSinkCause (Ok n) before now = now ≡ before
 HasSinkCause (Err e.Full) before now = now ≡ before

@@ -19,7 +19,7 @@ component_of word address depth =
     then known_as address depth (words_at word 4 (address + 0xFF0)) (words_at word 1 (address + 0xFD0)) (words_at word 4 (address + 0xFE0))
     else unknown_at address depth
 
--- An entry of a table: 0 ends the table; one with bit 0 set names a component, which comes now, with all below it, unless it was listed.
+-- An entry of a table. 0 ends the table. One with bit 0 set names a component, which comes now, with all below it, unless it was listed.
 abbrev pub with_entry : (ℕ → List Component → List Component) → ℕ → ℕ → List Component → (List Component → List Component) → List Component
 with_entry visit table e listed next =
     if e == 0 then listed

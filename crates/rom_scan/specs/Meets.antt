@@ -10,8 +10,8 @@ use Rattle.access_calls.specs.declared.stop.StopCause.TheVariants.{NoAnswer}
 use Rattle.sequels.specs.Meeting.{CutOff, Gave, LeftOff}
 use Rattle.sequels.specs.Sequel.{Sequel}
 
--- The access stopped: the sequel was left off; at a cut its calls stop at the last that was asked, right after those whose lines come
--- before it.
+-- The access stopped, and the sequel was left off. At a cut its calls stop at the last that was asked, right after those whose lines come before
+-- it.
 pub record StopsIn {X : Type 0} (w : World) (lines : ℕ) (s : Sequel X) (old new : List Ask) (before now : Option (List ℕ)) (e : Stop) : Type 0 where
   pub left : LeftOff w s old new before now
   pub cut : AtCut e (λ r. CutOff w s old new before now × (stop w new ≡ Some (lines + 1)))

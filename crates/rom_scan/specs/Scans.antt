@@ -18,8 +18,8 @@ Lists w lines s (Err e.Full) old new before now = Gave w s old new before now wa
 Lists w lines s (Err e.WriteFault) old new before now = LeftOff w s old new before now
 Lists w lines s (Err (e.Stop st)) old new before now = StopsIn w lines s old new before now st
 
--- A whole scan, of at most 1,024 components: it came to its end, with all components or with more than these; or it was left off in its
--- middle, where the sink failed; or the access stopped, in the scan or in the `finish` after it.
+-- A whole scan, of at most 1,024 components. It came to its end, with all components or with more than these. Or it was left off in its middle,
+-- where the sink failed. Or the access stopped, in the scan or in the `finish` after it.
 abbrev pub Scans : World → ℕ → ℕ → Result ℕ ScanEnd → List Ask → List Ask → Option (List ℕ) → Option (List ℕ) → Type 0
 Scans w lines ap (Ok n) old new before now = (listed : List Component) × Finished w (scanned 1024 ap) old new before now (walk.Listed listed)
 Scans w lines ap (Err e.Full) old new before now = Finished w (scanned 1024 ap) old new before now walk.Full

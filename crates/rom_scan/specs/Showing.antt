@@ -48,8 +48,8 @@ pub record CanScan (w : World) (ap : ℕ) : Type 0 where
   pub single : EachValue IsSingle w.target.words
   pub range : IsInRange w.target
 
--- A scan writes the lines of the components that the target's words show, of the first ones where there are more than it may list, and
--- is full exactly there. No call stops, and the words stay.
+-- A scan writes the lines of the components that the target's words show. Where there are more than it may list it writes those of the first
+-- ones, and is full exactly there. No call stops, and the words stay.
 pub record ListsTarget (w : World) (most ap : ℕ) : Type 0 where
   pub written : (comes w (scanned most ap)).written ≡ lines_of (take most (components (shows w.target) (base_at w.target ap)))
   pub end : (comes w (scanned most ap)).end ≡ Some (listed_within most (components (shows w.target) (base_at w.target ap)))

@@ -11,8 +11,8 @@ pub fn components_are_listed()
     ensures { (f : Ask → ℕ) (most ap : ℕ) → ListsComponents f most ap }
 {}
 
-/// On a target whose words can be read by an access port, a scan by it lists the components that these words show, up to as many as it may
-/// list. It is full exactly where there are more. The words stay.
+/// Let the words of a target be readable by an access port. A scan by it lists the components that these words show, up to as many as it
+/// may list. It is full exactly where there are more. The words stay.
 pub fn targets_are_listed()
     ensures { (w : World) (most ap : ℕ) → ap < 2 ^ 8 → CanScan w ap → ListsTarget w most ap }
 {}

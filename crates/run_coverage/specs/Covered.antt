@@ -24,7 +24,7 @@ event_words (Writes line) = None
 event_words (Calls name) = None
 event_words Returns = None
 
--- these are the words
+-- an event, if it has words, has these
 abbrev pub is_word : List ℕ → Option (List ℕ) → Bool
 is_word words None = false
 is_word words (Some said) = bytes_eq words said

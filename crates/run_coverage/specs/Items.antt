@@ -8,13 +8,15 @@ use Rattle.run_events.specs.OfRuns.{steps_in}
 use Rattle.log_lines.specs.Places.{spot_words, spot_in, condition_spot}
 use Rattle.run_coverage.specs.declared.items.Item.{Item}
 
--- what happens at a place, in words
+-- the statement at a place runs
 abbrev pub ran_words : Spot → List ℕ
 ran_words spot = codes "ran " ++ spot_words spot
 
+-- the `if` at a place is taken
 abbrev pub taken_words : Spot → List ℕ
 taken_words spot = codes "taken " ++ spot_words spot
 
+-- the `if` at a place is skipped
 abbrev pub skipped_words : Spot → List ℕ
 skipped_words spot = codes "skipped " ++ spot_words spot
 
@@ -22,16 +24,19 @@ skipped_words spot = codes "skipped " ++ spot_words spot
 abbrev pub chosen : ℕ → List ℕ
 chosen n = if nat_eq n 0 then codes "skipped " else codes "taken "
 
+-- the `while` at a place is left by its condition
 abbrev pub left_words : Spot → List ℕ
 left_words spot = codes "left " ++ spot_words spot
 
+-- the `while` at a place times out
 abbrev pub timed_out_words : Spot → List ℕ
 timed_out_words spot = codes "timed out " ++ spot_words spot
 
--- of a statement in words, and of a condition
+-- an item of a statement, in words
 abbrev pub of_statement : List ℕ → Item
 of_statement words = record { is_statement = true; words = words }
 
+-- an item of a condition, in words
 abbrev pub of_condition : List ℕ → Item
 of_condition words = record { is_statement = false; words = words }
 
@@ -58,6 +63,7 @@ while_items name path None = []
 while_items name path (Some e) =
     of_condition (left_words (condition_spot name path parts.While)) ∷ of_condition (timed_out_words (condition_spot name path parts.While)) ∷ []
 
+-- the items of steps, each at its path
 abbrev mutual
   -- in the step at the path: of a control its `if`, its `while`, and then the steps inside
   pub step_items : List ℕ → List ℕ → CodeStep → List Item

@@ -5,7 +5,7 @@ use Rattle.log_lines.specs.Places.{spot_in}
 use Rattle.run_coverage.specs.declared.ran.Ran.{Ran}
 use Rattle.run_coverage.specs.Items.{ran_words}
 
--- that it ran, in words
+-- the item of a statement that ran, in words
 abbrev pub words_of : Ran → List ℕ
 words_of ran = ran_words (spot_in ran.sequence ran.path parts.Block ran.place)
 

@@ -26,10 +26,12 @@ abbrev mutual
   tree_names (Assign name a) = tree_names a
   tree_names (Call called args) = own_name called args ++ args_names args
 
+  -- those of an argument
   pub arg_names : ArgTree → List (List ℕ)
   arg_names (ExprArg at e) = tree_names e
   arg_names (TextArg t) = []
 
+  -- those of arguments
   pub args_names : ArgTrees → List (List ℕ)
   args_names NoArgs = []
   args_names (MoreArgs a more) = arg_names a ++ args_names more

@@ -130,8 +130,8 @@ impl Coverage {
         Ok(text)
     }
 
-    /// The coverage of the sequences of the checked set that the run of `start` can reach by calls, as text: how many statements of each ran,
-    /// and of all together, and what has not happened, each on a line. `OutOfMemory` where memory is refused.
+    /// The coverage of the sequences of the checked set that the run of `start` can reach by calls, as text. It has how many statements of
+    /// each ran, and of all together, and what has not happened, each on a line. `OutOfMemory` where memory is refused.
     pub fn text(&self, checked: &Checked, start: &str) -> Result<Vec<u8>, OutOfMemory>
         ensures { (events : List Event) → IsOf self.now events → IfOk result (λ t. t.items ≡ coverage_text (checked_trees checked.now) start.now events) }
     {

@@ -1,4 +1,4 @@
--- The first fault of parts that stand in order.
+-- The first fault of parts in order.
 use Rattle.std.proofs.Common.{◌≡◌, ◌∙◌, sym, subst, Bool, false, Option, Some, None, IfSome, IsSomeAnd, option_map}
 use Rattle.std.specs.Option.{option_or}
 use Rattle.code_check.specs.First.{IsFirst, Nowhere, InEither, here, there}
@@ -7,7 +7,7 @@ module _ {F : Type 0} (before : F → F → Bool) where
   pub first_of_none : IsFirst before Nowhere None
   first_of_none = record { holds = tt; none_before = λ g s. elim s [ ] }
 
-  -- where the same faults stand, the first is the same
+  -- where there are the same faults, the first is the same
   pub first_of_same : (P Q : F → Type 0) (r : Option F) → ((f : F) → P f → Q f) → ((f : F) → Q f → P f) → IsFirst before P r → IsFirst before Q r
   first_of_same P Q r to from h = record { holds = carried r h.holds; none_before = λ g s. h.none_before g (from g s) } where
     carried : (o : Option F) → IfSome o P → IfSome o Q

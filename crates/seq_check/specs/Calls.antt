@@ -26,7 +26,9 @@ text_calls names called (Some t) = record { place = called.at; callee = number_o
 abbrev pub own_calls : List (List ℕ) → Name → ArgTrees → List TextCall
 own_calls names called args = if bytes_eq called.text (codes "Sequence") then text_calls names called (text_at args 0) else []
 
+-- the calls in expressions and in their arguments
 abbrev mutual
+  -- the calls in an expression, in the order of the text
   pub expr_calls : List (List ℕ) → Tree → List TextCall
   expr_calls names (Number n) = []
   expr_calls names (Named name) = []
@@ -37,10 +39,12 @@ abbrev mutual
   expr_calls names (Assign name a) = expr_calls names a
   expr_calls names (Call called args) = own_calls names called args ++ args_calls names args
 
+  -- the calls in an argument
   pub arg_calls : List (List ℕ) → ArgTree → List TextCall
   arg_calls names (ExprArg at e) = expr_calls names e
   arg_calls names (TextArg t) = []
 
+  -- the calls in arguments
   pub args_calls : List (List ℕ) → ArgTrees → List TextCall
   args_calls names NoArgs = []
   args_calls names (MoreArgs a more) = arg_calls names a ++ args_calls names more
@@ -67,6 +71,7 @@ condition_calls names (Some e) = expr_calls names e
 abbrev pub calls_at : List ℕ → Part → List TextCall → List StepCall
 calls_at path part calls = map (λ c. record { path = path; part = part; place = c.place; callee = c.callee }) calls
 
+-- the calls in steps, each at its path
 abbrev mutual
   -- in the step at the path
   pub step_calls : List (List ℕ) → List ℕ → CodeStep → List StepCall

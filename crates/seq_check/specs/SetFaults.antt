@@ -1,4 +1,4 @@
--- The faults that stand in the texts and the controls of a set.
+-- The faults in the texts and the controls of a set.
 use Rattle.std.specs.Prelude.{◌≡◌, ℕ, suc, nat_lt, ◌&&◌, ◌||◌, not, Bool, true, false, List, [], ◌∷◌, map}
 use Rattle.sequence_trees.specs.declared.spot.Part.TheVariants as parts
 use Rattle.sequence_trees.specs.Trees.{CodeSteps, SetTrees}
@@ -26,7 +26,7 @@ holder_before (holders.Sequence m) (holders.Sequence n) = nat_lt m n
 abbrev pub is_set_before : SetFault → SetFault → Bool
 is_set_before f g = holder_before f.holder g.holder || not (holder_before g.holder f.holder) && is_step_before f.fault g.fault
 
--- these faults, of this holder
+-- the fault of a set is one of these faults of steps, in this sequence or in the debug variables
 pub record Of (holder : Holder) (Inside : StepFault → Type 0) (f : SetFault) : Type 0 where
   pub holder_is : f.holder ≡ holder
   pub holds : Inside f.fault
@@ -48,7 +48,7 @@ abbrev pub FaultInSequences : Scope → ℕ → List CodeSteps → SetFault → 
 FaultInSequences s number [] = Nowhere
 FaultInSequences s number (steps ∷ more) = InEither (Of (holders.Sequence number) (FaultInSteps s 0 0 steps)) (FaultInSequences s (suc number) more)
 
--- the fault stands in the set, whose sequences have their numbers from 0 on
+-- the fault is in the set, whose sequences have their numbers from 0 on
 abbrev pub FaultInSet : SetTrees → SetFault → Type 0
 FaultInSet set =
     InEither (Of holders.Debugvars (At parts.Debugvars (BlockFault (debugvars_scope set) set.debugvars)))

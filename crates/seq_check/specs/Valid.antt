@@ -47,11 +47,11 @@ abbrev pub holder_name : SetTrees → Holder → Option (List ℕ)
 holder_name set holders.Debugvars = None
 holder_name set (holders.Sequence n) = slice_get (names_of set) n
 
--- where a fault stands, with the name
+-- where a fault is, with the name
 abbrev pub spot_of : SetTrees → SetFault → Spot
 spot_of set f = record { sequence = holder_name set f.holder; path = f.fault.path; part = f.fault.part; place = f.fault.fault.place }
 
--- no fault stands in the texts and the controls of the set, and its calls are sound
+-- there is no fault in the texts and the controls of the set, and its calls are sound
 pub record IsSound (set : SetTrees) : Type 0 where
   pub no_fault : (f : SetFault) → FaultInSet set f → ⊥
   pub calls : CallsAreSound set

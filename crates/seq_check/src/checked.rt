@@ -13,7 +13,7 @@ use sequence_trees::{CheckedSteps, ReadSet, Spot};
 /// Why a set has no `Checked`.
 #[derive(Debug, Drop)]
 pub enum CheckFault {
-    /// The first fault of the set, and where it stands. A fault of a control itself has the place 0:0.
+    /// The first fault of the set, and where it is. A fault of a control itself has the place 0:0.
     Fault(FaultKind, Spot),
     /// Memory was refused.
     OutOfMemory,

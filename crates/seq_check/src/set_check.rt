@@ -103,13 +103,16 @@ fn read_fault(alloc: Global, set: &ReadSet) -> Result<Option<FirstFault>, OutOfM
 /// The set with its texts read, where it is valid. Its names must be distinct, as those that
 /// `effective` answers are.
 ///
-/// `Fault` exactly where it is not valid, with the first fault, of which there is one: first of texts
-/// that are no code or no expression; where there is none, of all others but the last two kinds; then
-/// of calls that lead back to the sequence that they stand in; then of those that begin a chain of 33
-/// sequences. Among these the debug variables come first, then the sequences in the set's order, each
-/// by step, a control before the steps inside. A control itself comes before its `if`, and that before
-/// its `while`; of its own faults `NestedTooDeep` comes first, then `TimeoutTooLong`, then
-/// `UnboundedLoop`. In a text the order is by line, by column, and at one place that of the kinds.
+/// `Fault` exactly where it is not valid, with the first fault, of which there is one. Faults of a kind come only where there are none of
+/// those before:
+/// - texts that are no code or no expression;
+/// - all others but the last two kinds;
+/// - calls that lead back to the sequence that they stand in;
+/// - calls that begin a chain of 33 sequences.
+///
+/// Among these the debug variables come first, then the sequences in the set's order, each by step, a control before the steps inside. A
+/// control itself comes before its `if`, and that before its `while`. Of its own faults `NestedTooDeep` comes first, then `TimeoutTooLong`,
+/// then `UnboundedLoop`. In a text the order is by line, by column, and at one place that of the kinds.
 ///
 /// A disabled sequence has no faults and no calls. `OutOfMemory` where memory is refused.
 pub fn check(alloc: Global, set: &SeqSet) -> Result<Checked, CheckFault>

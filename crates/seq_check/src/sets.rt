@@ -1,4 +1,4 @@
-//! The first fault of a whole set, calls that lead back or too deep aside.
+//! The first fault of a whole set, apart from calls that lead back or too deep.
 ghost use Rattle.std.specs.Prelude.{◌≡◌, ◌<◌, Some, true, false, IfOk, OnOk, IfNone, map, length, option_map, slice_get};
 ghost use Rattle.std.specs.List.{IsDistinct};
 ghost use Rattle.std.specs.Str.{bytes_eq};
@@ -92,7 +92,7 @@ fn sequences_fault(
     Ok(None)
 }
 
-/// The first fault of a set, calls that lead back or too deep aside.
+/// The first fault of a set, apart from calls that lead back or too deep.
 pub fn set_fault(
     alloc: Global,
     set: &ReadSet,

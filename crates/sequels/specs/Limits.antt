@@ -23,6 +23,7 @@ pub record CutShort {X : Type 0} (m : ℕ) (whole short : Comes X) : Type 0 wher
   pub further : List ℕ
   pub written : whole.written ≡ short.written ++ further
 
+-- a sequel is the same where m calls are answered, or it is cut at call m + 1
 abbrev pub IsLimited : {X : Type 0} → ℕ → Comes X → Comes X → Type 0
 IsLimited m whole short = SameWithin m whole short ⊎ CutShort m whole short
 

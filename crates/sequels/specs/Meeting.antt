@@ -1,5 +1,5 @@
--- How far what was asked and written has come with a sequel: from these calls, all answered, to those; from what was written before to
--- what is written now, each where that is known.
+-- How far what was asked and written has come with a sequel. It goes from these calls, all answered, to those, and from what was written before
+-- to what is written now, each where that is known.
 use Rattle.std.specs.Prelude.{◌≡◌, ℕ, List, ◌++◌, Option, None}
 use Rattle.std.specs.Io.KnownBytes.{Appends}
 use Rattle.target_calls.specs.World.{World, world_after}
@@ -15,7 +15,7 @@ pub record Reaches {X : Type 0} (w : World) (s : Sequel X) (old new : List Ask) 
   pub written : Appends before now lines
   pub goes : GoesOn (world_after w old) s more lines rest
 
--- It came to its end.
+-- A sequel came to its end: it asked these calls, wrote these lines, and gave this.
 pub record Gave {X : Type 0} (w : World) (s : Sequel X) (old new : List Ask) (before now : Option (List ℕ)) (x : X) : Type 0 where
   pub more : List Ask
   pub lines : List ℕ

@@ -77,7 +77,7 @@ module _ (runner : DirectRunner) (depth : ℕ) where
   adds_repeated o timeout steps s =
       g.goes_repeated (direct false) Adds (adds_direct false) (calls_of runner depth) adds_sequence runner.turn_us o timeout steps (steps_result (direct false) runner.turn_us (calls_of runner depth) steps) s (λ r. adds_done steps r)
 
--- ---- an end goes on outwards, past what only adds
+-- ---- an end goes on outwards, through what only adds
 
 past : {A B : Type 0} (now : S) (out : O A) (f : A × S → O B) → ((x : A × S) → Goes Adds x.1 (f x)) → Adds now.rest (end_state out).rest → Adds now.rest (end_state (out >>= f)).rest
 past now (Ok x) f k h = (adds_direct false).on _ _ _ h (k x).so

@@ -31,8 +31,8 @@ abbrev pub Answers : Outcome → Result Recorded OutOfMemory → TargetState →
 Answers o (Ok r) target written = Records o r.ending r.calls r.skipped target written
 Answers o (Err e) target written = Unit {0}
 
--- So much of a run on a target was done: these calls come first among those of the outcome, the target is the one that they leave, and
--- what was written comes first in what the outcome has written.
+-- So much of a run on a target was done. These calls come first among those of the outcome, and the target is the one that they leave. What was
+-- written comes first in what the outcome has written.
 pub record IsFirstPart (start : TargetState) (o : Outcome) (made : List Ask) (left : TargetState) (written : Option (List ℕ)) : Type 0 where
   pub more : List Ask
   pub calls : o.calls ≡ made ++ more
@@ -48,14 +48,14 @@ abbrev pub Leaves : TargetState → Outcome → Result Recorded OutOfMemory → 
 Leaves start o (Ok r) target written = IsFirstPart start o r.calls target written
 Leaves start o (Err e) target written = LeavesSome start o target written
 
--- by a count of the sink's faults: the sink failed only where it rose, or stands at its last value, and any other ending leaves it
+-- by a count of the sink's faults: the sink failed only where it rose, or is at its last value, and any other ending leaves it
 abbrev pub IsEndingCaused : Direct → ℕ → ℕ → Type 0
 IsEndingCaused (d.Done variables) before now = now ≡ before
 IsEndingCaused (d.Halted cause variables) before now = now ≡ before
 IsEndingCaused (d.Faulted unit what) before now = now ≡ before
 IsEndingCaused d.WriteFault before now = Rose before now
 
--- the same of an answer
+-- the same of the answer of a direct run
 abbrev pub IsDirectCaused : Result Direct OutOfMemory → ℕ → ℕ → Type 0
 IsDirectCaused (Ok ended) before now = IsEndingCaused ended before now
 IsDirectCaused (Err e) before now = now ≡ before

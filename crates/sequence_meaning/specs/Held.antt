@@ -48,8 +48,8 @@ EndsDirect (end.Faulted u) now out = out ≡ Err (machine.Faulted (Access u), no
 EndsDirect end.WriteFault now out = Adds now.rest (end_state out).rest
 EndsDirect end.OutOfMemory now out = Adds now.rest (end_state out).rest
 
--- what the code answers and the state that it leaves are those of the meaning; x is what an answer stands for, and e is why the code
--- stopped, where it did
+-- What the code answers and the state that it leaves are those of the meaning. Here x is what an answer stands for, and e is why the code
+-- stopped, where it did.
 abbrev pub MeansDirectAs : {A B : Type 0} → DirectEnd → B → Result A Stopped → State ℕ Now → Out ℕ Now B → Type 0
 MeansDirectAs e x (Ok y) now out = out ≡ Ok (x, now)
 MeansDirectAs e x (Err stopped) now out = EndsDirect e now out
@@ -59,15 +59,14 @@ abbrev pub MeansDirect : {A : Type 0} → DirectEnd → Result A Stopped → Sta
 MeansDirect e (Ok x) now out = out ≡ Ok (x, now)
 MeansDirect e (Err stopped) now out = EndsDirect e now out
 
--- why the code ends, by a count of the sink's faults: the sink failed only where it rose, or stands at its last value, and any other end
--- leaves it
+-- Why the code ends, by a count of the sink's faults. The sink failed only where it rose, or is at its last value, and any other end leaves it.
 abbrev pub IsEndCaused : DirectEnd → ℕ → ℕ → Type 0
 IsEndCaused (end.Halted cause) before now = now ≡ before
 IsEndCaused (end.Faulted u) before now = now ≡ before
 IsEndCaused end.WriteFault before now = Rose before now
 IsEndCaused end.OutOfMemory before now = now ≡ before
 
--- the same of an answer
+-- the sink's count of faults rose where the code stopped because it failed, and else it is the same
 abbrev pub IsCaused : {A : Type 0} → DirectEnd → Result A Stopped → ℕ → ℕ → Type 0
 IsCaused e (Ok x) before now = now ≡ before
 IsCaused e (Err stopped) before now = IsEndCaused e before now

@@ -13,9 +13,9 @@ pub record IsChecked (p : Program) : Type 0 where
   pub start : is_some (steps_named p.start p.set.sequences) ≡ true
   pub names : map (λ b. b.name) p.predefined ≡ predefined
 
--- Its run is never lost: it never meets a name that is not visible, a function that is not in the table, a wrong count or kind of
--- arguments, a sequence that the set does not have or a chain of more than 32, or a loop without a timeout. So 0 or nothing never
--- takes the place of what is missing.
+-- Its run is never lost. It never meets a name that is not visible, a function that is not in the table, or a wrong count or kind of arguments.
+-- Nor does it meet a sequence that the set does not have, a chain of more than 32, or a loop without a timeout. So 0 or nothing never takes the
+-- place of what is missing.
 abbrev pub ChecksLeaveNothingMissing : Type 0
 ChecksLeaveNothingMissing = (w : World) (p : Program) (written : Option (List ℕ)) → IsChecked p → outcome_of (watched w p written) ≡ outcome_of (meaning w p written)
     × ((outcome_of (watched w p written)).ending ≡ ending.Lost → ⊥)

@@ -79,7 +79,7 @@ fn record_run(
 /// does not have the sequence, there are no steps.
 ///
 /// `WriteFault` comes only where the sink failed, and `OutOfMemory` where memory is refused. With both, the calls so far and what was
-/// written come first in those of the run, and the target is as these calls leave it; with `WriteFault` the last line may be a part.
+/// written come first in those of the run, and the target is as these calls leave it. With `WriteFault` the last line may be a part.
 pub fn run_recorded<K: Sink>(
     alloc: Global,
     checked: &Checked,
@@ -93,7 +93,7 @@ pub fn run_recorded<K: Sink>(
     // What is answered, the target and the lines are those of the outcome: Done, Halted or Faulted, the variables, the calls and the skips.
     ensures answer { (known : Bool) → Knows known (K.written sink.old)
         → Answers (outcome (program_of (checked_trees checked.now) start.now settings.now) target.old (known_part known (K.written sink.old))) result target.new (known_part known (K.written sink.new)) }
-    // `WriteFault` comes only where the sink's count of faults rose, or stands at its last value, and any other answer leaves the count.
+    // `WriteFault` comes only where the sink's count of faults rose, or is at its last value, and any other answer leaves the count.
     ensures cause { IsRecordedCaused result (K.faults sink.old) (K.faults sink.new) }
     // However it ends, a first part of the run was made and written, and the target is as these calls leave it.
     ensures part { (known : Bool) → Knows known (K.written sink.old)
@@ -131,7 +131,7 @@ pub fn run_direct<K: Sink>(
     // How it ended, the target and the lines are those of the outcome.
     ensures answer { (known : Bool) → Knows known (K.written sink.old)
         → AnswersDirect (outcome (program_of (checked_trees checked.now) start.now settings.now) target.old (known_part known (K.written sink.old))) result target.new (known_part known (K.written sink.new)) }
-    // `WriteFault` comes only where the sink's count of faults rose, or stands at its last value, and any other answer leaves the count.
+    // `WriteFault` comes only where the sink's count of faults rose, or is at its last value, and any other answer leaves the count.
     ensures cause { IsDirectCaused result (K.faults sink.old) (K.faults sink.new) }
     // However it ends, a first part of the run was made and written, and the target is as its calls leave it.
     ensures part { (known : Bool) → Knows known (K.written sink.old)

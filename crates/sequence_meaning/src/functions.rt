@@ -153,7 +153,7 @@ fn write_load<K: Sink>(
     write_line(load_line(alloc, text), 0, held, sink)
 }
 
-// A call of a function, but for `Sequence`, with its text and the numbers among its arguments.
+// A call of a function other than `Sequence`, with its text and the numbers among its arguments.
 #[tactic(auto, unfolding(sequence_rules::specs::Calls::function_result, sequence_rules::specs::Direct::direct))]
 pub(crate) fn make_call<K: Sink>(
     function: Function,

@@ -123,7 +123,7 @@ no_variant pack device variant x y found p q is none =
     let here : requested_variant variant y.device ≡ Some found = subst (λ (at : DevicePlace). requested_variant variant at.device ≡ Some found) place is in
     cc
 
--- where there is a set, no cause stands but want of memory
+-- where there is a set, memory is refused or there is no cause
 pub set_or_refusal : (pack : Pack) (device : List ℕ) (variant pname : Option (List ℕ)) (set : SeqSet) (fault : ResolveFault)
     → IsEffectiveSet pack device variant pname set → HasNone pack device variant fault → fault ≡ faults.OutOfMemory
 set_or_refusal pack device variant pname set faults.NoDevice p none = absurd (none_named (named device pack) p.place p.only none)
@@ -131,7 +131,7 @@ set_or_refusal pack device variant pname set faults.AmbiguousDevice p many = abs
 set_or_refusal pack device variant pname set faults.NoVariant p none = absurd (no_variant pack device variant p.place none.0 p.variant p.only none.1 p.requested none.2)
 set_or_refusal pack device variant pname set faults.OutOfMemory p none = refl
 
--- at most one cause stands besides want of memory
+-- there is at most one cause, except that memory is refused
 pub one_refusal : (pack : Pack) (device : List ℕ) (variant : Option (List ℕ)) (x y : ResolveFault)
     → HasNone pack device variant x → HasNone pack device variant y → x ≢ faults.OutOfMemory → y ≢ faults.OutOfMemory → x ≡ y
 one_refusal pack device variant faults.NoDevice faults.NoDevice p q a b = refl

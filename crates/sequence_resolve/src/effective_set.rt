@@ -81,8 +81,8 @@ fn set_of(
     Ok(SeqSet { entries, debugvars })
 }
 
-/// The sequences that apply along the path to a device of the pack, to `variant` where one is given, and for the processor
-/// `pname` where one is requested: by the rules of `effective`, which finds the place and the variant by their names.
+/// The sequences that apply along the path to a device of the pack, to `variant` where one is given, and for the processor `pname` where
+/// one is requested. They apply by the rules of `effective`, which finds the place and the variant by their names.
 ///
 /// The variant is to be one of the device, and `place` a place of the pack; nothing is checked of either. `OutOfMemory` where
 /// memory is refused.
@@ -102,8 +102,8 @@ pub fn set_along(
     set_of(alloc, pack, place, variant, pname)
 }
 
-/// The sequences that apply to the device of the name `device`, for its variant of the name
-/// `variant` where one is requested, and for the processor `pname` where one is requested.
+/// The sequences that apply to the device of the name `device`. They are those for its variant of the name `variant`, and for the processor
+/// `pname`, where these are requested.
 ///
 /// The levels go from the pack's `defaults` over family, subfamily and device to the variant. A
 /// sequence counts where its `Pname` is the requested one or where it has none. Of each name the one at
@@ -112,11 +112,10 @@ pub fn set_along(
 /// appear along the levels. The debug variables are those of the deepest level that has that
 /// element alone.
 ///
-/// `NoDevice` comes exactly where no device of the pack has the name, `AmbiguousDevice` exactly
-/// where two or more have it, `NoVariant` exactly where the one device has no variant of the name,
-/// `OutOfMemory` where memory is refused. Where a level has two sequences of one name and one
-/// `Pname`, which a pack that was read has not, the later one applies. So what is requested of a
-/// pack has one set at most, and that set is the answer unless memory is refused.
+/// `NoDevice` comes exactly where no device of the pack has the name, and `AmbiguousDevice` exactly where two or more have it. `NoVariant`
+/// comes exactly where the one device has no variant of the name, and `OutOfMemory` where memory is refused. Where a level has two
+/// sequences of one name and one `Pname`, which a pack that was read has not, the later one applies. So what is requested of a pack has one
+/// set at most, and that set is the answer unless memory is refused.
 pub fn effective(
     alloc: Global,
     pack: &Pack,

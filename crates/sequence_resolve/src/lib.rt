@@ -1,4 +1,4 @@
-//! The debug access sequences that hold for one device, variant and processor of a pack.
+//! The debug access sequences that apply for one device, variant and processor of a pack.
 #![tactic(auto)]
 
 mod copy;

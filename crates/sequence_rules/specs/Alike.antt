@@ -23,8 +23,8 @@ pub record Alike {V W T U : Type 0} (Val : T → V → W → Type 0) (Rest : ℕ
   pub steps : r.steps ≡ s.steps
   pub rest : Rest s.units s.rest r.rest
 
--- how the end of the second machine, otherwise than by a halt, is related to the first: by what the first is over (none where
--- it goes on), its rest, the second's units, what the second is over by, and its rest
+-- How the end of the second machine, otherwise than by a halt, is related to the first. Of the first, what it is over by (none where it goes on)
+-- and its rest count. Of the second its units, what it is over by, and its rest count.
 abbrev pub EndRelation : Type 0 → Type 0 → Type 1
 EndRelation T U = Option Over → T → ℕ → Over → U → Type 0
 

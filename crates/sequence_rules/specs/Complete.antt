@@ -1,5 +1,5 @@
--- Programs that lack nothing: each name is visible where it is used, each call is one that its function takes, each sequence that is
--- called is in the set and no chain of calls is longer than 32, and each loop has a timeout.
+-- Programs that lack nothing. Each name is visible where it is used, and each call is one that its function takes. Each sequence that is called
+-- is in the set, and no chain of calls is longer than 32. Each loop has a timeout.
 use Rattle.std.specs.Prelude.{◌≡◌, ℕ, zero, suc, Bool, true, false, ◌||◌, List, [], ◌∷◌, ◌++◌, codes, Option, Some, None, if◌then◌else◌}
 use Rattle.std.specs.Bool.{⊤}
 use Rattle.std.specs.Str.{bytes_eq}

@@ -8,12 +8,15 @@ use Rattle.target_calls.specs.declared.calls.Ask.{Ask}
 use Rattle.sequence_rules.specs.Machine as machine
 use Rattle.sequence_rules.specs.Machine.{Over, Machine}
 
--- The target, the APs that are known to have large addresses, and how many further calls are answered; the calls so far; how
--- many of them were skipped, which stops at 2^32 - 1; and what was written, where that is known.
+-- What is kept of a run on a target.
 pub record Now : Type 0 where
+  -- the target, the APs that are known to have large addresses, and how many further calls are answered
   pub world : World
+  -- the calls so far
   pub calls : List Ask
+  -- how many of them were skipped; it stops at 2^32 - 1
   pub skipped : ℕ
+  -- what was written, where that is known
   pub written : Option (List ℕ)
 
 -- nothing was called yet

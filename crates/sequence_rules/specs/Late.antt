@@ -21,7 +21,7 @@ pub record Late : Type 0 where
   pub asks : Asks
   pub written : Option (List ℕ)
 
--- the two together
+-- what was asked, with what was written
 abbrev pub late_of : Asks → Option (List ℕ) → Late
 late_of asks written = record { asks = asks; written = written }
 

@@ -79,8 +79,8 @@ CallsAreMade = (w : World) (p : Program) (written : Option (List ℕ)) → AreMa
 
 -- ---- a limit of answers
 
--- The outcome with at most m units answered is cut short: it ends where unit m + 1 is asked, its calls are the first m + 1 of the
--- whole, and what it wrote comes first in what the whole wrote.
+-- The outcome with at most m units answered is cut short. It ends where unit m + 1 is asked, and its calls are the first m + 1 of the whole.
+-- What it wrote comes first in what the whole wrote.
 pub record IsCutShort (m : ℕ) (whole short : Outcome) : Type 0 where
   pub ending : short.ending ≡ ending.Unanswered
   pub units : units_of short ≡ m + 1
@@ -129,7 +129,7 @@ LateRunsOnlyAdd = (cost : Costs) (w : World) (turn_us : ℕ) (set : SetTrees) (s
 
 -- ---- cuts
 
--- The cut after all units of a run is what the run leaves and wrote, and what is written before a unit comes first in what the run wrote.
+-- The cut after all units of a run is what the run leaves and wrote. What is written before a unit comes first in what the run wrote.
 pub record IsCutFront (p : Program) (t : TargetState) (lines : Option (List ℕ)) : Type 0 where
   pub target : target_at (units_of (outcome p t lines)) p t ≡ (outcome p t lines).target
   pub written : written_before (units_of (outcome p t lines)) p t lines ≡ (outcome p t lines).written

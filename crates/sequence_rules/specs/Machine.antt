@@ -6,8 +6,8 @@ use Rattle.target_machine.specs.declared.unit.ProbeCall.{ProbeCall}
 use Rattle.target_machine.specs.declared.unit.Unit.{Unit as AccessUnit}
 use Rattle.sequence_rules.specs.declared.bindings.Binding.{Binding}
 
--- Why nothing more is done: a cause to halt, a fault of this call, a call that is not answered because a retry ended, or
--- that something is missing which every valid set has.
+-- Why nothing more is done: a cause to halt, a fault of this call, a call that is not answered because a retry ended, or a loss. A run is lost
+-- where something is missing which every valid set has.
 pub data Over : Type 0 where
   Halted : HaltCause → Over
   Faulted : Call → Over

@@ -64,7 +64,7 @@ set_to variable value = t.Group (t.Assign (name variable) value)
 abbrev pub more_of : List ℕ → ℕ → Tree
 more_of variable n = set_to variable (t.Binary b.Add (v variable) (t.Number n))
 
--- one step
+-- a list of this one step
 abbrev pub only : CodeStep → CodeSteps
 only step = c.MoreSteps step c.NoSteps
 

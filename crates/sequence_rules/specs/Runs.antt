@@ -65,13 +65,15 @@ pub data Ending : Type 0 where
   Unanswered : Ending
   Lost : Ending
 
--- What a run comes to: its ending; the variables that all sequences share, where it is Done or Halted; the calls, one for each unit;
--- how many were skipped; what was written, where that is known; and the target.
+-- What a run comes to.
 pub record Outcome : Type 0 where
   pub ending : Ending
+  -- the variables that all sequences share, where it is Done or Halted
   pub variables : List (Binding ℕ)
+  -- the calls, one for each unit, and how many of them were skipped
   pub calls : List Ask
   pub skipped : ℕ
+  -- what was written, where that is known
   pub written : Option (List ℕ)
   pub target : TargetState
 

@@ -26,7 +26,7 @@ abbrev pub count_of : ArgTrees → ℕ
 count_of t.NoArgs = 0
 count_of (t.MoreArgs a more) = suc (count_of more)
 
--- the function takes so many
+-- whether a call of the function may have so many arguments
 abbrev pub is_count : Function → ℕ → Bool
 is_count function n = if has_more function then nat_le (length (parameters_of function)) n else nat_eq n (length (parameters_of function))
 

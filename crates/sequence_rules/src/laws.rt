@@ -29,8 +29,8 @@ pub fn calls_are_made()
     ensures { CallsAreMade }
 {}
 
-/// Where at most m units are answered, a run that asks more ends at unit m + 1, and has written what the whole run writes first; any
-/// other run is the same.
+/// Where at most m units are answered, a run that asks more ends at unit m + 1, and has written what the whole run writes first. Any other
+/// run is the same.
 pub fn limits_cut_runs()
     ensures { LimitsCutRuns }
 {}
@@ -45,8 +45,8 @@ pub fn watched_is_the_meaning()
     ensures { WatchedIsTheMeaning }
 {}
 
-/// A run of a program that lacks nothing never meets a name that is not visible, a call that its function does not take, a sequence
-/// that is not in the set or too deep, or a loop without a timeout.
+/// A run of a program that lacks nothing never meets a name that is not visible, or a call that its function does not take. Nor does it
+/// meet a sequence that is not in the set or too deep, or a loop without a timeout.
 pub fn complete_is_never_lost()
     ensures { CompleteIsNeverLost }
 {}

@@ -5,8 +5,8 @@ ghost use Rattle.sequence_rules.specs.Shared.{joined};
 use crate::bindings::Binding;
 use crate::globals::Globals;
 
-/// The variables that a running sequence declared, the newest last. The first sixteen are sought one by one. Each one after them is found by
-/// its name without going through the others, up to the first that hides another one: from that one on they are sought one by one again.
+/// The variables that a running sequence declared, the newest last. The first sixteen are sought one by one. Each one after them is found
+/// by its name without going through the others, up to the first that hides another one. From that one on they are sought one by one again.
 /// In a checked set none hides another one. Contracts see them by `locals_of`, as the plain list of this crate's specs.
 #[derive(Drop)]
 pub struct Locals<V> {

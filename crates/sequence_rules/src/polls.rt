@@ -102,7 +102,7 @@ fn poll_form(expr: &Expr) -> Option<(u32, u32)>
     }
 }
 
-/// The mask and the value of a `while` with these steps, where the control is a poll: it has no steps, and its condition is
+/// The mask and the value of a `while` with these steps, where the control is a poll. It has no steps then. Its condition is
 /// `(ReadDP(0x4) & MASK) != VALUE` with literals of at most 32 bits, apart from groups of parentheses.
 pub fn poll_of(expr: &Expr, steps: &[CheckedStep]) -> Option<(u32, u32)>
     ensures { result ≡ spec.poll_of (tree expr.now) (steps_tree steps.now) }

@@ -40,6 +40,7 @@ parse_fault parses.OutOfMemory = texts.OutOfMemory
 
 -- `view` gives what a value of the program stands for.
 module _ {V X : Type 0} (view : V → X) (R : List Lexeme → X → Type 0) (span : Span) (text : List ℕ) where
+  -- the value that the text stands for, the place of its first fault, or that memory ran out
   abbrev pub AnswersText : Result V TextFault → Type 0
   AnswersText (Ok v) = IsTextOf R span text (view v)
   AnswersText (Err (texts.Syntax at)) = IsFaultyText R span text at

@@ -26,10 +26,12 @@ IsSetFaultOf all sets.OutOfMemory = Unit {0}
 
 -- a value that is `Given`, or the first of the texts that is faulty
 module _ {V : Type 0} (Given : V → Type 0) where
+  -- of the texts of steps
   abbrev pub Outcome : List StepText → Result V StepFault → Type 0
   Outcome all (Ok v) = Given v
   Outcome all (Err fault) = IsFaultOf all fault
 
+  -- of the texts of a set
   abbrev pub SetOutcome : List (TextAt SetStep) → Result V SetFault → Type 0
   SetOutcome all (Ok v) = Given v
   SetOutcome all (Err fault) = IsSetFaultOf all fault

@@ -8,10 +8,12 @@ use Rattle.sequence_trees.specs.declared.steps.CheckedStep.TheFolds.{fold-Checke
 
 -- a step, and the steps of a sequence or of a control
 mutual
+  -- a step: a block of statements, or a control with its conditions, its timeout and its steps
   pub data CodeStep : Type 0 where
     Block : List StmtTree → CodeStep
     Control : Option Tree → Option Tree → Option ℕ → CodeSteps → CodeStep
 
+  -- the steps of a sequence or of a control
   pub data CodeSteps : Type 0 where
     NoSteps : CodeSteps
     MoreSteps : CodeStep → CodeSteps → CodeSteps

@@ -118,10 +118,9 @@ fn set_of(alloc: Global, set: &SeqSet) -> Result<ReadSet, SetFault>
 /// `while` of controls as conditions. A disabled sequence has no texts and no steps. The names of the
 /// set must be distinct, as those that `effective` answers are.
 ///
-/// `Syntax` exactly where some text of the set is no code (or no expression), with the first such text
-/// and the place of its first fault. The debug variables come first, then the sequences in the set's
-/// order, the steps of each in order; a control's `if` comes before its `while`, and both before the
-/// steps inside. `OutOfMemory` where memory is refused. Each text is gone through once.
+/// `Syntax` exactly where some text of the set is no code (or no expression), with the first such text and the place of its first fault.
+/// The debug variables come first, then the sequences in the set's order, the steps of each in order. A control's `if` comes before its
+/// `while`, and both before the steps inside. `OutOfMemory` where memory is refused. Each text is gone through once.
 pub fn read_set(alloc: Global, set: &SeqSet) -> Result<ReadSet, SetFault>
     requires { IsDistinct bytes_eq (map (λ e. e.name) set.now.entries) }
     ensures answer { AnswersSet set.now result }

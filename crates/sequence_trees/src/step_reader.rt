@@ -59,7 +59,7 @@ fn own_fault(alloc: Global, fault: TextFault, part: Part) -> StepFault
     }
 }
 
-// A fault in the step of this number, seen from the list that the step stands in.
+// A fault in the step of this number, seen from the list in which the step is.
 fn fault_under(fault: StepFault, number: u64) -> StepFault
     ensures { IsUnder number fault result }
 {

@@ -13,7 +13,7 @@ use std::alloc::Global;
 /// Why a text was not read.
 #[derive(Clone, Copy, Debug, PartialEq, Eq)]
 pub enum TextFault {
-    /// The text is no code, or no expression; its first fault stands at this place.
+    /// The text is no code, or no expression; its first fault is at this place.
     Syntax(Place),
     /// Memory was refused.
     OutOfMemory,
@@ -49,9 +49,9 @@ impl From<ParseError> for TextFault {
 
 /// The code that `text` is: its statements, in order.
 ///
-/// `Syntax` exactly where the text is no code, with the place of its first fault: of its first bad
-/// token; in a text without one, of the first token that is unexpected or too deep, or the place just
-/// past the last token where the end is missing. `OutOfMemory` where memory is refused.
+/// `Syntax` exactly where the text is no code, with the place of its first fault. That is its first bad token. In a text without one it is
+/// the first token that is unexpected or too deep, or the place just past the last token where the end is missing. `OutOfMemory` where
+/// memory is refused.
 pub fn read_code(alloc: Global, text: &str) -> Result<Code, TextFault>
     ensures answer { AnswersCode text.now result }
     ensures only { (code : List StmtTree) → IsCodeOf text.now code → GivesValue code_trees code result }

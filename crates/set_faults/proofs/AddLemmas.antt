@@ -45,7 +45,7 @@ adds_at : (Cause : Type 0) (place : Place) (kind : FaultKind) (b : Bool) (old : 
 adds_at Cause place kind true old to from = adds_one (FaultWhere Cause place kind) old (record { place = place; kind = kind }) (record { cause = to refl; is = refl }) (λ g w. w.is)
 adds_at Cause place kind false old to from = rw (append-nil old) (adds_none (FaultWhere Cause place kind) old (λ f w. true≢false (sym (from w.cause))))
 
--- a test, and the fault that stands where it passes
+-- a test, and the fault that there is where it passes
 pub adds_cause : {Cause : Type 0} {place : Place} {kind : FaultKind} {old new : List CodeFault} (b : Bool) → (b ≡ true → Cause) → (Cause → b ≡ true) → new ≡ old ++ found_if b place kind → Adds (FaultWhere Cause place kind) old new
 adds_cause {Cause} {place} {kind} {old} {new} b to from e = subst (Adds (FaultWhere Cause place kind) old) (sym e) (adds_at Cause place kind b old to from)
 

@@ -33,11 +33,11 @@ use Rattle.set_faults.proofs.GraphLemmas.{call_one_way, call_is_before}
 
 -- ---- calls as faults
 
--- what stands past the end of a list of calls
+-- what stands after the end of a list of calls
 abbrev pub no_call : CallSpot
 no_call = record { node = 0; call = 0 }
 
--- an item is the same, whatever stands past the end
+-- an item is the same, whatever stands after the end
 pub one_item : (calls : List CallSpot) (i : ℕ) (d : CallSpot) → i < length calls → get_or calls i d ≡ get_or calls i no_call
 one_item [] i d h = absurd (omega arith)
 one_item (c ∷ calls) zero d h = refl

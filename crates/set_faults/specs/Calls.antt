@@ -14,7 +14,7 @@ use Rattle.set_faults.specs.Listed.{IsListOf}
 abbrev pub is_call_before : CallSpot → CallSpot → Bool
 is_call_before c d = nat_lt c.node d.node || c.node == d.node && nat_lt c.call d.call
 
--- the fault is of this kind, and stands where the call stands in the set
+-- the fault is of this kind, and is where the call is in the set
 pub record IsFaultAt (set : SetTrees) (kind : FaultKind) (c : CallSpot) (fault : Fault) : Type 0 where
   pub kind_is : fault.kind ≡ kind
   pub at : IsCallAt set c fault.spot
@@ -50,7 +50,7 @@ pub record Ahead (P : CallSpot → Type 0) (node end : ℕ) (c : CallSpot) : Typ
   pub less : c.call < end
   pub holds : P c
 
--- such calls of this node
+-- the call is one of these, and is in this node
 pub record AtNode (P : CallSpot → Type 0) (node : ℕ) (c : CallSpot) : Type 0 where
   pub node_is : c.node ≡ node
   pub holds : P c

@@ -22,7 +22,7 @@ pub record IsListOf {F : Type 0} (before : F → F → Bool) (Holds : F → Type
 abbrev pub found_if : Bool → Place → FaultKind → List CodeFault
 found_if is_fault place kind = if is_fault then record { place = place; kind = kind } ∷ [] else []
 
--- what was found stays, and the faults that stand here are added
+-- what was found stays, and the faults that are here are added
 pub record Adds (Here : CodeFault → Type 0) (old new : List CodeFault) : Type 0 where
   pub kept : (f : CodeFault) → Contains old f → Contains new f
   pub added : (f : CodeFault) → Here f → Contains new f

@@ -6,11 +6,11 @@ use Rattle.seq_check.specs.Valid.{spot_of}
 use Rattle.set_faults.specs.declared.site.Fault.{Fault}
 use Rattle.set_faults.specs.Listed.{IsListOf}
 
--- the kind of a fault, and where it stands
+-- the kind of a fault, and where it is
 abbrev pub fault_of : SetTrees → SetFault → Fault
 fault_of set f = record { kind = f.fault.fault.kind; spot = spot_of set f }
 
--- all faults that stand in the texts and the controls of the set, in the order of the check
+-- all faults in the texts and the controls of the set, in the order of the check
 pub record AreRuleFaults (set : SetTrees) (faults : List Fault) : Type 0 where
   pub list : List SetFault
   pub is_list : IsListOf is_set_before (FaultInSet set) list

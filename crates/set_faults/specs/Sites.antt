@@ -1,4 +1,4 @@
--- Faults of a set by the steps that they stand in: what private contracts cite.
+-- Faults of a set by the steps in which they are: what private contracts cite.
 use Rattle.std.specs.Prelude.{◌≡◌, ℕ, Bool, List, ◌++◌, map, Option, None, Some}
 use Rattle.std.specs.Borrow.{Bor}
 use Rattle.dap_base.specs.declared.text.Place.{Place}

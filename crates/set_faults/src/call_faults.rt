@@ -18,7 +18,7 @@ use seq_check::set_calls::{StepCalls, call_spot, graph_of, set_calls};
 use sequence_trees::ReadSet;
 use std::alloc::Global;
 
-// The call as a fault of this kind, where it stands in the set.
+// The call as a fault of this kind, where it is in the set.
 fn fault_at(
     alloc: Global,
     set: &ReadSet,

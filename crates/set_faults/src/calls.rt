@@ -1,4 +1,4 @@
-//! All faults of a call, those inside its arguments aside.
+//! All faults of a call itself, apart from those inside its arguments.
 ghost use Rattle.std.specs.Prelude.{◌≡◌, ◌↔◌, IsTrue, OnOk, Some};
 ghost use Rattle.expr_grammar.specs.Tree.{arg_tree, arg_trees};
 ghost use Rattle.code_check.specs.ExprFaults.{NameFault, KindFault, KindsFault, SequenceFault, IsFormatOf, FormatFault, TextsFault, KnownFault, FunctionFault, CallFault};

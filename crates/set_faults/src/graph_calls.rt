@@ -12,7 +12,7 @@ use call_graph::{
 use dap_base::{ItemList, OutOfMemory};
 use std::alloc::Global;
 
-// Adds the call, where it is one that is looked for.
+// Adds the call, where it is one of them.
 fn add_if(is_one: bool, call: CallSpot, found: &mut ItemList<CallSpot>) -> Result<(), OutOfMemory>
     ensures { OnOk result (found.new ≡ found.old ++ call_if is_one call) }
 {

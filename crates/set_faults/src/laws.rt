@@ -46,7 +46,7 @@ pub fn first_rule_fault()
     ensures { (set : SetTrees) (fault : Fault) (more : List Fault) → AreRuleFaults set (fault ∷ more) → IsFirstOf set fault.kind fault.spot }
 {}
 
-/// Where that list is empty, no such fault stands in the set.
+/// Where that list is empty, there is no such fault in the set.
 pub fn no_rule_fault()
     ensures { (set : SetTrees) (f : SetFault) → AreRuleFaults set [] → FaultInSet set f → ⊥ }
 {}

@@ -58,9 +58,14 @@ fn faults_of(alloc: Global, set: &SeqSet) -> Result<SetFaults, OutOfMemory>
     }
 }
 
-/// All faults of a set that the first phase of its check with a fault has: of texts that can not be read, the first of
-/// each; where all can, of names, arguments and steps; where there is none, calls that lead back to the sequence that
-/// they stand in; where there is none, calls that begin a chain of 33 sequences. None exactly where the set is valid.
+/// All faults of a set that the first phase of its check with a fault has. The phases, of which a later one counts where those before have
+/// none, are:
+/// - of texts that can not be read, the first fault of each;
+/// - names, arguments and steps;
+/// - calls that lead back to the sequence that they stand in;
+/// - calls that begin a chain of 33 sequences.
+///
+/// None exactly where the set is valid.
 ///
 /// The names of the set must be distinct, as those that `effective` answers are. The order is that of
 /// `seq_check::check`, whose first fault is the first here. A disabled sequence has no faults and no calls.

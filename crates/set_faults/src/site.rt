@@ -1,4 +1,4 @@
-//! Faults, and the steps that they stand in.
+//! Faults, and the steps in which they are.
 ghost use Rattle.std.specs.Prelude.{◌≡◌, ◌++◌, ◌∷◌, [], IfOk, OnOk, map};
 ghost use Rattle.set_faults.specs.Sites.{name_now, site_step, spot_at, code_fault_at};
 
@@ -12,7 +12,7 @@ use std::alloc::Global;
 pub struct Fault {
     /// What is wrong.
     pub kind: FaultKind,
-    /// Where it stands. A fault of a control itself has the place 0:0.
+    /// Where it is. A fault of a control itself has the place 0:0.
     pub spot: Spot,
 }
 

@@ -152,10 +152,9 @@ fn add_entry(
     add_steps(alloc, site, entry.steps.as_steps(), found)
 }
 
-/// The first fault of each text of the set that can not be read, in the order of the texts: the debug
-/// variables, then the sequences in the set's order, the steps of each in order; a control's `if` before
-/// its `while`, and both before the steps inside. A disabled sequence has no texts. `OutOfMemory` where
-/// memory is refused. Each text is gone through once.
+/// The first fault of each text of the set that can not be read, in the order of the texts. The debug variables come first, and then the
+/// sequences in the set's order, the steps of each in order. A control's `if` comes before its `while`, and both before the steps inside. A
+/// disabled sequence has no texts. `OutOfMemory` where memory is refused. Each text is gone through once.
 pub fn syntax_faults(alloc: Global, set: &SeqSet) -> Result<ItemList<Fault>, OutOfMemory>
     ensures { IfOk result (AreSyntaxFaults set.now) }
 {

@@ -24,10 +24,12 @@ abbrev mutual
   tree_warnings vars at (Assign name a) = assigned vars at name ++ tree_warnings vars at a
   tree_warnings vars at (Call called args) = args_warnings vars at args
 
+  -- those of an argument
   pub arg_warnings : List (List ℕ) → PartAt → ArgTree → List Warning
   arg_warnings vars at (ExprArg place e) = tree_warnings vars at e
   arg_warnings vars at (TextArg t) = []
 
+  -- those of arguments
   pub args_warnings : List (List ℕ) → PartAt → ArgTrees → List Warning
   args_warnings vars at NoArgs = []
   args_warnings vars at (MoreArgs a more) = arg_warnings vars at a ++ args_warnings vars at more

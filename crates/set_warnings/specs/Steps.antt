@@ -23,6 +23,7 @@ own_warnings vars sequence path cond repeat timeout steps =
     long_warnings (at_part sequence path parts.Control) repeat timeout
     ++ (condition_warnings vars (at_part sequence path parts.If) cond ++ while_warnings vars (at_part sequence path parts.While) repeat steps)
 
+-- the warnings of steps, and of the steps inside them
 abbrev mutual
   -- of the step at the path of this sequence, where these are the debug variables
   pub step_warnings : List (List ℕ) → List ℕ → List ℕ → CodeStep → List Warning

@@ -25,14 +25,15 @@ fn is_valid(alloc: Global, set: &SeqSet) -> Result<bool, OutOfMemory>
     }
 }
 
-/// The warnings of a valid set, by sequence in the set's order; of a sequence itself first, and then by step, a control before
-/// the steps inside, its `if` before its `while`, and in a text in the order of the text. None where the set has a fault.
+/// The warnings of a valid set, by sequence in the set's order. Those of a sequence itself come first, and then those of its steps, a
+/// control before the steps inside and its `if` before its `while`. Those in a text come in the order of the text. None where the set has a
+/// fault.
 ///
-/// `UncalledSequence` is a sequence that is not disabled, that no sequence of the set calls, and whose name is none of those that
-/// a debugger starts by itself. `AssignedDebugVariable` is each assignment to a debug variable in a block or a condition.
-/// `WaitByName` is a `while` without steps of the form `(ReadDP(ADDRESS) & MASK) != VALUE`, apart from groups of parentheses,
-/// where each of the three is what it is in a poll or a name, and at least one is a name. `LongWait` is a `while` whose timeout
-/// stands for more than 1,000,000 turns of 10 microseconds.
+/// `UncalledSequence` is a sequence that is not disabled, that no sequence of the set calls, and whose name is none of those that a
+/// debugger starts by itself. `AssignedDebugVariable` is each assignment to a debug variable in a block or a condition. `WaitByName` is a
+/// `while` without steps of the form `(ReadDP(ADDRESS) & MASK) != VALUE`, apart from groups of parentheses. Each of the three is what it is
+/// in a poll or a name, and at least one is a name. `LongWait` is a `while` whose timeout stands for more than 1,000,000 turns of 10
+/// microseconds.
 ///
 /// The names of the set must be distinct, as those that `effective` answers are. `OutOfMemory` where memory is refused.
 pub fn set_warnings(alloc: Global, set: &SeqSet) -> Result<ItemList<Warning>, OutOfMemory>

@@ -19,7 +19,7 @@ aim_actions t ap size address =
 abbrev pub can_aim : TargetState → ℕ → Bool
 can_aim t ap = not t.sticky && (acknowledges t cdbgpwrupreq && is_some (map.get t.aps ap))
 
--- the port after them
+-- the port after the accesses that lead DRW to this address
 abbrev pub aimed_port : ApState → ℕ → ℕ → ApState
 aimed_port port size address = record port { csw = stored_csw (csw_for (bit_or port.csw device_en) size); tar = address }
 

@@ -9,6 +9,7 @@ use Rattle.target_machine.specs.declared.ap.ApState.{ApState}
 abbrev pub HasStoredCsw : ApState → Type 0
 HasStoredCsw port = stored_csw port.csw ≡ port.csw
 
+-- CSW of each access port has only bits that are stored
 abbrev pub HaveStoredCsw : TargetState → Type 0
 HaveStoredCsw t = EachValue HasStoredCsw t.aps
 

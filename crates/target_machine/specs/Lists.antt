@@ -23,6 +23,7 @@ SparesRdbuff (Makes a) = gives_rdbuff a ≡ false
 SparesRdbuff (Polls mask requested turns) = Unit {0}
 SparesRdbuff (Commands c) = Unit {0}
 
+-- none of the actions asks for RDBUFF
 abbrev pub SpareRdbuff : List Action → Type 0
 SpareRdbuff actions = AllByRecursion SparesRdbuff actions
 

@@ -109,11 +109,13 @@ pub record HasClosed (closed : Closed) (ended : Ended) (skipped : ℕ) (task : T
   pub variables : task.ended.variables ≡ ended.variables
   pub close : task.close ≡ closed.close
 
+-- A run that was done, with a sequel that did not come to its end: the ending is that by which it did not.
 pub record HasNotClosed (unclosed : Unclosed) (skipped : ℕ) (task : TaskEnded) : Type 0 where
   pub ending : task.ended.ending ≡ ending_by unclosed
   pub skips : task.ended.skipped ≡ skipped
   pub close : task.close ≡ Nothing
 
+-- The task is what the run and the answer of its sequel make it.
 abbrev pub IsClosed : Result Closed Unclosed → Ended → ℕ → TaskEnded → Type 0
 IsClosed (Ok x) ended skipped task = HasClosed x ended skipped task
 IsClosed (Err x) ended skipped task = HasNotClosed x skipped task

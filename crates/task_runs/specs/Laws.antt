@@ -44,8 +44,8 @@ LoadsAreLaid = (w : World) (p : Program) (before : Option (List ℕ)) (ap : ℕ)
 abbrev pub shown : World → Program → Option (List ℕ) → ℕ → List Component
 shown w p before ap = components (shows (world_then w p before).target) (base_at (world_then w p before).target ap)
 
--- The task is done. The lines of the components that the words of its target show were written after those of the sequence, of the first
--- 1,024 where there are more, and it is full exactly there. The words are those that the sequence leaves.
+-- The task is done. The lines of the components that the words of its target show were written after those of the sequence. Where there are more
+-- than 1,024, those of the first 1,024 were written, and it is full exactly there. The words are those that the sequence leaves.
 pub record EndsListed (w : World) (p : Program) (before : Option (List ℕ)) (ap : ℕ) : Type 0 where
   pub ending : (outcome_in w (with_sequel p (scanning ap)) before).ending ≡ runs.Done
   pub written : (outcome_in w (with_sequel p (scanning ap)) before).written

@@ -6,8 +6,8 @@ pub fn loads_are_laid()
     ensures { LoadsAreLaid }
 {}
 
-/// Where the sequence is done and words can be read by the access port then, a scan after it lists the components that the words of the target show,
-/// the first 1,024 where there are more, and is full exactly there. The words stay.
+/// Let the sequence be done, and words be readable by the access port then. A scan after it lists the components that the words of the
+/// target show, the first 1,024 where there are more, and is full exactly there. The words stay.
 pub fn scans_are_listed()
     ensures { ScansAreListed }
 {}

@@ -1,5 +1,5 @@
-//! Tries the rows of the tables of calls of `dapseq_faults` that standard input names; after the word `case` stored jobs, with their
-//! words and texts; and after the word `failing` the same once for each call of the source and the sink, which fails.
+//! Tries the rows of the tables of calls of `dapseq_faults` that standard input names. After the word `case` it tries stored jobs, with
+//! their words and texts. After the word `failing` it tries the same once for each call of the source and the sink, which fails.
 #![tactic(auto)]
 
 mod calls;

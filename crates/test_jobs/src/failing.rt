@@ -50,8 +50,8 @@ impl Object {
         }
     }
 
-    // Whether this may be written where a call of this object failed: the line of the source; or a part of the whole
-    // text from its front, and after it, where the bench failed in the run, the report of that.
+    // Whether this may be written where a call of this object failed. It is the line of the source, or a part of the whole text from its
+    // front. After that part comes the report of the bench, where the bench failed in the run.
     fn may_write(self, text: &[u8], whole: &[u8]) -> bool {
         match self {
             Object::Source => text == "end readfault\n".as_bytes(),

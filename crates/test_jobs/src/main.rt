@@ -1,7 +1,7 @@
-//! Runs each worked job that standard input names, and compares what is written with the stored text; those after the word
-//! `failing` once for each call of an object, which fails; and those after the word `single` by the access that sends each
-//! register access by itself, after the word `silent` over a bench that is not observable, and after the word `audit` the audit
-//! of the trace that is stored.
+//! Runs each worked job that standard input names, and compares what is written with the stored text. Those after the word `failing` run
+//! once for each call of an object, which fails. Those after the word `single` run by the access that sends each register access by itself,
+//! and those after the word `silent` over a bench that is not observable. After the word `audit` it runs the audit of the trace that is
+//! stored.
 #![tactic(auto)]
 
 mod answering;

@@ -73,9 +73,9 @@ fn report_of(text: &[u8]) -> &[u8] {
     text
 }
 
-/// Runs the same job by the access that sends each register access by itself, and prints the name, the exit status, and
-/// `as expected` where what was written is the content of `NAME.json.single`, else `differs`; and then whether its report
-/// is the one that is expected of the access that packs.
+/// Runs the same job by the access that sends each register access by itself. It prints the name, the exit status, and `as expected` where
+/// what was written is the content of `NAME.json.single`, else `differs`. Then it prints whether its report is the one that is expected of
+/// the access that packs.
 ///
 /// An error where a file cannot be read, standard output cannot be written, or memory is refused.
 pub fn run_single(rt: &HostRuntime, name: &str) -> io::Result<()> {

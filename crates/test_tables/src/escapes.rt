@@ -32,9 +32,9 @@ fn digit(byte: u8) -> u8
     }
 }
 
-/// The bytes that a text of a table stands for: `\n`, `\r` and `\t` are a line feed, a carriage return and a tab, `\xHH` is
-/// the byte with these two hexadecimal digits, `\*COUNT<TEXT>` is the text so many times, once at least, and a backslash before
-/// any other character stands for that character.
+/// The bytes that a text of a table stands for. `\n`, `\r` and `\t` are a line feed, a carriage return and a tab. `\xHH` is the byte with
+/// these two hexadecimal digits, and `\*COUNT<TEXT>` is the text so many times, once at least. A backslash before any other character
+/// stands for that character.
 ///
 /// An error where memory is refused.
 pub fn unescaped(alloc: Global, text: &str) -> Result<Vec<u8>, AllocError> {

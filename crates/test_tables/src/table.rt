@@ -75,10 +75,10 @@ impl Frame {
     }
 }
 
-/// The rows of a table, in order. Each line is a row, `INPUT => EXPECTED`, but for empty lines, comments, which begin with `#`,
-/// and lines that begin with `@` and count for the rows after them: `@form WORDS` says how they are tried, `@before TEXT` and
-/// `@after TEXT` what stands before and after each input. Both sides of a row have the escapes of [`unescaped`]; after a line
-/// `@raw` inputs, and what stands before and after them, have none.
+/// The rows of a table, in order. Each line is a row, `INPUT => EXPECTED`, except empty lines, comments, which begin with `#`, and lines
+/// that begin with `@` and count for the rows after them. `@form WORDS` says how they are tried. `@before TEXT` and `@after TEXT` say what
+/// stands before and after each input. Both sides of a row have the escapes of [`unescaped`]; after a line `@raw` inputs, and what stands
+/// before and after them, have none.
 ///
 /// An error where memory is refused.
 pub fn rows_of(alloc: Global, text: &str) -> Result<Vec<Row>, AllocError> {

@@ -4,8 +4,8 @@ use Rattle.dap_base.specs.Causes.{Rose}
 use Rattle.trace_compare.specs.declared.call.Status.{Status}
 use Rattle.trace_compare.specs.declared.call.Status.TheVariants as status
 
--- The status that names an object comes only where the object's count of faults rose, or stands at its last value; any other status
--- leaves the count.
+-- The status that names an object comes only where the object's count of faults rose, or is at its last value. Any other status leaves the
+-- count.
 pub record Blames (fault result : Status) (before now : ℕ) : Type 0 where
   pub failed : result ≡ fault → Rose before now
   pub else : result ≢ fault → now ≡ before

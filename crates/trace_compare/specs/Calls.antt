@@ -31,8 +31,8 @@ file_named (option ∷ name ∷ other ∷ others) = None
 
 -- ---- what is written
 
--- What is written for these bytes of a trace, by how the call ended: all words, and whether each packet and reply is one; at a fault a
--- part of the words, from the front.
+-- What is written for these bytes of a trace, by how the call ended. It is all words, and whether each packet and reply is one. At a fault it is
+-- a part of the words, from the front.
 abbrev pub Writes : List ℕ → Status → Option (List ℕ) → Option (List ℕ) → Type 0
 Writes bytes status.Done old new = Appends old new (words bytes) × (are_good bytes ≡ true)
 Writes bytes status.Wrong old new = Appends old new (words bytes) × (are_good bytes ≡ false)
@@ -43,8 +43,8 @@ Writes bytes status.NotOpened old new = ⊥
 Writes bytes status.WriteFault old new = AppendsPrefix old new (words bytes)
 Writes bytes status.OutOfMemory old new = AppendsPrefix old new (words bytes)
 
--- The same for these bytes of a trace and of the one that it is compared with: the whole comparison, and whether both are alike; at a
--- fault a part of it.
+-- The same for these bytes of a trace and of the one that it is compared with. It is the whole comparison, and whether both are alike. At a
+-- fault it is a part of it.
 abbrev pub WritesAgainst : List ℕ → List ℕ → Status → Option (List ℕ) → Option (List ℕ) → Type 0
 WritesAgainst bytes others status.Done old new = Appends old new (words_against bytes others) × (are_alike bytes others ≡ true)
 WritesAgainst bytes others status.Wrong old new = Appends old new (words_against bytes others) × (are_alike bytes others ≡ false)

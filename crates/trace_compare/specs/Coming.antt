@@ -20,6 +20,7 @@ pub record Contents : Type 0 where
   pub exchanges : List Exchange
   pub counting : Counting
 
+-- what comes of these events, where this is kept before them
 abbrev pub contents_of : Counting → List Event → Contents
 contents_of c es = record { exchanges = exchanges c es; counting = after_events c es }
 

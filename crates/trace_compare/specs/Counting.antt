@@ -8,6 +8,7 @@ use Rattle.trace_events.specs.declared.event.Event.TheVariants as event
 use Rattle.trace_words.specs.Telling.{Telling, next_number, start, tell}
 use Rattle.trace_compare.specs.Counts.{all_counted, no_counts}
 
+-- what the words of the next event need, and what was counted so far
 pub record Counting : Type 0 where
   -- what the words of the next event need
   pub telling : Telling

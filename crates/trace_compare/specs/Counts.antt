@@ -16,7 +16,7 @@ no_counts = zeros 32800
 unfoldable pub counted : List ℕ → Access → List ℕ
 counted counts access = slice_set counts (place access) (next_number (slice_index counts (place access)))
 
--- accesses, one after the other
+-- these accesses more, each at its place
 abbrev pub all_counted : List ℕ → List Access → List ℕ
 all_counted counts [] = counts
 all_counted counts (access ∷ others) = all_counted (counted counts access) others

@@ -28,6 +28,7 @@ pub record Compared : Type 0 where
   pub trace : Counting
   pub against : Counting
 
+-- what comes of two traces, compared after the exchange of this number
 abbrev pub compared : ℕ → Contents → Contents → Compared
 compared last a b = record { text = difference last a.exchanges b.exchanges; same = are_same a.exchanges b.exchanges; trace = a.counting; against = b.counting }
 
@@ -48,9 +49,10 @@ pub record PutsDifference (before after : Traces) (old new other_old other_new w
       → (x : List ℕ) × (y : List ℕ) × (new ≡ Some x) × (other_new ≡ Some y)
       × IsPut (compared_left 0 before a b) (contents_left after.trace x).counting (contents_left after.against y).counting written now same
 
--- the text of the comparison of what comes, and whether both are alike
+-- the text of the comparison of what comes of both
 abbrev pub comparison_left : Traces → List ℕ → List ℕ → List ℕ
 comparison_left traces a b = comparison (contents_left traces.trace a) (contents_left traces.against b)
 
+-- whether what comes of both is alike
 abbrev pub alike_left : Traces → List ℕ → List ℕ → Bool
 alike_left traces a b = is_alike (contents_left traces.trace a) (contents_left traces.against b)

@@ -11,7 +11,7 @@ pub trait NamedFile: Source {
     ghost contents: { Self → List ℕ → Option (List ℕ) };
 
     /// Opens the file of this name, before its bytes are taken. `Failed` where it cannot be opened; it comes only where
-    /// the count of faults rose or stands at its last value. A call that answers `Ok` leaves the count.
+    /// the count of faults rose or is at its last value. A call that answers `Ok` leaves the count.
     fn open(&mut self, name: &str) -> Result<(), Failed>
         ensures bytes { OnOk result (Self.left self.new ≡ contents self.old name.now) }
         ensures cause { HasCause (Self.faults self.old) (Self.faults self.new) result };

@@ -1,4 +1,4 @@
--- What was told and put so far.
+-- What was reported and put so far.
 use Rattle.std.proofs.Common.{◌≡◌, ◌∙◌, ℕ, Bool, List, [], ◌∷◌, ◌++◌, Option, None, Some, Result, Ok, Err, length, take, refl, sym, ap, subst, append_assoc, append-nil}
 use Rattle.std.specs.Prelude.{OnErr}
 use Rattle.std.proofs.Math.Seq.{take-length}
@@ -30,7 +30,7 @@ pub going_start : (a b : Option (List ℕ)) (place : Place) (t : Telling) → pl
 going_start a b place t place_is t_is =
     subst (λ (p : Place). Going a a b b p t) (sym place_is) (subst (λ (s : Telling). Going a a b b first_place s) (sym t_is) (going_none a b))
 
--- two texts before what is told are one
+-- two texts before what is reported are one
 both_texts : (a b : List ℕ) (x : Spoken) → after_text a (after_text b x) ≡ after_text (a ++ b) x
 both_texts a b x = ap (λ (text : List ℕ). record x { text = text }) (sym (append_assoc a b x.text))
 

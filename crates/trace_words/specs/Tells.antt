@@ -1,4 +1,4 @@
--- What a call tells.
+-- What a call of `tell` answers.
 use Rattle.std.specs.Prelude.{◌≡◌, ℕ, List}
 use Rattle.trace_words.specs.Telling.{Telling, Spoken}
 

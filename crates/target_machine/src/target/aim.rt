@@ -24,8 +24,11 @@ impl Target {
         self.rdbuff = csw;
     }
 
-    /// Makes, in one step, the four accesses that lead DRW of an access port to an address in the low 4 GiB: a write of SELECT with the
-    /// port and bank 0, a read of CSW, a write of CSW with this size (1, 2 or 4 bytes) and no increment, and a write of TAR.
+    /// Makes, in one step, the four accesses that lead DRW of an access port to an address in the low 4 GiB:
+    /// - a write of SELECT with the port and bank 0;
+    /// - a read of CSW;
+    /// - a write of CSW with this size (1, 2 or 4 bytes) and no increment;
+    /// - a write of TAR.
     ///
     /// `false` where STICKYERR is set, the debug power is not acknowledged, or there is no such port. Nothing has changed then.
     pub fn aim(&mut self, ap: u8, size: u8, address: u32) -> bool
